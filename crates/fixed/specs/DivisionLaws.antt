@@ -1,0 +1,73 @@
+-- What rounding down and up promise.
+use mathlib.Core.Path.{_≡_, refl, sym, ap, subst}
+use Prim.Native.Nat.{ℕ, pred, _+_, _*_, _≤_, _<_}
+use native.Mathlib.Omega.{arith}
+use native.Mathlib.Nat as NatL
+use lib.IntN.{ℤ, pos, negsuc, negℤ, natAbs, _-ℤ_, _*ℤ_, negℤ-negℤ}
+use lib.Signed.{_≤ℤ_, yes-nonNeg, pos-natAbs}
+use Rattle.algebra.specs.Integer.{Is, is+, is-, is, is-mul, is-nat, is-sub-mul, is-parts, plus, minus, natAbs-bound}
+use Rattle.algebra.specs.RingSolver.{_⊠_, ⊝_, ring}
+use Rattle.algebra.specs.IntegerRing.{ℤR, ℤO, of-le}
+use Rattle.algebra.specs.OrderedLaws.{neg-mono}
+use Rattle.fixed.specs.Division.{floor, ceiling, remainder}
+
+-- the floor times d is at most z,
+low : (z : ℤ) (d : ℕ) → 0 < d → plus (floor z d) * d + minus z ≤ plus z + minus (floor z d) * d
+unfolding floor
+low (pos n) d h = omega (arith, NatL.div-mul-le-self n d)
+low (negsuc n) d h = omega (arith, NatL.lt-mul-div-succ n h)
+
+-- and z is less than d above it
+high : (z : ℤ) (d : ℕ) → 0 < d → plus z + minus (floor z d) * d < plus (floor z d) * d + minus z + d
+unfolding floor
+high (pos n) d h = omega (arith, NatL.lt-mul-div-succ n h)
+high (negsuc n) d h = omega (arith, NatL.div-mul-le-self n d)
+
+pub floor-le : (z : ℤ) (d : ℕ) → 0 < d → (floor z d *ℤ pos d) ≤ℤ z
+floor-le z d h = of-le (is-mul (is (floor z d)) (is-nat d)) (is z) (omega (arith, low z d h))
+
+pub le-ceiling : (z : ℤ) (d : ℕ) → 0 < d → z ≤ℤ (ceiling z d *ℤ pos d)
+unfolding ceiling
+le-ceiling z d h =
+    subst (λ x. x ≤ℤ (ceiling z d *ℤ pos d)) (negℤ-negℤ z)
+    (subst (λ x. negℤ (negℤ z) ≤ℤ x)
+    (ring 2 ℤR (λ a b. ⊝ (a ⊠ b)) (λ a b. (⊝ a) ⊠ b) refl (floor (negℤ z) d) (pos d))
+    (neg-mono ℤO (floor-le (negℤ z) d h)))
+
+-- dividing makes no number larger
+pub floor-le-abs : (z : ℤ) (d : ℕ) → natAbs (floor z d) ≤ natAbs z
+unfolding floor
+floor-le-abs (pos n) d = NatL.div-le-self n d
+floor-le-abs (negsuc n) d = omega (arith, NatL.div-le-self n d)
+
+-- ---- division with remainder
+module _ (z : ℤ) (d : ℕ) (h : 0 < d) where
+  pub remainder-is : z -ℤ floor z d *ℤ pos d ≡ pos (remainder z d)
+  unfolding remainder
+  remainder-is =
+      let l = low z d h in
+      sym (pos-natAbs _ (yes-nonNeg (of-le (is-nat 0) (is-sub-mul (is z) (is (floor z d)) d) (omega arith))))
+
+  pub remainder-lt : remainder z d < d
+  unfolding remainder
+  remainder-lt =
+      let l = low z d h in
+      let g = high z d h in
+      omega (arith, natAbs-bound (is-sub-mul (is z) (is (floor z d)) d) (pred d) (omega arith) (omega arith))
+
+  -- z is the floor times d and the remainder
+  pub division : plus (floor z d) * d + remainder z d + minus z ≡ plus z + minus (floor z d) * d
+  division = omega (arith, rw remainder-is at (is-parts (is-sub-mul (is z) (is (floor z d)) d)))
+
+-- and of no other number with a remainder below d
+pub floor-unique : {z q : ℤ} {a b x y : ℕ} → Is z a b → Is q x y → (d r : ℕ) → x * d + r + b ≡ a + y * d → r < d
+    → floor z d ≡ q
+unfolding floor
+floor-unique (is+ h) (is+ k) d r e l =
+    let m = ap (λ i. i * d) k in
+    ap pos (NatL.div-eq-of-lt-le d (omega arith) (omega arith))
+floor-unique (is+ h) (is- k) d r e l = let m = ap (λ i. i * d) k in absurd (omega arith)
+floor-unique (is- h) (is+ k) d r e l = let m = ap (λ i. i * d) k in absurd (omega arith)
+floor-unique (is- h) (is- k) d r e l =
+    let m = ap (λ i. i * d) k in
+    ap negsuc (NatL.div-eq-of-lt-le d (omega arith) (omega arith))

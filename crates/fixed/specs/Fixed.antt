@@ -1,0 +1,33 @@
+-- Fixed point: the unit, the span limit, rounding to the unit and what it leaves, sums that stop above the limit.
+use Prim.Native.Nat.{ℕ, _+_, _-_, _/_, _^_, min}
+use lib.IntN.{ℤ, pos, _+ℤ_, _-ℤ_, _*ℤ_, natAbs}
+use Rattle.fixed.specs.declared.Rounded.{Rounded}
+use Rattle.fixed.specs.Division.{floor}
+
+-- a whole number c stands for c / U
+unfoldable pub U : ℕ
+U = 2 ^ 20
+
+-- the largest span
+unfoldable pub span-limit : ℕ
+span-limit = 2 ^ 30
+
+-- (z + U/2) / U rounded down
+unfoldable pub round : ℤ → ℤ
+round z = floor (z +ℤ pos (U / 2)) U
+
+-- |z − c U| for c = round z
+unfoldable pub residual : ℤ → ℕ
+residual z = natAbs (z -ℤ round z *ℤ pos U)
+
+-- both, as the code answers them
+abbrev pub rounded : ℤ → Rounded
+rounded z = record { coefficient = round z; residual = residual z }
+
+-- E / U rounded up
+unfoldable pub round-up : ℕ → ℕ
+round-up E = (E + (U - 1)) / U
+
+-- s, or just above the span limit where s is larger
+unfoldable pub capped : ℕ → ℕ
+capped s = min s (span-limit + 1)

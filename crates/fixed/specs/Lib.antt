@@ -1,0 +1,5 @@
+pub mod Division
+pub mod DivisionLaws
+pub mod Fixed
+pub mod FixedLaws
+pub mod MachineLaws
