@@ -1,0 +1,128 @@
+//! The check of demand 3: one claim about a whole accepted sheet.
+
+use super::fraction::Fraction;
+use super::function::InputFunction;
+use super::outcome::{outcome_at, outcome_polynomial, NoOutcome, Point};
+use super::polynomial::{ExactPolynomial, SizeLimit};
+use crate::book::SoundBook;
+use crate::model::UNIT;
+use crate::operations::Ends;
+use crate::run::{self, RunResult};
+use crate::sheet;
+
+/// How much of the claim could be checked; what passes the size limit could not.
+#[derive(Clone, Copy, Debug, Default, PartialEq, Eq)]
+pub struct Checked {
+    pub points: usize,
+    pub points_too_large: usize,
+    pub integral: bool,
+}
+
+/// Where the claim is false.
+#[derive(Clone, Debug, PartialEq, Eq)]
+pub enum Violation {
+    /// The outcome differs from the result's polynomial by more than its radius.
+    Radius(Box<Point>),
+    /// The outcome is outside the range.
+    Range(Box<Point>),
+    /// The substitution of this step left the box.
+    LeftBox(usize, Box<Point>),
+    /// The integral is outside its ends.
+    Integral,
+    /// The outcome at the point and the outcome as a polynomial differ, which
+    /// would be a fault of this check and not of a run.
+    Disagreement(Box<Point>),
+}
+
+/// Runs a sheet and checks what the run claims. None if the sheet is refused.
+/// The functions must lie within the sheet's models, one for each.
+pub fn check_sheet(
+    bytes: &[u8],
+    functions: &[InputFunction],
+    points: &[Point],
+) -> Option<Result<Checked, Violation>> {
+    let book = sheet::sound_book(bytes).ok()?;
+    let result = run::run(&book).ok()?;
+    Some(check_result(&book, &result, functions, points))
+}
+
+/// Checks a claimed result, wherever it came from.
+pub fn check_result(
+    book: &SoundBook,
+    result: &RunResult,
+    functions: &[InputFunction],
+    points: &[Point],
+) -> Result<Checked, Violation> {
+    let limit = SizeLimit::default();
+    let mut checked = Checked::default();
+    let polynomial = polynomial_outcome(book, functions, &limit);
+    for point in points {
+        match outcome_at(book, functions, point, &limit) {
+            Ok(outcome) => {
+                check_point(result, &outcome, point)?;
+                check_agreement(polynomial.as_ref(), &outcome, point)?;
+                checked.points += 1;
+            }
+            Err(NoOutcome::TooLarge) => checked.points_too_large += 1,
+            Err(NoOutcome::LeftBox(step)) => {
+                return Err(Violation::LeftBox(step, Box::new(point.clone())));
+            }
+        }
+    }
+    if let Some(polynomial) = polynomial {
+        check_integral(book.n, result, &polynomial)?;
+        checked.integral = true;
+    }
+    Ok(checked)
+}
+
+fn polynomial_outcome(
+    book: &SoundBook,
+    functions: &[InputFunction],
+    limit: &SizeLimit,
+) -> Option<ExactPolynomial> {
+    let inputs: Option<Vec<&ExactPolynomial>> =
+        functions.iter().map(InputFunction::as_polynomial).collect();
+    outcome_polynomial(book, &inputs?, limit)
+}
+
+fn check_point(result: &RunResult, outcome: &Fraction, point: &Point) -> Result<(), Violation> {
+    let value = ExactPolynomial::of_model(&result.model).at(point);
+    let deviation = (outcome - &value).abs();
+    if deviation > Fraction::of(result.model.radius, UNIT) {
+        return Err(Violation::Radius(Box::new(point.clone())));
+    }
+    if !encloses(result.range, outcome) {
+        return Err(Violation::Range(Box::new(point.clone())));
+    }
+    Ok(())
+}
+
+fn check_agreement(
+    polynomial: Option<&ExactPolynomial>,
+    outcome: &Fraction,
+    point: &Point,
+) -> Result<(), Violation> {
+    if polynomial.is_some_and(|polynomial| polynomial.at(point) != *outcome) {
+        return Err(Violation::Disagreement(Box::new(point.clone())));
+    }
+    Ok(())
+}
+
+fn check_integral(
+    n: usize,
+    result: &RunResult,
+    polynomial: &ExactPolynomial,
+) -> Result<(), Violation> {
+    if encloses(result.integral, &polynomial.integral(n)) {
+        Ok(())
+    } else {
+        Err(Violation::Integral)
+    }
+}
+
+/// Whether the fraction times U lies between the ends.
+pub fn encloses(ends: Ends, fraction: &Fraction) -> bool {
+    let scaled = fraction * &Fraction::of(UNIT, 1);
+    Fraction::of(ends.low, 1) <= scaled && scaled <= Fraction::of(ends.high, 1)
+}

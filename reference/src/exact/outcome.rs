@@ -1,0 +1,163 @@
+//! The exact outcome of a sheet, at a point and as a polynomial.
+
+use super::fraction::Fraction;
+use super::function::InputFunction;
+use super::polynomial::{ExactPolynomial, SizeLimit};
+use crate::book::{
+    SoundBook, Step, ADD, CONSTANT, INPUT, MULTIPLY, NEGATE, SUBSTITUTE, SUBTRACT, SWEEP, VARIABLE,
+};
+use crate::model::{MOST_VARIABLES, UNIT};
+
+/// A point of the box; coordinates above n are 0.
+pub type Point = [Fraction; MOST_VARIABLES];
+
+/// Why there is no outcome.
+#[derive(Clone, Copy, Debug, PartialEq, Eq)]
+pub enum NoOutcome {
+    /// The numbers pass the limit; nothing is known.
+    TooLarge,
+    /// The substitution of this step left the box, which an accepted sheet
+    /// must not do.
+    LeftBox(usize),
+}
+
+/// The outcome of the last step at a point.
+pub fn outcome_at(
+    book: &SoundBook,
+    functions: &[InputFunction],
+    point: &Point,
+    limit: &SizeLimit,
+) -> Result<Fraction, NoOutcome> {
+    let mut outcomes = Outcomes {
+        book,
+        functions,
+        limit,
+        visited: Vec::new(),
+    };
+    let here = outcomes.visit(point)?;
+    outcomes.of_step(book.steps.len() - 1, here)
+}
+
+/// Outcomes by point and step. Each point is visited once, however often
+/// substitutions lead there.
+struct Outcomes<'a> {
+    book: &'a SoundBook,
+    functions: &'a [InputFunction],
+    limit: &'a SizeLimit,
+    visited: Vec<(Point, Vec<Option<Fraction>>)>,
+}
+
+impl Outcomes<'_> {
+    /// The number of a point among those visited.
+    fn visit(&mut self, point: &Point) -> Result<usize, NoOutcome> {
+        let known = self.visited.iter().position(|(other, _)| other == point);
+        if let Some(number) = known {
+            return Ok(number);
+        }
+        if self.visited.len() == self.limit.points {
+            return Err(NoOutcome::TooLarge);
+        }
+        let unknown = vec![None; self.book.steps.len()];
+        self.visited.push((point.clone(), unknown));
+        Ok(self.visited.len() - 1)
+    }
+
+    /// The point where coordinate v is another and the rest are as here.
+    fn visit_moved(&mut self, here: usize, v: usize, other: Fraction) -> Result<usize, NoOutcome> {
+        let mut point = self.visited[here].0.clone();
+        point[v - 1] = other;
+        self.visit(&point)
+    }
+
+    fn of_input(&self, model: usize, here: usize) -> Result<Fraction, NoOutcome> {
+        let function = &self.functions[model];
+        let point = &self.visited[here].0;
+        if function.bits_at(point) > self.limit.bits {
+            return Err(NoOutcome::TooLarge);
+        }
+        Ok(function.at(point))
+    }
+
+    fn of_step(&mut self, number: usize, here: usize) -> Result<Fraction, NoOutcome> {
+        if let Some(outcome) = &self.visited[here].1[number] {
+            return Ok(outcome.clone());
+        }
+        let outcome = self.computed(number, here)?;
+        if outcome.bits() > self.limit.bits {
+            return Err(NoOutcome::TooLarge);
+        }
+        self.visited[here].1[number] = Some(outcome.clone());
+        Ok(outcome)
+    }
+
+    fn computed(&mut self, number: usize, here: usize) -> Result<Fraction, NoOutcome> {
+        let step = self.book.steps[number];
+        let (a, b, v) = operands(&step);
+        match step.code {
+            INPUT => self.of_input(a, here),
+            CONSTANT => Ok(constant_value(&step)),
+            VARIABLE => Ok(self.visited[here].0[v - 1].clone()),
+            NEGATE => Ok(-&self.of_step(a, here)?),
+            ADD => Ok(&self.of_step(a, here)? + &self.of_step(b, here)?),
+            SUBTRACT => Ok(&self.of_step(a, here)? - &self.of_step(b, here)?),
+            MULTIPLY => Ok(&self.of_step(a, here)? * &self.of_step(b, here)?),
+            SUBSTITUTE => {
+                let coordinate = self.of_step(b, here)?;
+                if !coordinate.is_in_box() {
+                    return Err(NoOutcome::LeftBox(number));
+                }
+                let there = self.visit_moved(here, v, coordinate)?;
+                self.of_step(a, there)
+            }
+            SWEEP => self.of_step(a, here),
+            _ => unreachable!("test 6 leaves only the codes above"),
+        }
+    }
+}
+
+/// The outcome as a polynomial, or none if it is above the limit.
+pub fn outcome_polynomial(
+    book: &SoundBook,
+    inputs: &[&ExactPolynomial],
+    limit: &SizeLimit,
+) -> Option<ExactPolynomial> {
+    let mut outcomes: Vec<Option<ExactPolynomial>> = Vec::new();
+    for step in &book.steps {
+        let outcome = polynomial_of_step(step, inputs, &outcomes, limit);
+        outcomes.push(outcome);
+    }
+    outcomes.pop().flatten()
+}
+
+/// A step too large to write down is none, and so is what depends on it; the
+/// last step may do without it.
+fn polynomial_of_step(
+    step: &Step,
+    inputs: &[&ExactPolynomial],
+    earlier: &[Option<ExactPolynomial>],
+    limit: &SizeLimit,
+) -> Option<ExactPolynomial> {
+    let (a, b, v) = operands(step);
+    let outcome = |number: usize| earlier[number].as_ref();
+    match step.code {
+        INPUT => Some(inputs[a].clone()),
+        CONSTANT => Some(ExactPolynomial::constant(&constant_value(step))),
+        VARIABLE => Some(ExactPolynomial::variable(v)),
+        NEGATE => Some(outcome(a)?.negated()),
+        ADD => Some(outcome(a)?.plus(outcome(b)?)),
+        SUBTRACT => Some(outcome(a)?.plus(&outcome(b)?.negated())),
+        MULTIPLY => outcome(a)?.times(outcome(b)?, limit),
+        SUBSTITUTE => outcome(a)?.substituted(v, outcome(b)?, limit),
+        SWEEP => outcome(a).cloned(),
+        _ => unreachable!("test 6 leaves only the codes above"),
+    }
+}
+
+fn operands(step: &Step) -> (usize, usize, usize) {
+    let [a, b, v] = [step.a, step.b, step.v].map(usize::from);
+    (a, b, v)
+}
+
+fn constant_value(step: &Step) -> Fraction {
+    Fraction::of(i128::from(step.value), UNIT)
+}

@@ -1,0 +1,91 @@
+//! Sheets before they are bytes. A draft may break any rule: nothing is tested.
+
+use crate::book::Step;
+
+/// A model as its record will say it. The count byte follows the terms.
+#[derive(Clone, Debug, Default, PartialEq, Eq)]
+pub struct DraftModel {
+    pub radius: u32,
+    pub terms: Vec<(u16, i32)>,
+}
+
+impl DraftModel {
+    pub fn new(radius: u32, terms: &[(u16, i32)]) -> DraftModel {
+        DraftModel {
+            radius,
+            terms: terms.to_vec(),
+        }
+    }
+
+    pub fn record(&self) -> Vec<u8> {
+        let mut record = self.radius.to_le_bytes().to_vec();
+        record.push(self.terms.len() as u8);
+        for (key, coefficient) in &self.terms {
+            record.extend(key.to_le_bytes());
+            record.extend(coefficient.to_le_bytes());
+        }
+        record
+    }
+
+    /// The sum of all |c| plus the radius.
+    pub fn span(&self) -> u64 {
+        let sizes = self.terms.iter().map(|(_, c)| u64::from(c.unsigned_abs()));
+        sizes.sum::<u64>() + u64::from(self.radius)
+    }
+}
+
+/// A sheet before it is bytes.
+#[derive(Clone, Debug, PartialEq, Eq)]
+pub struct Draft {
+    pub n: u8,
+    pub d: u8,
+    pub models: Vec<DraftModel>,
+    pub steps: Vec<Step>,
+}
+
+impl Draft {
+    pub fn new(n: u8, d: u8, models: Vec<DraftModel>, steps: Vec<Step>) -> Draft {
+        Draft {
+            n,
+            d,
+            models,
+            steps,
+        }
+    }
+
+    /// The sheet, assembled apart from the writer so that the two can be
+    /// compared.
+    pub fn bytes(&self) -> Vec<u8> {
+        let records = self.model_bytes();
+        self.bytes_with_records(&records)
+    }
+
+    pub fn model_bytes(&self) -> Vec<u8> {
+        self.models.iter().flat_map(DraftModel::record).collect()
+    }
+
+    /// The sheet with other bytes in place of its model records; the offset
+    /// follows them.
+    pub fn bytes_with_records(&self, records: &[u8]) -> Vec<u8> {
+        let mut bytes = records.to_vec();
+        bytes.extend(self.steps.iter().flat_map(|step| step.to_bytes()));
+        bytes.extend([self.n, self.d]);
+        bytes.extend([self.models.len() as u8, self.steps.len() as u8]);
+        bytes.extend((records.len() as u16).to_le_bytes());
+        bytes.extend([0x4D, 0x4B]);
+        bytes
+    }
+
+    /// Adds a step and gives its number.
+    pub fn push(&mut self, step: Step) -> u8 {
+        self.steps.push(step);
+        (self.steps.len() - 1) as u8
+    }
+
+    /// Adds a model and a step that names it, and gives the step's number.
+    pub fn push_input(&mut self, model: DraftModel) -> u8 {
+        self.models.push(model);
+        let number = (self.models.len() - 1) as u8;
+        self.push(Step::one(crate::book::INPUT, number))
+    }
+}

@@ -1,0 +1,212 @@
+//! Hostile models and arguments for every single call.
+
+use super::draft::DraftModel;
+use super::models::{self, Scale, LARGEST_SPAN, UNIT};
+use super::random::Random;
+use crate::calls::Call;
+use crate::stored::{StoredModel, StoredTerm};
+
+/// How many kinds of single calls there are.
+pub const CALLS: u64 = 11;
+
+/// A single call of any kind, one for each number from 0; numbers are
+/// independent of each other.
+pub fn call(seed: u64, number: u64) -> Call {
+    let mut random = Random::new(seed ^ number.wrapping_mul(0xD1B5_4A32_D192_ED03));
+    call_of_kind(&mut random, number % CALLS)
+}
+
+fn call_of_kind(random: &mut Random, kind: u64) -> Call {
+    match kind {
+        0 => Call::Constant {
+            n: small_number(random, 1, 4),
+            value: value(random),
+        },
+        1 => variable(random),
+        2 => Call::Negate { f: one(random) },
+        3 => {
+            let (f, g) = two(random, 15);
+            Call::Add { f, g }
+        }
+        4 => {
+            let (f, g) = two(random, 15);
+            Call::Subtract { f, g }
+        }
+        5 => multiply(random),
+        6 => substitute(random),
+        7 => Call::Sweep {
+            f: one(random),
+            threshold: value(random),
+        },
+        8 => Call::Range { f: one(random) },
+        9 => Call::Integral { f: one(random) },
+        _ => evaluate(random),
+    }
+}
+
+fn variable(random: &mut Random) -> Call {
+    let n = small_number(random, 1, 4);
+    let i = small_number(random, 1, n.clamp(1, 4));
+    Call::Variable { n, i }
+}
+
+fn multiply(random: &mut Random) -> Call {
+    let order = small_number(random, 1, 15);
+    let (f, g) = two(random, order);
+    Call::Multiply { f, g, order }
+}
+
+fn substitute(random: &mut Random) -> Call {
+    let order = small_number(random, 1, 15);
+    let (f, mut g) = two(random, order);
+    if random.one_in(2) {
+        // Most models leave the box; this one has the best chance to stay.
+        let n = f.n.clamp(1, 4);
+        let count = random.size(0, 12);
+        let inside = models::of_scale(random, n, order.clamp(1, 15), count, Scale::Inside);
+        *g = stored(random, n, &inside);
+    }
+    let i = small_number(random, 1, f.n.clamp(1, 4));
+    Call::Substitute { f, g, i, order }
+}
+
+fn evaluate(random: &mut Random) -> Call {
+    let f = one(random);
+    let n = usize::from(f.n);
+    let point = std::array::from_fn(|index| {
+        let unused = index >= n;
+        if unused && !random.one_in(30) {
+            0
+        } else {
+            coordinate(random)
+        }
+    });
+    Call::Evaluate { f, point }
+}
+
+/// Mostly from the low to the high end, at times outside.
+fn small_number(random: &mut Random, low: u8, high: u8) -> u8 {
+    match random.below(24) {
+        0 => low - 1,
+        1 => high.saturating_add(1),
+        2 => random.byte(0, 255),
+        _ => random.byte(low, high),
+    }
+}
+
+/// A constant or threshold: small, at the limits, or far outside.
+fn value(random: &mut Random) -> i64 {
+    match random.below(8) {
+        0 => random.between(-4, 4),
+        1 => random.between(-UNIT, UNIT),
+        2 => random.between(-LARGEST_SPAN, LARGEST_SPAN),
+        3 => random.sign() * (LARGEST_SPAN + random.between(-1, 1)),
+        4 => *random.pick(&[i64::MIN, i64::MAX, 1 << 32, -(1 << 32), i64::MIN + 1]),
+        5 => random.next_u64() as i64,
+        _ => random.between(0, LARGEST_SPAN),
+    }
+}
+
+fn coordinate(random: &mut Random) -> i64 {
+    match random.below(40) {
+        0 => random.sign() * (UNIT + 1),
+        1 => *random.pick(&[i64::MIN, i64::MAX, 1 << 32]),
+        2..=9 => random.sign() * (UNIT - random.between(0, 2)),
+        10..=14 => random.between(-2, 2),
+        15..=19 => random.sign() * UNIT / 2,
+        _ => random.between(-UNIT, UNIT),
+    }
+}
+
+/// One model for a call without an order.
+fn one(random: &mut Random) -> Box<StoredModel> {
+    let n = random.byte(1, 4);
+    Box::new(model(random, n, 15))
+}
+
+/// Two models, mostly of one n.
+fn two(random: &mut Random, order: u8) -> (Box<StoredModel>, Box<StoredModel>) {
+    let n = random.byte(1, 4);
+    let other = if random.one_in(12) {
+        random.byte(1, 4)
+    } else {
+        n
+    };
+    let f = model(random, n, order);
+    let g = model(random, other, order);
+    (Box::new(f), Box::new(g))
+}
+
+/// A model in memory: mostly sound, at times with a fault, at times noise.
+pub fn model(random: &mut Random, n: u8, order: u8) -> StoredModel {
+    let order = order.clamp(1, 15);
+    let most = *random.pick(&[3, 12, 64]);
+    let count = if random.one_in(6) {
+        64
+    } else {
+        random.size(0, most)
+    };
+    let scale = *random.pick(&models::SCALES);
+    let draft = models::of_scale(random, n, order, count, scale);
+    let mut model = stored(random, n, &draft);
+    match random.below(16) {
+        0 => spoil(random, &mut model, order),
+        1 => model = noise(random),
+        _ => {}
+    }
+    model
+}
+
+/// Puts a draft into memory. What stands beyond the count is anything.
+pub fn stored(random: &mut Random, n: u8, draft: &DraftModel) -> StoredModel {
+    let mut model = StoredModel {
+        n,
+        count: draft.terms.len(),
+        radius: u64::from(draft.radius),
+        ..noise(random)
+    };
+    for (place, &(key, coefficient)) in model.terms.iter_mut().zip(&draft.terms) {
+        place.key = key;
+        place.coefficient = i64::from(coefficient);
+    }
+    model
+}
+
+/// Every field is anything.
+pub fn noise(random: &mut Random) -> StoredModel {
+    let zeros = random.one_in(3);
+    let mut model = StoredModel {
+        n: random.byte(0, 255),
+        count: random.next_u64() as usize,
+        radius: random.next_u64(),
+        ..StoredModel::ZEROS
+    };
+    for place in model.terms.iter_mut().filter(|_| !zeros) {
+        *place = StoredTerm {
+            key: random.next_u64() as u16,
+            coefficient: random.next_u64() as i64,
+        };
+    }
+    model
+}
+
+/// Breaks one rule (or, where the model has no terms, perhaps none).
+fn spoil(random: &mut Random, model: &mut StoredModel, order: u8) {
+    let last = model.count.clamp(1, 64) - 1;
+    let place = random.size(0, last);
+    let largest = LARGEST_SPAN as u64;
+    match random.below(12) {
+        0 => model.n = *random.pick(&[0, 5, 255]),
+        1 => model.count = *random.pick(&[65, 255, 256, 1 << 32, usize::MAX]),
+        2 => model.radius = *random.pick(&[largest + 1, 1 << 32, 1 << 63, u64::MAX]),
+        3 => model.terms[place].coefficient = 0,
+        4 => model.terms[place].coefficient = *random.pick(&[i64::MIN, i64::MAX, 1 << 32]),
+        5 => model.terms[place].key ^= 1 << random.below(16),
+        6 => model.terms[place].key = model.terms[place.saturating_sub(1)].key,
+        7 => model.terms.swap(place, place.saturating_sub(1)),
+        8 => model.terms[last].key = u16::from(order + 1) << 12,
+        9 => model.terms[last].key = 0xF000 | 1 << (4 * random.below(3)),
+        10 => model.radius += largest + 1 - model.radius.min(largest),
+        _ => model.count = (model.count + 1).min(64),
+    }
+}

@@ -1,0 +1,154 @@
+//! Random sound models.
+
+use super::draft::DraftModel;
+use super::random::Random;
+use std::collections::BTreeSet;
+
+pub const UNIT: i64 = 1 << 20;
+pub const LARGEST_SPAN: i64 = 1 << 30;
+
+/// How large the numbers of a model are.
+#[derive(Clone, Copy, Debug, PartialEq, Eq)]
+pub enum Scale {
+    /// A few units of the last place, where rounding is everything.
+    Tiny,
+    /// A span of at most U, so that the model may be substituted.
+    Inside,
+    /// Coefficients about as large as U.
+    Unit,
+    /// Odd multiples of U/2, so that products fall on halves.
+    Halves,
+    /// A span up to the largest.
+    Wide,
+    /// Exactly the largest span.
+    Full,
+    /// Small coefficients and a radius that leaves little or no room for the
+    /// rounding of a substitution.
+    Brim,
+}
+
+pub const SCALES: [Scale; 7] = [
+    Scale::Tiny,
+    Scale::Inside,
+    Scale::Unit,
+    Scale::Halves,
+    Scale::Wide,
+    Scale::Full,
+    Scale::Brim,
+];
+
+/// A random key of n exponents with total degree at most `degree`.
+pub fn key(random: &mut Random, n: u8, degree: u8) -> u16 {
+    let mut exponents = [0_u16; 4];
+    // One factor at a time: low degrees come as often as high ones.
+    for _ in 0..random.byte(0, degree) {
+        exponents[random.size(0, usize::from(n) - 1)] += 1;
+    }
+    exponents
+        .iter()
+        .fold(0, |key, exponent| key << 4 | exponent)
+}
+
+/// How many monomials of n variables have a degree of at most `degree`.
+pub fn monomial_count(n: u8, degree: u8) -> usize {
+    all_keys(n, degree).len()
+}
+
+/// All keys of n exponents with total degree at most `degree`, rising.
+pub fn all_keys(n: u8, degree: u8) -> Vec<u16> {
+    let hidden = 0xFFFF_u16.checked_shr(4 * u32::from(n)).unwrap_or(0);
+    let allowed = |key: &u16| {
+        let total: u16 = (0..4).map(|i| key >> (4 * i) & 15).sum();
+        key & hidden == 0 && total <= u16::from(degree)
+    };
+    (0..=u16::MAX).filter(allowed).collect()
+}
+
+/// Rising random keys, as many as asked for or as there are.
+pub fn keys(random: &mut Random, n: u8, degree: u8, count: usize) -> Vec<u16> {
+    let mut chosen = BTreeSet::new();
+    for _ in 0..4 * count {
+        if chosen.len() < count {
+            chosen.insert(key(random, n, degree));
+        }
+    }
+    if chosen.len() < count {
+        let missing = all_keys(n, degree);
+        let start = random.size(0, missing.len() - 1);
+        let turned = missing[start..].iter().chain(&missing[..start]);
+        for &key in turned {
+            if chosen.len() < count {
+                chosen.insert(key);
+            }
+        }
+    }
+    chosen.into_iter().collect()
+}
+
+/// A random sound model with at most `most_terms` terms.
+pub fn model(random: &mut Random, n: u8, d: u8, most_terms: usize) -> DraftModel {
+    let scale = *random.pick(&SCALES);
+    let count = random.size(0, most_terms);
+    of_scale(random, n, d, count, scale)
+}
+
+/// A random sound model of a scale, with `count` terms or as many as there are.
+pub fn of_scale(random: &mut Random, n: u8, d: u8, count: usize, scale: Scale) -> DraftModel {
+    let keys = keys(random, n, d, count);
+    let span = span_of(random, keys.len(), scale);
+    let mut left = span;
+    let mut terms = Vec::new();
+    for (index, &key) in keys.iter().enumerate() {
+        let later = (keys.len() - index - 1) as i64;
+        let size = coefficient_size(random, left - later, later + 1, scale);
+        left -= size;
+        terms.push((key, (size * random.sign()) as i32));
+    }
+    let radius = match scale {
+        Scale::Full => left,
+        Scale::Brim => LARGEST_SPAN - (span - left) - random.between(0, 2),
+        _ => radius_up_to(random, left),
+    };
+    DraftModel {
+        radius: radius as u32,
+        terms,
+    }
+}
+
+/// A span that leaves at least 1 for each coefficient.
+fn span_of(random: &mut Random, count: usize, scale: Scale) -> i64 {
+    let least = count as i64;
+    let most = match scale {
+        Scale::Tiny | Scale::Brim => 2 * least + 8,
+        Scale::Inside => UNIT,
+        Scale::Unit => 8 * UNIT,
+        Scale::Halves => 64 * UNIT,
+        Scale::Wide | Scale::Full => LARGEST_SPAN,
+    };
+    match scale {
+        Scale::Full => most,
+        Scale::Inside if random.one_in(3) => most,
+        Scale::Halves => most,
+        _ => random.between(least, most),
+    }
+}
+
+/// A size from 1 to `most`, about a share of it.
+fn coefficient_size(random: &mut Random, most: i64, shares: i64, scale: Scale) -> i64 {
+    let half = UNIT / 2;
+    if scale == Scale::Halves && most >= 3 * half {
+        return half * (2 * random.between(0, (most / half - 1) / 2 / shares) + 1);
+    }
+    let share = (2 * most / shares).clamp(1, most);
+    random.between(1, share)
+}
+
+/// Often 0 and often small, as large radii drown everything else.
+fn radius_up_to(random: &mut Random, most: i64) -> i64 {
+    match random.below(4) {
+        0 => 0,
+        1 => random.between(0, most.min(8)),
+        2 => random.between(0, most.min(UNIT)),
+        _ => random.between(0, most),
+    }
+}

@@ -1,0 +1,79 @@
+//! Random bytes, some with a plausible trailer so that later tests are reached.
+
+use super::random::Random;
+use super::sound;
+use super::{Expected, Kind};
+
+pub const KINDS: [Kind; 4] = [
+    Kind {
+        name: "random bytes",
+        make: any_bytes,
+    },
+    Kind {
+        name: "random bytes with the mark",
+        make: marked_bytes,
+    },
+    Kind {
+        name: "random bytes with a fitting trailer",
+        make: fitting_bytes,
+    },
+    Kind {
+        name: "a sound sheet with changed bytes",
+        make: changed_bytes,
+    },
+];
+
+type Made = (Vec<u8>, Expected);
+
+fn length(random: &mut Random) -> usize {
+    match random.below(4) {
+        0 => random.size(0, 40),
+        1 => random.size(16, 600),
+        2 => random.size(6_700, 6_760),
+        _ => random.size(0, 8_000),
+    }
+}
+
+fn any_bytes(random: &mut Random) -> Made {
+    let count = length(random);
+    (random.bytes(count), Expected::Unknown)
+}
+
+fn marked_bytes(random: &mut Random) -> Made {
+    let count = length(random).max(16);
+    let mut bytes = random.bytes(count);
+    bytes[count - 2..].copy_from_slice(&[0x4D, 0x4B]);
+    (bytes, Expected::Unknown)
+}
+
+/// Mostly zeros before a trailer that passes tests 1 to 4: empty models and
+/// inputs are then common, and some sheets are accepted.
+fn fitting_bytes(random: &mut Random) -> Made {
+    let steps = random.size(1, 64);
+    let offset = random.size(0, 200);
+    let models = if offset.is_multiple_of(5) && random.one_in(2) {
+        (offset / 5).min(16)
+    } else {
+        random.size(0, 16)
+    };
+    let mut bytes = vec![0; offset + 8 * steps];
+    for _ in 0..random.below(8) {
+        let place = random.size(0, bytes.len() - 1);
+        bytes[place] = random.byte(0, 255);
+    }
+    bytes.extend([random.byte(1, 4), random.byte(1, 15)]);
+    bytes.extend([models as u8, steps as u8]);
+    bytes.extend((offset as u16).to_le_bytes());
+    bytes.extend([0x4D, 0x4B]);
+    (bytes, Expected::Unknown)
+}
+
+fn changed_bytes(random: &mut Random) -> Made {
+    let shape = *random.pick(&sound::SHAPES);
+    let mut bytes = sound::sheet(random, shape).bytes();
+    for _ in 0..random.size(1, 3) {
+        let place = random.size(0, bytes.len() - 1);
+        bytes[place] ^= 1 << random.below(8);
+    }
+    (bytes, Expected::Unknown)
+}

@@ -1,0 +1,201 @@
+//! Named sheets at the places where errors are plausible.
+
+use super::draft::{Draft, DraftModel};
+use super::samples::{constants, input, one_variable, with_inputs, Samples, HALF, LARGEST, UNIT};
+use super::Sample;
+use crate::book::{Step, ADD, MULTIPLY, NEGATE, SUBTRACT};
+
+/// All named sheets where errors are plausible.
+pub fn samples() -> Vec<Sample> {
+    let mut list = Samples::default();
+    halves(&mut list);
+    collecting(&mut list);
+    ends_of_the_box(&mut list);
+    orders_in_substitutions(&mut list);
+    room_in_substitutions(&mut list);
+    chains(&mut list);
+    two_faults(&mut list);
+    faults_not_used(&mut list);
+    list.into_vec()
+}
+
+/// Products that fall on and next to halves, of both signs.
+fn halves(list: &mut Samples) {
+    for factor in -5..=5 {
+        for near in [HALF - 1, HALF, HALF + 1] {
+            let draft = constants(&[factor, near], Step::two(MULTIPLY, 0, 1));
+            list.accept(&format!("{factor} times {near}"), &draft);
+        }
+    }
+}
+
+/// Monomials that must, and must not, be collected into one.
+fn collecting(list: &mut Samples) {
+    let steps = [
+        Step::variable(1),
+        Step::variable(2),
+        Step::two(ADD, 0, 1),
+        Step::two(SUBTRACT, 0, 1),
+        Step::two(MULTIPLY, 2, 3),
+    ];
+    let squares = |d: u8| Draft::new(2, d, Vec::new(), steps.to_vec());
+    list.accept("(x + y)(x - y), order 1", &squares(1));
+    list.accept("(x + y)(x - y), order 2", &squares(2));
+    // As keys, y^8 y^9 and x z^8 z^8 would both be hex 1100.
+    let f = DraftModel::new(0, &[(0x0800, UNIT), (0x1080, UNIT)]);
+    let g = DraftModel::new(0, &[(0x0080, -UNIT), (0x0900, UNIT)]);
+    let draft = with_inputs(3, 15, &[f, g], Step::two(MULTIPLY, 0, 1));
+    list.accept("y^17 against x z^16", &draft);
+    // As keys, z^15 z and y would both be hex 0100; one is kept, one is not.
+    let f = DraftModel::new(0, &[(0x0000, HALF), (0x00F0, UNIT)]);
+    let g = DraftModel::new(0, &[(0x0010, -UNIT), (0x0100, UNIT)]);
+    let draft = with_inputs(3, 15, &[f, g], Step::two(MULTIPLY, 0, 1));
+    list.accept("z^16 against y", &draft);
+}
+
+/// Puts a model for x into another, in one variable.
+fn put_in(f: &DraftModel, g: &DraftModel, d: u8) -> Draft {
+    let models = [f.clone(), g.clone()];
+    with_inputs(1, d, &models, Step::substitute(0, 1, 1))
+}
+
+fn power(k: u16) -> DraftModel {
+    DraftModel::new(0, &[(k << 12, UNIT)])
+}
+
+fn constant(radius: u32, value: i32) -> DraftModel {
+    DraftModel::new(radius, &[(0, value)])
+}
+
+fn ends_of_the_box(list: &mut Samples) {
+    let (x, square) = (power(1), power(2));
+    let at = |value: i32| put_in(&square, &constant(0, value), 2);
+    list.accept("g at the end of the box", &at(UNIT));
+    list.accept("g at the other end", &at(-UNIT));
+    list.refuse("g one beyond", &at(UNIT + 1), (9, 2));
+    list.refuse("g one beyond below", &at(-UNIT - 1), (9, 2));
+    let near = |radius: u32, value: i32| put_in(&x, &constant(radius, value), 1);
+    list.accept("g at the end by its radius", &near(1, UNIT - 1));
+    list.accept("g at the other end by its radius", &near(1, 1 - UNIT));
+    list.refuse("g leaving by its radius", &near(2, UNIT - 1), (9, 2));
+    list.refuse("g leaving below by its radius", &near(2, 1 - UNIT), (9, 2));
+    let beyond = constant(1, UNIT);
+    let nothing = put_in(&DraftModel::default(), &beyond, 1);
+    list.refuse("g leaving where f has no terms", &nothing, (9, 2));
+    let without = put_in(&constant(3, 7), &beyond, 1);
+    list.refuse("g leaving where f lacks the variable", &without, (9, 2));
+    let radius = put_in(&square, &DraftModel::new(1 << 20, &[]), 2);
+    list.accept("g of radius U only", &radius);
+}
+
+fn orders_in_substitutions(list: &mut Samples) {
+    list.accept("g the variable itself", &put_in(&power(2), &power(1), 2));
+    list.accept("g above the order", &put_in(&power(2), &power(2), 2));
+    for k in [13, 14, 15] {
+        let at = |value: i32| put_in(&power(k), &constant(0, value), 15);
+        list.accept(&format!("x^{k} at -1"), &at(-UNIT));
+        list.accept(&format!("x^{k} near 1"), &at(UNIT - 1));
+        let zero = DraftModel::default();
+        list.accept(&format!("x^{k} at 0"), &put_in(&power(k), &zero, 15));
+        list.accept(
+            &format!("x^{k} at x^15"),
+            &put_in(&power(k), &power(15), 15),
+        );
+    }
+}
+
+/// U/4 × (1 + x + x^2 + x^3).
+fn quarters() -> DraftModel {
+    let terms: Vec<(u16, i32)> = (0..4).map(|k| (k << 12, UNIT / 4)).collect();
+    DraftModel::new(0, &terms)
+}
+
+/// Full spans, where the rounding of an inner product may have no room.
+fn room_in_substitutions(list: &mut Samples) {
+    let slope = |radius: u32, c: i32| DraftModel::new(radius, &[(0x1000, c)]);
+    let draft = |f: &DraftModel| put_in(f, &quarters(), 3);
+    list.accept("room where nothing is rounded", &draft(&slope(0, LARGEST)));
+    list.refuse(
+        "no room for rounding",
+        &draft(&slope(0, LARGEST - 1)),
+        (7, 2),
+    );
+    let last = draft(&slope(1001, LARGEST - 1001));
+    list.refuse("no room for the radius of f", &last, (7, 2));
+    let without = draft(&constant(1, LARGEST - 1));
+    list.accept("a full f that lacks the variable", &without);
+}
+
+/// Substitutions into what substitutions gave, over and over.
+fn chains(list: &mut Samples) {
+    let terms = [(0, 1000), (0x1000, HALF), (0x2000, -HALF / 2)];
+    for d in [1, 2, 3, 15] {
+        let kept = if d == 1 { &terms[..2] } else { &terms };
+        let mut steps = vec![input(0)];
+        for number in 0..63 {
+            steps.push(Step::substitute(number, number / 2, 1));
+        }
+        let draft = one_variable(d, &[DraftModel::new(1, kept)], &steps);
+        list.accept(&format!("63 substitutions, order {d}"), &draft);
+    }
+    list.accept("variables in a circle", &variables_in_a_circle());
+}
+
+/// x for y, y for z, z for w, w for x, each in what the last step gave.
+fn variables_in_a_circle() -> Draft {
+    let low = [(0x0012, 3 * HALF), (0x0301, -7)];
+    let high = [(0x1000, UNIT), (0x2100, -HALF)];
+    let model = DraftModel::new(2, &[low, high].concat());
+    let mut draft = Draft::new(4, 6, vec![model], Vec::new());
+    let x: Vec<u8> = (1..=4).map(|v| draft.push(Step::variable(v))).collect();
+    let mut last = draft.push(input(0));
+    for turn in 0..40 {
+        let from = turn % 4;
+        let into = (from + 1) % 4 + 1;
+        last = draft.push(Step::substitute(last, x[from], into as u8));
+        if turn % 10 == 9 {
+            last = draft.push(Step::one(NEGATE, last));
+        }
+    }
+    draft
+}
+
+/// Two faults at once: the first test decides.
+fn two_faults(list: &mut Samples) {
+    let smallest = one_variable(1, &[], &[Step::constant(0)]).bytes();
+    let with = |changes: &[(usize, u8)]| {
+        let mut bytes = smallest.clone();
+        for &(place, value) in changes {
+            bytes[place] = value;
+        }
+        bytes
+    };
+    // The trailer starts at 8: n, d, counts, offset, mark.
+    list.refuse_bytes("2 and 3 together", with(&[(8, 0), (15, 0)]), (2, 0));
+    list.refuse_bytes("3 and 4 together", with(&[(9, 16), (12, 1)]), (3, 0));
+    list.refuse_bytes("4 and 6 together", with(&[(0, 99), (12, 1)]), (4, 0));
+    let unknown = Step::one(99, 0);
+    let broken = DraftModel::new(0, &[(0, 0)]);
+    let sound = DraftModel::new(0, &[(0, 1)]);
+    let models = [sound, broken.clone(), broken];
+    let both = one_variable(1, &models, &[unknown]);
+    list.refuse("5 and 6 together", &both, (5, 1));
+    let left_over = one_variable(1, &[], &[unknown]).bytes_with_records(&[0]);
+    list.refuse_bytes("bytes without models", left_over, (5, 0));
+    let steps = [Step::variable(1), unknown, unknown];
+    list.refuse("two broken steps", &one_variable(1, &[], &steps), (6, 1));
+}
+
+/// Steps and models that the last step does not use are tested all the same.
+fn faults_not_used(list: &mut Samples) {
+    let mut draft = constants(&[LARGEST, 1], Step::two(ADD, 0, 1));
+    draft.push(Step::constant(0));
+    list.refuse("a refused step that is not used", &draft, (7, 2));
+    let broken = DraftModel::new(u32::MAX, &[]);
+    let draft = one_variable(1, &[broken], &[Step::constant(0)]);
+    list.refuse("a broken model that is not used", &draft, (5, 0));
+    // A broken step behind a step that would be refused: 6 is tested first.
+    let mut draft = constants(&[LARGEST, 1], Step::two(ADD, 0, 1));
+    draft.push(Step::variable(2));
+    list.refuse("6 behind 7", &draft, (6, 3));
+}

@@ -1,0 +1,197 @@
+//! Sheets that pass tests 1 to 6, and mostly run to their end.
+
+use super::draft::Draft;
+use super::models::{self, LARGEST_SPAN, UNIT};
+use super::random::Random;
+use crate::book::{
+    SoundBook, Step, ADD, INPUT, MOST_MODELS, MOST_STEPS, MULTIPLY, NEGATE, SUBTRACT,
+};
+use crate::model::Model;
+use crate::{run, sheet};
+
+/// How large sheets may become.
+#[derive(Clone, Copy, Debug, PartialEq, Eq)]
+pub struct Shape {
+    pub models: usize,
+    pub steps: usize,
+    pub terms: usize,
+}
+
+pub const SMALL: Shape = Shape {
+    models: 3,
+    steps: 8,
+    terms: 4,
+};
+pub const MIDDLE: Shape = Shape {
+    models: 6,
+    steps: 20,
+    terms: 12,
+};
+pub const LARGE: Shape = Shape {
+    models: MOST_MODELS,
+    steps: MOST_STEPS,
+    terms: 64,
+};
+pub const SHAPES: [Shape; 3] = [SMALL, MIDDLE, LARGE];
+
+/// A random sheet. Steps that would be refused are mostly replaced, so that
+/// runs get far; now and then one stays.
+pub fn sheet(random: &mut Random, shape: Shape) -> Draft {
+    let draft = start(random, shape);
+    let steps = random.size(1, shape.steps);
+    grown(random, draft, steps, Some(40))
+}
+
+/// A random sheet that runs to its end.
+pub fn accepted(random: &mut Random, shape: Shape) -> Draft {
+    let draft = start(random, shape);
+    let steps = random.size(1, shape.steps);
+    grown(random, draft, steps, None)
+}
+
+/// A random sheet of a given n and order that runs to its end.
+pub fn accepted_of(random: &mut Random, n: u8, d: u8, shape: Shape) -> Draft {
+    let draft = start_of(random, n, d, shape);
+    let steps = random.size(1, shape.steps);
+    grown(random, draft, steps, None)
+}
+
+/// Adds steps up to a number of them. A step that would be refused stays once
+/// in `refused_one_in` tries, or never.
+fn grown(
+    random: &mut Random,
+    mut draft: Draft,
+    steps: usize,
+    refused_one_in: Option<u64>,
+) -> Draft {
+    let mut runner = Runner::new(&draft);
+    while draft.steps.len() < steps {
+        let keep_refused = refused_one_in.is_some_and(|times| random.one_in(times));
+        let step = runner.next_step(random, &draft, keep_refused);
+        draft.push(step);
+    }
+    draft
+}
+
+/// n, order and models, without steps.
+fn start(random: &mut Random, shape: Shape) -> Draft {
+    let n = random.byte(1, 4);
+    let d = random.byte(1, 15);
+    start_of(random, n, d, shape)
+}
+
+fn start_of(random: &mut Random, n: u8, d: u8, shape: Shape) -> Draft {
+    let count = random.size(0, shape.models);
+    let models = (0..count)
+        .map(|_| models::model(random, n, d, shape.terms))
+        .collect();
+    Draft::new(n, d, models, Vec::new())
+}
+
+/// A step that keeps its form, whatever its run gives.
+pub fn well_formed_step(random: &mut Random, draft: &Draft) -> Step {
+    let number = draft.steps.len();
+    let code = match (number, draft.models.len()) {
+        (0, 0) => random.byte(1, 2),
+        (0, _) => random.byte(0, 2),
+        // Operations come more often than the steps that feed them.
+        (_, 0) => random.byte(1, 11),
+        (_, _) => random.byte(0, 11),
+    };
+    let earlier = |random: &mut Random| random.size(0, number - 1) as u8;
+    let v = random.byte(1, draft.n);
+    match code {
+        0 => Step::one(INPUT, random.size(0, draft.models.len() - 1) as u8),
+        1 => Step::constant(constant(random)),
+        2 => Step::variable(v),
+        3 => Step::one(NEGATE, earlier(random)),
+        4 => Step::two(ADD, recent(random, number), earlier(random)),
+        5 => Step::two(SUBTRACT, recent(random, number), earlier(random)),
+        6 | 9 => Step::two(MULTIPLY, recent(random, number), earlier(random)),
+        7 | 10 | 11 => Step::substitute(recent(random, number), earlier(random), v),
+        _ => Step::sweep(recent(random, number), threshold(random)),
+    }
+}
+
+/// An earlier step, mostly one of the last, so that most steps matter for the
+/// result.
+fn recent(random: &mut Random, number: usize) -> u8 {
+    let nearest = number.saturating_sub(3);
+    let low = if random.one_in(4) { 0 } else { nearest };
+    random.size(low, number - 1) as u8
+}
+
+fn constant(random: &mut Random) -> i32 {
+    let size = match random.below(6) {
+        0 => random.between(0, 3),
+        1 => UNIT / 2 * random.between(0, 4),
+        2 => random.between(0, UNIT),
+        3 => UNIT + random.between(-1, 1),
+        4 => random.between(0, LARGEST_SPAN),
+        _ => LARGEST_SPAN - random.between(0, 1),
+    };
+    (size * random.sign()) as i32
+}
+
+fn threshold(random: &mut Random) -> i32 {
+    let threshold = match random.below(4) {
+        0 => random.between(0, 4),
+        1 => random.between(0, UNIT),
+        2 => random.between(0, LARGEST_SPAN),
+        _ => LARGEST_SPAN - random.between(0, 1),
+    };
+    threshold as i32
+}
+
+/// Runs a draft along, to see which steps would be refused.
+struct Runner {
+    book: SoundBook,
+    results: Vec<Model>,
+    /// Set once a refused step stays: the run ends there.
+    ended: bool,
+}
+
+impl Runner {
+    fn new(draft: &Draft) -> Runner {
+        // A sheet needs a step; any will do, as only the models are taken.
+        let mut whole = draft.clone();
+        whole.push(Step::constant(0));
+        let mut book = sheet::sound_book(&whole.bytes()).expect("the models are sound");
+        book.steps.clear();
+        Runner {
+            book,
+            results: Vec::new(),
+            ended: false,
+        }
+    }
+
+    fn next_step(&mut self, random: &mut Random, draft: &Draft, keep_refused: bool) -> Step {
+        for _ in 0..12 {
+            let step = well_formed_step(random, draft);
+            if self.ended {
+                return step;
+            }
+            match run::perform(&step, &self.book, &self.results) {
+                Ok(result) => {
+                    self.results.push(result);
+                    return step;
+                }
+                Err(_) if keep_refused => {
+                    self.ended = true;
+                    return step;
+                }
+                Err(_) => {}
+            }
+        }
+        self.plain_step(random, draft)
+    }
+
+    /// A step that is never refused.
+    fn plain_step(&mut self, random: &mut Random, draft: &Draft) -> Step {
+        let step = Step::variable(random.byte(1, draft.n));
+        let result = run::perform(&step, &self.book, &self.results);
+        self.results
+            .push(result.expect("a variable is never refused"));
+        step
+    }
+}

@@ -1,0 +1,30 @@
+//! A second implementation of document 01, "Polynomial models for milk meter curves".
+//!
+//! It exists to be compared with another implementation, so it follows the
+//! sentences of the paper one by one and prefers the obvious to the fast:
+//! polynomials are ordered maps from exponents to 128-bit coefficients.
+//!
+//! The layers, from the bottom:
+//! - [`model`]: sound models, as mathematics sees them, and [`stored`]: models in
+//!   memory, whose fields may hold anything;
+//! - [`operations`]: what document 01 computes with sound models, and [`calls`]:
+//!   the single calls, which first test what they are handed;
+//! - [`book`], [`sheet`], [`mod@write`], [`run`], [`records`], [`text`]: sheets;
+//! - [`exact`]: exact fractions and the check of the enclosure statement;
+//! - [`generate`]: reproducible inputs for a comparison.
+
+#![forbid(unsafe_code)]
+
+pub mod book;
+pub mod calls;
+pub mod exact;
+pub mod generate;
+pub mod model;
+pub mod operations;
+pub mod records;
+pub mod refusal;
+pub mod run;
+pub mod sheet;
+pub mod stored;
+pub mod text;
+pub mod write;

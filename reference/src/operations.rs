@@ -1,0 +1,235 @@
+//! The operations of document 01 on sound models with equal n.
+//!
+//! Arguments are already tested here; what can still happen is a [`Cause`].
+
+use crate::model::{
+    degree, Model, Monomial, Polynomial, LARGEST_DEGREE, LARGEST_SPAN, MOST_TERMS, MOST_VARIABLES,
+    ONE, UNIT,
+};
+use crate::refusal::Refusal;
+use std::collections::BTreeMap;
+
+/// Why an operation on sound models is refused. The place is not known here:
+/// it is a step number on a sheet and 0 in a single call.
+#[derive(Clone, Copy, Debug, PartialEq, Eq)]
+pub enum Cause {
+    Span,
+    Terms,
+    OutsideBox,
+}
+
+impl Cause {
+    pub fn at(self, place: usize) -> Refusal {
+        match self {
+            Cause::Span => Refusal::Span(place),
+            Cause::Terms => Refusal::Terms(place),
+            Cause::OutsideBox => Refusal::OutsideBox(place),
+        }
+    }
+}
+
+/// A low and a high end, both in units of 1 / U.
+#[derive(Clone, Copy, Debug, Default, PartialEq, Eq)]
+pub struct Ends {
+    pub low: i128,
+    pub high: i128,
+}
+
+/// One term of key 0, or none if the value is 0.
+pub fn constant(n: usize, value: i128) -> Model {
+    let mut model = Model::zero(n);
+    if value != 0 {
+        model.polynomial.insert(ONE, value);
+    }
+    model
+}
+
+/// One term, coefficient U. Variables are counted from 1.
+pub fn variable(n: usize, i: usize) -> Model {
+    let mut monomial = ONE;
+    monomial[i - 1] = 1;
+    let mut model = Model::zero(n);
+    model.polynomial.insert(monomial, UNIT);
+    model
+}
+
+/// All signs turned.
+pub fn negate(f: &Model) -> Model {
+    let turned = f.polynomial.iter().map(|(&monomial, &c)| (monomial, -c));
+    Model {
+        n: f.n,
+        polynomial: turned.collect(),
+        radius: f.radius,
+    }
+}
+
+/// Coefficients of equal keys added, zeros dropped, radii added.
+pub fn add(f: &Model, g: &Model) -> Result<Model, Cause> {
+    let mut polynomial = f.polynomial.clone();
+    for (&monomial, &c) in &g.polynomial {
+        *polynomial.entry(monomial).or_insert(0) += c;
+    }
+    polynomial.retain(|_, c| *c != 0);
+    tested(Model {
+        n: f.n,
+        polynomial,
+        radius: f.radius + g.radius,
+    })
+}
+
+/// Adds the negated second.
+pub fn subtract(f: &Model, g: &Model) -> Result<Model, Cause> {
+    add(f, &negate(g))
+}
+
+/// The product with the given order.
+pub fn multiply(f: &Model, g: &Model, order: u32) -> Result<Model, Cause> {
+    let mut excess =
+        f.coefficient_sum() * g.radius + g.coefficient_sum() * f.radius + f.radius * g.radius;
+    let mut polynomial = Polynomial::new();
+    for (monomial, z) in collected_products(&f.polynomial, &g.polynomial) {
+        let kept = degree(&monomial) <= order;
+        let c = if kept { nearest_unit(z) } else { 0 };
+        // With c = 0 this is |z|, which covers the degrees above the order.
+        excess += (z - c * UNIT).abs();
+        if c != 0 {
+            polynomial.insert(monomial, c);
+        }
+    }
+    tested(Model {
+        n: f.n,
+        polynomial,
+        radius: divided_up(excess, UNIT),
+    })
+}
+
+/// For each monomial the sum z of all products that meet there.
+fn collected_products(f: &Polynomial, g: &Polynomial) -> Polynomial {
+    let mut products = Polynomial::new();
+    for (left, a) in f {
+        for (right, b) in g {
+            *products.entry(monomial_product(left, right)).or_insert(0) += a * b;
+        }
+    }
+    products
+}
+
+fn monomial_product(left: &Monomial, right: &Monomial) -> Monomial {
+    std::array::from_fn(|i| left[i] + right[i])
+}
+
+/// (z + U/2) / U rounded down, also below 0.
+fn nearest_unit(z: i128) -> i128 {
+    divided_down(z + UNIT / 2, UNIT)
+}
+
+/// Rounded toward minus infinity; the divisor is positive.
+fn divided_down(number: i128, divisor: i128) -> i128 {
+    number.div_euclid(divisor)
+}
+
+/// Rounded toward plus infinity; the divisor is positive.
+fn divided_up(number: i128, divisor: i128) -> i128 {
+    -divided_down(-number, divisor)
+}
+
+/// Puts g for variable i (from 1) into f, by Horner's rule.
+pub fn substitute(f: &Model, g: &Model, i: usize, order: u32) -> Result<Model, Cause> {
+    let Ends { low, high } = range(g);
+    if low < -UNIT || high > UNIT {
+        return Err(Cause::OutsideBox);
+    }
+    let parts = split(f, i);
+    let part = |k: u8| Model {
+        n: f.n,
+        polynomial: parts.get(&k).cloned().unwrap_or_default(),
+        radius: 0,
+    };
+    let largest = parts.keys().next_back().copied().unwrap_or(0);
+    let mut result = part(largest);
+    for k in (0..largest).rev() {
+        let product = multiply(&result, g, order)?;
+        result = add(&product, &part(k))?;
+    }
+    let radius_of_f = Model {
+        radius: f.radius,
+        ..Model::zero(f.n)
+    };
+    add(&result, &radius_of_f)
+}
+
+/// The parts f_k: what multiplies the k-th power of variable i (from 1).
+fn split(f: &Model, i: usize) -> BTreeMap<u8, Polynomial> {
+    let mut parts: BTreeMap<u8, Polynomial> = BTreeMap::new();
+    for (monomial, &c) in &f.polynomial {
+        let mut rest = *monomial;
+        let k = std::mem::take(&mut rest[i - 1]);
+        parts.entry(k).or_default().insert(rest, c);
+    }
+    parts
+}
+
+/// Drops every term but the constant one with |c| at most the threshold and
+/// adds |c| to the radius.
+pub fn sweep(f: &Model, threshold: i128) -> Model {
+    let mut swept = Model::zero(f.n);
+    swept.radius = f.radius;
+    for (&monomial, &c) in &f.polynomial {
+        if monomial != ONE && c.abs() <= threshold {
+            swept.radius += c.abs();
+        } else {
+            swept.polynomial.insert(monomial, c);
+        }
+    }
+    swept
+}
+
+/// The constant coefficient, minus and plus the sum of the other |c| and e.
+pub fn range(f: &Model) -> Ends {
+    let middle = f.constant_coefficient();
+    let reach = f.span() - middle.abs();
+    Ends {
+        low: middle - reach,
+        high: middle + reach,
+    }
+}
+
+/// The integral over the box; each term is rounded by itself.
+pub fn integral(f: &Model) -> Ends {
+    let volume = 1_i128 << f.n;
+    let mut ends = Ends {
+        low: -volume * f.radius,
+        high: volume * f.radius,
+    };
+    for (monomial, c) in &f.polynomial {
+        let exponents = &monomial[..f.n];
+        if exponents.iter().any(|exponent| exponent % 2 == 1) {
+            continue;
+        }
+        let divisor = exponents.iter().map(|&k| i128::from(k) + 1).product();
+        ends.low += divided_down(c * volume, divisor);
+        ends.high += divided_up(c * volume, divisor);
+    }
+    ends
+}
+
+/// The range of what is left once the constants are put in, one after another.
+pub fn evaluate(f: &Model, point: &[i128; MOST_VARIABLES]) -> Result<Ends, Cause> {
+    let mut rest = f.clone();
+    for (index, &coordinate) in point.iter().enumerate().take(f.n) {
+        let value = constant(f.n, coordinate);
+        rest = substitute(&rest, &value, index + 1, LARGEST_DEGREE)?;
+    }
+    Ok(range(&rest))
+}
+
+/// Tests a product or sum: 8 comes before 7.
+fn tested(model: Model) -> Result<Model, Cause> {
+    if model.polynomial.len() > MOST_TERMS {
+        Err(Cause::Terms)
+    } else if model.span() > LARGEST_SPAN {
+        Err(Cause::Span)
+    } else {
+        Ok(model)
+    }
+}

@@ -1,0 +1,65 @@
+//! The refusals of document 01, "What a refused call gives".
+
+/// Why a call is refused. A variant holds a place where the table has one
+/// other than 0.
+#[derive(Clone, Copy, Debug, PartialEq, Eq, PartialOrd, Ord)]
+pub enum Refusal {
+    /// 1: the length is below 16 or above 6,744.
+    Length,
+    /// 2: the last two bytes are not the mark.
+    Mark,
+    /// 3: n, d, model count or step count is outside its limits.
+    Limits,
+    /// 4: offset + 8 × steps + 8 is not the length.
+    Offset,
+    /// 5: the model with this number breaks a rule.
+    Model(usize),
+    /// 6: the step with this number breaks its form, or an argument is wrong.
+    Step(usize),
+    /// 7: a span above 2^30.
+    Span(usize),
+    /// 8: more than 64 terms.
+    Terms(usize),
+    /// 9: the substituted model, or a coordinate, leaves the box.
+    OutsideBox(usize),
+    /// 10: two models of a single call differ in n.
+    Variables,
+    /// 11: the writer's buffer is too short.
+    Buffer,
+}
+
+impl Refusal {
+    /// The number in the table.
+    pub fn number(self) -> u8 {
+        match self {
+            Refusal::Length => 1,
+            Refusal::Mark => 2,
+            Refusal::Limits => 3,
+            Refusal::Offset => 4,
+            Refusal::Model(_) => 5,
+            Refusal::Step(_) => 6,
+            Refusal::Span(_) => 7,
+            Refusal::Terms(_) => 8,
+            Refusal::OutsideBox(_) => 9,
+            Refusal::Variables => 10,
+            Refusal::Buffer => 11,
+        }
+    }
+
+    /// The place in the table.
+    pub fn place(self) -> usize {
+        match self {
+            Refusal::Model(place)
+            | Refusal::Step(place)
+            | Refusal::Span(place)
+            | Refusal::Terms(place)
+            | Refusal::OutsideBox(place) => place,
+            Refusal::Length
+            | Refusal::Mark
+            | Refusal::Limits
+            | Refusal::Offset
+            | Refusal::Variables
+            | Refusal::Buffer => 0,
+        }
+    }
+}

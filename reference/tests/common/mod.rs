@@ -1,0 +1,49 @@
+//! Helpers that several test files share.
+#![allow(dead_code)]
+
+use reference::generate::{Draft, DraftModel};
+use reference::refusal::Refusal;
+use reference::stored::{StoredModel, StoredTerm};
+use reference::text;
+
+use reference::book::{Step, INPUT};
+
+pub const UNIT: i32 = 1 << 20;
+pub const HALF: i32 = 1 << 19;
+pub const LARGEST: i32 = 1 << 30;
+
+/// The program's lines for a sheet of one variable.
+pub fn lines(d: u8, models: &[DraftModel], steps: &[Step]) -> String {
+    lines_of(1, d, models, steps)
+}
+
+pub fn lines_of(n: u8, d: u8, models: &[DraftModel], steps: &[Step]) -> String {
+    let draft = Draft::new(n, d, models.to_vec(), steps.to_vec());
+    text::lines_of_sheet(&draft.bytes())
+}
+
+pub fn model(radius: u32, terms: &[(u16, i32)]) -> DraftModel {
+    DraftModel::new(radius, terms)
+}
+
+pub fn input(number: u8) -> Step {
+    Step::one(INPUT, number)
+}
+
+/// A model in memory.
+pub fn stored(n: u8, radius: u64, terms: &[(u16, i64)]) -> StoredModel {
+    let mut model = StoredModel {
+        n,
+        count: terms.len(),
+        radius,
+        ..StoredModel::ZEROS
+    };
+    for (place, &(key, coefficient)) in model.terms.iter_mut().zip(terms) {
+        *place = StoredTerm { key, coefficient };
+    }
+    model
+}
+
+pub fn pair(refusal: Option<Refusal>) -> Option<(u8, usize)> {
+    refusal.map(|refusal| (refusal.number(), refusal.place()))
+}

@@ -1,0 +1,232 @@
+//! Demand 3: results enclose the exact outcomes of accepted sheets.
+
+mod common;
+
+use common::*;
+use reference::book::{SoundBook, Step, ADD, MULTIPLY, NEGATE, SUBTRACT};
+use reference::exact::{check_result, check_sheet, Checked, ExactPolynomial, InputFunction};
+use reference::exact::{Fraction, Point, Violation};
+use reference::generate::sound::{self, Shape};
+use reference::generate::{self, faults, functions, Draft, DraftModel, Random};
+use reference::model::UNIT as ONE;
+use reference::run::{run, RunResult};
+use reference::sheet::sound_book;
+
+#[derive(Default)]
+struct Total {
+    sheets: usize,
+    points: usize,
+    points_too_large: usize,
+    integrals: usize,
+}
+
+impl Total {
+    fn note(&mut self, checked: Checked) {
+        self.sheets += 1;
+        self.points += checked.points;
+        self.points_too_large += checked.points_too_large;
+        self.integrals += usize::from(checked.integral);
+    }
+
+    fn print(&self, name: &str) {
+        println!(
+            "{name}: {} sheets, {} points ({} too large), {} integrals",
+            self.sheets, self.points, self.points_too_large, self.integrals
+        );
+    }
+}
+
+/// Checks one accepted sheet with random functions and points.
+fn check(random: &mut Random, bytes: &[u8], total: &mut Total) {
+    let book = sound_book(bytes).expect("an accepted sheet");
+    let functions = functions::within_models(random, &book);
+    let points = functions::points(random, book.n);
+    match check_sheet(bytes, &functions, &points).expect("an accepted sheet") {
+        Ok(checked) => total.note(checked),
+        Err(violation) => panic!("{violation:?} on {bytes:02x?}"),
+    }
+}
+
+fn check_shape(seed: u64, shape: Shape, sheets: usize) -> Total {
+    let mut random = Random::new(seed);
+    let mut total = Total::default();
+    for _ in 0..sheets {
+        let bytes = sound::accepted(&mut random, shape).bytes();
+        check(&mut random, &bytes, &mut total);
+    }
+    total
+}
+
+#[test]
+fn small_sheets_are_enclosed() {
+    let total = check_shape(51, sound::SMALL, 12_000);
+    total.print("small");
+    assert!(total.points_too_large * 20 < total.points);
+    assert!(total.integrals * 2 > total.sheets);
+}
+
+#[test]
+fn middle_sheets_are_enclosed() {
+    let total = check_shape(52, sound::MIDDLE, 2_500);
+    total.print("middle");
+    assert!(total.points > 10_000);
+}
+
+#[test]
+fn large_sheets_are_enclosed() {
+    let total = check_shape(53, sound::LARGE, 400);
+    total.print("large");
+    assert!(total.points > 1_500);
+}
+
+#[test]
+fn sheets_at_the_limits_are_enclosed() {
+    let mut random = Random::new(54);
+    let mut total = Total::default();
+    for sample in generate::named_sheets() {
+        let accepted = sound_book(&sample.bytes).is_ok_and(|book| run(&book).is_ok());
+        if accepted {
+            check(&mut random, &sample.bytes, &mut total);
+        }
+    }
+    total.print("limits");
+    assert!(total.points > 500);
+}
+
+/// A book with its result.
+fn ran(draft: &Draft) -> (SoundBook, RunResult) {
+    let book = sound_book(&draft.bytes()).expect("a sound sheet");
+    let result = run(&book).expect("an accepted sheet");
+    (book, result)
+}
+
+/// The models' polynomials plus so many parts of their radii.
+fn shifted(book: &SoundBook, part: &Fraction) -> Vec<InputFunction> {
+    let shift = |radius: i128| &Fraction::of(radius, ONE) * part;
+    let models = book.models.iter();
+    models
+        .map(|model| {
+            let deviation = ExactPolynomial::constant(&shift(model.radius));
+            let polynomial = ExactPolynomial::of_model(model).plus(&deviation);
+            InputFunction::Polynomial(polynomial)
+        })
+        .collect()
+}
+
+fn corners(n: usize) -> Vec<Point> {
+    (0..1 << n)
+        .map(|number| functions::corner(n, number))
+        .collect()
+}
+
+/// A sheet whose radius is reached: x^2 with order 1.
+fn tight() -> Draft {
+    Draft::new(
+        1,
+        1,
+        Vec::new(),
+        vec![Step::variable(1), Step::two(MULTIPLY, 0, 0)],
+    )
+}
+
+#[test]
+fn the_check_finds_a_radius_that_is_too_small() {
+    let (book, mut result) = ran(&tight());
+    assert!(check_result(&book, &result, &[], &corners(1)).is_ok());
+    result.model.radius -= 1;
+    let found = check_result(&book, &result, &[], &corners(1));
+    assert!(matches!(found, Err(Violation::Radius(_))));
+}
+
+#[test]
+fn the_check_finds_a_range_that_is_too_narrow() {
+    let (book, mut result) = ran(&tight());
+    result.range.high -= 1;
+    let found = check_result(&book, &result, &[], &corners(1));
+    assert!(matches!(found, Err(Violation::Range(_))));
+}
+
+#[test]
+fn the_check_finds_a_wrong_integral() {
+    // 2/3 × U is 699050.67.
+    let (book, mut result) = ran(&tight());
+    result.integral.high = 699_051;
+    assert!(check_result(&book, &result, &[], &[]).is_ok());
+    result.integral.high = 699_050;
+    let found = check_result(&book, &result, &[], &[]);
+    assert_eq!(found, Err(Violation::Integral));
+}
+
+/// A plausible error: e1 × e2 dropped as small.
+#[test]
+fn the_check_needs_the_product_of_the_radii() {
+    let models = vec![DraftModel::new(2, &[]), DraftModel::new(3, &[])];
+    let steps = vec![input(0), input(1), Step::two(MULTIPLY, 0, 1)];
+    let (book, mut result) = ran(&Draft::new(1, 1, models, steps));
+    let highest = shifted(&book, &Fraction::one());
+    assert!(check_result(&book, &result, &highest, &corners(1)).is_ok());
+    result.model.radius = 0;
+    let found = check_result(&book, &result, &highest, &corners(1));
+    assert!(matches!(found, Err(Violation::Radius(_))));
+}
+
+/// A function outside its model breaks the claim: the check does look at it.
+#[test]
+fn the_check_needs_functions_within_the_models() {
+    let models = vec![DraftModel::new(8, &[(0, 5), (0x1000, 9)])];
+    let (book, result) = ran(&Draft::new(1, 1, models, vec![input(0)]));
+    for (numerator, holds) in [(8, true), (9, false), (-8, true), (-9, false)] {
+        let functions = shifted(&book, &Fraction::of(numerator, 8));
+        let found = check_result(&book, &result, &functions, &corners(1));
+        assert_eq!(found.is_ok(), holds, "{numerator} eighths of the radius");
+    }
+}
+
+/// A substitution that leaves the box is seen by the outcome itself.
+#[test]
+fn the_check_sees_a_point_outside_the_box() {
+    let mut random = Random::new(55);
+    let leaving = faults::KINDS
+        .iter()
+        .find(|kind| kind.name == "9 by a constant");
+    let sample = leaving.expect("a kind").sample(&mut random);
+    let mut book = sound_book(&sample.bytes).expect("a sound sheet");
+    let place = pair(run(&book).err()).expect("a refused run").1;
+    book.steps.truncate(place + 1);
+    let result = ran(&tight()).1;
+    let functions = shifted(&book, &Fraction::zero());
+    let found = check_result(&book, &result, &functions, &[functions::middle()]);
+    assert!(matches!(found, Err(Violation::LeftBox(step, _)) if step == place));
+}
+
+/// Every corner and many fractions, on one sheet with all operations.
+#[test]
+fn a_sheet_of_all_operations_is_enclosed() {
+    let g = DraftModel::new(
+        1 << 10,
+        &[(0, 1 << 17), (0x0100, -(1 << 18)), (0x1000, 3 << 17)],
+    );
+    let f = DraftModel::new(77, &[(0x0200, -UNIT), (0x1100, 12_345), (0x2000, 3 * UNIT)]);
+    let steps = vec![
+        input(0),
+        input(1),
+        Step::two(MULTIPLY, 0, 1),
+        Step::substitute(2, 0, 1),
+        Step::substitute(3, 0, 2),
+        Step::variable(2),
+        Step::two(SUBTRACT, 4, 5),
+        Step::constant(-12_345),
+        Step::two(ADD, 6, 7),
+        Step::sweep(8, 20_000),
+        Step::one(NEGATE, 9),
+    ];
+    let (book, result) = ran(&Draft::new(2, 3, vec![g, f], steps));
+    let mut random = Random::new(56);
+    for part in [Fraction::of(-1, 1), Fraction::of(1, 3), Fraction::of(1, 1)] {
+        let functions = shifted(&book, &part);
+        let mut points = corners(2);
+        points.extend((0..40).map(|_| functions::any_point(&mut random, 2)));
+        let checked = check_result(&book, &result, &functions, &points);
+        assert_eq!(checked.map(|checked| checked.points), Ok(44));
+    }
+}

@@ -1,0 +1,220 @@
+//! Generated sheets: what is expected of them by how they were made, and how
+//! often each refusal is reached.
+
+mod common;
+
+use common::pair;
+use reference::book::Book;
+use reference::generate::{self, books, damage, faults, hostile, noise, sound};
+use reference::generate::{Expected, Random, Sample};
+use reference::operations::Ends;
+use reference::refusal::Refusal;
+use reference::run::{run_book, run_sheet, RunAnswer};
+use reference::sheet;
+use reference::stored::StoredModel;
+use reference::text;
+use reference::write::write;
+use std::collections::{BTreeMap, BTreeSet};
+
+fn assert_expected(sample: &Sample, refusal: Option<Refusal>) {
+    let found = pair(refusal);
+    let right = match sample.expected {
+        Expected::Unknown => true,
+        Expected::Accepted => found.is_none(),
+        Expected::Refused(number, place) => found == Some((number, place)),
+    };
+    let (name, expected) = (&sample.name, sample.expected);
+    assert!(right, "{name}: {found:?} where {expected:?} is expected");
+}
+
+/// A refused run has the zero model and ends 0; an accepted one is sound.
+fn assert_form(answer: &RunAnswer) {
+    if answer.refusal.is_some() {
+        assert_eq!(answer.model, StoredModel::REFUSED);
+        assert_eq!(answer.range, Ends::default());
+        assert_eq!(answer.integral, Ends::default());
+    } else {
+        let model = answer.model.sound(15).expect("a sound result");
+        assert_eq!(StoredModel::store(&model), answer.model);
+        assert!(answer.range.low <= answer.range.high);
+        assert!(answer.integral.low <= answer.integral.high);
+    }
+}
+
+#[test]
+fn named_sheets_are_answered_as_expected() {
+    let samples = generate::named_sheets();
+    assert!(samples.len() > 150);
+    for sample in &samples {
+        let answer = run_sheet(&sample.bytes);
+        assert_form(&answer);
+        assert_expected(sample, answer.refusal);
+    }
+}
+
+#[test]
+fn the_largest_sheet_is_6744_bytes() {
+    let samples = generate::named_sheets();
+    let length = |name: &str| {
+        let found = samples.iter().find(|sample| sample.name == name);
+        found.expect("a named sample").bytes.len()
+    };
+    assert_eq!(length("the largest sheet"), 6_744);
+    assert_eq!(length("the smallest sheet"), 16);
+}
+
+#[test]
+fn damaged_sheets_are_refused_where_they_are_damaged() {
+    let mut random = Random::new(21);
+    for kind in &damage::KINDS {
+        for _ in 0..120 {
+            let sample = kind.sample(&mut random);
+            let answer = run_sheet(&sample.bytes);
+            assert_form(&answer);
+            assert_expected(&sample, answer.refusal);
+            let read = sheet::read(&sample.bytes);
+            assert_expected(&sample, read.refusal);
+            if read.refusal.is_some() {
+                assert_eq!(read.book, Book::ZEROS);
+            }
+        }
+    }
+}
+
+#[test]
+fn runs_are_refused_at_the_step_that_is_at_fault() {
+    let mut random = Random::new(22);
+    for kind in &faults::KINDS {
+        for _ in 0..60 {
+            let sample = kind.sample(&mut random);
+            assert_eq!(sheet::read(&sample.bytes).refusal, None, "{}", kind.name);
+            let answer = run_sheet(&sample.bytes);
+            assert_form(&answer);
+            assert_expected(&sample, answer.refusal);
+        }
+    }
+}
+
+#[test]
+fn steered_sheets_are_accepted() {
+    let mut random = Random::new(23);
+    for shape in sound::SHAPES {
+        for _ in 0..150 {
+            let bytes = sound::accepted(&mut random, shape).bytes();
+            let answer = run_sheet(&bytes);
+            assert_form(&answer);
+            assert_eq!(answer.refusal, None);
+        }
+    }
+}
+
+#[test]
+fn noise_is_answered() {
+    let mut random = Random::new(24);
+    for kind in &noise::KINDS {
+        for _ in 0..400 {
+            let sample = kind.sample(&mut random);
+            assert_form(&run_sheet(&sample.bytes));
+        }
+    }
+}
+
+/// Running a sheet and running the book that it reads as are the same.
+#[test]
+fn a_sheet_and_its_book_run_alike() {
+    for number in 0..1_500 {
+        let sample = generate::sheet(25, number);
+        let read = sheet::read(&sample.bytes);
+        let answer = run_sheet(&sample.bytes);
+        match read.refusal {
+            Some(refusal) => assert_eq!(answer.refusal, Some(refusal)),
+            None => assert_eq!(run_book(&read.book), answer),
+        }
+    }
+}
+
+#[test]
+fn sheets_are_reproducible() {
+    for number in 0..50 {
+        assert_eq!(generate::sheet(1, number), generate::sheet(1, number));
+    }
+}
+
+#[test]
+fn lines_are_plain() {
+    for number in 0..500 {
+        let text = text::lines_of_sheet(&generate::sheet(26, number).bytes);
+        assert!(text.ends_with('\n') && !text.contains("\n\n"));
+        for line in text.lines() {
+            let words: Vec<&str> = line.split(' ').collect();
+            assert!(words[1..].iter().all(|word| word.parse::<i128>().is_ok()));
+            assert!(words.iter().all(|word| !word.starts_with('+')));
+        }
+    }
+}
+
+/// How often a refusal is reached, and at how many places.
+#[derive(Default)]
+struct Tally {
+    counts: BTreeMap<u8, usize>,
+    places: BTreeMap<u8, BTreeSet<usize>>,
+}
+
+impl Tally {
+    fn note(&mut self, refusal: Option<Refusal>) {
+        let (number, place) = pair(refusal).unwrap_or((0, 0));
+        *self.counts.entry(number).or_default() += 1;
+        self.places.entry(number).or_default().insert(place);
+    }
+
+    fn print(&self, name: &str) {
+        println!("{name} (0 means accepted):");
+        for (number, count) in &self.counts {
+            let places = self.places[number].len();
+            println!("  {number}: {count} times at {places} places");
+        }
+    }
+
+    fn assert_reached(&self, numbers: impl IntoIterator<Item = u8>, least: usize) {
+        for number in numbers {
+            let count = self.counts.get(&number).copied().unwrap_or(0);
+            assert!(count >= least, "{number} is reached only {count} times");
+        }
+    }
+}
+
+fn write_tally() -> Tally {
+    let mut tally = Tally::default();
+    for number in 0..4_000 {
+        let book = books::book(28, number);
+        let room = [16, 500, 7_000][number as usize % 3];
+        tally.note(write(&book, &mut vec![0; room]).refusal);
+    }
+    tally
+}
+
+#[test]
+fn every_refusal_is_reached() {
+    let mut sheets = Tally::default();
+    for number in 0..12_000 {
+        sheets.note(run_sheet(&generate::sheet(27, number).bytes).refusal);
+    }
+    sheets.print("sheets");
+    sheets.assert_reached(0..=9, 100);
+    for number in 5..=9 {
+        let places = sheets.places[&number].len();
+        assert!(places > 15, "{number} is reached at {places} places only");
+    }
+
+    let mut calls = Tally::default();
+    for number in 0..60_000 {
+        calls.note(hostile::call(27, number).answer().refusal());
+    }
+    calls.print("single calls");
+    calls.assert_reached([0, 3, 5, 6, 7, 8, 9, 10], 100);
+    assert_eq!(calls.places[&5], BTreeSet::from([0, 1]));
+
+    let writes = write_tally();
+    writes.print("writes");
+    writes.assert_reached([0, 3, 5, 6, 11], 50);
+}
