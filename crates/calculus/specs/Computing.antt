@@ -1,0 +1,53 @@
+-- Named lists of definitions: a fact that computes opens all of them by `unfolding` one name.
+use Rattle.polynomial.specs.Polynomial as P
+use Rattle.polynomial.specs.Integral as I
+use Rattle.fixed.specs.Division as D
+use Rattle.fixed.specs.Fixed as F
+use Rattle.calculus.specs.Monomial as Mo
+use Rattle.calculus.specs.Key as K
+use Rattle.calculus.specs.Terms as T
+use Rattle.calculus.specs.Model as M
+use Rattle.calculus.specs.Refusal as R
+use Rattle.calculus.specs.Operations as O
+use Rattle.calculus.specs.Tests as Te
+use Rattle.calculus.specs.Book as B
+
+-- the numbers and the polynomials below the models
+unfoldable pub numbers : Unit {0}
+unfolding
+    P.add-exponents P.exponent P.without P.replace P.product P.times
+    I.even I.first I.rest I.all-even I.divisor
+    D.floor D.ceiling
+    F.U F.span-limit F.round F.residual F.round-up
+numbers = tt
+
+-- models and the rules for them
+unfoldable pub models : Unit {0}
+unfolding
+    Mo.degree Mo.zeros Mo.index-of Mo.single
+    K.decode K.key-width
+    T.every T.select T.sum-over T.size T.map-coefficients T.map-monomials
+    T.rising-from T.rising T.is-nonzero T.nonzero T.drop-zeros T.insert T.collect
+    M.zero-model M.most-vars M.most-degree M.most-terms M.between M.span M.fits M.sound
+models = tt
+
+-- the operations
+unfoldable pub operations : Unit {0}
+unfolding
+    R.require R._then_
+    O.limited O.constant O.variable O.negate O.add O.subtract
+    O.products O.within-order O.above-order O.carried O.rounding O.swept O.error O.kept O.multiply
+    O.is-constant O.constant-part O.variation O.range O.range-in-box
+    O.largest-exponent O.part-terms O.part O.horner O.widen O.substitute
+    O.is-small O.sweep O.integral-sum O.integral
+operations = tt
+
+-- the run of a book
+unfoldable pub runs : Unit {0}
+unfolding
+    numbers models operations
+    R.at-place R.require-at R.require-each R._followed-by_
+    Te.vars-sound Te.order-sound Te.constant-sound Te.variable-sound Te.threshold-sound
+    B.most-models B.most-steps B.limits-sound B.model-sound B.step-sound B.tested
+    B.model-of B.result-of B.run-step B.run-steps B.last B.summary B.run-sound B.run
+runs = tt

@@ -1,0 +1,43 @@
+-- Keys: the exponents of a monomial as the digits of one number, that of variable 1 the highest.
+use mathlib.Core.Bool.{Bool, _&&_}
+use mathlib.Core.List.{List, [], _∷_}
+use Prim.Native.Nat.{ℕ, zero, suc, _+_, _-_, _*_, _/_, _%_, _^_}
+use lib.Dec.{eqb, ltb}
+
+-- exponents as a number of w digits to a base; the digits after the last exponent are 0
+unfoldable pub encode : (base w : ℕ) → List ℕ → ℕ
+encode base w [] = 0
+encode base zero (e ∷ k) = 0
+encode base (suc w) (e ∷ k) = e * base ^ w + encode base w k
+
+-- the first n of the w digits of a number
+unfoldable pub decode : (base w n : ℕ) → ℕ → List ℕ
+decode base w zero z = []
+decode base zero (suc n) z = []
+decode base (suc w) (suc n) z = z / base ^ w ∷ decode base w n (z % base ^ w)
+
+-- a number of w digits of which those after the n-th are 0
+unfoldable pub fits-digits : (base w n : ℕ) → ℕ → Bool
+fits-digits base w n z = ltb z (base ^ w) && eqb (z % base ^ (w - n)) 0
+
+-- ---- a key has four bits for an exponent
+-- the number of exponents in a key of 16 bits
+unfoldable pub key-width : ℕ
+key-width = 4
+
+-- the key of a monomial
+abbrev pub key : (w : ℕ) → List ℕ → ℕ
+key = encode 16
+
+-- the monomial in n variables of a key
+abbrev pub key-exponents : (w n : ℕ) → ℕ → List ℕ
+key-exponents = decode 16
+
+-- the exponents of variables above n are 0
+abbrev pub key-fits : (w n : ℕ) → ℕ → Bool
+key-fits = fits-digits 16
+
+-- ---- a wide key has eight bits for an exponent: that of a product is the sum of those of its factors
+-- the wide key of a monomial in up to eight variables
+abbrev pub wide-key : List ℕ → ℕ
+wide-key = encode 256 8

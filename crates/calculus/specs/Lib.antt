@@ -1,0 +1,44 @@
+-- Definitions, in order of reading.
+pub mod Monomial
+pub mod Key
+pub mod Terms
+pub mod Model
+pub mod Refusal
+pub mod Operations
+pub mod Tests
+pub mod Calls
+pub mod Book
+pub mod Outcome
+pub mod Claim
+pub mod Samples
+pub mod Edges
+-- Lists of definitions that facts by computation open.
+pub mod Computing
+-- Laws: of tests and answers, of monomials and keys, of terms.
+pub mod TestLaws
+pub mod RefusalLaws
+pub mod MonomialLaws
+pub mod KeyLaws
+pub mod TermsLaws
+pub mod SumLaws
+pub mod CanonicalLaws
+pub mod ProductLaws
+pub mod LoopLaws
+-- Soundness of results.
+pub mod SoundLaws
+pub mod EachLaws
+pub mod BookLaws
+pub mod BookSoundLaws
+-- Enclosure.
+pub mod ChainLaws
+pub mod UnitLaws
+pub mod ValueLaws
+pub mod EnclosureLaws
+pub mod RangeLaws
+pub mod SubstituteLaws
+pub mod EvaluateLaws
+pub mod IntegralEndsLaws
+-- The claim.
+pub mod OutcomeLaws
+pub mod ClaimProof
+pub mod ClaimFacts

@@ -1,0 +1,190 @@
+-- The operations on models, each with its refusals.
+use mathlib.Core.Bool.{Bool, not, _&&_}
+use mathlib.Core.List.{List, [], _∷_, _++_}
+use Prim.Native.Nat.{ℕ, zero, suc, _+_, _-_, _*_, _^_, max}
+use lib.Dec.{eqb, leb}
+use lib.IntN.{ℤ, pos, negℤ, _+ℤ_, _-ℤ_, _*ℤ_, natAbs}
+use lib.ListN.{length}
+use lib.Signed.{leZ}
+use Rattle.algebra.specs.IntegerRing.{ℤR}
+use Rattle.polynomial.specs.Polynomial.{product, exponent, without}
+use Rattle.polynomial.specs.Integral.{all-even, divisor}
+use Rattle.fixed.specs.Division.{floor, ceiling}
+use Rattle.fixed.specs.Fixed.{U, span-limit, round, residual, round-up}
+use Rattle.calculus.specs.Monomial.{degree, zeros, single, index-of}
+use Rattle.calculus.specs.Terms.{Terms, term, select, sum-ℕ, sum-ℤ, size, map-coefficients, map-monomials}
+use Rattle.calculus.specs.Terms.{drop-zeros, collect}
+use Rattle.calculus.specs.Model.{Model, most-degree, most-terms, span}
+use Rattle.calculus.specs.Refusal.{over-span, too-many-terms, leaves-box, Answer, accepted, require, _then_}
+
+-- after every sum and product: 8 for more than 64 terms, then 7 for a span above 2^30
+unfoldable pub limited : Model → Answer Model
+limited m =
+    require (leb (length (m .terms)) most-terms) too-many-terms
+    (require (leb (span m) span-limit) over-span
+    (accepted m))
+
+-- ---- constant, variable, negate, add, subtract
+-- one term of key 0, or none if v is 0
+unfoldable pub constant : (n : ℕ) (v : ℤ) → Model
+constant n v = record { vars = n; radius = 0; terms = drop-zeros (term v (zeros n) ∷ []) }
+
+-- one term, coefficient U
+unfoldable pub variable : (n i : ℕ) → Model
+variable n i = record { vars = n; radius = 0; terms = term (pos U) (single n i) ∷ [] }
+
+-- all signs turned
+unfoldable pub negate : Model → Model
+negate f = record { vars = f .vars; radius = f .radius; terms = map-coefficients negℤ (f .terms) }
+
+-- coefficients of equal monomials added, zeros dropped, radii added
+unfoldable pub add : (f g : Model) → Answer Model
+add f g = limited (record {
+  vars = f .vars;
+  radius = f .radius + g .radius;
+  terms = drop-zeros (collect (f .terms ++ g .terms));
+})
+
+-- add the negated second
+unfoldable pub subtract : (f g : Model) → Answer Model
+subtract f g = add f (negate g)
+
+-- ---- multiply, with order d
+-- z for each monomial: the sum of all products of one coefficient from each side that meet there
+unfoldable pub products : (f g : Model) → Terms
+products f g = collect (product ℤR (f .terms) (g .terms))
+
+-- of degree at most d
+unfoldable pub within-order : (d : ℕ) → Terms → Terms
+within-order d = select (λ k z. leb (degree k) d)
+
+-- of degree above d
+unfoldable pub above-order : (d : ℕ) → Terms → Terms
+above-order d = select (λ k z. not (leb (degree k) d))
+
+-- degree at most d: the coefficient becomes c, which is z / U rounded
+unfoldable pub kept : (d : ℕ) → Terms → Terms
+kept d zs = map-coefficients round (within-order d zs)
+
+-- and |z - c × U| goes into E
+unfoldable pub rounding : (d : ℕ) → Terms → ℕ
+rounding d zs = sum-ℕ (λ k z. residual z) (within-order d zs)
+
+-- degree above d: |z| goes into E
+unfoldable pub swept : (d : ℕ) → Terms → ℕ
+swept d zs = size (above-order d zs)
+
+-- added to E: A × e2, B × e1 and e1 × e2
+unfoldable pub carried : (f g : Model) → ℕ
+carried f g = size (f .terms) * g .radius + size (g .terms) * f .radius + f .radius * g .radius
+
+-- E
+unfoldable pub error : (d : ℕ) (f g : Model) → ℕ
+error d f g = carried f g + rounding d (products f g) + swept d (products f g)
+
+-- by how much the new radius times U exceeds E
+unfoldable pub slack : (d : ℕ) (f g : Model) → ℕ
+slack d f g = U * round-up (error d f g) - error d f g
+
+-- new radius: E / U rounded up; zero coefficients are dropped
+unfoldable pub multiply : (d : ℕ) (f g : Model) → Answer Model
+multiply d f g = limited (record {
+  vars = f .vars;
+  radius = round-up (error d f g);
+  terms = drop-zeros (kept d (products f g));
+})
+
+-- ---- range
+-- the ends of a range or an integral
+pub record Ends : Type 0 where
+  pub low : ℤ
+  pub high : ℤ
+
+-- both 0
+unfoldable pub zero-ends : Ends
+zero-ends = record { low = pos 0; high = pos 0 }
+
+-- the monomial of key 0
+unfoldable pub is-constant : List ℕ → Bool
+is-constant k = eqb (degree k) 0
+
+-- the constant coefficient
+unfoldable pub constant-part : Model → ℤ
+constant-part m = sum-ℤ (λ k c. c) (select (λ k c. is-constant k) (m .terms))
+
+-- the sum of the other |c| and e
+unfoldable pub variation : Model → ℕ
+variation m = size (select (λ k c. not (is-constant k)) (m .terms)) + m .radius
+
+-- the constant coefficient, minus and plus the sum of the other |c| and e
+unfoldable pub range : Model → Ends
+range m = record { low = constant-part m -ℤ pos (variation m); high = constant-part m +ℤ pos (variation m) }
+
+-- ---- substitute g for variable i in f, with order d
+-- the range lies from -U to U
+unfoldable pub range-in-box : Model → Bool
+range-in-box g = leZ (negℤ (pos U)) (range g .low) && leZ (range g .high) (pos U)
+
+-- K: the largest exponent of variable i
+unfoldable pub largest-exponent : (i : ℕ) → Terms → ℕ
+largest-exponent i [] = 0
+largest-exponent i (t ∷ p) = max (exponent (index-of i) (t .exponents)) (largest-exponent i p)
+
+-- what multiplies the k-th power of variable i
+unfoldable pub part-terms : (i k : ℕ) → Terms → Terms
+part-terms i k p = map-monomials (without (index-of i)) (select (λ j c. eqb (exponent (index-of i) j) k) p)
+
+-- f_k, radius 0
+unfoldable pub part : (i k : ℕ) (f : Model) → Model
+part i k f = record { vars = f .vars; radius = 0; terms = part-terms i k (f .terms) }
+
+-- with the powers below k still to come: for each, multiply by g with order d and add f_k
+unfoldable pub horner : (d i : ℕ) (f g : Model) (k : ℕ) → Model → Answer Model
+horner d i f g zero h = accepted h
+horner d i f g (suc k) h = multiply d h g then (λ p. add p (part i k f)) then horner d i f g k
+
+-- e added to the radius
+unfoldable pub widen : (e : ℕ) → Model → Answer Model
+widen e m = limited (record { vars = m .vars; radius = m .radius + e; terms = m .terms })
+
+-- the range of g must lie in the box; start with f_K, go down to f_0; last, add the radius of f
+unfoldable pub substitute : (d i : ℕ) (f g : Model) → Answer Model
+substitute d i f g =
+    let K = largest-exponent i (f .terms) in
+    require (range-in-box g) leaves-box (horner d i f g K (part i K f) then widen (f .radius))
+
+-- ---- sweep, with threshold t
+-- a term other than the constant one with |c| at most t
+unfoldable pub is-small : (t : ℕ) → List ℕ → ℤ → Bool
+is-small t k c = not (is-constant k) && leb (natAbs c) t
+
+-- such terms dropped and their |c| added to the radius
+unfoldable pub sweep : (t : ℕ) → Model → Model
+sweep t f = record {
+  vars = f .vars;
+  radius = f .radius + size (select (is-small t) (f .terms));
+  terms = select (λ k c. not (is-small t k c)) (f .terms);
+}
+
+-- ---- integral over the box
+-- a term with any odd exponent gives 0, others c × 2^n divided by the product of (exponent + 1), each rounded by a rule
+unfoldable pub integral-sum : (ℤ → ℕ → ℤ) → Model → ℤ
+integral-sum rule m =
+    sum-ℤ (λ k c. rule (c *ℤ pos (2 ^ m .vars)) (divisor (m .vars) k)) (select (λ k c. all-even (m .vars) k) (m .terms))
+
+-- low: each rounded down, minus 2^n × e; high: each rounded up, plus 2^n × e
+unfoldable pub integral : Model → Ends
+integral m = record {
+  low = integral-sum floor m -ℤ pos (2 ^ m .vars * m .radius);
+  high = integral-sum ceiling m +ℤ pos (2 ^ m .vars * m .radius);
+}
+
+-- ---- evaluate at whole numbers X_1 .. X_n, standing for X_i/U
+-- the constants X_i, X_(i+1), .. put in for variables i, i + 1, .., order 15
+unfoldable pub put-constants : (i : ℕ) → List ℤ → Model → Answer Model
+put-constants i [] m = accepted m
+put-constants i (X ∷ Xs) m = substitute most-degree i m (constant (m .vars) X) then put-constants (suc i) Xs
+
+-- the range of what is left
+unfoldable pub evaluate : List ℤ → Model → Answer Ends
+evaluate Xs m = put-constants 1 Xs m then (λ r. accepted (range r))

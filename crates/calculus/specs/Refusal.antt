@@ -1,0 +1,76 @@
+-- Refusals with their numbers, answers that may be refused, and what is handed back in each case.
+use mathlib.Core.Bool.{Bool, true, false}
+use mathlib.Core.List.{List, [], _∷_}
+use Prim.Native.Nat.{ℕ, suc}
+
+-- the causes of a refusal
+pub data Refusal : Type 0 where
+  bad-length bad-mark bad-limits bad-offset bad-model bad-step : Refusal
+  over-span too-many-terms leaves-box variables-differ short-buffer : Refusal
+
+-- the number of each
+unfoldable pub number : Refusal → ℕ
+number bad-length = 1
+number bad-mark = 2
+number bad-limits = 3
+number bad-offset = 4
+number bad-model = 5
+number bad-step = 6
+number over-span = 7
+number too-many-terms = 8
+number leaves-box = 9
+number variables-differ = 10
+number short-buffer = 11
+
+-- ---- the answer of an operation
+pub data Answer (A : Type 0) : Type 0 where
+  accepted : A → Answer A
+  refused : Refusal → Answer A
+
+-- a test that must pass, else this refusal
+unfoldable pub require : {A : Type 0} → Bool → Refusal → Answer A → Answer A
+require true r a = a
+require false r a = refused r
+
+infixl 20 _then_
+-- the first refusal decides
+unfoldable pub _then_ : {A B : Type 0} → Answer A → (A → Answer B) → Answer B
+_then_ (accepted a) f = f a
+_then_ (refused r) f = refused r
+
+-- ---- the result of a call or a run: a refusal has a place
+pub data Result (A : Type 0) : Type 0 where
+  done : A → Result A
+  stopped : Refusal → (place : ℕ) → Result A
+
+-- an operation's answer at place i
+unfoldable pub at-place : {A : Type 0} → ℕ → Answer A → Result A
+at-place i (accepted a) = done a
+at-place i (refused r) = stopped r i
+
+-- a test that must pass, else this refusal at place i
+unfoldable pub require-at : {A : Type 0} → ℕ → Bool → Refusal → Result A → Result A
+require-at i true r a = a
+require-at i false r a = stopped r i
+
+-- a test that each must pass, numbered from i on; the first that fails decides the place
+unfoldable pub require-each : {A B : Type 0} → ℕ → (ℕ → B → Bool) → List B → Refusal → Result A → Result A
+require-each i ok [] r a = a
+require-each i ok (x ∷ l) r a = require-at i (ok i x) r (require-each (suc i) ok l r a)
+
+infixl 20 _followed-by_
+-- the first refusal decides
+unfoldable pub _followed-by_ : {A B : Type 0} → Result A → (A → Result B) → Result B
+_followed-by_ (done a) f = f a
+_followed-by_ (stopped r i) f = stopped r i
+
+-- ---- what is handed back: the number and place of the refusal and a value
+pub record Returned (A : Type 0) : Type 0 where
+  pub number : ℕ
+  pub place : ℕ
+  pub value : A
+
+-- 0 and 0 without a refusal; with one, a value that is named for the purpose
+unfoldable pub returned : {A : Type 0} → (if-refused : A) → Result A → Returned A
+returned if-refused (done a) = record { number = 0; place = 0; value = a }
+returned if-refused (stopped r i) = record { number = number r; place = i; value = if-refused }

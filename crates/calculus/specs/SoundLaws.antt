@@ -1,0 +1,357 @@
+-- The operations give sound models.
+use mathlib.Core.Path.{_≡_, refl, sym, _∙_}
+use mathlib.Core.Bool.{Bool, not, _&&_}
+use mathlib.Core.List.{List, [], _∷_, _++_}
+use Prim.Native.Nat.{ℕ, zero, suc, _+_, _≤_}
+use native.Mathlib.Omega.{arith}
+use lib.Dec.{T, eqb, leb, eqb→eq, eqb-refl, leb→le, le→leb, lit≤}
+use lib.IntN.{ℤ, pos, negsuc, negℤ, natAbs}
+use lib.ListN.{length, length-map}
+use Rattle.polynomial.specs.Polynomial.{add-exponents, exponent, without}
+use Rattle.fixed.specs.Fixed.{U, span-limit, round}
+use Rattle.calculus.specs.Monomial.{degree, zeros, index-of, single}
+use Rattle.calculus.specs.Terms.{Terms, term, every, select, sum-over, size, map-coefficients, map-monomials}
+use Rattle.calculus.specs.Terms.{rising-from, rising, is-nonzero, nonzero, drop-zeros, collect}
+use Rattle.calculus.specs.Model.{Model, zero-model, one-model, most-vars, most-terms, between, span, fits, sound}
+use Rattle.calculus.specs.Refusal.{over-span, too-many-terms, leaves-box}
+use Rattle.calculus.specs.Operations.{limited, constant, variable, negate, add, subtract, products, within-order}
+use Rattle.calculus.specs.Operations.{kept, multiply, range-in-box, largest-exponent, part-terms, part, horner}
+use Rattle.calculus.specs.Operations.{widen, substitute, is-small, sweep}
+use Rattle.calculus.specs.TestLaws.{and-left, and-right, both}
+use Rattle.calculus.specs.RefusalLaws.{If-accepted, holds, require-accepted, then-accepted, weaken}
+use Rattle.calculus.specs.MonomialLaws.{length-zeros, length-single, length-plus, length-without, degree-zeros}
+use Rattle.calculus.specs.MonomialLaws.{degree-single, degree-without, less-without}
+use Rattle.calculus.specs.TermsLaws.{by-select, length-select, every-nil, every-cons, every-++, every-both}
+use Rattle.calculus.specs.TermsLaws.{every-select, every-selected, every-implies, every-map-coefficients}
+use Rattle.calculus.specs.TermsLaws.{every-map-monomials, every-collect, every-product, rising-head, rising-rest}
+use Rattle.calculus.specs.TermsLaws.{rising-cons, rising-below, rising-any, rising-select}
+use Rattle.calculus.specs.TermsLaws.{rising-map-coefficients, nonzero-drop-zeros}
+use Rattle.calculus.specs.SumLaws.{ℕ-addition, sum-split, sum-map-coefficients, sum-cong}
+use Rattle.calculus.specs.CanonicalLaws.{canonical-rising}
+use Rattle.calculus.specs.ProductLaws.{products-rising, kept-rising}
+
+-- ---- the rules of a model, in two parts
+-- terms in canonical form, in n variables and of degrees up to d
+pub record Canonical (n d : ℕ) (m : Model) : Type 0 where
+  pub vars : m .vars ≡ n
+  pub fitting : T (every (λ k c. fits n d k) (m .terms))
+  pub nonzero-terms : T (nonzero (m .terms))
+  pub rising-terms : T (rising (m .terms))
+
+-- and the limits
+pub record Bounded (m : Model) : Type 0 where
+  pub count : length (m .terms) ≤ most-terms
+  pub small-span : span m ≤ span-limit
+
+abbrev pub Sound : (n d : ℕ) → Model → Type 0
+Sound n d m = Canonical n d m × Bounded m
+
+-- the test says both
+module _ (d : ℕ) (m : Model) where
+  v : Bool
+  v = between 1 most-vars (m .vars)
+
+  c : Bool
+  c = leb (length (m .terms)) most-terms
+
+  f : Bool
+  f = every (λ k c. fits (m .vars) d k) (m .terms)
+
+  z : Bool
+  z = nonzero (m .terms)
+
+  r : Bool
+  r = rising (m .terms)
+
+  s : Bool
+  s = leb (span m) span-limit
+
+  pub sound-parts : T (sound d m) → Sound (m .vars) d m
+  unfolding sound v c f z r s
+  sound-parts h = (
+    record {
+      vars = refl;
+      fitting = and-right (v && c) f (and-left (v && c && f) z rising-before);
+      nonzero-terms = and-right (v && c && f) z rising-before;
+      rising-terms = and-right (v && c && f && z) r span-before;
+    },
+    record {
+      count = leb→le (length (m .terms)) most-terms
+          (and-right v c (and-left (v && c) f (and-left (v && c && f) z rising-before)));
+      small-span = leb→le (span m) span-limit (and-right (v && c && f && z && r) s h);
+    },
+  )
+    where
+      span-before : T (v && c && f && z && r)
+      span-before = and-left (v && c && f && z && r) s h
+
+      rising-before : T (v && c && f && z)
+      rising-before = and-left (v && c && f && z) r span-before
+
+  pub parts-sound : T (between 1 most-vars (m .vars)) → Sound (m .vars) d m → T (sound d m)
+  unfolding sound v c f z r s
+  parts-sound b h = both (v && c && f && z && r) s
+      (both (v && c && f && z) r (both (v && c && f) z (both (v && c) f (both v c b
+      (le→leb (length (m .terms)) most-terms (h .1 .count))) (h .0 .fitting)) (h .0 .nonzero-terms))
+      (h .0 .rising-terms))
+      (le→leb (span m) span-limit (h .1 .small-span))
+
+-- what the limits accept keeps them
+pub limited-bounded : {P : Model → Type 0} (m : Model) → P m → If-accepted (λ r. P r × Bounded r) (limited m)
+unfolding limited
+limited-bounded m h = require-accepted (leb (length (m .terms)) most-terms) too-many-terms _
+    (λ t. require-accepted (leb (span m) span-limit) over-span _
+    (λ s. holds (
+      h,
+      record {
+        count = leb→le (length (m .terms)) most-terms t;
+        small-span = leb→le
+            (span m) span-limit s;
+      },
+    )))
+
+-- a model of at most one term
+one-term : (n d : ℕ) (c : ℤ) (k : List ℕ) → T (fits n d k) → natAbs c ≤ span-limit → T (is-nonzero c)
+    → Sound n d (record { vars = n; radius = 0; terms = term c k ∷ [] })
+one-term n d c k h l z = (
+  record {
+    vars = refl;
+    fitting = every-cons (λ k c. fits n d k) (term c k) [] h (every-nil (λ k c. fits n d k));
+    nonzero-terms = unfold nonzero in every-cons (λ k c. is-nonzero c) (term c k) [] z
+        (every-nil (λ k c. is-nonzero c));
+    rising-terms = unfold rising rising-from in tt;
+  },
+  record { count = unfold most-terms in lit≤ tt; small-span = unfold span size sum-over in omega arith },
+)
+
+pub zero-sound : (n d : ℕ) → Sound n d (zero-model n)
+unfolding zero-model
+zero-sound n d = (
+  record {
+    vars = refl;
+    fitting = every-nil (λ k c. fits n d k);
+    nonzero-terms = unfold nonzero in every-nil (λ k c. is-nonzero c);
+    rising-terms = unfold rising in tt;
+  },
+  record { count = unfold most-terms in lit≤ tt; small-span = unfold span size sum-over in omega arith },
+)
+
+-- ---- the terms that multiply one power of a variable, without it
+module _ (i k : ℕ) where
+  abbrev chosen : Terms → Terms
+  chosen = select (λ j c. eqb (exponent i j) k)
+
+  rising-from-without : (j : List ℕ) (p : Terms) → exponent i j ≡ k → T (rising-from j p)
+      → T (rising-from (without i j) (map-monomials (without i) (chosen p)))
+  unfolding map-monomials
+  rising-from-without j [] e h = unfold select rising-from in tt
+  rising-from-without j (t ∷ p) e h = go (λ e′. rising-from-without (t .exponents) p e′ (rising-rest j t p h))
+      (rising-from-without j p e (rising-below j (t .exponents) p (rising-head j t p h) (rising-rest j t p h)))
+    where
+      go : (exponent i (t .exponents) ≡ k
+          → T (rising-from (without i (t .exponents)) (map-monomials (without i) (chosen p))))
+          → T (rising-from (without i j) (map-monomials (without i) (chosen p)))
+          → T (rising-from (without i j) (map-monomials (without i) (chosen (t ∷ p))))
+      go f g = by-select (λ q. T (rising-from (without i j) (map-monomials (without i) q)))
+          (λ j c. eqb (exponent i j) k) t p
+          (λ y. rising-cons (without i j) _ _
+          (less-without i j (t .exponents) (e ∙ sym (eqb→eq _ k y)) (rising-head j t p h))
+          (f (eqb→eq _ k y)))
+          (λ n. g)
+
+  rising-without : (p : Terms) → T (rising p) → T (rising (map-monomials (without i) (chosen p)))
+  unfolding map-monomials rising
+  rising-without [] h = unfold select in tt
+  rising-without (t ∷ p) h = go (rising-without p (rising-any (t .exponents) p h))
+    where
+      go : T (rising (map-monomials (without i) (chosen p))) → T (rising (map-monomials (without i) (chosen (t ∷ p))))
+      go g = by-select (λ q. T (rising (map-monomials (without i) q))) (λ j c. eqb (exponent i j) k) t p
+          (λ y. rising-from-without (t .exponents) p (eqb→eq _ k y) h) (λ n. g)
+
+-- ---- each operation
+module _ (n d : ℕ) where
+  -- n exponents
+  abbrev long : List ℕ → Bool
+  long k = eqb (length k) n
+
+  fits-by : (k : List ℕ) → length k ≡ n → degree k ≤ d → T (fits n d k)
+  unfolding fits
+  fits-by k h g = both (long k) _ (rw h (eqb-refl n)) (le→leb (degree k) d g)
+
+  fits-length : (k : List ℕ) → T (fits n d k) → length k ≡ n
+  unfolding fits
+  fits-length k h = eqb→eq (length k) n (and-left (long k) _ h)
+
+  fits-degree : (k : List ℕ) → T (fits n d k) → degree k ≤ d
+  unfolding fits
+  fits-degree k h = leb→le (degree k) d (and-right (long k) _ h)
+
+  pub constant-sound : (v : ℤ) → natAbs v ≤ span-limit → Sound n d (constant n v)
+  unfolding constant drop-zeros
+  constant-sound v h = by-select (λ p. Sound n d (record { vars = n; radius = 0; terms = p }))
+      (λ k c. is-nonzero c) (term v (zeros n)) []
+      (λ y. empty (λ p. Sound n d (record { vars = n; radius = 0; terms = term v (zeros n) ∷ p }))
+      (one-term n d v (zeros n) here h y))
+      (λ e. empty (λ p. Sound n d (record { vars = n; radius = 0; terms = p })) (unfold zero-model in zero-sound n d))
+    where
+      here : T (fits n d (zeros n))
+      here = fits-by (zeros n) (length-zeros n) (let e = degree-zeros n in omega arith)
+
+      empty : (P : Terms → Type 0) → P [] → P (select (λ k c. is-nonzero c) [])
+      empty P p = unfold select in p
+
+  pub variable-sound : (i : ℕ) → 1 ≤ d → Sound n d (variable n i)
+  unfolding variable
+  variable-sound i h = one-term n d (pos U) (single n i)
+      (fits-by (single n i) (length-single n i) (let e = degree-single n i in omega arith))
+      (unfold U span-limit in lit≤ tt) (unfold is-nonzero U in tt)
+
+  negate-canonical : (f : Model) → Canonical n d f → Canonical n d (negate f)
+  unfolding negate nonzero
+  negate-canonical f h = record {
+    vars = h .vars;
+    fitting = every-map-coefficients (λ k c. fits n d k) negℤ (λ k c t. t) (f .terms) (h .fitting);
+    nonzero-terms = every-map-coefficients (λ k c. is-nonzero c) negℤ (λ k c t. turned c t) (f .terms)
+        (h .nonzero-terms);
+    rising-terms = rising-map-coefficients negℤ (f .terms) (h .rising-terms);
+  }
+    where
+      turned : (c : ℤ) → T (is-nonzero c) → T (is-nonzero (negℤ c))
+      turned (pos zero) h = h
+      turned (pos (suc n)) h = unfold is-nonzero in (unfold is-nonzero in h)
+      turned (negsuc n) h = unfold is-nonzero in h
+
+  natAbs-neg : (c : ℤ) → natAbs (negℤ c) ≡ natAbs c
+  natAbs-neg (pos zero) = refl
+  natAbs-neg (pos (suc k)) = refl
+  natAbs-neg (negsuc k) = refl
+
+  size-negated : (p : Terms) → size (map-coefficients negℤ p) ≡ size p
+  unfolding size
+  size-negated p = sum-map-coefficients ℕ-addition (λ k c. natAbs c) negℤ p
+      ∙ sum-cong ℕ-addition _ (λ k c. natAbs c) (λ k c. natAbs-neg c) p
+
+  length-negated : (p : Terms) → length (map-coefficients negℤ p) ≡ length p
+  unfolding map-coefficients
+  length-negated p = length-map p _
+
+  pub negate-sound : (f : Model) → Sound n d f → Sound n d (negate f)
+  negate-sound f h = (negate-canonical f (h .0), bounds)
+    where
+      bounds : Bounded (negate f)
+      bounds = unfold negate span in record {
+        count = let e = length-negated (f .terms) in let c = h .1 .count in omega arith;
+        small-span = let e = size-negated (f .terms) in let c = h .1 .small-span in omega arith;
+      }
+
+  pub add-sound : (f g : Model) → Canonical n d f → Canonical n d g → If-accepted (Sound n d) (add f g)
+  unfolding add
+  add-sound f g hf hg = limited-bounded {P = Canonical n d} _ (record {
+    vars = hf .vars;
+    fitting = unfold drop-zeros in every-select (λ k c. fits n d k) (λ k c. is-nonzero c) _
+        (every-collect (fits n d) _ (every-++ (λ k c. fits n d k) (f .terms) (g .terms) (hf .fitting) (hg .fitting)));
+    nonzero-terms = nonzero-drop-zeros (collect (f .terms ++ g .terms));
+    rising-terms = canonical-rising (f .terms ++ g .terms);
+  })
+
+  pub subtract-sound : (f g : Model) → Canonical n d f → Canonical n d g → If-accepted (Sound n d) (subtract f g)
+  unfolding subtract
+  subtract-sound f g hf hg = add-sound f (negate g) hf (negate-canonical g hg)
+
+  -- ---- multiply
+  long-plus : (k l : List ℕ) → T (long k) → T (long l) → T (long (add-exponents k l))
+  long-plus k l h g = rw (length-plus k l (eqb→eq (length k) n h ∙ sym (eqb→eq (length l) n g))) g
+
+  long-terms : (f : Model) → Canonical n d f → T (every (λ k c. long k) (f .terms))
+  long-terms f h = every-implies (λ k c. fits n d k) (λ k c. long k) (λ k c t. rw (fits-length k t) (eqb-refl n))
+      (f .terms) (h .fitting)
+
+  long-products : (f g : Model) → Canonical n d f → Canonical n d g → T (every (λ k c. long k) (products f g))
+  unfolding products
+  long-products f g hf hg = every-collect long _
+      (every-product long long-plus (f .terms) (g .terms) (long-terms f hf) (long-terms g hg))
+
+  -- what is kept has degree at most d
+  kept-fits : (zs : Terms) → T (every (λ k c. long k) zs) → T (every (λ k c. fits n d k) (kept d zs))
+  unfolding kept within-order
+  kept-fits zs h = every-map-coefficients (λ k c. fits n d k) round (λ k c t. t) _
+      (every-both (λ k c. long k) (λ k c. leb (degree k) d) (λ k c. fits n d k)
+      (λ k c s t. fits-by k (eqb→eq (length k) n s) (leb→le (degree k) d t)) _
+      (every-select (λ k c. long k) (λ k c. leb (degree k) d) zs h) (every-selected (λ k c. leb (degree k) d) zs))
+
+  pub multiply-sound : (f g : Model) → Canonical n d f → Canonical n d g → If-accepted (Sound n d) (multiply d f g)
+  unfolding multiply
+  multiply-sound f g hf hg = limited-bounded {P = Canonical n d} _ (record {
+    vars = hf .vars;
+    fitting = unfold drop-zeros in every-select (λ k c. fits n d k) (λ k c. is-nonzero c) _
+        (kept-fits (products f g) (long-products f g hf hg));
+    nonzero-terms = nonzero-drop-zeros (kept d (products f g));
+    rising-terms = kept-rising d (products f g) (products-rising f g);
+  })
+
+  -- ---- substitute
+  fits-without : (i : ℕ) (k : List ℕ) → T (fits n d k) → T (fits n d (without i k))
+  fits-without i k h = fits-by (without i k) (length-without i k ∙ fits-length k h)
+      (let e = fits-degree k h in let f = degree-without i k in omega arith)
+
+  part-canonical : (i k : ℕ) (f : Model) → Canonical n d f → Canonical n d (part i k f)
+  unfolding part part-terms nonzero
+  part-canonical i k f h = record {
+    vars = h .vars;
+    fitting = every-map-monomials (λ k c. fits n d k) (without (index-of i)) (λ k c t. fits-without (index-of i) k t) _
+        (every-select (λ k c. fits n d k) _ (f .terms) (h .fitting));
+    nonzero-terms = every-map-monomials (λ k c. is-nonzero c) (without (index-of i)) (λ k c t. t) _
+        (every-select (λ k c. is-nonzero c) _ (f .terms) (h .nonzero-terms));
+    rising-terms = rising-without (index-of i) k (f .terms) (h .rising-terms);
+  }
+
+  horner-canonical : (i : ℕ) (f g : Model) → Canonical n d f → Canonical n d g → (k : ℕ) (h : Model) → Canonical n d h
+      → If-accepted (Canonical n d) (horner d i f g k h)
+  unfolding horner
+  horner-canonical i f g hf hg zero h c = holds c
+  horner-canonical i f g hf hg (suc k) h c = then-accepted
+      (then-accepted (multiply-sound h g c hg)
+      (λ p hp. weaken (λ r hr. hr .0) (add-sound p (part i k f) (hp .0) (part-canonical i k f hf))))
+      (λ r hr. horner-canonical i f g hf hg k r hr)
+
+  pub substitute-sound : (i : ℕ) (f g : Model) → Canonical n d f → Canonical n d g
+      → If-accepted (Sound n d) (substitute d i f g)
+  unfolding substitute widen
+  substitute-sound i f g hf hg = require-accepted (range-in-box g) leaves-box _ (λ t. then-accepted
+      (horner-canonical i f g hf hg (largest-exponent i (f .terms)) _
+      (part-canonical i (largest-exponent i (f .terms)) f hf))
+      (λ r hr. limited-bounded {P = Canonical n d} _ (record {
+        vars = hr .vars;
+        fitting = hr .fitting;
+        nonzero-terms = hr .nonzero-terms;
+        rising-terms = hr .rising-terms;
+      })))
+
+  -- ---- sweep: what is dropped goes into the radius, so that the span stays
+  pub sweep-sound : (t : ℕ) (f : Model) → Sound n d f → Sound n d (sweep t f)
+  sweep-sound t f h = (canonical, bounds)
+    where
+      large : List ℕ → ℤ → Bool
+      large k c = not (is-small t k c)
+
+      canonical : Canonical n d (sweep t f)
+      canonical = unfold sweep nonzero in record {
+        vars = h .0 .vars;
+        fitting = every-select (λ k c. fits n d k) large (f .terms) (h .0 .fitting);
+        nonzero-terms = every-select (λ k c. is-nonzero c) large (f .terms) (h .0 .nonzero-terms);
+        rising-terms = rising-select large (f .terms) (h .0 .rising-terms);
+      }
+
+      split : size (f .terms) ≡ size (select (is-small t) (f .terms)) + size (select large (f .terms))
+      split = unfold size in sum-split ℕ-addition (λ k c. natAbs c) (is-small t) (f .terms)
+
+      bounds : Bounded (sweep t f)
+      bounds = unfold sweep span in record {
+        count = let e = length-select large (f .terms) in let c = h .1 .count in omega arith;
+        small-span = let e = split in let c = h .1 .small-span in omega arith;
+      }
+
+-- the model of 1 is the constant 1
+pub one-constant : (n : ℕ) → one-model n ≡ constant n (pos U)
+unfolding one-model constant drop-zeros select is-nonzero U
+one-constant n = refl
