@@ -19,6 +19,7 @@ pub mod TestLaws
 pub mod RefusalLaws
 pub mod MonomialLaws
 pub mod KeyLaws
+pub mod MonomialKeyLaws
 pub mod TermsLaws
 pub mod SumLaws
 pub mod CanonicalLaws
