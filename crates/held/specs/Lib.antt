@@ -1,0 +1,5 @@
+pub mod Held
+pub mod HeldLaws
+pub mod MachineLaws
+pub mod SoundPassLaws
+pub mod SweepLaws

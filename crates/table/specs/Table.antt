@@ -1,0 +1,116 @@
+-- Sums by key: a list of entries in order of first occurrence, and an index of slots that leads to each by its key.
+use mathlib.Core.Path.{_≡_}
+use mathlib.Core.Bool.{true, false}
+use mathlib.Core.List.{List, [], _∷_}
+use Prim.Native.Nat.{ℕ, zero, suc, _+_, _*_, _/_, _%_, _^_, _<_, _≤_}
+use lib.Dec.{T}
+use lib.IntN.{ℤ, pos, natAbs, _+ℤ_}
+use lib.ListN.{length, getD, drop}
+use Rattle.polynomial.specs.Polynomial.{Term}
+use Rattle.calculus.specs.Monomial.{same}
+use Rattle.calculus.specs.Terms.{Terms, term, size}
+use Rattle.calculus.specs.CanonicalLaws.{distinct}
+
+-- ---- entries
+-- a coefficient at a key: a term in one variable
+abbrev pub at-key : ℕ → ℤ → Term ℤ
+at-key key z = term z (key ∷ [])
+
+-- what stands at no place
+abbrev pub none : Term ℤ
+none = at-key 0 (pos 0)
+
+-- what the first n places of an array of keys and of one of coefficients hold
+unfoldable pub terms : ℕ → List ℕ → List ℤ → Terms
+terms zero keys sums = []
+terms (suc n) [] sums = []
+terms (suc n) (k ∷ keys) [] = []
+terms (suc n) (k ∷ keys) (z ∷ sums) = at-key k z ∷ terms n keys sums
+
+-- the n entries of a table: from place 1 on, since place 0 serves the search
+unfoldable pub entries : ℕ → List ℕ → List ℤ → Terms
+entries n keys sums = terms n (drop 1 keys) (drop 1 sums)
+
+-- t added to the term of its monomial, or put behind the others where that is new
+unfoldable pub accumulated : Term ℤ → Terms → Terms
+accumulated t [] = t ∷ []
+accumulated t (s ∷ p) = elim (same (t .exponents) (s .exponents)) [
+  | true ↦ term (t .coefficient +ℤ s .coefficient) (s .exponents) ∷ p
+  | false ↦ s ∷ accumulated t p
+]
+
+-- ---- slots
+-- how many slots a search can begin at
+abbrev pub home-slots : ℕ
+home-slots = 16384
+
+-- the most entries that a table can have
+abbrev pub most-entries : ℕ
+most-entries = 4096
+
+-- where the search for a key begins
+unfoldable pub home-slot : ℕ → ℕ
+home-slot key = (key % 2 ^ 32 * 1132569001 + key / 2 ^ 32 * 2571668233) / 2 ^ 18 % home-slots
+
+-- no slot from the key's home slot to before h leads to the key
+abbrev pub Passed : (slots keys : List ℕ) (key h : ℕ) → Type 0
+Passed slots keys key h = (s : ℕ) → home-slot key ≤ s → s < h → getD keys (getD slots s 0) 0 ≡ key → ⊥
+
+-- a search ends: it comes to an empty slot, which leads to place 0, where the key is put before
+pub record Searchable (slots keys : List ℕ) (key : ℕ) : Type 0 where
+  pub top : ℕ
+  pub top-in : top < length slots
+  pub start : home-slot key ≤ top
+  pub empty : getD slots top 0 ≡ 0
+  pub inside : (s : ℕ) → getD slots s 0 < length keys
+  pub first : getD keys 0 0 ≡ key
+
+-- the first slot from the key's home slot on that leads to the key
+pub record Found (slots keys : List ℕ) (key h : ℕ) : Type 0 where
+  pub start : home-slot key ≤ h
+  pub inside : h < length slots
+  pub others : Passed slots keys key h
+  pub there : getD keys (getD slots h 0) 0 ≡ key
+
+-- a search that begins at slot b comes to entry i, past full slots only
+pub record Reached (slots : List ℕ) (b i : ℕ) : Type 0 where
+  pub place : ℕ
+  pub after : b ≤ place
+  pub holds : getD slots place 0 ≡ i
+  pub full : (s : ℕ) → b ≤ s → s ≤ place → 0 < getD slots s 0
+
+-- the slots lead to the n entries, each from its key's home slot; no key stands twice;
+-- and the slots from home-slots + n on are empty
+pub record Table (slots keys : List ℕ) (sums : List ℤ) (n : ℕ) : Type 0 where
+  pub keys-long : n < length keys
+  pub sums-long : n < length sums
+  pub low : (s : ℕ) → getD slots s 0 ≤ n
+  pub rest : (s : ℕ) → home-slots + n ≤ s → getD slots s 0 ≡ 0
+  pub reach : (i : ℕ) → 0 < i → i ≤ n → Reached slots (home-slot (getD keys i 0)) i
+  pub distinct-keys : T (distinct (entries n keys sums))
+
+-- ---- one more term
+-- there is room for one more entry, and its sum fits
+pub record Room (slots keys : List ℕ) (sums : List ℤ) (n : ℕ) (z : ℤ) : Type 0 where
+  pub table : Table slots keys sums n
+  pub slots-room : home-slots + (n + 1) < length slots
+  pub keys-room : n + 1 < length keys
+  pub sums-room : n + 1 < length sums
+  pub few : n + 1 < 2 ^ 16
+  pub small : natAbs z + size (entries n keys sums) < 2 ^ 63
+
+-- the table holds those entries and t
+pub record Added (old : Terms) (n : ℕ) (t : Term ℤ) (slots keys : List ℕ) (sums : List ℤ) (count : ℕ) : Type 0 where
+  pub table : Table slots keys sums count
+  pub few : count ≤ n + 1
+  pub sum : entries count keys sums ≡ accumulated t old
+
+-- the entry that a slot's number x leads to: x, or the next where the slot is empty
+pub record Placed (x next place : ℕ) : Type 0 where
+  pub new : x ≡ 0 → place ≡ next
+  pub known : 0 < x → place ≡ x
+
+-- how many entries there are then
+pub record Counted (x n count : ℕ) : Type 0 where
+  pub new : x ≡ 0 → count ≡ n + 1
+  pub known : 0 < x → count ≡ n
