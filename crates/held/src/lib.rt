@@ -12,6 +12,9 @@ ghost use Rattle.calculus.specs.Calls.{«call-constant», «call-variable»};
 ghost use Rattle.held.specs.Held.{view, pack, «one-term», «term-sound», cause, answer, bounds};
 ghost use Rattle.calculus.specs.Key.{«key-degree»};
 
+// The places of a model's terms.
+pub const MOST_TERMS: usize = 64;
+
 // One term: four exponents of four bits each, that of variable 1 in the highest bits, and a coefficient in units of
 // 1/U.
 pub struct Term {
@@ -24,7 +27,7 @@ pub struct Model {
     pub n: u8,
     pub count: usize,
     pub radius: u64,
-    pub terms: [Term; 64],
+    pub terms: [Term; MOST_TERMS],
 }
 
 // Why a call is refused: one case for each number of document 01's table.
@@ -75,7 +78,7 @@ impl Model {
         n: 1,
         count: 0,
         radius: 0,
-        terms: [Term::ZERO; 64],
+        terms: [Term::ZERO; MOST_TERMS],
     };
 
     // One term of key 0, coefficient U.
@@ -254,7 +257,7 @@ pub fn sound(m: Model, d: u8) -> bool
     if !vars_sound(n) {
         return false;
     }
-    if 64 < count {
+    if MOST_TERMS < count {
         return false;
     }
     let mut span = m.radius;
@@ -280,7 +283,7 @@ pub fn without_terms(n: u8) -> Model
         n: n,
         count: 0,
         radius: 0,
-        terms: [Term::ZERO; 64],
+        terms: [Term::ZERO; MOST_TERMS],
     }
 }
 
@@ -289,7 +292,7 @@ fn of_one_term(n: u8, key: u16, coefficient: i64) -> Model
     requires { ⌜ n ≤ key-width ⌝ }
     ensures { λ r. ⌜ r ≡ pack (one-term n key coefficient) ⌝ }
 {
-    let mut out = [Term::ZERO; 64];
+    let mut out = [Term::ZERO; MOST_TERMS];
     out[0] = Term {
         key: key,
         coefficient: coefficient,
@@ -392,14 +395,15 @@ pub fn negated(m: Model) -> Model
     ensures { λ r. ⌜ r ≡ pack (negate (view m)) ⌝ }
 {
     let count = m.count;
-    let mut turned = [Term::ZERO; 64];
+    let mut turned = [Term::ZERO; MOST_TERMS];
     let mut i = 0;
     while i < count {
         let t = m.terms[i];
-        let c = fixed::negated(t.coefficient);
+        let old = t.coefficient;
+        let new = fixed::negated(old);
         turned[i] = Term {
             key: t.key,
-            coefficient: c,
+            coefficient: new,
         };
         i += 1;
     }
@@ -417,7 +421,7 @@ pub fn swept(m: Model, threshold: u64) -> Model
     ensures { λ r. ⌜ r ≡ pack (sweep threshold (view m)) ⌝ }
 {
     let total = m.count;
-    let mut out = [Term::ZERO; 64];
+    let mut out = [Term::ZERO; MOST_TERMS];
     let mut count = 0;
     let mut radius = m.radius;
     let mut i = 0;
