@@ -22,7 +22,7 @@ pub data Step : Type 0 where
   substitute : (a b v : ℕ) → Step
   sweep : (a : ℕ) (value : ℤ) → Step
 
--- n, the order d, the models and the steps
+-- a book (document 01's term): n, the order d, the models and the steps
 pub record Book : Type 0 where
   pub vars : ℕ
   pub order : ℕ
@@ -70,11 +70,11 @@ tested book r =
     (require-each 0 (step-sound book) (book .steps) bad-step r))
 
 -- ---- the run
--- model a
+-- model a; test 6 keeps the default out of reach
 unfoldable pub model-of : Book → (a : ℕ) → Model
 model-of book a = getD (book .models) a (zero-model (book .vars))
 
--- the result of step a, from the results so far
+-- the result of step a, from the results so far; test 6 keeps the default out of reach
 unfoldable pub result-of : Book → List Model → (a : ℕ) → Model
 result-of book results a = getD results a (zero-model (book .vars))
 

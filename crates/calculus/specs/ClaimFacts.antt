@@ -1,31 +1,44 @@
--- Two facts beside the claim: it is not empty, since every book has functions within its models; and it is not true of
--- everything, since it is refuted for a wrong answer.
-use mathlib.Core.Path.{sym, ap}
+-- Facts beside the claim. It is not empty: every book has a point of the box and functions within its models, among
+-- them polynomials. And it is not true of everything: each band alone, that of the radius, of the range and of the
+-- integral, refutes a wrong answer, whatever the rest of the answer is.
+use mathlib.Core.Path.{_≡_, refl, sym, _∙_, ap, ap₂}
 use mathlib.Core.List.{[], _∷_}
-use Prim.Native.Nat.{ℕ}
+use Prim.Native.Nat.{ℕ, zero, suc, _<_, _^_}
 use native.Mathlib.Omega.{arith}
+use lib.Dec.{leb→le}
 use lib.IntN.{pos}
-use lib.Signed.{_≤ℤ_}
-use Rattle.algebra.specs.Ring.{Ring}
+use lib.ListN.{replicate}
+use Rattle.algebra.specs.Ring.{Ring, nat}
 use Rattle.algebra.specs.RingLaws.{*-zero}
+use Rattle.algebra.specs.RingSolver.{𝟎, _⊞_, _⊟_, _⊠_, ring}
 use Rattle.algebra.specs.Ordered.{abs}
-use Rattle.algebra.specs.Rational.{_≤ℚ_}
+use Rattle.algebra.specs.Rational.{_+ℚ_, _*ℚ_, _≤ℚ_}
 use Rattle.algebra.specs.RationalRing.{ℚR}
 use Rattle.algebra.specs.RationalOrder.{ℚO}
-use Rattle.algebra.specs.RationalLaws.{≤-whole}
+use Rattle.algebra.specs.RationalField.{ℚF}
+use Rattle.algebra.specs.RationalLaws.{≤-whole, nat-whole}
+use Rattle.polynomial.specs.Polynomial as P
 use Rattle.polynomial.specs.Box.{none, more}
+use Rattle.polynomial.specs.IntegralLaws.{integral-constant}
 use Rattle.fixed.specs.Fixed.{U}
-use Rattle.calculus.specs.Model.{zero-model, _/U, distance, value, In-box, At, Within}
-use Rattle.calculus.specs.Operations.{zero-ends}
-use Rattle.calculus.specs.Book.{constant, Book, model-of, Summary, last}
-use Rattle.calculus.specs.Outcome.{Function, 0ℚ, step-outcome, outcomes-after, outcomes, outcome}
-use Rattle.calculus.specs.Claim.{Lies, All-within, Claim}
-use Rattle.calculus.specs.UnitLaws.{natural, natural-≤, natural-nonneg, U-times, U-cancel}
-use Rattle.calculus.specs.ValueLaws.{abs-zero}
+use Rattle.calculus.specs.Model.{Model, zero-model, _/U, _-ℚ_, distance, Point, In-box, polynomial, value, At}
+use Rattle.calculus.specs.Model.{Within}
+use Rattle.calculus.specs.Operations as Op
+use Rattle.calculus.specs.Operations.{Ends, zero-ends}
+use Rattle.calculus.specs.Book.{constant, add, Book, model-of, Summary, last}
+use Rattle.calculus.specs.Outcome.{Function, 0ℚ, step-outcome, outcome-of, outcomes-after, outcomes, outcome}
+use Rattle.calculus.specs.Outcome.{ℚ-Polynomial, value-of, step-polynomial, polynomials-after}
+use Rattle.calculus.specs.Outcome.{outcome-polynomial, exact-integral}
+use Rattle.calculus.specs.Claim.{Lies, All-within, Given, Claim}
+use Rattle.calculus.specs.Samples.{ends}
+use Rattle.calculus.specs.UnitLaws.{natural, natural-+, natural-*, natural-≤, natural-nonneg, abs-whole, U-times}
+use Rattle.calculus.specs.UnitLaws.{U-cancel}
+use Rattle.calculus.specs.ValueLaws.{Near, at-near, scaled-value, scaled-nil, abs-zero}
 use Rattle.calculus.specs.ChainLaws.{_≤≤_, _≡≤_, _≤≡_}
-open Ring ℚR using (+-neg)
+open Ring ℚR using (+-neg, *-assoc)
 
--- ---- every book has functions within its models: the values of their polynomials
+-- ---- every hypothesis can be met, for every book
+-- functions: the values of the models' polynomials
 unfoldable pub own : Book → ℕ → Function
 own b a = value (model-of b a)
 
@@ -38,23 +51,92 @@ own-within b a h x hx = ap (abs ℚO) (+-neg (value (model-of b a) x))
     ≡≤ abs-zero
     ≤≤ radius-nonneg (model-of b a .radius)
 
--- ---- the constant 1 / U is not the zero model with ends 0
+-- polynomials: these themselves
+unfoldable pub own-polynomial : Book → ℕ → ℚ-Polynomial
+own-polynomial b a = polynomial (model-of b a)
+
+pub own-polynomial-within : (b : Book) → All-within b (λ a. value-of (own-polynomial b a))
+unfolding own-polynomial value-of value own All-within Within
+own-polynomial-within b = own-within b
+
+-- a point: all coordinates 0
+unfoldable pub origin : ℕ → Point
+origin n = replicate n 0ℚ
+
+origin-inside : (n : ℕ) → In-box n (origin n)
+unfolding origin
+origin-inside zero = none
+origin-inside (suc n) = more (abs-zero ≤≤ natural-≤ 0 1 (omega arith)) (origin-inside n)
+
+pub own-given : (b : Book) → Given b (own b) (origin (b .vars))
+own-given b = record { functions = own-within b; point = origin-inside (b .vars) }
+
+-- ---- each band alone refutes a wrong answer
+-- an inequality of whole numbers that is false
+false-≤ : (m n : ℕ) → n < m → natural m ≤ℚ natural n → ⊥
+false-≤ m n l h = omega (arith, leb→le m n (≤-whole (pos m) (pos n) h .le))
+
+-- the constant 1 / U
 unfoldable pub one-step : Book
 one-step = record { vars = 1; order = 1; models = []; steps = constant (pos 1) ∷ [] }
 
--- what it is not
-unfoldable pub wrong : Summary
-wrong = record { model = zero-model 1; range = zero-ends; integral = zero-ends }
+-- the zero model is not its result
+pub radius-refutes : (r i : Ends) → Claim one-step (record { model = zero-model 1; range = r; integral = i }) → ⊥
+unfolding one-step outcome outcomes outcomes-after step-outcome last zero-model
+radius-refutes r i c =
+    false-≤ 1 0 (omega arith) (sym (abs-whole (pos 1)) ≡≤ ap (abs ℚO) (sym difference) ≡≤ near)
+  where
+    at : At (zero-model 1) (origin 1) (pos 1 /U)
+    at = c .within-radius (own one-step) (origin 1) (own-given one-step)
 
-origin : In-box 1 (0ℚ ∷ [])
-origin = more (abs-zero ≤≤ natural-≤ 0 1 (omega arith)) none
+    near : abs ℚO (natural U *ℚ pos 1 /U -ℚ scaled-value [] (origin 1)) ≤ℚ natural 0
+    near = unfold Near zero-model in at-near (zero-model 1) (origin 1) (pos 1 /U) at
 
-pub claim-refuted : Claim one-step wrong → ⊥
-unfolding one-step wrong zero-ends outcome outcomes outcomes-after step-outcome last
-claim-refuted c = bad (≤-whole (pos 1) (pos 0) (sym (U-times (pos 1)) ≡≤ lies .to))
+    difference : natural U *ℚ pos 1 /U -ℚ scaled-value [] (origin 1) ≡ natural 1
+    difference = ap₂ _-ℚ_ (U-times (pos 1)) (scaled-nil (origin 1)) ∙ ring 1 ℚR (λ a. a ⊟ 𝟎) (λ a. a) refl (natural 1)
+
+-- 0 to 0 is not its range
+pub range-refutes : (m : Model) (i : Ends) → Claim one-step (record { model = m; range = zero-ends; integral = i }) → ⊥
+unfolding one-step zero-ends outcome outcomes outcomes-after step-outcome last
+range-refutes m i c = false-≤ 1 0 (omega arith) (sym (U-times (pos 1)) ≡≤ lies .to)
   where
     lies : Lies (pos 1 /U) zero-ends
-    lies = c .in-range (own one-step) (0ℚ ∷ []) (record { functions = own-within one-step; point = origin })
+    lies = c .in-range (own one-step) (origin 1) (own-given one-step)
 
-    bad : pos 1 ≤ℤ pos 0 → ⊥
-    bad h = h .le
+-- 0 to 0 is not its integral
+pub integral-refutes : (m : Model) (r : Ends)
+    → Claim one-step (record { model = m; range = r; integral = zero-ends }) → ⊥
+unfolding one-step zero-ends outcome-polynomial polynomials-after step-polynomial last exact-integral
+integral-refutes m r c = false-≤ 2 0 (omega arith) (sym amount ≡≤ lies .to)
+  where
+    lies : Lies (exact-integral 1 (P.constant ℚR (pos 1 /U))) zero-ends
+    lies = c .integral-in-ends (own-polynomial one-step) (own-polynomial-within one-step)
+
+    amount : natural U *ℚ exact-integral 1 (P.constant ℚR (pos 1 /U)) ≡ natural 2
+    amount = ap (λ z. natural U *ℚ z) (integral-constant ℚF 1 (pos 1 /U))
+        ∙ sym (*-assoc (natural U) (pos 1 /U) (nat ℚR (2 ^ 1)))
+        ∙ ap₂ _*ℚ_ (U-times (pos 1)) (nat-whole 2) ∙ sym (natural-* 1 2)
+
+-- so the zero model with ends 0 is not the answer to every book
+pub claim-refuted : Claim one-step (record { model = zero-model 1; range = zero-ends; integral = zero-ends }) → ⊥
+claim-refuted = range-refutes (zero-model 1) zero-ends
+
+-- ---- and an operand passed through is not the answer of the step that takes it
+-- 1 / U + 1 / U
+unfoldable pub doubled : Book
+doubled = record { vars = 1; order = 1; models = []; steps = constant (pos 1) ∷ add 0 0 ∷ [] }
+
+-- the answer that belongs to 1 / U
+unfoldable pub passed-through : Summary
+passed-through = record { model = Op.constant 1 (pos 1); range = ends (pos 1) (pos 1); integral = ends (pos 2) (pos 2) }
+
+pub passing-refuted : Claim doubled passed-through → ⊥
+unfolding doubled passed-through outcome outcomes outcomes-after step-outcome outcome-of last ends
+passing-refuted c = false-≤ 2 1 (omega arith) (sym amount ≡≤ lies .to)
+  where
+    lies : Lies (pos 1 /U +ℚ pos 1 /U) (ends (pos 1) (pos 1))
+    lies = c .in-range (own doubled) (origin 1) (own-given doubled)
+
+    amount : natural U *ℚ (pos 1 /U +ℚ pos 1 /U) ≡ natural 2
+    amount = ring 2 ℚR (λ u z. u ⊠ (z ⊞ z)) (λ u z. u ⊠ z ⊞ u ⊠ z) refl (natural U) (pos 1 /U)
+        ∙ ap (λ z. z +ℚ z) (U-times (pos 1)) ∙ sym (natural-+ 1 1)

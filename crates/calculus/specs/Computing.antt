@@ -10,6 +10,7 @@ use Rattle.calculus.specs.Model as M
 use Rattle.calculus.specs.Refusal as R
 use Rattle.calculus.specs.Operations as O
 use Rattle.calculus.specs.Tests as Te
+use Rattle.calculus.specs.Calls as C
 use Rattle.calculus.specs.Book as B
 
 -- the numbers and the polynomials below the models
@@ -51,3 +52,14 @@ unfolding
     B.most-models B.most-steps B.limits-sound B.model-sound B.step-sound B.tested
     B.model-of B.result-of B.run-step B.run-steps B.last B.summary B.run-sound B.run
 runs = tt
+
+-- the single calls, and what they hand back
+unfoldable pub calls : Unit {0}
+unfolding
+    runs
+    R.number R.returned
+    O.zero-ends O.put-constants O.evaluate
+    Te.all-zero Te.all-in-unit
+    C.call-constant C.call-variable C.call-negate C.call-sweep C.call-range C.call-integral C.call-evaluate
+    C.require-two C.call-add C.call-subtract C.call-multiply C.call-substitute C.returned-model C.returned-ends
+calls = tt

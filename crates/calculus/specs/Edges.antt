@@ -1,19 +1,42 @@
--- Cases at the edges, beside the samples: what a definition near to the right one would answer otherwise.
+-- Books at the edges, beside the samples: what a definition near to the right one would answer otherwise. CallEdges has
+-- the single calls.
 use mathlib.Core.Path.{_≡_, refl}
 use mathlib.Core.List.{List, [], _∷_, map}
-use Prim.Native.Nat.{ℕ}
-use lib.IntN.{pos}
+use Prim.Native.Nat.{ℕ, zero, suc, _+_, _*_, _/_, _%_}
+use lib.IntN.{ℤ, pos}
+use lib.ListN.{replicate}
+use Rattle.calculus.specs.Terms.{Terms}
 use Rattle.calculus.specs.Model.{Model}
-use Rattle.calculus.specs.Refusal.{bad-step, over-span, too-many-terms, leaves-box, stopped}
-use Rattle.calculus.specs.Book.{input, constant, variable, negate, add, subtract, multiply, substitute, run}
+use Rattle.calculus.specs.Refusal.{bad-limits, bad-model, bad-step, over-span, too-many-terms, leaves-box}
+use Rattle.calculus.specs.Refusal.{stopped}
+use Rattle.calculus.specs.Book.{Step, input, constant, variable, negate, add, subtract, multiply, substitute}
+use Rattle.calculus.specs.Book.{sweep, run}
 use Rattle.calculus.specs.Computing.{runs}
 use Rattle.calculus.specs.Samples.{Row, at-key, model, book, ends, minus, gives, row, forms}
 
+-- ---- short forms
 -- a model in two variables, 2^26 at each key
 unfoldable pub row-of-terms : List ℕ → Model
 row-of-terms keys = model 2 0 (map (λ key. at-key 2 key (pos 67108864)) keys)
 
--- the table
+-- a model of one term
+unfoldable pub one-term : (n key : ℕ) → ℤ → Model
+one-term n key c = model n 0 (at-key n key c ∷ [])
+
+-- so many terms with the coefficient c, from the i-th of 1, y, .., y^7, x, xy, .., x y^7, x^2, .. on
+unfoldable pub terms-from : (i count : ℕ) → ℤ → Terms
+terms-from i zero c = []
+terms-from i (suc count) c = at-key 2 (0x1000 * (i / 8) + 0x0100 * (i % 8)) c ∷ terms-from (suc i) count c
+
+-- 2 + 3x: the constant is smaller than the rest
+unfoldable pub small-constant : Model
+small-constant = model 1 0 (at-key 1 0x0000 (pos 2) ∷ at-key 1 0x1000 (pos 3) ∷ [])
+
+-- a step that breaks its form, after a variable
+unfoldable pub broken : (number : ℕ) → Step → Row
+broken i s = row i (book 1 1 [] (variable 1 ∷ s ∷ [])) (stopped bad-step 1)
+
+-- ---- the table
 unfoldable pub edges : List Row
 edges =
     -- (x + y)(x - y) above order 1: |z| after collecting, and not |products|
@@ -43,10 +66,76 @@ edges =
     (input 0 ∷ constant (pos 524288) ∷ substitute 0 1 1 ∷ []))
     (stopped over-span 2)
     -- a step is no operand of its own
-    ∷ row 7 (book 1 2 [] (variable 1 ∷ negate 1 ∷ [])) (stopped bad-step 1)
+    ∷ broken 7 (negate 1) ∷ broken 7 (sweep 1 (pos 0))
+    ∷ broken 7 (add 1 0) ∷ broken 7 (add 0 1)
+    ∷ broken 7 (subtract 1 0) ∷ broken 7 (subtract 0 1)
+    ∷ broken 7 (multiply 1 0) ∷ broken 7 (multiply 0 1)
+    ∷ broken 7 (substitute 1 0 1) ∷ broken 7 (substitute 0 1 1)
+    -- an input is below the model count, here 0; a variable is 1 to n, here 1
+    ∷ broken 8 (input 0)
+    ∷ broken 8 (variable 0) ∷ broken 8 (variable 2)
+    ∷ broken 8 (substitute 0 0 0) ∷ broken 8 (substitute 0 0 2)
+    -- a constant is -2^30 to 2^30
+    ∷ broken 9 (constant (pos 1073741825)) ∷ broken 9 (constant (minus 1073741825))
+    ∷ row 9 (book 1 1 [] (constant (minus 1073741824) ∷ [])) (gives (one-term 1 0x0000 (minus 1073741824))
+    (ends (minus 1073741824) (minus 1073741824)) (ends (minus 2147483648) (minus 2147483648)))
+    -- a threshold is 0 to 2^30; the constant term stays, however small it is
+    ∷ broken 10 (sweep 0 (minus 1)) ∷ broken 10 (sweep 0 (pos 1073741825))
+    ∷ row 10 (book 1 1 (small-constant ∷ []) (input 0 ∷ sweep 0 (pos 1073741824) ∷ []))
+    (gives (model 1 3 (at-key 1 0x0000 (pos 2) ∷ [])) (ends (minus 1) (pos 5)) (ends (minus 2) (pos 10)))
+    -- 1 to 64 steps
+    ∷ row 11 (book 1 1 [] []) (stopped bad-limits 0)
+    ∷ row 11 (book 1 1 [] (replicate 64 (constant (pos 0))))
+    (gives (model 1 0 []) (ends (pos 0) (pos 0)) (ends (pos 0) (pos 0)))
+    ∷ row 11 (book 1 1 [] (replicate 65 (constant (pos 0)))) (stopped bad-limits 0)
+    -- 0 to 16 models
+    ∷ row 12 (book 1 1 (replicate 16 (model 1 7 [])) (input 15 ∷ []))
+    (gives (model 1 7 []) (ends (minus 7) (pos 7)) (ends (minus 14) (pos 14)))
+    ∷ row 12 (book 1 1 (replicate 17 (model 1 7 [])) (input 15 ∷ [])) (stopped bad-limits 0)
+    -- 64 terms, plus x^8 - 1: 64 are left when the zero is dropped; plus x^8: 65; and a model of 65
+    ∷ row 13 (book 2 14
+    (model 2 0 (terms-from 0 64 (pos 1))
+    ∷ model 2 0 (at-key 2 0x0000 (minus 1) ∷ at-key 2 0x8000 (pos 1) ∷ []) ∷ [])
+    (input 0 ∷ input 1 ∷ add 0 1 ∷ []))
+    (gives (model 2 0 (terms-from 1 64 (pos 1))) (ends (minus 64) (pos 64)) (ends (pos 2) (pos 18)))
+    ∷ row 13 (book 2 14 (model 2 0 (terms-from 0 64 (pos 1)) ∷ one-term 2 0x8000 (pos 1) ∷ [])
+    (input 0 ∷ input 1 ∷ add 0 1 ∷ []))
+    (stopped too-many-terms 2)
+    ∷ row 13 (book 2 14 (model 2 0 (terms-from 0 65 (pos 1)) ∷ []) (input 0 ∷ [])) (stopped bad-model 0)
+    -- order 2: xy may stand in a book, xy^2 may not
+    ∷ row 14 (book 2 2 (one-term 2 0x1100 (pos 7) ∷ []) (input 0 ∷ []))
+    (gives (one-term 2 0x1100 (pos 7)) (ends (minus 7) (pos 7)) (ends (pos 0) (pos 0)))
+    ∷ row 14 (book 2 2 (one-term 2 0x1100 (pos 7) ∷ one-term 2 0x1200 (pos 7) ∷ []) (input 0 ∷ []))
+    (stopped bad-model 1)
+    -- a model in one variable may not stand in a book of two
+    ∷ row 14 (book 2 2 (model 1 0 [] ∷ []) (input 0 ∷ [])) (stopped bad-model 0)
+    -- n is 1 to 4, the order 1 to 15
+    ∷ row 15 (book 5 15 [] (variable 1 ∷ [])) (stopped bad-limits 0)
+    ∷ row 15 (book 4 16 [] (variable 1 ∷ [])) (stopped bad-limits 0)
+    -- 3 before 5 before 6
+    ∷ row 16 (book 1 1 (one-term 1 0x2000 (pos 1) ∷ []) []) (stopped bad-limits 0)
+    ∷ row 16 (book 1 1 (one-term 1 0x2000 (pos 1) ∷ []) (negate 0 ∷ [])) (stopped bad-model 0)
+    -- y^2/2 put in for x in xy, order 2: the order holds inside a substitution
+    ∷ row 17 (book 2 2 (one-term 2 0x1100 (pos 1048576) ∷ one-term 2 0x0200 (pos 524288) ∷ [])
+    (input 0 ∷ input 1 ∷ substitute 0 1 1 ∷ []))
+    (gives (model 2 524288 []) (ends (minus 524288) (pos 524288)) (ends (minus 2097152) (pos 2097152)))
+    -- f lacks the variable: 9 can refuse, otherwise f stays
+    ∷ row 18 (book 2 2 [] (variable 2 ∷ constant (pos 1048577) ∷ substitute 0 1 1 ∷ [])) (stopped leaves-box 2)
+    ∷ row 18 (book 2 2 [] (variable 2 ∷ constant (pos 524288) ∷ substitute 0 1 1 ∷ []))
+    (gives (one-term 2 0x0100 (pos 1048576)) (ends (minus 1048576) (pos 1048576)) (ends (pos 0) (pos 0)))
+    -- f has no terms: the same
+    ∷ row 19 (book 1 1 (model 1 1073741824 [] ∷ []) (input 0 ∷ constant (minus 1048577) ∷ substitute 0 1 1 ∷ []))
+    (stopped leaves-box 2)
+    ∷ row 19 (book 1 1 (model 1 1073741824 [] ∷ []) (input 0 ∷ constant (minus 1048576) ∷ substitute 0 1 1 ∷ []))
+    (gives (model 1 1073741824 [])
+    (ends (minus 1073741824) (pos 1073741824)) (ends (minus 2147483648) (pos 2147483648)))
+    -- x/2 put in for x in x^15, the largest K
+    ∷ row 20 (book 1 15 (one-term 1 0xF000 (pos 1048576) ∷ one-term 1 0x1000 (pos 524288) ∷ [])
+    (input 0 ∷ input 1 ∷ substitute 0 1 1 ∷ []))
+    (gives (one-term 1 0xF000 (pos 32)) (ends (minus 32) (pos 32)) (ends (pos 0) (pos 0)))
     ∷ []
 
 -- the run of each book gives what its row says
 pub edges-run : map (λ r. run (r .book)) edges ≡ map (λ r. r .result) edges
-unfolding runs forms edges row-of-terms
+unfolding runs forms edges row-of-terms one-term terms-from small-constant broken
 edges-run = refl

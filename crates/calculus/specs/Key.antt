@@ -5,7 +5,8 @@ use Prim.Native.Nat.{ℕ, zero, suc, _+_, _-_, _*_, _/_, _%_, _^_}
 use lib.Dec.{eqb, ltb}
 use Rattle.calculus.specs.Monomial.{degree}
 
--- exponents as a number of w digits to a base; the digits after the last exponent are 0
+-- exponents as a number of w digits to a base; the digits after the last exponent are 0, and exponents beyond w digits
+-- are dropped
 unfoldable pub encode : (base w : ℕ) → List ℕ → ℕ
 encode base w [] = 0
 encode base zero (e ∷ k) = 0

@@ -12,6 +12,7 @@ pub mod Outcome
 pub mod Claim
 pub mod Samples
 pub mod Edges
+pub mod CallEdges
 -- Lists of definitions that facts by computation open.
 pub mod Computing
 -- Laws: of tests and answers, of monomials and keys, of terms.

@@ -46,7 +46,7 @@ most-terms = 64
 unfoldable pub between : (a b : ℕ) → ℕ → Bool
 between a b i = leb a i && leb i b
 
--- the sum of all |c| plus e
+-- the span (document 01's term): the sum of all |c| plus e
 unfoldable pub span : Model → ℕ
 span m = size (m .terms) + m .radius
 
@@ -54,7 +54,7 @@ span m = size (m .terms) + m .radius
 unfoldable pub fits : (n d : ℕ) → List ℕ → Bool
 fits n d k = eqb (length k) n && leb (degree k) d
 
--- the rules of a model, with degrees up to d
+-- the rules of a model, with degrees up to d; the first is `vars-sound` of Tests, which comes after
 unfoldable pub sound : (d : ℕ) → Model → Bool
 sound d m =
     between 1 most-vars (m .vars)
@@ -66,7 +66,7 @@ sound d m =
 
 -- ---- what it stands for
 infix 90 _/U
--- the fraction z / U (a fraction is written with its denominator less 1)
+-- the fraction z / U
 unfoldable pub _/U : ℤ → ℚ
 z /U = whole z ÷ U
 

@@ -138,7 +138,7 @@ part-terms i k p = map-monomials (without (index-of i)) (select (λ j c. eqb (ex
 unfoldable pub part : (i k : ℕ) (f : Model) → Model
 part i k f = record { vars = f .vars; radius = 0; terms = part-terms i k (f .terms) }
 
--- with the powers below k still to come: for each, multiply by g with order d and add f_k
+-- h holds the powers from k up; for each power below, downwards: multiply by g with order d, add its part
 unfoldable pub horner : (d i : ℕ) (f g : Model) (k : ℕ) → Model → Answer Model
 horner d i f g zero h = accepted h
 horner d i f g (suc k) h = multiply d h g then (λ p. add p (part i k f)) then horner d i f g k

@@ -1,7 +1,7 @@
 -- The exact outcome of a book's steps: nothing is rounded and nothing comes from what the run keeps.
 use mathlib.Core.List.{List, [], _∷_, _++_}
 use Prim.Native.Nat.{ℕ}
-use lib.IntN.{pos, negℤ}
+use lib.IntN.{pos}
 use lib.ListN.{getD}
 use Rattle.algebra.specs.Rational.{ℚ, _+ℚ_, _*ℚ_, negℚ, whole}
 use Rattle.algebra.specs.RationalRing.{ℚR}
@@ -23,7 +23,7 @@ Function = Point → ℚ
 abbrev pub 0ℚ : ℚ
 0ℚ = whole (pos 0)
 
--- coordinate v
+-- coordinate v; test 6 keeps the default out of reach
 unfoldable pub coordinate : (v : ℕ) → Function
 coordinate v x = getD x (index-of v) 0ℚ
 
@@ -44,7 +44,7 @@ step-outcome F f (multiply a b) x = f a x *ℚ f b x
 step-outcome F f (substitute a b v) x = f a (with-coordinate v (f b x) x)
 step-outcome F f (sweep a value) x = f a x
 
--- the outcome of step a, from the outcomes so far
+-- the outcome of step a, from the outcomes so far; test 6 keeps the default out of reach
 unfoldable pub outcome-of : List Function → (a : ℕ) → Function
 outcome-of fs a = getD fs a (λ x. 0ℚ)
 
@@ -71,23 +71,19 @@ abbrev pub ℚ-Polynomial : Type 0
 unfoldable pub value-of : ℚ-Polynomial → Function
 value-of q x = eval ℚR q x
 
--- all signs turned
-unfoldable pub negated : ℚ-Polynomial → ℚ-Polynomial
-negated = P.scale ℚR (whole (negℤ (pos 1)))
-
--- the polynomial of a step, where q a is that of step a
+-- the polynomial of a step, where q a is that of step a; that of a variable ends with its exponent, later ones are 0
 unfoldable pub step-polynomial : (Q : ℕ → ℚ-Polynomial) (q : ℕ → ℚ-Polynomial) → Step → ℚ-Polynomial
 step-polynomial Q q (input a) = Q a
 step-polynomial Q q (constant value) = P.constant ℚR (value /U)
 step-polynomial Q q (variable v) = record { coefficient = whole (pos 1); exponents = single v v } ∷ []
-step-polynomial Q q (negate a) = negated (q a)
-step-polynomial Q q (add a b) = q a ++ q b
-step-polynomial Q q (subtract a b) = q a ++ negated (q b)
+step-polynomial Q q (negate a) = P.negation ℚR (q a)
+step-polynomial Q q (add a b) = P.sum ℚR (q a) (q b)
+step-polynomial Q q (subtract a b) = P.sum ℚR (q a) (P.negation ℚR (q b))
 step-polynomial Q q (multiply a b) = P.product ℚR (q a) (q b)
 step-polynomial Q q (substitute a b v) = P.substitute ℚR (index-of v) (q b) (q a)
 step-polynomial Q q (sweep a value) = q a
 
--- the polynomial of step a, from the polynomials so far
+-- the polynomial of step a, from the polynomials so far; test 6 keeps the default out of reach
 unfoldable pub polynomial-of : List ℚ-Polynomial → (a : ℕ) → ℚ-Polynomial
 polynomial-of qs a = getD qs a []
 

@@ -5,21 +5,20 @@ use mathlib.Core.List.{List, [], _∷_, _++_}
 use Prim.Native.Nat.{ℕ, suc, _<_}
 use native.Mathlib.Omega.{arith}
 use lib.Dec.{T, ltb}
-use lib.IntN.{pos, negℤ}
+use lib.IntN.{pos}
 use lib.ListN.{length, List·getD-append, length-append}
-use Rattle.algebra.specs.RingSolver.{𝟎, 𝟏, _⊞_, _⊠_, ⊝_, ring}
+use Rattle.algebra.specs.RingSolver.{𝟎, 𝟏, _⊞_, _⊠_, ring}
 use Rattle.algebra.specs.Rational.{_+ℚ_, _*ℚ_, negℚ, whole}
 use Rattle.algebra.specs.RationalRing.{ℚR}
-use Rattle.algebra.specs.RationalLaws.{whole-neg}
 use Rattle.polynomial.specs.Polynomial.{eval}
-use Rattle.polynomial.specs.PolynomialLaws.{eval-sum, eval-constant, eval-scale, eval-product, eval-substitute}
+use Rattle.polynomial.specs.PolynomialLaws.{eval-sum, eval-constant, eval-negation, eval-product, eval-substitute}
 use Rattle.calculus.specs.Monomial.{index-of, single}
 use Rattle.calculus.specs.Model.{Point}
 use Rattle.calculus.specs.Tests.{variable-sound}
 use Rattle.calculus.specs.Book.{Step, input, constant, variable, negate, add, subtract, multiply, substitute}
 use Rattle.calculus.specs.Book.{sweep, Book, step-sound}
 use Rattle.calculus.specs.Outcome.{Function, 0ℚ, coordinate, with-coordinate, outcome-of, step-outcome}
-use Rattle.calculus.specs.Outcome.{outcomes-after, outcomes, outcome, ℚ-Polynomial, value-of, negated}
+use Rattle.calculus.specs.Outcome.{outcomes-after, outcomes, outcome, ℚ-Polynomial, value-of}
 use Rattle.calculus.specs.Outcome.{polynomial-of, step-polynomial, polynomials-after, outcome-polynomial}
 use Rattle.calculus.specs.TestLaws.{and-left, and-right}
 use Rattle.calculus.specs.RefusalLaws.{all-from}
@@ -40,11 +39,6 @@ outcomes-before F fs (s ∷ l) a h = outcomes-before F (fs ++ (f ∷ [])) l a
     f = step-outcome F (outcome-of fs) s
 
 -- ---- values of polynomials
-value-negated : (q : ℚ-Polynomial) (x : Point) → value-of (negated q) x ≡ negℚ (value-of q x)
-unfolding value-of negated
-value-negated q x = eval-scale ℚR (whole (negℤ (pos 1))) q x ∙ ap (λ c. c *ℚ eval ℚR q x) (whole-neg (pos 1))
-    ∙ ring 1 ℚR (λ a. (⊝ 𝟏) ⊠ a) (λ a. ⊝ a) refl (eval ℚR q x)
-
 value-variable : (v : ℕ) (x : Point) → index-of v < v → index-of v < length x
     → value-of (record { coefficient = whole (pos 1); exponents = single v v } ∷ []) x ≡ coordinate v x
 unfolding value-of eval
@@ -87,10 +81,10 @@ module _ (b : Book) (Q : ℕ → ℚ-Polynomial) where
   step-agrees i (input a) t e x h = refl
   step-agrees i (constant c) t e x h = sym (eval-constant ℚR _ x)
   step-agrees i (variable v) t e x h = sym (value-variable v x (own v t) (inside v x t h))
-  step-agrees i (negate a) t e x h = ap negℚ (operand e a x h) ∙ sym (value-negated _ x)
+  step-agrees i (negate a) t e x h = ap negℚ (operand e a x h) ∙ sym (eval-negation ℚR _ x)
   step-agrees i (add a c) t e x h = ap₂ _+ℚ_ (operand e a x h) (operand e c x h) ∙ sym (eval-sum ℚR _ _ x)
   step-agrees i (subtract a c) t e x h =
-      ap₂ _+ℚ_ (operand e a x h) (ap negℚ (operand e c x h) ∙ sym (value-negated _ x)) ∙ sym (eval-sum ℚR _ _ x)
+      ap₂ _+ℚ_ (operand e a x h) (ap negℚ (operand e c x h) ∙ sym (eval-negation ℚR _ x)) ∙ sym (eval-sum ℚR _ _ x)
   step-agrees i (multiply a c) t e x h = ap₂ _*ℚ_ (operand e a x h) (operand e c x h) ∙ sym (eval-product ℚR _ _ x)
   step-agrees i {fs} {qs} (substitute a c v) t e x h =
       operand e a _ (length-replace (index-of v) _ x ∙ h)

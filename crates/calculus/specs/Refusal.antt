@@ -3,10 +3,31 @@ use mathlib.Core.Bool.{Bool, true, false}
 use mathlib.Core.List.{List, [], _∷_}
 use Prim.Native.Nat.{ℕ, suc}
 
--- the causes of a refusal
+-- the causes of a refusal, in document 01's words
 pub data Refusal : Type 0 where
-  bad-length bad-mark bad-limits bad-offset bad-model bad-step : Refusal
-  over-span too-many-terms leaves-box variables-differ short-buffer : Refusal
+  -- length below 16 or above 6,744
+  bad-length : Refusal
+  -- last two bytes are not the mark
+  bad-mark : Refusal
+  -- n, d, model count or step count outside its limits
+  bad-limits : Refusal
+  -- offset + 8 × steps + 8 is not the length
+  bad-offset : Refusal
+  -- a model breaks a rule, has a degree above d where d applies, has another n than its book, or runs past the first
+  -- step
+  bad-model : Refusal
+  -- a step breaks its form; for a single call: variable, constant, threshold or unused coordinate wrong
+  bad-step : Refusal
+  -- a span above 2^30
+  over-span : Refusal
+  -- more than 64 terms after zeros are dropped
+  too-many-terms : Refusal
+  -- substituted model leaves the box; in evaluation, a coordinate does
+  leaves-box : Refusal
+  -- two models of a single call differ in n
+  variables-differ : Refusal
+  -- the writer's buffer is too short
+  short-buffer : Refusal
 
 -- the number of each
 unfoldable pub number : Refusal → ℕ

@@ -1,14 +1,16 @@
 -- The operations give sound models.
-use mathlib.Core.Path.{_≡_, refl, sym, _∙_}
-use mathlib.Core.Bool.{Bool, not, _&&_}
+use mathlib.Core.Path.{_≡_, refl, sym, _∙_, ap}
+use mathlib.Core.Bool.{Bool, true, not, _&&_}
 use mathlib.Core.List.{List, [], _∷_, _++_}
 use Prim.Native.Nat.{ℕ, zero, suc, _+_, _≤_}
 use native.Mathlib.Omega.{arith}
+use borrow.Author.Tests.{ne-eqb}
 use lib.Dec.{T, eqb, leb, eqb→eq, eqb-refl, leb→le, le→leb, lit≤}
 use lib.IntN.{ℤ, pos, negsuc, negℤ, natAbs}
 use lib.ListN.{length, length-map}
 use Rattle.polynomial.specs.Polynomial.{add-exponents, exponent, without}
 use Rattle.fixed.specs.Fixed.{U, span-limit, round}
+use Rattle.fixed.specs.FixedLaws.{U-pos, U-within}
 use Rattle.calculus.specs.Monomial.{degree, zeros, index-of, single}
 use Rattle.calculus.specs.Terms.{Terms, term, every, select, sum-over, size, map-coefficients, map-monomials}
 use Rattle.calculus.specs.Terms.{rising-from, rising, is-nonzero, nonzero, drop-zeros, collect}
@@ -110,6 +112,11 @@ limited-bounded m h = require-accepted (leb (length (m .terms)) most-terms) too-
       },
     )))
 
+-- U is not 0
+U-nonzero : is-nonzero (pos U) ≡ true
+unfolding is-nonzero
+U-nonzero = ap not (ne-eqb U 0 (λ e. omega (arith, U-pos)))
+
 -- a model of at most one term
 one-term : (n d : ℕ) (c : ℤ) (k : List ℕ) → T (fits n d k) → natAbs c ≤ span-limit → T (is-nonzero c)
     → Sound n d (record { vars = n; radius = 0; terms = term c k ∷ [] })
@@ -204,7 +211,7 @@ module _ (n d : ℕ) where
   unfolding variable
   variable-sound i h = one-term n d (pos U) (single n i)
       (fits-by (single n i) (length-single n i) (let e = degree-single n i in omega arith))
-      (unfold U span-limit in lit≤ tt) (unfold is-nonzero U in tt)
+      U-within (rw U-nonzero tt)
 
   negate-canonical : (f : Model) → Canonical n d f → Canonical n d (negate f)
   unfolding negate nonzero
@@ -294,7 +301,7 @@ module _ (n d : ℕ) where
   fits-without i k h = fits-by (without i k) (length-without i k ∙ fits-length k h)
       (let e = fits-degree k h in let f = degree-without i k in omega arith)
 
-  part-canonical : (i k : ℕ) (f : Model) → Canonical n d f → Canonical n d (part i k f)
+  pub part-canonical : (i k : ℕ) (f : Model) → Canonical n d f → Canonical n d (part i k f)
   unfolding part part-terms nonzero
   part-canonical i k f h = record {
     vars = h .vars;
@@ -353,5 +360,6 @@ module _ (n d : ℕ) where
 
 -- the model of 1 is the constant 1
 pub one-constant : (n : ℕ) → one-model n ≡ constant n (pos U)
-unfolding one-model constant drop-zeros select is-nonzero U
-one-constant n = refl
+unfolding one-model constant drop-zeros select
+one-constant n = by-select (λ p. one-model n ≡ record { vars = n; radius = 0; terms = p })
+    (λ k c. is-nonzero c) (term (pos U) (zeros n)) [] (λ y. refl) (λ z. absurd (rw U-nonzero at z))

@@ -18,6 +18,7 @@ use Rattle.polynomial.specs.Polynomial.{Term, monomial, eval, times, product}
 use Rattle.polynomial.specs.PolynomialLaws.{monomial-add}
 use Rattle.polynomial.specs.BoxLaws.{monomial-le}
 use Rattle.fixed.specs.Fixed.{U, round, residual}
+use Rattle.fixed.specs.FixedLaws.{residual-is}
 use Rattle.calculus.specs.Terms.{Terms, select, sum-over, sum-ℕ, size, map-coefficients, drop-zeros, collect}
 use Rattle.calculus.specs.Model.{Model, _/U, _-ℚ_, distance, Point, In-box, polynomial, value, At}
 use Rattle.calculus.specs.Operations.{products}
@@ -155,9 +156,10 @@ module _ {n : ℕ} {x : Point} (b : In-box n x) where
   -- what rounding changes is at most the sum of the residuals
   pub rounded-≤ : (p : Terms) → abs ℚO (scaled-value p x -ℚ natural U *ℚ scaled-value (map-coefficients round p) x)
       ≤ℚ natural (sum-ℕ (λ k z. residual z) p)
-  unfolding scaled-value sum-over map-coefficients residual
+  unfolding scaled-value sum-over map-coefficients
   rounded-≤ [] = ap (abs ℚO) (ring 1 ℚR (λ u. 𝟎 ⊟ u ⊠ 𝟎) (λ u. 𝟎) refl (natural U)) ≡≤ abs-zero
-  rounded-≤ (t ∷ p) = ap (abs ℚO) apart ≡≤ sum-≤ _ _ _ _ (term-≤ (t .exponents) r) (rounded-≤ p)
+  rounded-≤ (t ∷ p) = ap (abs ℚO) apart ≡≤ sum-≤ _ _ _ _ (term-≤ (t .exponents) r ≤≡ ap natural (sym (residual-is c)))
+      (rounded-≤ p)
     where
       c : ℤ
       c = t .coefficient

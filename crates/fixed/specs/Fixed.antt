@@ -8,7 +8,7 @@ use Rattle.fixed.specs.Division.{floor}
 unfoldable pub U : ℕ
 U = 2 ^ 20
 
--- the largest span
+-- the largest span: document 01's term for the size of a model's coefficients and radius together
 unfoldable pub span-limit : ℕ
 span-limit = 2 ^ 30
 

@@ -1,11 +1,11 @@
 -- Signed values of the machine against the integers.
-use mathlib.Core.Bool.{true, false}
-use mathlib.Core.Path.{_≡_, refl, _∙_}
+use mathlib.Core.Bool.{Bool, true, false}
+use mathlib.Core.Path.{_≡_, refl, sym, _∙_}
 use Prim.Native.Nat.{ℕ, _+_, _^_, _≤_, _<_}
 use native.Mathlib.Omega.{arith}
-use borrow.Author.Tests.{ltb-true}
+use borrow.Author.Tests.{ltb-true, le-leb}
 use lib.IntN.{ℤ, pos, negsuc, natAbs, _-ℤ_}
-use lib.Signed.{ltZ, mag}
+use lib.Signed.{nonNeg, leZ, ltZ, mag}
 use mir.Facts.{toZ-ofZ}
 use mir.Syntax.{Width, w64}
 use mir.Val.{SFits, toZ, ofZ, hbits}
@@ -44,6 +44,14 @@ not-negative {z} f t = go z (rw (toZ-ofZ f) at t)
     go : (z : ℤ) → ltZ z (pos 0) ≡ false → z ≡ pos (mag z)
     go (pos n) t = refl
     go (negsuc n) t = absurd (let e : _≡_ {A = ℕ} 0 1 = cc in omega arith)
+
+-- the test 0 ≤ z
+pub from-zero : {w : Width} {z : ℤ} {b : Bool} → SFits w z → leZ (pos 0) (toZ w (ofZ w z)) ≡ b → nonNeg z ≡ b
+from-zero {z} f t = go z ∙ rw (toZ-ofZ f) at t
+  where
+    go : (z : ℤ) → nonNeg z ≡ leZ (pos 0) z
+    go (pos n) = sym (le-leb 0 n (omega arith))
+    go (negsuc n) = refl
 
 -- ---- the complement −1 − z
 pub complement-pos : (n : ℕ) → negsuc 0 -ℤ pos n ≡ negsuc n

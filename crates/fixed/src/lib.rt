@@ -6,7 +6,7 @@ ghost use mathlib.Core.Path.{_≡_};
 ghost use Prim.Native.Nat.{_+_, _*_, _^_, _<_};
 ghost use lib.Dec.{leb};
 ghost use lib.IntN.{pos, negsuc, natAbs, negℤ, _+ℤ_, _-ℤ_, _*ℤ_};
-ghost use lib.Signed.{leZ};
+ghost use lib.Signed.{nonNeg};
 ghost use Rattle.fixed.specs.Division.{floor, ceiling, remainder};
 ghost use Rattle.fixed.specs.Fixed.{U, span-limit, rounded, round-up, capped};
 
@@ -62,7 +62,7 @@ pub fn constant_within_limits(v: i64) -> bool
 
 // The test of a threshold: from 0 to the span limit.
 pub fn threshold_within_limits(t: i64) -> bool
-    ensures { λ r. ⌜ r ≡ (leZ (pos 0) t && leb (natAbs t) span-limit) ⌝ }
+    ensures { λ r. ⌜ r ≡ (nonNeg t && leb (natAbs t) span-limit) ⌝ }
 {
     0 <= t && within_span(magnitude(t))
 }

@@ -15,19 +15,19 @@ add-exponents [] l = l
 add-exponents (a ∷ k) [] = a ∷ k
 add-exponents (a ∷ k) (b ∷ l) = N._+_ a b ∷ add-exponents k l
 
--- the exponent of variable v (counted from 0)
+-- the exponent of variable v; variables are counted from 0 here
 unfoldable pub exponent : ℕ → List ℕ → ℕ
 exponent v [] = 0
 exponent zero (e ∷ es) = e
 exponent (suc v) (e ∷ es) = exponent v es
 
--- the exponents with that of variable v made 0
+-- the exponents with that of variable v, counted from 0, made 0
 unfoldable pub without : ℕ → List ℕ → List ℕ
 without v [] = []
 without zero (e ∷ es) = 0 ∷ es
 without (suc v) (e ∷ es) = e ∷ without v es
 
--- the point with another coordinate v
+-- the list with another element at place v, counted from 0: the point with another coordinate
 unfoldable pub replace {ℓ} : {A : Type ℓ} → ℕ → A → List A → List A
 replace v y [] = []
 replace zero y (x ∷ xs) = y ∷ xs
@@ -88,12 +88,12 @@ module _ (R : Ring) where
   power p zero = constant 1#
   power p (suc n) = product p (power p n)
 
-  -- a term with q in the place of variable v
+  -- a term with q in the place of variable v, counted from 0
   unfoldable pub substitute-term : ℕ → Polynomial → Term Carrier → Polynomial
   substitute-term v q t = times (record { coefficient = t .coefficient; exponents = without v (t .exponents) })
       (power q (exponent v (t .exponents)))
 
-  -- a polynomial with q in the place of variable v
+  -- a polynomial with q in the place of variable v, counted from 0
   unfoldable pub substitute : ℕ → Polynomial → Polynomial → Polynomial
   substitute v q [] = []
   substitute v q (t ∷ p) = sum (substitute-term v q t) (substitute v q p)

@@ -1,0 +1,148 @@
+-- Cases at the edges of the single calls: the order of their tests, and what is handed back with a refusal.
+use mathlib.Core.Path.{_≡_, refl}
+use mathlib.Core.List.{List, [], _∷_, map}
+use Prim.Native.Nat.{ℕ}
+use lib.IntN.{pos}
+use Rattle.calculus.specs.Terms.{term}
+use Rattle.calculus.specs.Model.{Model}
+use Rattle.calculus.specs.Refusal.{Result, Returned}
+use Rattle.calculus.specs.Operations.{Ends}
+use Rattle.calculus.specs.Calls.{call-constant, call-variable, call-negate, call-sweep, call-range, call-integral}
+use Rattle.calculus.specs.Calls.{call-evaluate, call-add, call-subtract, call-multiply, call-substitute}
+use Rattle.calculus.specs.Calls.{returned-model, returned-ends}
+use Rattle.calculus.specs.Computing.{calls}
+use Rattle.calculus.specs.Samples.{at-key, model, ends, minus, line, forms}
+use Rattle.calculus.specs.Edges.{one-term, terms-from}
+
+-- what a call hands back
+pub data Handed-back : Type 0 where
+  of-model : Returned Model → Handed-back
+  of-ends : Returned Ends → Handed-back
+
+-- a row: a number, what the call hands back, and what it must be
+pub record Row : Type 0 where
+  pub number : ℕ
+  pub given : Handed-back
+  pub wanted : Handed-back
+
+-- ---- short forms
+-- a refusal or 0, its place, and a value
+unfoldable pub back : {A : Type 0} → (refusal place : ℕ) → A → Returned A
+back r i a = record { number = r; place = i; value = a }
+
+-- a call that gives a model
+unfoldable pub gives : (number : ℕ) → Result Model → Model → Row
+gives i c m = record { number = i; given = of-model (returned-model c); wanted = of-model (back 0 0 m) }
+
+-- a call that is refused: the zero model, and its n is 1
+unfoldable pub refuses : (number : ℕ) → Result Model → (refusal place : ℕ) → Row
+refuses i c r p = record {
+  number = i;
+  given = of-model (returned-model c);
+  wanted = of-model (back r p (model 1 0 []));
+}
+
+-- a call that gives ends
+unfoldable pub gives-ends : (number : ℕ) → Result Ends → Ends → Row
+gives-ends i c e = record { number = i; given = of-ends (returned-ends c); wanted = of-ends (back 0 0 e) }
+
+-- a call for ends that is refused, at place 0: both are 0
+unfoldable pub refuses-ends : (number : ℕ) → Result Ends → (refusal : ℕ) → Row
+refuses-ends i c r = record {
+  number = i;
+  given = of-ends (returned-ends c);
+  wanted = of-ends (back r 0 (ends (pos 0) (pos 0)));
+}
+
+-- a coefficient 0 breaks a rule
+unfoldable pub bad : Model
+bad = one-term 1 0x1000 (pos 0)
+
+-- x^3
+unfoldable pub cube : Model
+cube = one-term 1 0x3000 (pos 1048576)
+
+-- xy, in two variables
+unfoldable pub two-variables : Model
+two-variables = one-term 2 0x1100 (pos 1048576)
+
+-- just outside the box
+unfoldable pub outside : Model
+outside = one-term 1 0x0000 (pos 1048577)
+
+-- c + x in n variables, in units of 1/U
+unfoldable pub near-limit : (n c : ℕ) → Model
+near-limit n c = model n 0 (at-key n 0x0000 (pos c) ∷ at-key n 0x1000 (pos 1) ∷ [])
+
+-- ---- the table; the line is 5 + 3x
+unfoldable pub call-edges : List Row
+call-edges =
+    -- 3 before 6
+    refuses 1 (call-constant 0 (pos 1073741825)) 3 0
+    ∷ refuses 1 (call-variable 5 6) 3 0
+    -- 6
+    ∷ refuses 2 (call-constant 4 (minus 1073741825)) 6 0
+    ∷ refuses 2 (call-variable 2 3) 6 0
+    ∷ gives 2 (call-variable 4 4) (one-term 4 0x0001 (pos 1048576))
+    -- 5 before 6
+    ∷ refuses 3 (call-sweep (minus 1) bad) 5 0
+    ∷ refuses 3 (call-sweep (minus 1) line) 6 0
+    ∷ gives 3 (call-sweep (pos 1073741824) line) (model 1 3 (at-key 1 0x0000 (pos 5) ∷ []))
+    -- a model's own n counts under 5, and so do its span and keys that do not rise
+    ∷ refuses 4 (call-negate (model 0 0 [])) 5 0
+    ∷ refuses 4 (call-negate (model 1 1073741825 [])) 5 0
+    ∷ refuses 4 (call-negate (model 1 0 (at-key 1 0x1000 (pos 1) ∷ at-key 1 0x1000 (pos 1) ∷ []))) 5 0
+    -- no order is taken: degrees go up to 15
+    ∷ gives 4 (call-negate (one-term 1 0xF000 (pos 1))) (one-term 1 0xF000 (minus 1))
+    ∷ refuses 4 (call-negate (model 1 0 (term (pos 1) (16 ∷ []) ∷ []))) 5 0
+    -- 3 before 5
+    ∷ refuses 5 (call-multiply 0 bad bad) 3 0
+    ∷ refuses 5 (call-substitute 16 1 bad bad) 3 0
+    -- 5 at place 0, then 5 at place 1, then 10
+    ∷ refuses 6 (call-add bad bad) 5 0
+    ∷ refuses 6 (call-add line (model 5 0 [])) 5 1
+    ∷ refuses 6 (call-add line two-variables) 10 0
+    ∷ refuses 6 (call-subtract two-variables line) 10 0
+    ∷ refuses 6 (call-multiply 2 line two-variables) 10 0
+    -- then 6, then 9
+    ∷ refuses 7 (call-substitute 2 3 line two-variables) 10 0
+    ∷ refuses 7 (call-substitute 2 2 line outside) 6 0
+    ∷ refuses 7 (call-substitute 2 0 line outside) 6 0
+    ∷ refuses 7 (call-substitute 2 1 line outside) 9 0
+    -- the order applies to both models
+    ∷ refuses 8 (call-multiply 2 cube line) 5 0
+    ∷ refuses 8 (call-multiply 2 line cube) 5 1
+    ∷ gives 8 (call-multiply 3 line cube) (model 1 3 (at-key 1 0x3000 (pos 5) ∷ []))
+    ∷ refuses 8 (call-substitute 2 1 cube line) 5 0
+    ∷ refuses 8 (call-substitute 2 1 line cube) 5 1
+    -- and holds inside a substitution: y^2/2 put in for x in xy
+    ∷ gives 9 (call-substitute 2 1 two-variables (one-term 2 0x0200 (pos 524288))) (model 2 524288 [])
+    -- 65 terms and a span above 2^30: 8 before 7
+    ∷ refuses 10 (call-add (model 2 0 (terms-from 0 64 (pos 16777216))) (one-term 2 0x8000 (pos 1073741824))) 8 0
+    ∷ refuses 10 (call-add (model 1 1073741824 []) (model 1 1 [])) 7 0
+    ∷ gives 10 (call-add (model 1 1073741823 []) (model 1 1 [])) (model 1 1073741824 [])
+    -- 5 for ends
+    ∷ refuses-ends 11 (call-range bad) 5
+    ∷ refuses-ends 11 (call-integral bad) 5
+    -- evaluation: 5, then 6 above n, then 9 among the first n
+    ∷ refuses-ends 12 (call-evaluate (pos 1048577 ∷ pos 1 ∷ []) bad) 5
+    ∷ refuses-ends 12 (call-evaluate (pos 1048577 ∷ pos 1 ∷ []) line) 6
+    ∷ refuses-ends 12 (call-evaluate (pos 0 ∷ pos 0 ∷ pos 1 ∷ []) line) 6
+    ∷ refuses-ends 12 (call-evaluate (pos 1048577 ∷ pos 0 ∷ []) line) 9
+    ∷ refuses-ends 12 (call-evaluate (minus 1048577 ∷ pos 0 ∷ []) line) 9
+    ∷ gives-ends 12 (call-evaluate (pos 1048576 ∷ pos 0 ∷ []) line) (ends (pos 8) (pos 8))
+    ∷ gives-ends 12 (call-evaluate (minus 1048576 ∷ pos 0 ∷ []) line) (ends (pos 2) (pos 2))
+    -- 7 inside evaluation: at U - 1 the product is rounded to 1 with radius 1
+    ∷ refuses-ends 13 (call-evaluate (pos 1048575 ∷ []) (near-limit 1 1073741823)) 7
+    ∷ gives-ends 13 (call-evaluate (pos 1048575 ∷ []) (near-limit 1 1073741822))
+    (ends (pos 1073741822) (pos 1073741824))
+    -- 9 for any coordinate comes before it
+    ∷ refuses-ends 14 (call-evaluate (pos 1048575 ∷ pos 1048577 ∷ []) (near-limit 2 1073741823)) 9
+    ∷ []
+
+-- each call hands back what its row says
+pub call-edges-hold : map (λ r. r .given) call-edges ≡ map (λ r. r .wanted) call-edges
+unfolding
+    calls forms one-term terms-from
+    back gives refuses gives-ends refuses-ends bad cube two-variables outside near-limit call-edges
+call-edges-hold = refl

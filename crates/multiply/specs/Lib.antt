@@ -1,0 +1,7 @@
+pub mod Multiply
+pub mod Transfer
+pub mod WideKeyLaws
+pub mod TransferLaws
+pub mod ErrorLaws
+pub mod KeptLaws
+pub mod MultipliedLaws

@@ -1,0 +1,237 @@
+-- `substituted` is Horner's rule: what is left at each turn leads to the answer.
+use mathlib.Core.Path.{_≡_, refl, sym, _∙_}
+use Prim.Native.Nat.{_-_, _<_}
+use native.Mathlib.Omega.{arith}
+use borrow.Author.Needs.{needs}
+use borrow.Author.Tests.{not-true, not-false}
+use lib.ListN.{length}
+use Rattle.held.specs.Held.{view, cause}
+use Rattle.substitute.specs.Substitute.{In-variable}
+use Rattle.substitute.specs.AnswerLaws.{sound-order}
+use Rattle.substitute.specs.HornerLaws.{Left, Product, outside, left-first, left-factors, product-refused}
+use Rattle.substitute.specs.HornerLaws.{product-accepted, product-operands, sum-refused, sum-accepted}
+use Rattle.substitute.specs.HornerLaws.{left-packed, left-end}
+use Rattle.substitute.proofs.substituted.Statement.{statement}
+use Rattle.substitute.proofs.substituted.Tie as tie
+
+abbrev Inv-loop : tie.InvT-loop
+Inv-loop d i f g slots₀ keys₀ sums₀ k₀ h₀ slots keys sums k h =
+    Left d i f g k h
+    × (length slots ≡ length slots₀)
+    × (length keys ≡ length keys₀)
+    × (length sums ≡ length sums₀)
+
+abbrev μ-loop : tie.MeasureT-loop
+μ-loop d i f g slots₀ keys₀ sums₀ k₀ h₀ slots keys sums k h = k
+
+-- ---- before the loop
+in-variable : (c : tie.Start Inv-loop μ-loop) → In-variable (c .args .i) (c .args .f)
+in-variable c =
+    let s = c .pre .0 in
+    record {
+      model = sound-order (c .args .d) (view (c .args .f)) (s .order) (s .model);
+      first = s .first;
+      last = s .last;
+    }
+
+in-box-requires : tie.Need-in-box-requires Inv-loop μ-loop
+in-box-requires c κs =
+    let s = c .before .before .pre .0 in
+    sound-order _ _ (s .order) (s .inner)
+
+refuse-requires : tie.Need-refuse-requires Inv-loop μ-loop
+refuse-requires c κs = search needs
+
+returns : tie.Need-returns Inv-loop μ-loop
+unfolding cause
+returns c =
+    c .refuse .ensures
+    ∙ outside _ _ _ _ (sym (c .before .before .in-box .ensures) ∙ not-true _ (c .before .if1 .taken))
+
+largest-exponent-requires : tie.Need-largest-exponent-requires Inv-loop μ-loop
+largest-exponent-requires c κs = in-variable (c .before .before .before .before)
+
+part-requires : tie.Need-part-requires Inv-loop μ-loop
+part-requires c κs = in-variable (c .before .before .before .before .before)
+
+loop-holds : tie.Need-loop-holds Inv-loop μ-loop
+loop-holds c =
+    let b = c .before .before .before in (
+      left-first (b .before .before .before .pre .0)
+          (sym (b .in-box .ensures) ∙ not-false _ (c .before .before .if1 .left))
+          (c .before .largest-exponent .ensures) (c .part .ensures),
+      refl,
+      refl,
+      refl,
+    )
+
+-- ---- a turn: the product
+abbrev start : tie.At-loop Inv-loop μ-loop → tie.Start Inv-loop μ-loop
+start l = l .before .before .before .before .before .before .before
+
+sub-k : tie.Need-sub-k Inv-loop μ-loop
+sub-k c = omega arith
+
+multiplied-requires : tie.Need-multiplied-requires Inv-loop μ-loop
+multiplied-requires c κs =
+    let l = c .before .before .before .before in
+    let t = start l .pre .1 in (
+      left-factors (start l .pre .0) (l .loop .inv .0),
+      record {
+        slots-room = omega (arith, l .loop .inv .1, t .slots-room);
+        keys-room = omega (arith, l .loop .inv .2, t .keys-room);
+        sums-room = omega (arith, l .loop .inv .3, t .sums-room);
+      },
+    )
+
+module _ (c : tie.After-multiplied Inv-loop μ-loop) where
+  abbrev turn : tie.At-loop Inv-loop μ-loop
+  turn = c .before .before .before .before .before
+
+  positive : 0 < turn .loop .k
+  positive = omega (arith, c .before .before .before .before .loop-test .taken)
+
+  -- the table keeps its lengths
+  slots-long : length (c .multiplied .last .1 .1 .1 .0) ≡ length (start turn .args .slots .now)
+  slots-long = c .multiplied .kept .1 .1 .1 .0 ∙ turn .loop .inv .1
+
+  keys-long : length (c .multiplied .last .1 .1 .1 .1 .0) ≡ length (start turn .args .keys .now)
+  keys-long = c .multiplied .kept .1 .1 .1 .1 .0 ∙ turn .loop .inv .2
+
+  sums-long : length (c .multiplied .last .1 .1 .1 .1 .1 .0) ≡ length (start turn .args .sums .now)
+  sums-long = c .multiplied .kept .1 .1 .1 .1 .1 .0 ∙ turn .loop .inv .3
+
+enum-told : tie.Need-enum-told Inv-loop μ-loop
+enum-told c = search needs
+
+enum-told-2 : tie.Need-enum-told-2 Inv-loop μ-loop
+enum-told-2 c = search needs
+
+-- it is refused
+abbrev refused : tie.After-enum-told2 Inv-loop μ-loop → tie.After-multiplied Inv-loop μ-loop
+refused c = c .before .before .before .before .before .before .before
+
+same-length : tie.Need-same-length Inv-loop μ-loop
+same-length c = slots-long (refused c)
+
+same-length-2 : tie.Need-same-length-2 Inv-loop μ-loop
+same-length-2 c = keys-long (refused c)
+
+same-length-3 : tie.Need-same-length-3 Inv-loop μ-loop
+same-length-3 c = sums-long (refused c)
+
+returns-2 : tie.Need-returns-2 Inv-loop μ-loop
+returns-2 c =
+    let m = refused c in
+    let l = turn m in
+    product-refused (start l .pre .0) (l .loop .inv .0) (positive m) (m .multiplied .ensures) (c .enum-told2 .given .1)
+
+-- ---- a turn: the sum
+module _ (c : tie.After-enum-told Inv-loop μ-loop) where
+  abbrev made : tie.After-multiplied Inv-loop μ-loop
+  made = c .before .before .before .before .before .before .before
+
+  abbrev begun : tie.Start Inv-loop μ-loop
+  begun = start (turn made)
+
+  product : Product (begun .args .d) (begun .args .i) (begun .args .f) (begun .args .g)
+      (turn made .loop .k - 1) (made .multiplied .result .model)
+  product = product-accepted (begun .pre .0) (turn made .loop .inv .0) (positive made) (made .multiplied .ensures)
+      (c .enum-told .given .1)
+
+part-requires-2 : tie.Need-part-requires-2 Inv-loop μ-loop
+part-requires-2 c κs = in-variable (begun c)
+
+added-requires : tie.Need-added-requires Inv-loop μ-loop
+added-requires c κs = product-operands (begun (c .before) .pre .0) (product (c .before)) (c .part2 .ensures)
+
+enum-told-3 : tie.Need-enum-told-3 Inv-loop μ-loop
+enum-told-3 c = search needs
+
+enum-told-4 : tie.Need-enum-told-4 Inv-loop μ-loop
+enum-told-4 c = search needs
+
+-- it is refused
+same-length-4 : tie.Need-same-length-4 Inv-loop μ-loop
+same-length-4 c = slots-long (made (c .before .before .before .before))
+
+same-length-5 : tie.Need-same-length-5 Inv-loop μ-loop
+same-length-5 c = keys-long (made (c .before .before .before .before))
+
+same-length-6 : tie.Need-same-length-6 Inv-loop μ-loop
+same-length-6 c = sums-long (made (c .before .before .before .before))
+
+returns-3 : tie.Need-returns-3 Inv-loop μ-loop
+returns-3 c =
+    let a = c .before .before in
+    let e = a .before .before in
+    sum-refused (begun e .pre .0) (product e) (a .before .part2 .ensures) (a .added .ensures) (c .enum-told4 .given .1)
+
+-- it is accepted
+loop-less : tie.Need-loop-less Inv-loop μ-loop
+loop-less c = omega (arith, positive (made (c .before .before .before .before .before)))
+
+loop-again : tie.Need-loop-again Inv-loop μ-loop
+loop-again c =
+    let a = c .before .before .before in
+    let e = a .before .before in (
+      sum-accepted (begun e .pre .0) (product e) (a .before .part2 .ensures) (a .added .ensures)
+          (c .before .enum-told3 .given .1),
+      slots-long (made e),
+      keys-long (made e),
+      sums-long (made e),
+    )
+
+-- ---- after the loop
+widened-requires : tie.Need-widened-requires Inv-loop μ-loop
+widened-requires c κs = left-packed (start (c .before) .pre .0) (c .before .loop .inv .0)
+
+same-length-7 : tie.Need-same-length-7 Inv-loop μ-loop
+same-length-7 c = c .before .before .loop .inv .1
+
+same-length-8 : tie.Need-same-length-8 Inv-loop μ-loop
+same-length-8 c = c .before .before .loop .inv .2
+
+same-length-9 : tie.Need-same-length-9 Inv-loop μ-loop
+same-length-9 c = c .before .before .loop .inv .3
+
+returns-4 : tie.Need-returns-4 Inv-loop μ-loop
+returns-4 c =
+    let l = c .before .before in
+    left-end (start l .pre .0) (l .loop .inv .0) (c .before .loop-test .left) (c .widened .ensures)
+
+pub substituted-spec : {M : Type 1} → statement M
+substituted-spec =
+    tie.close
+    (tie.spec
+    Inv-loop
+    μ-loop
+    in-box-requires
+    refuse-requires
+    returns
+    largest-exponent-requires
+    part-requires
+    loop-holds
+    sub-k
+    multiplied-requires
+    enum-told
+    enum-told-2
+    same-length
+    same-length-2
+    same-length-3
+    returns-2
+    part-requires-2
+    added-requires
+    enum-told-3
+    enum-told-4
+    same-length-4
+    same-length-5
+    same-length-6
+    returns-3
+    loop-less
+    loop-again
+    widened-requires
+    same-length-7
+    same-length-8
+    same-length-9
+    returns-4)
