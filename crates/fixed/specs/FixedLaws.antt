@@ -42,6 +42,11 @@ pub span-square-fits : 4 * (span-limit * span-limit) < 2 ^ 63
 unfolding span-limit
 span-square-fits = lit< tt
 
+-- a number of that size and its sign fit four bytes
+pub span-four-bytes : span-limit < 2 ^ 31
+unfolding span-limit
+span-four-bytes = lit< tt
+
 -- ---- rounding up
 -- the radius covers E,
 pub round-up-ok : (E : ℕ) → E ≤ U * round-up E

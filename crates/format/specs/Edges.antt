@@ -1,0 +1,172 @@
+-- Sheets at the edges of the tests, beside the samples, and the largest sheet.
+use mathlib.Core.Path.{_≡_, refl}
+use mathlib.Core.List.{List, [], _∷_, _++_, map}
+use Prim.Native.Nat.{ℕ, zero, suc, _*_}
+use Prim.Native.String.{String}
+use lib.IntN.{pos, negsuc}
+use lib.ListN.{replicate, length}
+use Rattle.calculus.specs.Refusal.{done}
+use Rattle.format.specs.Bytes.{join}
+use Rattle.format.specs.Held.{Held-model, Held-book}
+use Rattle.format.specs.Format.{longest, returned-book, opened, written}
+use Rattle.format.specs.Samples.{hex, sheet-forms}
+use Rattle.format.specs.Computing.{reads, writes}
+
+-- a row: the number and the place that a read gives, 0 and 0 where it is accepted, and the sheet
+pub record Row : Type 0 where
+  pub number : ℕ
+  pub place : ℕ
+  pub bytes : List ℕ
+
+-- a row of the table
+unfoldable pub edge : (number place : ℕ) → List String → Row
+edge i p l = record { number = i; place = p; bytes = hex l }
+
+-- the table
+unfoldable pub edges : List Row
+edges =
+    -- no byte
+    edge 1 0 []
+    -- 15 bytes
+    ∷ edge 1 0 ("00 00 00 00 00 00 00" ∷ "01 02 00 01 00 00 4D 4B" ∷ [])
+    -- a wrong mark in either byte
+    ∷ edge 2 0 ("01 00 00 00 00 00 00 00" ∷ "01 02 00 01 00 00 4E 4B" ∷ [])
+    ∷ edge 2 0 ("01 00 00 00 00 00 00 00" ∷ "01 02 00 01 00 00 4D 4A" ∷ [])
+    -- n, d and the counts just outside their limits; the wrong offset that comes with some of them is not yet seen
+    ∷ edge 3 0 ("01 00 00 00 00 00 00 00" ∷ "00 02 00 01 00 00 4D 4B" ∷ [])
+    ∷ edge 3 0 ("01 00 00 00 00 00 00 00" ∷ "05 02 00 01 00 00 4D 4B" ∷ [])
+    ∷ edge 3 0 ("01 00 00 00 00 00 00 00" ∷ "01 00 00 01 00 00 4D 4B" ∷ [])
+    ∷ edge 3 0 ("01 00 00 00 00 00 00 00" ∷ "01 10 00 01 00 00 4D 4B" ∷ [])
+    ∷ edge 3 0 ("01 00 00 00 00 00 00 00" ∷ "01 02 11 01 00 00 4D 4B" ∷ [])
+    ∷ edge 3 0 ("01 00 00 00 00 00 00 00" ∷ "01 02 00 00 00 00 4D 4B" ∷ [])
+    ∷ edge 3 0 ("01 00 00 00 00 00 00 00" ∷ "01 02 00 41 00 00 4D 4B" ∷ [])
+    -- another offset; one that would give the length if its sum wrapped at 16 bits
+    ∷ edge 4 0 ("01 00 00 00 00 00 00 00" ∷ "01 02 00 01 01 00 4D 4B" ∷ [])
+    ∷ edge 4 0 ("01 00 00 00 00 00 00 00" ∷ "01 02 00 02 F8 FF 4D 4B" ∷ [])
+    -- an exponent above n, degree d + 1, a coefficient 0, keys that do not rise
+    ∷ edge 5 0 ("00 00 00 00 01 01 10 01 00 00 00" ∷ "01 00 00 00 00 00 00 00" ∷ "01 02 01 01 0B 00 4D 4B" ∷ [])
+    ∷ edge 5 0 ("00 00 00 00 01 00 30 01 00 00 00" ∷ "01 00 00 00 00 00 00 00" ∷ "01 02 01 01 0B 00 4D 4B" ∷ [])
+    ∷ edge 5 0 ("00 00 00 00 01 00 10 00 00 00 00" ∷ "01 00 00 00 00 00 00 00" ∷ "01 02 01 01 0B 00 4D 4B" ∷ [])
+    ∷ edge 5 0 ("00 00 00 00 02 00 10 01 00 00 00 00 10 01 00 00 00" ∷ "01 00 00 00 00 00 00 00" ∷
+    "01 02 01 01 11 00 4D 4B" ∷ [])
+    -- span 2^30 and one above, by the radius and by a coefficient; the least coefficient
+    ∷ edge 0 0 ("00 00 00 40 00" ∷ "01 00 00 00 00 00 00 00" ∷ "01 02 01 01 05 00 4D 4B" ∷ [])
+    ∷ edge 5 0 ("01 00 00 40 00" ∷ "01 00 00 00 00 00 00 00" ∷ "01 02 01 01 05 00 4D 4B" ∷ [])
+    ∷ edge 5 0 ("01 00 00 00 01 00 00 00 00 00 40" ∷ "01 00 00 00 00 00 00 00" ∷ "01 02 01 01 0B 00 4D 4B" ∷ [])
+    ∷ edge 5 0 ("00 00 00 00 01 00 00 00 00 00 80" ∷ "01 00 00 00 00 00 00 00" ∷ "01 02 01 01 0B 00 4D 4B" ∷ [])
+    -- a record that does not fit before the first step, by its term and by its count
+    ∷ edge 5 1 ("00 00 00 00 00" ∷ "00 00 00 00 01" ∷ "01 00 00 00 00 00 00 00" ∷ "01 02 02 01 0A 00 4D 4B" ∷ [])
+    ∷ edge 5 1 ("00 00 00 00 00" ∷ "00 00 00 00" ∷ "01 00 00 00 00 00 00 00" ∷ "01 02 02 01 09 00 4D 4B" ∷ [])
+    -- bytes left over: the place is the model count
+    ∷ edge 5 1 ("00 00 00 00 00" ∷ "00" ∷ "01 00 00 00 00 00 00 00" ∷ "01 02 01 01 06 00 4D 4B" ∷ [])
+    ∷ edge 5 0 ("00" ∷ "01 00 00 00 00 00 00 00" ∷ "01 02 00 01 01 00 4D 4B" ∷ [])
+    -- a model's fault comes before a step's
+    ∷ edge 5 0 ("01 00 00 40 00" ∷ "09 00 00 00 00 00 00 00" ∷ "01 02 01 01 05 00 4D 4B" ∷ [])
+    -- another code; for each code a field that it does not name
+    ∷ edge 6 0 ("09 00 00 00 00 00 00 00" ∷ "01 02 00 01 00 00 4D 4B" ∷ [])
+    ∷ edge 6 0 ("00 00 00 00 00" ∷ "00 00 01 00 00 00 00 00" ∷ "01 02 01 01 05 00 4D 4B" ∷ [])
+    ∷ edge 6 1 ("01 00 00 00 00 00 00 00" ∷ "01 01 00 00 00 00 00 00" ∷ "01 02 00 02 00 00 4D 4B" ∷ [])
+    ∷ edge 6 1 ("01 00 00 00 00 00 00 00" ∷ "02 00 00 01 01 00 00 00" ∷ "01 02 00 02 00 00 4D 4B" ∷ [])
+    ∷ edge 6 1 ("01 00 00 00 00 00 00 00" ∷ "03 00 00 01 00 00 00 00" ∷ "01 02 00 02 00 00 4D 4B" ∷ [])
+    ∷ edge 6 1 ("01 00 00 00 00 00 00 00" ∷ "04 00 00 01 00 00 00 00" ∷ "01 02 00 02 00 00 4D 4B" ∷ [])
+    ∷ edge 6 1 ("01 00 00 00 00 00 00 00" ∷ "05 00 00 00 01 00 00 00" ∷ "01 02 00 02 00 00 4D 4B" ∷ [])
+    ∷ edge 6 1 ("01 00 00 00 00 00 00 00" ∷ "06 00 00 00 FF FF FF FF" ∷ "01 02 00 02 00 00 4D 4B" ∷ [])
+    ∷ edge 6 1 ("01 00 00 00 00 00 00 00" ∷ "07 00 00 01 01 00 00 00" ∷ "01 02 00 02 00 00 4D 4B" ∷ [])
+    ∷ edge 6 1 ("01 00 00 00 00 00 00 00" ∷ "08 00 01 00 00 00 00 00" ∷ "01 02 00 02 00 00 4D 4B" ∷ [])
+    -- a model number, an operand, a variable and a threshold outside their limits
+    ∷ edge 6 0 ("00 00 00 00 00 00 00 00" ∷ "01 02 00 01 00 00 4D 4B" ∷ [])
+    ∷ edge 6 1 ("01 00 00 00 00 00 00 00" ∷ "03 01 00 00 00 00 00 00" ∷ "01 02 00 02 00 00 4D 4B" ∷ [])
+    ∷ edge 6 1 ("01 00 00 00 00 00 00 00" ∷ "04 00 01 00 00 00 00 00" ∷ "01 02 00 02 00 00 4D 4B" ∷ [])
+    ∷ edge 6 0 ("02 00 00 00 00 00 00 00" ∷ "01 02 00 01 00 00 4D 4B" ∷ [])
+    ∷ edge 6 0 ("02 00 00 02 00 00 00 00" ∷ "01 02 00 01 00 00 4D 4B" ∷ [])
+    ∷ edge 6 1 ("01 00 00 00 00 00 00 00" ∷ "08 00 00 00 FF FF FF FF" ∷ "01 02 00 02 00 00 4D 4B" ∷ [])
+    ∷ edge 6 1 ("01 00 00 00 00 00 00 00" ∷ "08 00 00 00 01 00 00 40" ∷ "01 02 00 02 00 00 4D 4B" ∷ [])
+    -- the largest threshold, the least constant
+    ∷ edge 0 0 ("01 00 00 00 00 00 00 00" ∷ "08 00 00 00 00 00 00 40" ∷ "01 02 00 02 00 00 4D 4B" ∷ [])
+    ∷ edge 0 0 ("01 00 00 00 00 00 00 C0" ∷ "01 02 00 01 00 00 4D 4B" ∷ [])
+    ∷ []
+
+-- the read of each sheet gives what its row says
+pub edges-read : map {B = ℕ × ℕ} (λ r. (returned-book (r .bytes) .number, returned-book (r .bytes) .place)) edges
+    ≡ map (λ r. (r .number, r .place)) edges
+unfolding reads writes sheet-forms edges edge
+edges-read = refl
+
+-- ---- records
+-- the records of a sheet whose run would be refused: two models and three steps, and no trailer
+pub edge-records : opened (hex ("02 00 00 00 00" ∷ "00 00 00 40 00" ∷ "00 00 00 00 00 00 00 00" ∷
+    "00 01 00 00 00 00 00 00" ∷ "04 00 01 00 00 00 00 00" ∷ "01 02 02 03 0A 00 4D 4B" ∷ []))
+    ≡ done (map (λ r. hex (r ∷ [])) ("02 00 00 00 00" ∷ "00 00 00 40 00" ∷ "00 00 00 00 00 00 00 00" ∷
+    "00 01 00 00 00 00 00 00" ∷ "04 00 01 00 00 00 00 00" ∷ []))
+unfolding reads sheet-forms
+edge-records = refl
+
+-- ---- writing
+-- one step without operands, in one variable; with code 1 it is the constant 0
+unfoldable pub small-book : (d code : ℕ) → Held-book
+small-book d code = record {
+  n = 1;
+  d = d;
+  models = [];
+  steps = record { code = code; a = 0; b = 0; v = 0; value = pos 0 } ∷ [];
+}
+
+-- its sheet
+unfoldable pub small-sheet : List ℕ
+small-sheet = hex ("01 00 00 00 00 00 00 00" ∷ "01 02 00 01 00 00 4D 4B" ∷ [])
+
+-- the single term of key hex 2000, coefficient -1: the book of sample 12
+unfoldable pub square-book : Held-book
+square-book = record {
+  n = 1;
+  d = 2;
+  models = record { n = 1; radius = 0; terms = record { key = 0x2000; coefficient = negsuc 0 } ∷ [] } ∷ [];
+  steps = record { code = 0; a = 0; b = 0; v = 0; value = pos 0 } ∷ [];
+}
+
+-- its sheet
+unfoldable pub square-sheet : List ℕ
+square-sheet = hex ("00 00 00 00 01 00 20 FF FF FF FF" ∷ "00 00 00 00 00 00 00 00" ∷ "01 02 01 01 0B 00 4D 4B" ∷ [])
+
+-- a write: number, place, length and buffer
+unfoldable pub all-written : Held-book → List ℕ → ℕ × ℕ × ℕ × List ℕ
+all-written h buffer = let w = written h buffer in (w .number, w .place, w .value .length, w .value .buffer)
+
+-- bytes beyond the length stay; a buffer of the length is enough, and a shorter one stays
+pub edge-written : (all-written (small-book 2 1) (replicate 18 0xFF) ≡ (0, 0, 16, small-sheet ++ (0xFF ∷ 0xFF ∷ [])))
+    × (all-written (small-book 2 1) (replicate 16 0xFF) ≡ (0, 0, 16, small-sheet))
+    × (all-written (small-book 2 1) (replicate 15 0xFF) ≡ (11, 0, 0, replicate 15 0xFF))
+    × (all-written square-book (replicate 27 0) ≡ (0, 0, 27, square-sheet))
+    × (all-written (small-book 2 9) [] ≡ (6, 0, 0, []))
+    × (all-written (small-book 0 9) [] ≡ (3, 0, 0, []))
+unfolding writes sheet-forms small-book small-sheet square-book square-sheet all-written
+edge-written = (refl, refl, refl, refl, refl, refl)
+
+-- ---- the largest sheet
+-- k numbers from a on
+unfoldable pub numbers-from : (a k : ℕ) → List ℕ
+numbers-from a zero = []
+numbers-from a (suc k) = a ∷ numbers-from (suc a) k
+
+-- 64 terms in the last two of four variables
+unfoldable pub largest-model : Held-model
+largest-model = record {
+  n = 4;
+  radius = 0;
+  terms = map (λ z. record { key = z; coefficient = pos 1 })
+      (join (map (λ i. numbers-from (16 * i) 8) (numbers-from 0 8)));
+}
+
+-- 16 of them and 64 steps
+unfoldable pub largest-book : Held-book
+largest-book = record {
+  n = 4;
+  d = 15;
+  models = replicate 16 largest-model;
+  steps = replicate 64 (record { code = 0; a = 0; b = 0; v = 0; value = pos 0 });
+}
+
+-- its sheet is as long as test 1 allows
+pub largest-written : written largest-book (replicate longest 0) .value .length ≡ longest
+unfolding writes largest-book largest-model numbers-from
+largest-written = refl

@@ -1,0 +1,189 @@
+-- The bytes of a sheet: reading by tests 1 to 6, stepping through its records, writing, and its run.
+use mathlib.Core.Bool.{Bool, _&&_}
+use mathlib.Core.List.{List, [], _∷_, _++_, map}
+use mathlib.Core.Option.{Option}
+use Prim.Native.Nat.{ℕ, zero, suc, _+_, _-_, _*_}
+use lib.Dec.{eqb, leb}
+use lib.ListN.{length, take, drop, getElem?}
+use Rattle.calculus.specs.Model.{between}
+use Rattle.calculus.specs.Refusal.{bad-length, bad-mark, bad-limits, bad-offset, bad-model, bad-step, short-buffer}
+use Rattle.calculus.specs.Refusal.{Result, done, stopped, require-at, require-each, _followed-by_, Returned, returned}
+use Rattle.calculus.specs.Book.{Book, limits-sound, Summary, run-sound, returned-summary}
+use Rattle.format.specs.Bytes.{byte, join, u16, u32, u16-bytes, u32-bytes, signed, bits}
+use Rattle.format.specs.Held.{Held-term, Held-model, Held-step, Held-book, zero-book, view-book, outline}
+use Rattle.format.specs.Held.{held-model-sound, held-step-sound, held-tested}
+
+-- ---- models: radius (4 bytes), term count (1), then per term the key (2) and the coefficient (4)
+-- the term at the head
+unfoldable pub read-term : List ℕ → Held-term
+read-term s = record { key = u16 s; coefficient = signed (u32 (drop 2 s)) }
+
+-- c terms
+unfoldable pub read-terms : (c : ℕ) → List ℕ → List Held-term
+read-terms zero s = []
+read-terms (suc c) s = read-term s ∷ read-terms c (drop 6 s)
+
+-- the model at the head
+unfoldable pub read-model : (n : ℕ) → List ℕ → Held-model
+read-model n s = record { n = n; radius = u32 s; terms = read-terms (byte 4 s) (drop 5 s) }
+
+-- the length of its record
+unfoldable pub model-length : List ℕ → ℕ
+model-length s = 5 + 6 * byte 4 s
+
+-- test 5 of c more models, after those read before: the first whose record does not fit or that breaks a rule decides,
+-- and after the last record nothing may be left
+unfoldable pub read-models : Book → (before : List Held-model) (c : ℕ) → List ℕ → Result (List Held-model)
+read-models book before zero [] = done before
+read-models book before zero (b ∷ s) = stopped bad-model (length before)
+read-models book before (suc c) s =
+    let m : Held-model = read-model (book .vars) s in
+    require-at (length before) (leb (model-length s) (length s) && held-model-sound book m) bad-model
+    (read-models book (before ++ (m ∷ [])) c (drop (model-length s) s))
+
+-- ---- steps: code, a, b, v (a byte each), value (4)
+-- the step at the head
+unfoldable pub read-step : List ℕ → Held-step
+read-step s =
+    record { code = byte 0 s; a = byte 1 s; b = byte 2 s; v = byte 3 s; value = signed (u32 (drop 4 s)) }
+
+-- c steps
+unfoldable pub read-steps : (c : ℕ) → List ℕ → List Held-step
+read-steps zero s = []
+read-steps (suc c) s = read-step s ∷ read-steps c (drop 8 s)
+
+-- ---- trailer: n, d, model count, step count (a byte each), offset of the first step (2), hex 4D 4B
+-- what it says: n, d, the counts, the offset, and whether the mark stands
+pub record Trailer : Type 0 where
+  pub n : ℕ
+  pub d : ℕ
+  pub models : ℕ
+  pub steps : ℕ
+  pub offset : ℕ
+  pub marked : Bool
+
+-- the last 8 bytes
+unfoldable pub trailer-of : List ℕ → List ℕ
+trailer-of s = drop (length s - 8) s
+
+-- read from them
+unfoldable pub read-trailer : List ℕ → Trailer
+read-trailer t = record {
+  n = byte 0 t;
+  d = byte 1 t;
+  models = byte 2 t;
+  steps = byte 3 t;
+  offset = u16 (drop 4 t);
+  marked = eqb (byte 6 t) 0x4D && eqb (byte 7 t) 0x4B;
+}
+
+-- ---- reading
+-- the smallest sheet
+unfoldable pub shortest : ℕ
+shortest = 16
+
+-- the largest sheet
+unfoldable pub longest : ℕ
+longest = 6744
+
+-- tests 3 to 6 of a sheet with a trailer
+unfoldable pub read-records : List ℕ → Trailer → Result Held-book
+read-records s t =
+    let book : Book = outline (t .n) (t .d) (t .models) (t .steps) in
+    let steps : List Held-step = read-steps (t .steps) (drop (t .offset) s) in
+    require-at 0 (limits-sound book) bad-limits
+    (require-at 0 (eqb (t .offset + 8 * t .steps + 8) (length s)) bad-offset
+    (read-models book [] (t .models) (take (t .offset) s)
+    followed-by (λ models. require-each 0 (held-step-sound book) steps bad-step
+    (done (record { n = t .n; d = t .d; models = models; steps = steps })))))
+
+-- tests 1 to 6 in order, over the whole sheet
+unfoldable pub read : List ℕ → Result Held-book
+read s =
+    let t : Trailer = read-trailer (trailer-of s) in
+    require-at 0 (between shortest longest (length s)) bad-length
+    (require-at 0 (t .marked) bad-mark (read-records s t))
+
+-- what a read hands back: with a refusal the book of zeros
+unfoldable pub returned-book : List ℕ → Returned Held-book
+returned-book s = returned zero-book (read s)
+
+-- the run of a sheet: the read makes all tests
+unfoldable pub run-sheet : List ℕ → Result Summary
+run-sheet s = read s followed-by (λ h. run-sound (view-book h))
+
+-- what a run hands back: with a refusal the zero model with n = 1 and ends 0
+unfoldable pub returned-run : List ℕ → Returned Summary
+returned-run s = returned-summary (run-sheet s)
+
+-- ---- stepping through a sheet
+-- the bytes of c models
+unfoldable pub model-records : (c : ℕ) → List ℕ → List (List ℕ)
+model-records zero s = []
+model-records (suc c) s = take (model-length s) s ∷ model-records c (drop (model-length s) s)
+
+-- the bytes of c steps
+unfoldable pub step-records : (c : ℕ) → List ℕ → List (List ℕ)
+step-records zero s = []
+step-records (suc c) s = take 8 s ∷ step-records c (drop 8 s)
+
+-- each model's bytes, each step's 8 bytes
+unfoldable pub records : List ℕ → List (List ℕ)
+records s =
+    let t : Trailer = read-trailer (trailer-of s) in
+    model-records (t .models) s ++ step-records (t .steps) (drop (t .offset) s)
+
+-- opening makes tests 1 to 6; the records are then handed out in order, and after these none
+unfoldable pub opened : List ℕ → Result (List (List ℕ))
+opened s = read s followed-by (λ h. done (records s))
+
+-- a refused opening hands out none
+unfoldable pub returned-records : List ℕ → Returned (List (List ℕ))
+returned-records s = returned [] (opened s)
+
+-- what is handed out when it is asked for the i-th time, counted from 0
+unfoldable pub handed-out : List ℕ → (i : ℕ) → Option (List ℕ)
+handed-out s i = getElem? (returned-records s .value) i
+
+-- ---- writing
+-- a term
+unfoldable pub term-bytes : Held-term → List ℕ
+term-bytes t = u16-bytes (t .key) ++ u32-bytes (bits (t .coefficient))
+
+-- a model
+unfoldable pub model-bytes : Held-model → List ℕ
+model-bytes m = u32-bytes (m .radius) ++ (length (m .terms) ∷ join (map term-bytes (m .terms)))
+
+-- a step
+unfoldable pub step-bytes : Held-step → List ℕ
+step-bytes s = s .code ∷ s .a ∷ s .b ∷ s .v ∷ u32-bytes (bits (s .value))
+
+-- all models, which stand before the first step
+unfoldable pub models-bytes : Held-book → List ℕ
+models-bytes h = join (map model-bytes (h .models))
+
+-- the trailer
+unfoldable pub trailer-bytes : Held-book → List ℕ
+trailer-bytes h =
+    h .n ∷ h .d ∷ length (h .models) ∷ length (h .steps)
+    ∷ (u16-bytes (length (models-bytes h)) ++ (0x4D ∷ 0x4B ∷ []))
+
+-- the sheet of a book
+unfoldable pub sheet-bytes : Held-book → List ℕ
+sheet-bytes h = models-bytes h ++ (join (map step-bytes (h .steps)) ++ trailer-bytes h)
+
+-- tests 3, 5, 6 and 11, then the sheet
+unfoldable pub write : Held-book → (buffer : List ℕ) → Result (List ℕ)
+write h buffer =
+    let s : List ℕ = sheet-bytes h in
+    held-tested h (require-at 0 (leb (length s) (length buffer)) short-buffer (done s))
+
+-- the length that a write answers, and all that the buffer holds after it
+pub record Written : Type 0 where
+  pub length : ℕ
+  pub buffer : List ℕ
+
+-- bytes beyond the length stay; a refused write answers the length 0, and all bytes stay
+unfoldable pub written : Held-book → (buffer : List ℕ) → Returned Written
+written h buffer = returned (record { length = 0; buffer = buffer })
+    (write h buffer followed-by (λ s. done (record { length = length s; buffer = s ++ drop (length s) buffer })))

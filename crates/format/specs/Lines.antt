@@ -1,0 +1,60 @@
+-- The lines that the program prints, as bytes.
+use mathlib.Core.Bool.{true, false}
+use mathlib.Core.List.{List, [], _∷_, _++_, map}
+use Prim.Native.Nat.{ℕ, zero, suc, _+_, _/_, _%_}
+use Prim.Native.Char.{code}
+use Prim.Native.String.{String, [] as no-text, _∷_ as _then_}
+use lib.Dec.{ltb}
+use lib.IntN.{ℤ, pos, negsuc}
+use lib.ListN.{take}
+use Rattle.polynomial.specs.Polynomial.{Term}
+use Rattle.calculus.specs.Refusal.{number, Result, done, stopped}
+use Rattle.calculus.specs.Operations.{Ends}
+use Rattle.calculus.specs.Book.{Summary}
+use Rattle.format.specs.Bytes.{join}
+use Rattle.format.specs.Format.{longest, run-sheet}
+
+-- a text in ASCII
+unfoldable pub text : String → List ℕ
+text no-text = []
+text (c then s) = code c ∷ text s
+
+-- the decimal digits of x, of which there are at most k, without leading zeros
+unfoldable pub digits : (k : ℕ) → ℕ → List ℕ
+digits zero x = []
+digits (suc k) x = elim (ltb x 10) [ true ↦ (48 + x) ∷ [] | false ↦ digits k (x / 10) ++ ((48 + x % 10) ∷ []) ]
+
+-- a natural number, which never has more digits than one above itself
+unfoldable pub decimal : ℕ → List ℕ
+decimal x = digits (suc x) x
+
+-- an integer
+unfoldable pub signed-decimal : ℤ → List ℕ
+signed-decimal (pos n) = decimal n
+signed-decimal (negsuc n) = text "-" ++ decimal (suc n)
+
+-- words with one space between them, then a line feed
+unfoldable pub line : List (List ℕ) → List ℕ
+line [] = text "\n"
+line (w ∷ []) = w ++ text "\n"
+line (w ∷ (x ∷ l)) = w ++ (text " " ++ line (x ∷ l))
+
+-- `term`, n exponents, coefficient
+unfoldable pub term-line : Term ℤ → List ℕ
+term-line t = line (text "term" ∷ (map decimal (t .exponents) ++ (signed-decimal (t .coefficient) ∷ [])))
+
+-- a word, low and high
+unfoldable pub ends-line : List ℕ → Ends → List ℕ
+ends-line word e = line (word ∷ signed-decimal (e .low) ∷ signed-decimal (e .high) ∷ [])
+
+-- the lines of a run
+unfoldable pub lines : Result Summary → List ℕ
+lines (done s) =
+    line (text "radius" ∷ decimal (s .model .radius) ∷ [])
+    ++ (join (map term-line (s .model .terms))
+    ++ (ends-line (text "range") (s .range) ++ ends-line (text "integral") (s .integral)))
+lines (stopped r i) = line (text "refused" ∷ decimal (number r) ∷ decimal i ∷ [])
+
+-- what the program prints: of its input it reads at most one byte more than the largest sheet has
+unfoldable pub printed : (input : List ℕ) → List ℕ
+printed input = lines (run-sheet (take (suc longest) input))

@@ -1,0 +1,175 @@
+-- Stepping by places: where each record stands, and what is read there.
+use mathlib.Core.Path.{_≡_, refl, sym, _∙_, ap, ap₂, subst}
+use mathlib.Core.List.{List, [], _∷_, _++_, map, append-assoc}
+use Prim.Native.Nat.{ℕ, zero, suc, _+_, _≤_, _<_}
+use native.Mathlib.Omega.{arith}
+use lib.IntN.{pos}
+use lib.ListN.{length, getD, take, drop, length-append, length-map, take-append-drop, List·getD-append, List·getD-map}
+use lib.Seq.{take-at, take-suc, take-length, take-append-le, take-append-add}
+use lib.Seq.{drop-append-add, drop-cons, getD-append-add}
+use Rattle.calculus.specs.Refusal.{done}
+use Rattle.format.specs.Bytes.{All-bytes, join}
+use Rattle.format.specs.BytesLaws.{join-++}
+use Rattle.format.specs.Held.{Held-model, Held-step, Held-book}
+use Rattle.format.specs.Format.{model-length, trailer-of, read-trailer, read, records}
+use Rattle.format.specs.Format.{model-bytes, step-bytes, models-bytes}
+use Rattle.format.specs.ReadBackLaws.{length-model, length-step, length-trailer, model-length-back}
+use Rattle.format.specs.ReadBackLaws.{trailer-back, said, sheet-trailer}
+use Rattle.format.specs.WriteBackLaws.{read-passes, read-sheet}
+use Rattle.format.specs.RecordLaws.{book-records, records-are, records-joined, records-count}
+
+-- the place of record i
+unfoldable pub record-place : List ℕ → (i : ℕ) → ℕ
+record-place s i = length (join (take i (records s)))
+
+-- ---- lists one after another
+join-split : (l : List (List ℕ)) (r : List ℕ) (i : ℕ) → i < length l
+    → drop (length (join (take i l))) (join l ++ r) ≡ getD l i [] ++ (join (drop (suc i) l) ++ r)
+unfolding join
+join-split [] r i h = absurd (omega arith)
+join-split (x ∷ l) r zero h = append-assoc x (join l) r
+join-split (x ∷ l) r (suc i) h =
+    ap₂ drop (length-append x (join (take i l))) (append-assoc x (join l) r)
+    ∙ drop-append-add x (join l ++ r) (length (join (take i l)))
+    ∙ join-split l r i (omega arith)
+
+-- a part of which a record is left is shorter
+part-shorter : (l : List (List ℕ)) (i : ℕ) → i < length l → 0 < length (getD l i [])
+    → length (join (take i l)) < length (join l)
+unfolding join
+part-shorter l i h p =
+    let e = ap length (ap join (sym (take-append-drop i l)) ∙ join-++ (take i l) (drop i l)
+    ∙ ap (λ k. join (take i l) ++ join k) (drop-cons l i [] h)) in
+    let f = length-append (join (take i l)) (getD l i [] ++ join (drop (suc i) l)) in
+    let g = length-append (getD l i []) (join (drop (suc i) l)) in
+    omega arith
+
+getD-any : (l : List (List ℕ)) (i : ℕ) (d c : List ℕ) → i < length l → getD l i d ≡ getD l i c
+getD-any [] i d c h = absurd (omega arith)
+getD-any (x ∷ l) zero d c h = refl
+getD-any (x ∷ l) (suc i) d c h = getD-any l i d c (omega arith)
+
+-- ---- of a sheet that is read
+module _ (s : List ℕ) (h : Held-book) (y : All-bytes s) (e : read s ≡ done h) where
+  abbrev A : List (List ℕ)
+  A = map model-bytes (h .models)
+
+  abbrev B : List (List ℕ)
+  B = map step-bytes (h .steps)
+
+  -- the next record stands behind this one
+  pub next-place : (i : ℕ) → i < length (records s)
+      → record-place s (suc i) ≡ record-place s i + length (getD (records s) i [])
+  unfolding record-place join
+  next-place i l = ap (λ k. length (join k)) (take-suc (records s) i [] l)
+      ∙ ap length (join-++ (take i (records s)) (getD (records s) i [] ∷ []))
+      ∙ length-append (join (take i (records s))) (getD (records s) i [] ++ [])
+      ∙ ap (λ k. length (join (take i (records s))) + k)
+      (length-append (getD (records s) i []) [] ∙ omega arith)
+
+  trailer-eight : length (trailer-of s) ≡ 8
+  trailer-eight = ap length (ap trailer-of (sym (read-sheet s h e y)) ∙ trailer-back h (read-passes s h e))
+      ∙ length-trailer h
+
+  -- behind the last the trailer
+  pub last-place : record-place s (length (records s)) + 8 ≡ length s
+  unfolding record-place
+  last-place =
+      let a = ap (λ k. length (join k)) (take-length (records s)) in
+      let b = ap length (records-joined s h y e) in
+      let c = length-append (join (records s)) (trailer-of s) in
+      omega (arith, trailer-eight)
+
+  here : (i : ℕ) → i < length (records s)
+      → drop (record-place s i) s ≡ getD (records s) i [] ++ (join (drop (suc i) (records s)) ++ trailer-of s)
+  unfolding record-place
+  here i l = ap (drop (length (join (take i (records s))))) (sym (records-joined s h y e))
+      ∙ join-split (records s) (trailer-of s) i l
+
+  some-model : Held-model
+  some-model = record { n = 0; radius = 0; terms = [] }
+
+  some-step : Held-step
+  some-step = record { code = 0; a = 0; b = 0; v = 0; value = pos 0 }
+
+  model-in : (i : ℕ) → i < length (h .models)
+      → getD (records s) i [] ≡ model-bytes (getD (h .models) i some-model)
+  unfolding book-records
+  model-in i l = ap (λ k. getD k i []) (records-are s h y e)
+      ∙ List·getD-append A B [] i (subst (λ k. i < k) (sym (length-map (h .models) model-bytes)) l)
+      ∙ getD-any A i [] (model-bytes some-model) (subst (λ k. i < k) (sym (length-map (h .models) model-bytes)) l)
+      ∙ List·getD-map model-bytes (h .models) i some-model
+
+  -- a model's record is found by its term count,
+  pub model-here : (i : ℕ) → i < length (h .models)
+      → take (model-length (drop (record-place s i) s)) (drop (record-place s i) s) ≡ getD (records s) i []
+  model-here i l =
+      ap (λ x. take (model-length x) x)
+      (here i (omega (arith, records-count s h y e)) ∙ ap (λ r. r ++ rest) (model-in i l))
+      ∙ take-at (model-bytes m) rest _ (sym (model-length-back m rest))
+      ∙ sym (model-in i l)
+    where
+      rest : List ℕ
+      rest = join (drop (suc i) (records s)) ++ trailer-of s
+
+      m : Held-model
+      m = getD (h .models) i some-model
+
+  step-in : (k : ℕ) → k < length (h .steps)
+      → getD (records s) (length (h .models) + k) [] ≡ step-bytes (getD (h .steps) k some-step)
+  unfolding book-records
+  step-in k l = ap (λ x. getD x (length (h .models) + k) []) (records-are s h y e)
+      ∙ ap (λ i. getD (A ++ B) (i + k) []) (sym (length-map (h .models) model-bytes))
+      ∙ getD-append-add A B k []
+      ∙ getD-any B k [] (step-bytes some-step) (subst (λ i. k < i) (sym (length-map (h .steps) step-bytes)) l)
+      ∙ List·getD-map step-bytes (h .steps) k some-step
+
+  -- a step's is 8 bytes long
+  pub step-here : (k : ℕ) → k < length (h .steps)
+      → take 8 (drop (record-place s (length (h .models) + k)) s) ≡ getD (records s) (length (h .models) + k) []
+  step-here k l =
+      ap (take 8)
+      (here (length (h .models) + k) (omega (arith, records-count s h y e)) ∙ ap (λ r. r ++ rest) (step-in k l))
+      ∙ take-at (step-bytes x) rest 8 (length-step x)
+      ∙ sym (step-in k l)
+    where
+      rest : List ℕ
+      rest = join (drop (suc (length (h .models) + k)) (records s)) ++ trailer-of s
+
+      x : Held-step
+      x = getD (h .steps) k some-step
+
+  offset-is : read-trailer (trailer-of s) .offset ≡ length (join A)
+  unfolding said models-bytes
+  offset-is = ap (λ x. read-trailer (trailer-of x) .offset) (sym (read-sheet s h e y))
+      ∙ ap (λ t. t .offset) (sheet-trailer h (read-passes s h e))
+
+  -- models stand before the offset of the first step,
+  pub model-before : (i : ℕ) → i < length (h .models) → record-place s i < read-trailer (trailer-of s) .offset
+  unfolding record-place book-records
+  model-before i l = omega (
+    arith,
+    offset-is,
+    ap (λ x. length (join (take i x))) (records-are s h y e),
+    ap (λ x. length (join x)) (take-append-le i A B (omega (arith, inside))),
+    part-shorter A i inside (omega (arith, ap length in-A, length-model (getD (h .models) i some-model))),
+  )
+    where
+      inside : i < length A
+      inside = subst (λ k. i < k) (sym (length-map (h .models) model-bytes)) l
+
+      in-A : getD A i [] ≡ model-bytes (getD (h .models) i some-model)
+      in-A = getD-any A i [] (model-bytes some-model) inside ∙ List·getD-map model-bytes (h .models) i some-model
+
+  -- steps from there on
+  pub step-after : (k : ℕ) → read-trailer (trailer-of s) .offset ≤ record-place s (length (h .models) + k)
+  unfolding record-place book-records
+  step-after k = omega (
+    arith,
+    offset-is,
+    ap (λ x. length (join (take (length (h .models) + k) x))) (records-are s h y e),
+    ap (λ i. length (join (take (i + k) (A ++ B)))) (length-map (h .models) model-bytes),
+    ap (λ x. length (join x)) (take-append-add A B k),
+    ap length (join-++ A (take k B)),
+    length-append (join A) (join (take k B)),
+  )

@@ -1,0 +1,105 @@
+-- The numbers of a held book that passes the tests fit the bytes that a sheet has for them.
+use mathlib.Core.Path.{_≡_, subst}
+use mathlib.Core.Bool.{Bool, true, false, cond, _&&_, _||_}
+use mathlib.Core.List.{List, _∷_, map}
+use Prim.Native.Nat.{ℕ, _+_, _^_, _<_, _≤_}
+use native.Mathlib.Omega.{arith}
+use lib.Dec.{T, eqb, leb, leb→le, eqb→eq, ltb→lt}
+use lib.IntN.{ℤ, natAbs}
+use lib.Signed.{nonNeg}
+use lib.ListN.{length, length-map}
+use Rattle.fixed.specs.Fixed.{span-limit}
+use Rattle.calculus.specs.Key.{key-width, monomial-of}
+use Rattle.calculus.specs.Terms.{every, sum-over, size}
+use Rattle.calculus.specs.Model.{most-terms, span, fits}
+use Rattle.calculus.specs.Tests.{constant-sound, variable-sound, threshold-sound}
+use Rattle.calculus.specs.Book.{Book, model-sound}
+use Rattle.calculus.specs.TestLaws.{and-left, and-right}
+use Rattle.calculus.specs.MonomialKeyLaws.{fits-below, fits-key}
+use Rattle.calculus.specs.SoundLaws.{Sound, sound-parts}
+use Rattle.calculus.specs.BookLaws.{between-high}
+use Rattle.format.specs.Held.{Held-term, Held-model, Held-step, view-term, view-model}
+use Rattle.format.specs.Held.{held-model-sound, held-step-sound}
+use Rattle.format.specs.StepFieldLaws.{limit-a, limit-b, v-sound, value-sound, Fields, fields-of}
+
+-- ---- the numbers of a model that passes
+pub record Model-facts (n d : ℕ) (m : Held-model) : Type 0 where
+  pub same-n : m .n ≡ n
+  pub count : length (m .terms) ≤ 64
+  pub fitting : T (every (λ k c. fits n d k) (map (view-term n) (m .terms)))
+  pub small-span : size (map (view-term n) (m .terms)) + m .radius ≤ span-limit
+
+pub model-facts : (b : Book) (m : Held-model) → T (held-model-sound b m) → Model-facts (b .vars) (b .order) m
+unfolding held-model-sound model-sound view-model most-terms span
+model-facts b m h = record {
+  same-n = same-n;
+  count = rw (length-map (m .terms) (view-term (m .n))) at (parts .1 .count);
+  fitting = subst (λ n. T (every (λ k c. fits n (b .order) k) (map (view-term n) (m .terms)))) same-n
+      (parts .0 .fitting);
+  small-span = subst (λ n. size (map (view-term n) (m .terms)) + m .radius ≤ span-limit) same-n (parts .1 .small-span);
+}
+  where
+    same-n : m .n ≡ b .vars
+    same-n = eqb→eq (m .n) (b .vars) (and-left (eqb (m .n) (b .vars)) _ h)
+
+    parts : Sound (m .n) (b .order) (view-model m)
+    parts = sound-parts (b .order) (view-model m) (and-right (eqb (m .n) (b .vars)) _ h)
+
+pub record Term-facts (n d : ℕ) (t : Held-term) (ts : List Held-term) : Type 0 where
+  pub key : t .key < 65536
+  pub coefficient : natAbs (t .coefficient) ≤ size (map (view-term n) (t ∷ ts))
+  pub size-rest : size (map (view-term n) ts) ≤ size (map (view-term n) (t ∷ ts))
+  pub fitting-rest : T (every (λ k c. fits n d k) (map (view-term n) ts))
+
+pub term-facts : (n d : ℕ) (t : Held-term) (ts : List Held-term) → n ≤ 4 → d ≤ 15
+    → T (every (λ k c. fits n d k) (map (view-term n) (t ∷ ts))) → Term-facts n d t ts
+unfolding every size sum-over view-term key-width
+term-facts n d t ts l u h = record {
+  key = fits-below n (t .key)
+      (fits-key n d (t .key) l (omega arith) (and-left (fits n d (monomial-of n (t .key))) _ h));
+  coefficient = omega arith;
+  size-rest = omega arith;
+  fitting-rest = and-right (fits n d (monomial-of n (t .key))) _ h;
+}
+
+-- ---- the numbers of a step that passes
+pub record Step-facts (s : Held-step) : Type 0 where
+  pub code : s .code ≤ 8
+  pub a : s .a < 256
+  pub b : s .b < 256
+  pub v : s .v < 256
+  pub value : natAbs (s .value) ≤ span-limit
+
+-- the limits of its fields are small
+at-most : (t : Bool) (x y k : ℕ) → x ≤ k → y ≤ k → cond t x y ≤ k
+at-most true x y k p q = p
+at-most false x y k p q = q
+
+v-small : (t : Bool) (n v : ℕ) → T (cond t (variable-sound n v) (eqb v 0)) → v ≤ n
+unfolding variable-sound
+v-small true n v h = between-high 1 n v h
+v-small false n v h = let e = eqb→eq v 0 h in omega arith
+
+value-small : (t u : Bool) (z : ℤ) → T (cond t (constant-sound z) (cond u (threshold-sound z) (eqb (natAbs z) 0)))
+    → natAbs z ≤ span-limit
+unfolding constant-sound threshold-sound
+value-small true u z h = leb→le (natAbs z) span-limit h
+value-small false true z h = leb→le (natAbs z) span-limit (and-right (nonNeg z) _ h)
+value-small false false z h = let e = eqb→eq (natAbs z) 0 h in omega arith
+
+pub step-facts : (b : Book) (i : ℕ) (s : Held-step) → i ≤ 64 → length (b .models) ≤ 16 → b .vars ≤ 4
+    → T (held-step-sound b i s) → Step-facts s
+unfolding limit-a limit-b v-sound value-sound
+step-facts b i s li lm ln h = record {
+  code = leb→le (s .code) 8 (p .in-code);
+  a = let l = ltb→lt (s .a) _ (p .in-a) in
+      let k = at-most (eqb (s .code) 0) (length (b .models)) (cond (leb 3 (s .code)) i 1) 64 (omega arith)
+      (at-most (leb 3 (s .code)) i 1 64 li (omega arith)) in omega arith;
+  b = let l = ltb→lt (s .b) _ (p .in-b) in
+      let k = at-most (leb 4 (s .code) && leb (s .code) 7) i 1 64 li (omega arith) in omega arith;
+  v = let l = v-small (eqb (s .code) 2 || eqb (s .code) 7) (b .vars) (s .v) (p .in-v) in omega arith;
+  value = value-small (eqb (s .code) 1) (eqb (s .code) 8) (s .value) (p .in-value);
+}
+  where
+    p : Fields b i s
+    p = fields-of b i s h
