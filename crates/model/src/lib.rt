@@ -1,7 +1,7 @@
-// Polynomial models in 1 to 4 variables: the single calls of document 01. Each takes anything, whatever its fields hold,
-// makes the tests in document 01's order, and answers the result or the refusal with its place. The numbers in a call's
-// comment are its refusals, in the order of the tests. The constructors `Model::constant` and `Model::variable` stand
-// with the type.
+// Polynomial models in 1 to 4 variables: the single calls of document 01. Each takes anything, whatever its fields
+// hold, makes the tests in document 01's order, and answers the result or the refusal with its place. The numbers in a
+// call's comment are its refusals, in the order of the tests. The constructors `Model::constant` and `Model::variable`
+// stand with the type.
 ghost use mathlib.Core.Path.{_≡_};
 ghost use Rattle.calculus.specs.Calls.{call-negate, call-add, call-subtract, call-multiply, call-substitute};
 ghost use Rattle.calculus.specs.Calls.{call-sweep, call-range, call-integral, call-evaluate};
