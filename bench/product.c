@@ -12,7 +12,7 @@
 enum { INPUTS = 64, MOST = 64, VARIABLES = 4, ROUNDS = 40, UNIT = 1 << 20, RADIUS = 5 };
 
 /* exported by crates/timing; a slice passes as a pointer and a length */
-uint64_t timed_models(uint8_t n, uint64_t radius, uint64_t count, const uint16_t *ka, uint64_t, const int64_t *ca, uint64_t,
+uint64_t timed_models(uint8_t d, uint8_t n, uint64_t radius, uint64_t count, const uint16_t *ka, uint64_t, const int64_t *ca, uint64_t,
                       const uint16_t *kb, uint64_t, const int64_t *cb, uint64_t);
 uint64_t timed_product(uint8_t d, uint8_t n, uint64_t radius, uint64_t count, const uint16_t *ka, uint64_t,
                        const int64_t *ca, uint64_t, const uint16_t *kb, uint64_t, const int64_t *cb, uint64_t);
@@ -62,12 +62,12 @@ static void to_flint(fmpz_mpoly_t p, const struct model *m) {
     fmpz_mpoly_sort_terms(p, context);
 }
 
-/* what the call must answer, computed plainly: the checksum, or 0 where the product is refused */
+/* what the call must answer, computed plainly: the product's radius, or 0 where it is refused */
 static uint64_t expected(const struct model *a, const struct model *b) {
     static uint64_t key[MOST * MOST];
     static int64_t z[MOST * MOST];
     int n = 0, kept = 0;
-    uint64_t error = RADIUS * RADIUS, span = 0, sum = 0;
+    uint64_t error = RADIUS * RADIUS, span = 0;
     for (int i = 0; i < terms; i++) error += RADIUS * (llabs(a->coefficient[i]) + llabs(b->coefficient[i]));
     for (int i = 0; i < terms; i++)
         for (int j = 0; j < terms; j++) {
@@ -80,15 +80,15 @@ static uint64_t expected(const struct model *a, const struct model *b) {
         }
     for (int t = 0; t < n; t++) {
         int degree = 0;
-        uint64_t narrow = 0;
-        for (int v = VARIABLES - 1; v >= 0; v--) { degree += key[t] >> 8 * v & 255; narrow = narrow << 4 | (key[t] >> 8 * v & 255); }
+        for (int v = 0; v < VARIABLES; v++) degree += key[t] >> 8 * v & 255;
         if (degree > order) { error += llabs(z[t]); continue; }
         int64_t c = (z[t] + UNIT / 2) >> 20;
         error += llabs(z[t] - c * UNIT);
-        if (c) { kept++; span += llabs(c); sum ^= (uint64_t)llabs(c) ^ narrow; }
+        kept += c != 0;
+        span += llabs(c);
     }
     uint64_t radius = (error + UNIT - 1) / UNIT;
-    return kept > MOST || span + radius > 1u << 30 ? 0 : sum ^ radius;
+    return kept > MOST || span + radius > 1u << 30 ? 0 : radius;
 }
 
 static uint64_t ours(int p) {
@@ -96,7 +96,7 @@ static uint64_t ours(int p) {
                          second[p].coefficient, MOST);
 }
 static uint64_t models(int p) {
-    return timed_models(VARIABLES, RADIUS, terms, first[p].key, MOST, first[p].coefficient, MOST, second[p].key, MOST,
+    return timed_models(order, VARIABLES, RADIUS, terms, first[p].key, MOST, first[p].coefficient, MOST, second[p].key, MOST,
                         second[p].coefficient, MOST);
 }
 

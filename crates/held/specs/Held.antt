@@ -20,6 +20,7 @@ use Rattle.held.specs.declared.Refusal.{Refusal}
 use Rattle.held.specs.declared.Refusal.the-variants.{BadLength, BadMark, BadLimits, BadOffset, BadModel, BadStep}
 use Rattle.held.specs.declared.Refusal.the-variants.{OverSpan, TooManyTerms, LeavesBox}
 use Rattle.held.specs.declared.Refusal.the-variants.{VariablesDiffer, ShortBuffer}
+use Rattle.held.specs.declared.Verdict.{Verdict}
 use Rattle.held.specs.declared.Verdict.the-variants.{Accepted, Refused}
 use Rattle.held.specs.declared.Answer.{Answer}
 use Rattle.held.specs.declared.Bounds.{Bounds}
@@ -97,6 +98,16 @@ cause TooManyTerms = R.too-many-terms
 cause LeavesBox = R.leaves-box
 cause VariablesDiffer = R.variables-differ
 cause ShortBuffer = R.short-buffer
+
+-- document 01's number of a verdict, 0 without a refusal
+unfoldable pub verdict-number : Verdict → ℕ
+verdict-number Accepted = 0
+verdict-number (Refused r i) = R.number (cause r)
+
+-- and its place
+unfoldable pub verdict-place : Verdict → ℕ
+verdict-place Accepted = 0
+verdict-place (Refused r i) = i
 
 -- a model, or the zero model in one variable beside the refusal
 unfoldable pub answer : Result C.Model → Answer

@@ -3,3 +3,4 @@ pub mod HeldLaws
 pub mod MachineLaws
 pub mod SoundPassLaws
 pub mod SweepLaws
+pub mod AnswerLaws

@@ -1,15 +1,15 @@
-// For the benchmarks only: products of models that a C program hands over as arrays. What is timed is
-// `model::multiply`, whose contract says what it computes; the functions here promise that they are safe, and the
-// benchmark compares what they answer with a plain computation of its own.
-ghost use Prim.Native.Nat.{_≤_};
-ghost use Rattle.timing.specs.Timing.{Factors, Lent};
+// For the benchmarks only: the product of two models that a C program hands over as arrays of keys and coefficients.
+ghost use mathlib.Core.Path.{_≡_};
+ghost use Rattle.held.specs.Held.{answer};
+ghost use Rattle.calculus.specs.Calls.{call-multiply};
+ghost use Rattle.timing.specs.Timing.{Lent, Factors, of-arrays, model-of, radius-of, second-radius};
 use model::Model;
 use model::Term;
-use model::Verdict;
 
 // The model of the first count keys and coefficients.
 fn built(n: u8, radius: u64, count: usize, keys: &[u16], coefficients: &[i64]) -> Model
     requires { ⌜ Lent count (now keys) (now coefficients) ⌝ }
+    ensures { λ r. ⌜ r ≡ of-arrays n radius count (now (keys .entry)) (now (coefficients .entry)) ⌝ }
 {
     let mut out = [Term::ZERO; held::MOST_TERMS];
     let mut i = 0;
@@ -30,25 +30,20 @@ fn built(n: u8, radius: u64, count: usize, keys: &[u16], coefficients: &[i64]) -
     }
 }
 
-// A number that depends on all of a model, so that no part of its computing can be left out.
-fn checksum(m: Model) -> u64 {
-    let count = m.count;
-    let mut sum = m.radius;
-    if held::MOST_TERMS < count {
-        return sum;
+// The radius of a model that is sound at order d, and 0 of any other: to tell, all of it must have been computed.
+fn radius_of(d: u8, m: Model) -> u64
+    ensures { λ r. ⌜ r ≡ radius-of d m ⌝ }
+{
+    if held::sound(m, d) {
+        return m.radius;
     }
-    let mut i = 0;
-    while i < count {
-        let t = m.terms[i];
-        sum = sum ^ fixed::magnitude(t.coefficient) ^ t.key as u64;
-        i += 1;
-    }
-    sum
+    0
 }
 
-// Two models built and not multiplied: what the product's time is compared with.
+// Two models built and tested and not multiplied, for comparison: the radius of the second, or 0 if the first's is.
 #[no_mangle]
 pub extern "C" fn timed_models(
+    d: u8,
     n: u8,
     radius: u64,
     count: usize,
@@ -58,13 +53,18 @@ pub extern "C" fn timed_models(
     cb: &[i64],
 ) -> u64
     requires { ⌜ Factors count (now ka) (now ca) (now kb) (now cb) ⌝ }
+    ensures { λ r. ⌜ r ≡ second-radius d (of-arrays n radius count (now (ka .entry)) (now (ca .entry)))
+        (of-arrays n radius count (now (kb .entry)) (now (cb .entry))) ⌝ }
 {
     let f = built(n, radius, count, ka, ca);
     let g = built(n, radius, count, kb, cb);
-    checksum(f) ^ checksum(g)
+    if radius_of(d, f) == 0 {
+        return 0;
+    }
+    radius_of(d, g)
 }
 
-// Two models built and multiplied with order d: the product's checksum, or 0 where it is refused.
+// Two models built and multiplied with order d: the radius of the product where it is accepted.
 #[no_mangle]
 pub extern "C" fn timed_product(
     d: u8,
@@ -77,13 +77,12 @@ pub extern "C" fn timed_product(
     cb: &[i64],
 ) -> u64
     requires { ⌜ Factors count (now ka) (now ca) (now kb) (now cb) ⌝ }
+    ensures { λ r. ⌜ r ≡ radius-of d (answer (call-multiply d
+        (model-of n radius count (now (ka .entry)) (now (ca .entry)))
+        (model-of n radius count (now (kb .entry)) (now (cb .entry)))) .model) ⌝ }
 {
     let f = built(n, radius, count, ka, ca);
     let g = built(n, radius, count, kb, cb);
     let r = model::multiply(d, f, g);
-    let v = r.verdict;
-    let Verdict::Accepted = v else {
-        return 0;
-    };
-    checksum(r.model)
+    radius_of(d, r.model)
 }
