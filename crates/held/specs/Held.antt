@@ -1,10 +1,10 @@
 -- Models in memory: the model that a struct holds, and the struct that holds a model; answers likewise.
 use mathlib.Core.Bool.{Bool, _&&_}
-use mathlib.Core.List.{List, [], _∷_, _++_, map}
-use Prim.Native.Nat.{ℕ, zero, suc, _-_}
+use mathlib.Core.List.{List, [], _∷_, map}
+use Prim.Native.Nat.{ℕ}
 use lib.Dec.{leb}
 use lib.IntN.{ℤ, pos}
-use lib.ListN.{length, replicate}
+use lib.ListN.{length}
 use Rattle.polynomial.specs.Polynomial as P
 use Rattle.calculus.specs.Monomial.{degree}
 use Rattle.calculus.specs.Key.{key-width, key, key-exponents, key-fits, monomial-of, key-degree}
@@ -14,6 +14,7 @@ use Rattle.calculus.specs.Model.{most-terms, zero-model}
 use Rattle.calculus.specs.Operations.{Ends, zero-ends}
 use Rattle.calculus.specs.Refusal as R
 use Rattle.calculus.specs.Refusal.{Result, done, stopped}
+use Rattle.held.specs.Arrays.{first-places, padded}
 use Rattle.held.specs.declared.Term.{Term}
 use Rattle.held.specs.declared.Model.{Model}
 use Rattle.held.specs.declared.Refusal.{Refusal}
@@ -29,11 +30,9 @@ use Rattle.held.specs.declared.Bounds.{Bounds}
 abbrev pub zero-term : Term
 zero-term = record { key = 0; coefficient = pos 0 }
 
--- the first c places of an array; beyond its end they hold nothing
-unfoldable pub places : (c : ℕ) → List Term → List Term
-places zero ts = []
-places (suc c) [] = zero-term ∷ places c []
-places (suc c) (t ∷ ts) = t ∷ places c ts
+-- the first c places of an array of terms
+abbrev pub places : (c : ℕ) → List Term → List Term
+places = first-places zero-term
 
 -- ---- the model that a struct holds
 -- a term of n variables
@@ -54,8 +53,8 @@ unfoldable pub pack-term : P.Term ℤ → Term
 pack-term t = record { key = key key-width (t .exponents); coefficient = t .coefficient }
 
 -- places beyond the count hold zeros
-unfoldable pub pad : List Term → List Term
-pad ts = ts ++ replicate (most-terms - length ts) zero-term
+abbrev pub pad : List Term → List Term
+pad = padded zero-term most-terms
 
 -- the struct of a model
 unfoldable pub pack : C.Model → Model

@@ -27,6 +27,8 @@ use Rattle.calculus.specs.Tests.{vars-sound}
 use Rattle.calculus.specs.SoundLaws.{sound-parts}
 use Rattle.calculus.specs.Refusal as R
 use Rattle.calculus.specs.TestLaws.{and-left, and-right}
+pub use Rattle.held.specs.ArrayLaws.{take-more}
+use Rattle.held.specs.ArrayLaws.{first-take, length-first, padded-more, length-padded-least, take-padded}
 use Rattle.held.specs.declared.Term.{Term}
 use Rattle.held.specs.declared.Model.{Model}
 use Rattle.held.specs.declared.Refusal.{Refusal}
@@ -38,11 +40,6 @@ use Rattle.calculus.specs.MonomialKeyLaws.{key-monomial, monomial-key, fits-key
 use Rattle.calculus.specs.MonomialKeyLaws.{monomial-zero, monomial-variable}
 
 -- ---- any list
--- one more element, at the code's i + 1
-pub take-more : {A : Type 0} (l : List A) (i : ℕ) (d : A) → i < length l
-    → take (i + 1) l ≡ take i l ++ (getD l i d ∷ [])
-take-more l i d h = rw (add-one, take-suc l i d)
-
 pub map-++ : {A B : Type 0} (f : A → B) (k l : List A) → map f (k ++ l) ≡ map f k ++ map f l
 map-++ f [] l = refl
 map-++ f (x ∷ k) l = ap (λ r. f x ∷ r) (map-++ f k l)
@@ -61,41 +58,10 @@ select-out f p t h = select-++ f p (t ∷ []) ∙ ap (λ l. select f p ++ l)
     (by-select (λ q. q ≡ []) f t [] (λ y. absurd (T-not (f (t .exponents) (t .coefficient)) h y)) (λ n. refl))
     ∙ append-nil (select f p)
 
--- ---- places
-pub places-take : (c : ℕ) (ts : List Term) → c ≤ length ts → places c ts ≡ take c ts
-unfolding places
-places-take zero ts h = refl
-places-take (suc c) [] h = absurd (omega arith)
-places-take (suc c) (t ∷ ts) h = ap (λ l. t ∷ l) (places-take c ts (omega arith))
-
-pub length-places : (c : ℕ) (ts : List Term) → length (places c ts) ≡ c
-unfolding places
-length-places zero ts = refl
-length-places (suc c) [] = ap suc (length-places c [])
-length-places (suc c) (t ∷ ts) = ap suc (length-places c ts)
-
--- ---- zeros behind the terms
--- zeros, one of them taken off
-zeros : (n : ℕ) → 0 < n → replicate n zero-term ≡ zero-term ∷ replicate (n - 1) zero-term
-zeros zero h = absurd (omega arith)
-zeros (suc n) h = let e : suc n - 1 ≡ n = omega arith in rw e
-
--- a store behind the terms
+-- ---- a store behind the terms
 pub pad-more : (ts : List Term) (i : ℕ) (t : Term) → length ts ≡ i → i < most-terms
     → set (pad ts) i t ≡ pad (ts ++ (t ∷ []))
-unfolding pad
-pad-more ts i t e h =
-    let l = length-append ts (t ∷ []) in
-    let n : most-terms - length ts - 1 ≡ most-terms - length (ts ++ (t ∷ [])) = omega arith in
-    rw (zeros (most-terms - length ts) (omega arith), n, set-at ts zero-term _ t i e, append-assoc)
-
-pub length-pad : (ts : List Term) → length ts ≤ most-terms → length (pad ts) ≡ most-terms
-unfolding pad
-length-pad ts h = simp (length-append, length-replicate) (omega arith)
-
-pub take-pad : (ts : List Term) (i : ℕ) → length ts ≡ i → take i (pad ts) ≡ ts
-unfolding pad
-take-pad ts i e = take-at ts _ i e
+pad-more = padded-more zero-term most-terms
 
 -- ---- there and back
 pub pack-key : (n z : ℕ) (c : ℤ) → n ≤ key-width → z < 65536
@@ -126,12 +92,9 @@ view-pack-terms n d (t ∷ p) l s h = ap₂ _∷_ (head (every-head (λ k c. fit
         (omega (arith, leb→le (degree (t .exponents)) d (and-right (eqb (length (t .exponents)) n) _ f))))
 
 pub length-packed : (m : C.Model) → length (m .terms) ≤ length (pack m .terms)
-unfolding pack pad
-length-packed m = omega (
-  arith,
-  length-append (map pack-term (m .terms)) (replicate (most-terms - length (map pack-term (m .terms))) zero-term),
-  length-map (m .terms) pack-term,
-)
+unfolding pack
+length-packed m =
+    omega (arith, length-padded-least zero-term most-terms (map pack-term (m .terms)), length-map (m .terms) pack-term)
 
 -- what was packed is viewed
 pub view-pack : (d : ℕ) (m : C.Model) → d < 16 → m .vars ≤ key-width → T (every (λ k c. fits (m .vars) d k) (m .terms))
@@ -139,8 +102,8 @@ pub view-pack : (d : ℕ) (m : C.Model) → d < 16 → m .vars ≤ key-width →
 unfolding view pack
 view-pack d m s l h = ap (λ p. record { vars = m .vars; radius = m .radius; terms = p })
     (ap (map (view-term (m .vars)))
-    (places-take (length (m .terms)) (pack m .terms) (length-packed m)
-    ∙ take-pad (map pack-term (m .terms)) (length (m .terms)) (length-map (m .terms) pack-term))
+    (first-take zero-term (length (m .terms)) (pack m .terms) (length-packed m)
+    ∙ take-padded zero-term most-terms (map pack-term (m .terms)) (length (m .terms)) (length-map (m .terms) pack-term))
     ∙ view-pack-terms (m .vars) d (m .terms) l s h)
 
 -- ---- a sound model: 1 to 4 variables, and its other parts
@@ -177,11 +140,11 @@ length-read n i ts h = length-map (take i ts) (view-term n) ∙ length-take-le i
 
 pub length-view : (m : Model) → length (view m .terms) ≡ m .count
 unfolding view
-length-view m = length-map (places (m .count) (m .terms)) (view-term (m .n)) ∙ length-places (m .count) (m .terms)
+length-view m = length-map (places (m .count) (m .terms)) (view-term (m .n)) ∙ length-first zero-term (m .count) (m .terms)
 
 pub view-terms : (m : Model) → m .count ≤ length (m .terms) → view m .terms ≡ read (m .n) (m .count) (m .terms)
 unfolding view
-view-terms m h = ap (map (view-term (m .n))) (places-take (m .count) (m .terms) h)
+view-terms m h = ap (map (view-term (m .n))) (first-take zero-term (m .count) (m .terms) h)
 
 pack-view-terms : (n d : ℕ) (l : List Term) → n ≤ key-width → d < 16
     → T (every (λ k c. fits n d k) (map (view-term n) l))

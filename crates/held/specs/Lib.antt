@@ -1,3 +1,5 @@
+pub mod Arrays
+pub mod ArrayLaws
 pub mod Held
 pub mod HeldLaws
 pub mod MachineLaws

@@ -6,9 +6,10 @@ use borrow.Author.Needs.{needs}
 use lib.ListN.{getD, length-map}
 use Rattle.fixed.specs.FixedLaws.{span-fits}
 use Rattle.calculus.specs.Model.{most-degree, most-terms}
+use Rattle.held.specs.Arrays.{padded}
 use Rattle.held.specs.declared.Term.{Term}
 use Rattle.held.specs.declared.Model.{Model}
-use Rattle.held.specs.Held.{zero-term, pad, cause}
+use Rattle.held.specs.Held.{zero-term, cause}
 use Rattle.held.specs.HeldLaws.{limits}
 use Rattle.held.specs.MachineLaws.{zero-bits, nonzero-bits}
 use Rattle.addition.specs.MergeLaws.{Mergeable, Merged, Turn, nothing-stored, turn, skip, store, too-many}
@@ -84,7 +85,7 @@ turned c =
     (c .take-next .ensures)
 
 loop-holds : tie.Need-loop-holds Inv-loop μ-loop
-unfolding pad most-terms
+unfolding padded most-terms
 loop-holds c = nothing-stored _ _
 
 add-loop : tie.Need-add-loop Inv-loop μ-loop

@@ -13,6 +13,7 @@ use Rattle.fixed.specs.MachineLaws.{answered}
 use Rattle.calculus.specs.Terms.{term, map-coefficients}
 use Rattle.calculus.specs.Model.{most-terms}
 use Rattle.calculus.specs.Operations.{negate}
+use Rattle.held.specs.Arrays.{padded}
 use Rattle.held.specs.declared.Term.{Term}
 use Rattle.held.specs.declared.Model.{Model}
 use Rattle.held.specs.Held.{zero-term, view-term, pack-term, view, pad, pack}
@@ -43,7 +44,7 @@ module _ (c : tie.Start Inv-loop μ-loop) where
   few = known .few
 
 loop-holds : tie.Need-loop-holds Inv-loop μ-loop
-unfolding most-terms pad map-coefficients
+unfolding most-terms padded map-coefficients
 loop-holds c = (omega arith, refl)
 
 mul-t : tie.Need-mul-t Inv-loop μ-loop

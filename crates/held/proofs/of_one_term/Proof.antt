@@ -3,7 +3,8 @@ use native.Mathlib.Omega.{arith}
 use borrow.Author.Needs.{needs}
 use mir.Facts.{toZ-ofZ}
 use Rattle.calculus.specs.Model.{most-terms}
-use Rattle.held.specs.Held.{one-term, pack, pack-term, pad}
+use Rattle.held.specs.Arrays.{padded}
+use Rattle.held.specs.Held.{one-term, pack, pack-term}
 use Rattle.calculus.specs.MonomialKeyLaws.{key-monomial}
 use Rattle.held.proofs.of_one_term.Statement.{statement}
 use Rattle.held.proofs.of_one_term.Tie as tie
@@ -12,7 +13,7 @@ array-set-from-out : tie.Need-array-set-from-out
 array-set-from-out c = search needs
 
 returns : tie.Need-returns
-unfolding most-terms one-term pack pack-term pad
+unfolding most-terms one-term pack pack-term padded
 returns c = rw (key-monomial (c .args .n) (c .args .key) (c .pre) (omega arith), toZ-ofZ (c .fits .coefficient))
 
 pub of-one-term-spec : {M : Type 1} → statement M

@@ -1,12 +1,13 @@
 -- `refuse` hands back zeros beside the refusal.
 use Rattle.calculus.specs.Model.{zero-model, most-terms}
-use Rattle.held.specs.Held.{pack, pad, answer}
+use Rattle.held.specs.Arrays.{padded}
+use Rattle.held.specs.Held.{pack, answer}
 use Rattle.held.specs.HeldLaws.{refusal-cause}
 use Rattle.held.proofs.refuse.Statement.{statement}
 use Rattle.held.proofs.refuse.Tie as tie
 
 returns : tie.Need-returns
-unfolding zero-model most-terms pack pad answer
+unfolding zero-model most-terms pack padded answer
 returns c = rw (refusal-cause (c .args .refusal))
 
 pub refuse-spec : {M : Type 1} → statement M

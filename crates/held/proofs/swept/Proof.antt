@@ -12,8 +12,9 @@ use mir.Syntax.{w64}
 use mir.Val.{toZ, ofZ}
 use Rattle.fixed.specs.FixedLaws.{span-fits}
 use Rattle.calculus.specs.Model.{most-terms}
+use Rattle.held.specs.Arrays.{padded}
 use Rattle.held.specs.declared.Term.{Term}
-use Rattle.held.specs.Held.{zero-term, pad}
+use Rattle.held.specs.Held.{zero-term}
 use Rattle.held.specs.HeldLaws.{Limits, limits}
 use Rattle.held.specs.SweepLaws.{Swept, swept-first, swept-room, swept-end, swept-within, swept-drop, swept-keep}
 use Rattle.held.proofs.swept.Statement.{statement}
@@ -40,7 +41,7 @@ module _ (c : tie.Start Inv-loop μ-loop) where
   long = omega (arith, few, whole)
 
 loop-holds : tie.Need-loop-holds Inv-loop μ-loop
-unfolding most-terms pad
+unfolding most-terms padded
 loop-holds c = swept-first _ _
 
 mul-t : tie.Need-mul-t Inv-loop μ-loop

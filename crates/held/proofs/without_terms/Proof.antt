@@ -1,12 +1,13 @@
 -- `without_terms` is the zero model in n variables.
 use mathlib.Core.Path.{refl}
 use Rattle.calculus.specs.Model.{zero-model, most-terms}
-use Rattle.held.specs.Held.{pack, pad}
+use Rattle.held.specs.Arrays.{padded}
+use Rattle.held.specs.Held.{pack}
 use Rattle.held.proofs.without_terms.Statement.{statement}
 use Rattle.held.proofs.without_terms.Tie as tie
 
 returns : tie.Need-returns
-unfolding zero-model most-terms pack pad
+unfolding zero-model most-terms pack padded
 returns c = refl
 
 pub without-terms-spec : {M : Type 1} → statement M

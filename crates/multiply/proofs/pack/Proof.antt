@@ -10,6 +10,7 @@ use mir.Facts.{toZ-ofZ}
 use mir.Syntax.{w64}
 use mir.Val.{toZ, ofZ}
 use Rattle.calculus.specs.Model.{most-terms}
+use Rattle.held.specs.Arrays.{padded}
 use Rattle.held.specs.Held.{pad}
 use Rattle.table.specs.Table.{terms}
 use Rattle.table.specs.ArrayLaws.{terms-length}
@@ -26,7 +27,7 @@ abbrev μ-loop : tie.MeasureT-loop
 μ-loop n radius count keys coefficients out₀ i₀ out i = count - i
 
 loop-holds : tie.Need-loop-holds Inv-loop μ-loop
-unfolding most-terms pad terms
+unfolding most-terms padded terms
 loop-holds c = (omega arith, refl)
 
 mul-narrow-key : tie.Need-mul-narrow-key Inv-loop μ-loop

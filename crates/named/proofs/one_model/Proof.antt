@@ -4,12 +4,13 @@ use Rattle.fixed.specs.Fixed.{U}
 use Rattle.calculus.specs.Monomial.{zeros}
 use Rattle.calculus.specs.Key.{encode, key-width}
 use Rattle.calculus.specs.Model.{one-model, most-terms}
-use Rattle.held.specs.Held.{pack, pack-term, pad}
+use Rattle.held.specs.Arrays.{padded}
+use Rattle.held.specs.Held.{pack, pack-term}
 use Rattle.named.proofs.one_model.Statement.{statement}
 use Rattle.named.proofs.one_model.Tie as tie
 
 returns : tie.Need-returns
-unfolding U zeros encode key-width one-model most-terms pack pack-term pad
+unfolding U zeros encode key-width one-model most-terms pack pack-term padded
 returns c = refl
 
 pub one-model-spec : {M : Type 1} → statement M

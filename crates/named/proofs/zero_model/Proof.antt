@@ -1,12 +1,13 @@
 -- `Model::ZERO` is the zero model in one variable.
 use mathlib.Core.Path.{refl}
 use Rattle.calculus.specs.Model.{zero-model, most-terms}
-use Rattle.held.specs.Held.{pack, pad}
+use Rattle.held.specs.Arrays.{padded}
+use Rattle.held.specs.Held.{pack}
 use Rattle.named.proofs.zero_model.Statement.{statement}
 use Rattle.named.proofs.zero_model.Tie as tie
 
 returns : tie.Need-returns
-unfolding zero-model most-terms pack pad
+unfolding zero-model most-terms pack padded
 returns c = refl
 
 pub zero-model-spec : {M : Type 1} → statement M

@@ -5,6 +5,7 @@ use native.Mathlib.Omega.{arith}
 use lib.ListN.{length, length-map}
 use mir.Facts.{toZ-ofZ}
 use Rattle.calculus.specs.Model.{most-degree, most-terms}
+use Rattle.held.specs.Arrays.{padded}
 use Rattle.held.specs.Held.{pad}
 use Rattle.held.specs.HeldLaws.{limits}
 use Rattle.substitute.specs.PartLaws.{slot, Taken, taken-first, taken-room, taken-in, taken-out, taken-end}
@@ -28,7 +29,7 @@ module _ (c : tie.Start Inv-loop μ-loop) where
       omega (arith, few)
 
 loop-holds : tie.Need-loop-holds Inv-loop μ-loop
-unfolding pad most-terms
+unfolding padded most-terms
 loop-holds c = taken-first (c .pre) (long c)
 
 mul-t : tie.Need-mul-t Inv-loop μ-loop

@@ -7,6 +7,7 @@ use mir.Facts.{toZ-ofZ}
 use mir.Syntax.{w64}
 use mir.Val.{toZ, ofZ}
 use Rattle.calculus.specs.Model.{most-terms}
+use Rattle.held.specs.Arrays.{padded}
 use Rattle.held.specs.Held.{pad}
 use Rattle.timing.specs.Timing.{terms-of, of-arrays}
 use Rattle.timing.specs.TimingLaws.{built-more}
@@ -22,7 +23,7 @@ abbrev μ-loop : tie.MeasureT-loop
 μ-loop n radius count keys coefficients out₀ i₀ out i = count - i
 
 loop-holds : tie.Need-loop-holds Inv-loop μ-loop
-unfolding pad terms-of most-terms
+unfolding padded terms-of most-terms
 loop-holds c = (omega arith, refl)
 
 mul-k : tie.Need-mul-k Inv-loop μ-loop
