@@ -140,7 +140,8 @@ length-read n i ts h = length-map (take i ts) (view-term n) ∙ length-take-le i
 
 pub length-view : (m : Model) → length (view m .terms) ≡ m .count
 unfolding view
-length-view m = length-map (places (m .count) (m .terms)) (view-term (m .n)) ∙ length-first zero-term (m .count) (m .terms)
+length-view m = length-map (places (m .count) (m .terms)) (view-term (m .n))
+    ∙ length-first zero-term (m .count) (m .terms)
 
 pub view-terms : (m : Model) → m .count ≤ length (m .terms) → view m .terms ≡ read (m .n) (m .count) (m .terms)
 unfolding view
