@@ -5,15 +5,12 @@ use Prim.Native.Nat.{ℕ}
 use lib.ListN.{length, length-map}
 use Rattle.calculus.specs.Model.{most-terms}
 use Rattle.calculus.specs.Book.{most-models, most-steps}
-use Rattle.held.specs.declared.Term.{Term}
 use Rattle.held.specs.declared.Model.{Model}
 use Rattle.held.specs.Arrays.{first-places, padded}
 use Rattle.held.specs.ArrayLaws.{first-padded}
 use Rattle.held.specs.Held as H
-use Rattle.held.specs.Held.{zero-term, places, pad, view}
-use Rattle.format.specs.Held.{Held-term, Held-model, Held-step, Held-book, view-term, view-model}
-use Rattle.book.specs.declared.Step.{Step}
-use Rattle.book.specs.declared.Book.{Book}
+use Rattle.held.specs.Held.{zero-term, places, view}
+use Rattle.format.specs.Held.{Held-model, Held-step, Held-book, view-term, view-model}
 use Rattle.book.specs.Book.{no-model, no-step, held-term, held-model, held-step, held-book}
 use Rattle.book.specs.Book.{stored-term, stored-model, stored-step, stored-book}
 

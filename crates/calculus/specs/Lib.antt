@@ -25,6 +25,7 @@ pub mod TermsLaws
 pub mod SumLaws
 pub mod CanonicalLaws
 pub mod ProductLaws
+pub mod FitsLaws
 pub mod LoopLaws
 -- Soundness of results.
 pub mod SoundLaws

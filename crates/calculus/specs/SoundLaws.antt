@@ -5,29 +5,30 @@ use mathlib.Core.List.{List, [], _∷_, _++_}
 use Prim.Native.Nat.{ℕ, zero, suc, _+_, _≤_}
 use native.Mathlib.Omega.{arith}
 use borrow.Author.Tests.{ne-eqb}
-use lib.Dec.{T, eqb, leb, eqb→eq, eqb-refl, leb→le, le→leb, lit≤}
+use lib.Dec.{T, eqb, leb, eqb→eq, leb→le, le→leb, lit≤}
 use lib.IntN.{ℤ, pos, negsuc, negℤ, natAbs}
 use lib.ListN.{length, length-map}
-use Rattle.polynomial.specs.Polynomial.{add-exponents, exponent, without}
-use Rattle.fixed.specs.Fixed.{U, span-limit, round}
+use Rattle.polynomial.specs.Polynomial.{exponent, without}
+use Rattle.fixed.specs.Fixed.{U, span-limit}
 use Rattle.fixed.specs.FixedLaws.{U-pos, U-within}
-use Rattle.calculus.specs.Monomial.{degree, zeros, index-of, single}
+use Rattle.calculus.specs.Monomial.{zeros, index-of, single}
 use Rattle.calculus.specs.Terms.{Terms, term, every, select, sum-over, size, map-coefficients, map-monomials}
 use Rattle.calculus.specs.Terms.{rising-from, rising, is-nonzero, nonzero, drop-zeros, collect}
 use Rattle.calculus.specs.Model.{Model, zero-model, one-model, most-vars, most-terms, between, span, fits, sound}
 use Rattle.calculus.specs.Refusal.{over-span, too-many-terms, leaves-box}
-use Rattle.calculus.specs.Operations.{limited, constant, variable, negate, add, subtract, products, within-order}
+use Rattle.calculus.specs.Operations.{limited, constant, variable, negate, add, subtract, products}
 use Rattle.calculus.specs.Operations.{kept, multiply, range-in-box, largest-exponent, part-terms, part, horner}
 use Rattle.calculus.specs.Operations.{widen, substitute, is-small, sweep}
 use Rattle.calculus.specs.TestLaws.{and-left, and-right, both}
 use Rattle.calculus.specs.RefusalLaws.{If-accepted, holds, require-accepted, then-accepted, weaken}
-use Rattle.calculus.specs.MonomialLaws.{length-zeros, length-single, length-plus, length-without, degree-zeros}
+use Rattle.calculus.specs.MonomialLaws.{length-zeros, length-single, length-without, degree-zeros}
 use Rattle.calculus.specs.MonomialLaws.{degree-single, degree-without, less-without}
-use Rattle.calculus.specs.TermsLaws.{by-select, length-select, every-nil, every-cons, every-++, every-both}
-use Rattle.calculus.specs.TermsLaws.{every-select, every-selected, every-implies, every-map-coefficients}
-use Rattle.calculus.specs.TermsLaws.{every-map-monomials, every-collect, every-product, rising-head, rising-rest}
+use Rattle.calculus.specs.TermsLaws.{by-select, length-select, every-nil, every-cons, every-++}
+use Rattle.calculus.specs.TermsLaws.{every-select, every-map-coefficients}
+use Rattle.calculus.specs.TermsLaws.{every-map-monomials, every-collect, rising-head, rising-rest}
 use Rattle.calculus.specs.TermsLaws.{rising-cons, rising-below, rising-any, rising-select}
 use Rattle.calculus.specs.TermsLaws.{rising-map-coefficients, nonzero-drop-zeros}
+use Rattle.calculus.specs.FitsLaws.{fits-by, fits-length, fits-degree, kept-fits}
 use Rattle.calculus.specs.SumLaws.{ℕ-addition, sum-split, sum-map-coefficients, sum-cong}
 use Rattle.calculus.specs.CanonicalLaws.{canonical-rising}
 use Rattle.calculus.specs.ProductLaws.{products-rising, kept-rising}
@@ -177,22 +178,6 @@ module _ (i k : ℕ) where
 
 -- ---- each operation
 module _ (n d : ℕ) where
-  -- n exponents
-  abbrev long : List ℕ → Bool
-  long k = eqb (length k) n
-
-  fits-by : (k : List ℕ) → length k ≡ n → degree k ≤ d → T (fits n d k)
-  unfolding fits
-  fits-by k h g = both (long k) _ (rw h (eqb-refl n)) (le→leb (degree k) d g)
-
-  fits-length : (k : List ℕ) → T (fits n d k) → length k ≡ n
-  unfolding fits
-  fits-length k h = eqb→eq (length k) n (and-left (long k) _ h)
-
-  fits-degree : (k : List ℕ) → T (fits n d k) → degree k ≤ d
-  unfolding fits
-  fits-degree k h = leb→le (degree k) d (and-right (long k) _ h)
-
   pub constant-sound : (v : ℤ) → natAbs v ≤ span-limit → Sound n d (constant n v)
   unfolding constant drop-zeros
   constant-sound v h = by-select (λ p. Sound n d (record { vars = n; radius = 0; terms = p }))
@@ -202,7 +187,7 @@ module _ (n d : ℕ) where
       (λ e. empty (λ p. Sound n d (record { vars = n; radius = 0; terms = p })) (unfold zero-model in zero-sound n d))
     where
       here : T (fits n d (zeros n))
-      here = fits-by (zeros n) (length-zeros n) (let e = degree-zeros n in omega arith)
+      here = fits-by n d (zeros n) (length-zeros n) (let e = degree-zeros n in omega arith)
 
       empty : (P : Terms → Type 0) → P [] → P (select (λ k c. is-nonzero c) [])
       empty P p = unfold select in p
@@ -210,7 +195,7 @@ module _ (n d : ℕ) where
   pub variable-sound : (i : ℕ) → 1 ≤ d → Sound n d (variable n i)
   unfolding variable
   variable-sound i h = one-term n d (pos U) (single n i)
-      (fits-by (single n i) (length-single n i) (let e = degree-single n i in omega arith))
+      (fits-by n d (single n i) (length-single n i) (let e = degree-single n i in omega arith))
       U-within (rw U-nonzero tt)
 
   negate-canonical : (f : Model) → Canonical n d f → Canonical n d (negate f)
@@ -266,40 +251,19 @@ module _ (n d : ℕ) where
   subtract-sound f g hf hg = add-sound f (negate g) hf (negate-canonical g hg)
 
   -- ---- multiply
-  long-plus : (k l : List ℕ) → T (long k) → T (long l) → T (long (add-exponents k l))
-  long-plus k l h g = rw (length-plus k l (eqb→eq (length k) n h ∙ sym (eqb→eq (length l) n g))) g
-
-  long-terms : (f : Model) → Canonical n d f → T (every (λ k c. long k) (f .terms))
-  long-terms f h = every-implies (λ k c. fits n d k) (λ k c. long k) (λ k c t. rw (fits-length k t) (eqb-refl n))
-      (f .terms) (h .fitting)
-
-  long-products : (f g : Model) → Canonical n d f → Canonical n d g → T (every (λ k c. long k) (products f g))
-  unfolding products
-  long-products f g hf hg = every-collect long _
-      (every-product long long-plus (f .terms) (g .terms) (long-terms f hf) (long-terms g hg))
-
-  -- what is kept has degree at most d
-  kept-fits : (zs : Terms) → T (every (λ k c. long k) zs) → T (every (λ k c. fits n d k) (kept d zs))
-  unfolding kept within-order
-  kept-fits zs h = every-map-coefficients (λ k c. fits n d k) round (λ k c t. t) _
-      (every-both (λ k c. long k) (λ k c. leb (degree k) d) (λ k c. fits n d k)
-      (λ k c s t. fits-by k (eqb→eq (length k) n s) (leb→le (degree k) d t)) _
-      (every-select (λ k c. long k) (λ k c. leb (degree k) d) zs h) (every-selected (λ k c. leb (degree k) d) zs))
-
   pub multiply-sound : (f g : Model) → Canonical n d f → Canonical n d g → If-accepted (Sound n d) (multiply d f g)
   unfolding multiply
   multiply-sound f g hf hg = limited-bounded {P = Canonical n d} _ (record {
     vars = hf .vars;
-    fitting = unfold drop-zeros in every-select (λ k c. fits n d k) (λ k c. is-nonzero c) _
-        (kept-fits (products f g) (long-products f g hf hg));
+    fitting = kept-fits n d f g (hf .fitting) (hg .fitting);
     nonzero-terms = nonzero-drop-zeros (kept d (products f g));
     rising-terms = kept-rising d (products f g) (products-rising f g);
   })
 
   -- ---- substitute
   fits-without : (i : ℕ) (k : List ℕ) → T (fits n d k) → T (fits n d (without i k))
-  fits-without i k h = fits-by (without i k) (length-without i k ∙ fits-length k h)
-      (let e = fits-degree k h in let f = degree-without i k in omega arith)
+  fits-without i k h = fits-by n d (without i k) (length-without i k ∙ fits-length n d k h)
+      (let e = fits-degree n d k h in let f = degree-without i k in omega arith)
 
   pub part-canonical : (i k : ℕ) (f : Model) → Canonical n d f → Canonical n d (part i k f)
   unfolding part part-terms nonzero

@@ -145,22 +145,23 @@ module _ (f : List ℕ → Bool) where
   every-collect (t ∷ p) h =
       every-insert t (collect p) (every-head on-monomials t p h) (every-collect p (every-tail on-monomials t p h))
 
-  -- of products, if the test of a product follows from those of its factors
-  module _ (j : (k l : List ℕ) → T (f k) → T (f l) → T (f (add-exponents k l))) where
-    every-times : (t : Term ℤ) (q : Terms) → T (f (t .exponents)) → T (every on-monomials q)
-        → T (every on-monomials (times ℤR t q))
-    unfolding times
-    every-times t [] h k = k
-    every-times t (s ∷ q) h k = every-cons on-monomials _ _
-        (j (t .exponents) (s .exponents) h (every-head on-monomials s q k))
-        (every-times t q h (every-tail on-monomials s q k))
+-- of products: if a product of monomials that pass f passes g
+module _ (f g : List ℕ → Bool) (j : (k l : List ℕ) → T (f k) → T (f l) → T (g (add-exponents k l))) where
+  every-times : (t : Term ℤ) (q : Terms) → T (f (t .exponents)) → T (every (on-monomials f) q)
+      → T (every (on-monomials g) (times ℤR t q))
+  unfolding times
+  every-times t [] h e = every-nil (on-monomials g)
+  every-times t (s ∷ q) h e =
+      every-cons (on-monomials g) _ _ (j (t .exponents) (s .exponents) h (every-head (on-monomials f) s q e))
+      (every-times t q h (every-tail (on-monomials f) s q e))
 
-    pub every-product : (p q : Terms) → T (every on-monomials p) → T (every on-monomials q)
-        → T (every on-monomials (product ℤR p q))
-    unfolding product
-    every-product [] q h k = h
-    every-product (t ∷ p) q h k = every-++ on-monomials (times ℤR t q) (product ℤR p q)
-        (every-times t q (every-head on-monomials t p h) k) (every-product p q (every-tail on-monomials t p h) k)
+  pub every-product : (p q : Terms) → T (every (on-monomials f) p) → T (every (on-monomials f) q)
+      → T (every (on-monomials g) (product ℤR p q))
+  unfolding product
+  every-product [] q h e = every-nil (on-monomials g)
+  every-product (t ∷ p) q h e =
+      every-++ (on-monomials g) (times ℤR t q) (product ℤR p q) (every-times t q (every-head (on-monomials f) t p h) e)
+      (every-product p q (every-tail (on-monomials f) t p h) e)
 
 -- no more terms than before
 pub length-select : (f : List ℕ → ℤ → Bool) (p : Terms) → length (select f p) ≤ length p

@@ -1,17 +1,14 @@
--- All products of two lists of terms: their size, and what every monomial of theirs passes.
+-- All products of two lists of terms: their size.
 use mathlib.Core.Path.{_≡_, refl}
-use mathlib.Core.Bool.{Bool}
-use mathlib.Core.List.{List, [], _∷_, _++_}
-use Prim.Native.Nat.{ℕ, _+_, _*_}
+use mathlib.Core.List.{[], _∷_, _++_}
+use Prim.Native.Nat.{_+_, _*_}
 use native.Mathlib.Nat.{mul-add, add-mul}
 use native.Mathlib.Omega.{arith}
-use lib.Dec.{T}
 use lib.IntN.{ℤ, natAbs}
 use Rattle.algebra.specs.Integer.{natAbs-mul}
 use Rattle.algebra.specs.IntegerRing.{ℤR}
-use Rattle.polynomial.specs.Polynomial.{Term, add-exponents, times, product}
-use Rattle.calculus.specs.Terms.{Terms, every, sum-over, size}
-use Rattle.calculus.specs.TermsLaws.{on-monomials, every-head, every-tail, every-nil, every-cons, every-++}
+use Rattle.polynomial.specs.Polynomial.{Term, times, product}
+use Rattle.calculus.specs.Terms.{Terms, sum-over, size}
 use Rattle.calculus.specs.SumLaws.{ℕ-addition, sum-++}
 
 -- ---- sizes
@@ -36,21 +33,3 @@ pub size-product : (p q : Terms) → size (product ℤR p q) ≡ size p * size q
 unfolding product
 size-product [] q = unfold size sum-over in omega arith
 size-product (t ∷ p) q = rw (size-append, size-times, size-product p q, size-cons, add-mul)
-
--- ---- products of monomials that pass f pass g
-module _ (f g : List ℕ → Bool) (j : (k l : List ℕ) → T (f k) → T (f l) → T (g (add-exponents k l))) where
-  every-times : (t : Term ℤ) (q : Terms) → T (f (t .exponents)) → T (every (on-monomials f) q)
-      → T (every (on-monomials g) (times ℤR t q))
-  unfolding times
-  every-times t [] h e = every-nil (on-monomials g)
-  every-times t (s ∷ q) h e =
-      every-cons (on-monomials g) _ _ (j (t .exponents) (s .exponents) h (every-head (on-monomials f) s q e))
-      (every-times t q h (every-tail (on-monomials f) s q e))
-
-  pub every-product : (p q : Terms) → T (every (on-monomials f) p) → T (every (on-monomials f) q)
-      → T (every (on-monomials g) (product ℤR p q))
-  unfolding product
-  every-product [] q h e = every-nil (on-monomials g)
-  every-product (t ∷ p) q h e =
-      every-++ (on-monomials g) (times ℤR t q) (product ℤR p q) (every-times t q (every-head (on-monomials f) t p h) e)
-      (every-product p q (every-tail (on-monomials f) t p h) e)

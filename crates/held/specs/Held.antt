@@ -6,8 +6,7 @@ use lib.Dec.{leb}
 use lib.IntN.{ℤ, pos}
 use lib.ListN.{length}
 use Rattle.polynomial.specs.Polynomial as P
-use Rattle.calculus.specs.Monomial.{degree}
-use Rattle.calculus.specs.Key.{key-width, key, key-exponents, key-fits, monomial-of, key-degree}
+use Rattle.calculus.specs.Key.{key-width, key, key-fits, monomial-of, key-degree}
 use Rattle.calculus.specs.Terms.{term, is-nonzero}
 use Rattle.calculus.specs.Model as C
 use Rattle.calculus.specs.Model.{most-terms, zero-model}

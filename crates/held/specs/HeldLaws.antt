@@ -1,15 +1,15 @@
 -- Laws of models in memory: what views and packed models say of each other, and one turn of a loop over terms.
 use mathlib.Core.Path.{_≡_, refl, sym, _∙_, ap, ap₂, subst}
 use mathlib.Core.Bool.{Bool, true, false, not, _&&_}
-use mathlib.Core.List.{List, [], _∷_, _++_, map, append-assoc, append-nil}
+use mathlib.Core.List.{List, [], _∷_, _++_, map, append-nil}
 use Prim.Native.Nat.{ℕ, zero, suc, _+_, _-_, _^_, _≤_, _<_}
 use native.Mathlib.Numerals.{add-one}
 use native.Mathlib.Omega.{arith}
 use lib.Dec.{T, T-not, eqb, eqb→eq, leb, leb→le}
 use lib.IntN.{ℤ, pos, natAbs}
-use lib.ListN.{length, take, drop, getD, set, replicate, length-append, length-replicate, length-map, drop-of-length-le}
+use lib.ListN.{length, take, drop, getD, set, length-map, drop-of-length-le}
 use lib.ListN.{List·getD-map}
-use lib.Seq.{take-suc, set-at, take-at, length-take-le, drop-cons, getD-take}
+use lib.Seq.{length-take-le, drop-cons, getD-take}
 use Rattle.algebra.specs.Integer.{natAbs-add}
 use Rattle.polynomial.specs.Polynomial as P
 use Rattle.fixed.specs.Fixed.{U, span-limit}

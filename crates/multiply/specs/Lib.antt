@@ -3,5 +3,4 @@ pub mod Transfer
 pub mod WideKeyLaws
 pub mod TransferLaws
 pub mod ErrorLaws
-pub mod KeptLaws
 pub mod MultipliedLaws

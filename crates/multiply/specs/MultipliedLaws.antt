@@ -17,6 +17,7 @@ use Rattle.calculus.specs.Model as C
 use Rattle.calculus.specs.Model.{most-terms, most-degree, fits, sound, span}
 use Rattle.calculus.specs.Refusal.{too-many-terms, stopped, at-place}
 use Rattle.calculus.specs.Operations.{limited, products, kept, rounding, swept, error, carried, multiply}
+use Rattle.calculus.specs.FitsLaws.{kept-fits, fits-more}
 use Rattle.calculus.specs.SoundLaws.{sound-parts}
 use Rattle.held.specs.declared.Model.{Model}
 use Rattle.held.specs.Held.{view, pack, answer}
@@ -32,7 +33,6 @@ use Rattle.multiply.specs.Multiply.{Factors}
 use Rattle.multiply.specs.Transfer.{Unpack-ready, Unpacked, Pack-ready, packed}
 use Rattle.multiply.specs.TransferLaws.{packed-wide, pack-ready}
 use Rattle.multiply.specs.ErrorLaws.{error-fits}
-use Rattle.multiply.specs.KeptLaws.{kept-fits, fits-more}
 
 -- ---- a count, or one more than the most terms
 counted-few : (c a b : ℕ) → c ≤ most-terms → counted c a b ≡ record { count = c; rounding = a; swept = b }

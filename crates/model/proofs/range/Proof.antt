@@ -1,12 +1,12 @@
 -- `range` tests the model, then takes its range.
-use mathlib.Core.Path.{_≡_, sym, _∙_, ap}
+use mathlib.Core.Path.{_≡_, sym, _∙_}
 use mathlib.Core.Bool.{true, false}
 use borrow.Author.Needs.{needs}
 use borrow.Author.Tests.{not-true, not-false}
 use Rattle.calculus.specs.Model.{most-degree, sound}
 use Rattle.calculus.specs.Refusal.{require-at}
 use Rattle.calculus.specs.Calls.{call-range}
-use Rattle.held.specs.Held.{view, cause, bounds}
+use Rattle.held.specs.Held.{view, cause}
 use Rattle.model.proofs.range.Statement.{statement}
 use Rattle.model.proofs.range.Tie as tie
 

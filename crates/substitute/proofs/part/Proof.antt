@@ -6,7 +6,6 @@ use lib.ListN.{length, length-map}
 use mir.Facts.{toZ-ofZ}
 use Rattle.calculus.specs.Model.{most-degree, most-terms}
 use Rattle.held.specs.Arrays.{padded}
-use Rattle.held.specs.Held.{pad}
 use Rattle.held.specs.HeldLaws.{limits}
 use Rattle.substitute.specs.PartLaws.{slot, Taken, taken-first, taken-room, taken-in, taken-out, taken-end}
 use Rattle.substitute.proofs.part.Statement.{statement}
