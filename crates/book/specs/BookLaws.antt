@@ -15,12 +15,12 @@ use Rattle.book.specs.Book.{no-model, no-step, held-term, held-model, he
 use Rattle.book.specs.Book.{stored-term, stored-model, stored-step, stored-book}
 
 -- ---- any list
-map-∘ : {A B C : Type 0} (f : A → B) (g : B → C) (h : A → C) → ((x : A) → g (f x) ≡ h x) → (l : List A)
+pub map-∘ : {A B C : Type 0} (f : A → B) (g : B → C) (h : A → C) → ((x : A) → g (f x) ≡ h x) → (l : List A)
     → map g (map f l) ≡ map h l
 map-∘ f g h e [] = refl
 map-∘ f g h e (x ∷ l) = ap₂ _∷_ (e x) (map-∘ f g h e l)
 
-map-id : {A B : Type 0} (f : A → B) (g : B → A) → ((x : A) → g (f x) ≡ x) → (l : List A) → map g (map f l) ≡ l
+pub map-id : {A B : Type 0} (f : A → B) (g : B → A) → ((x : A) → g (f x) ≡ x) → (l : List A) → map g (map f l) ≡ l
 map-id f g e [] = refl
 map-id f g e (x ∷ l) = ap₂ _∷_ (e x) (map-id f g e l)
 

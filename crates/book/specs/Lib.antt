@@ -1,2 +1,9 @@
 pub mod Book
 pub mod BookLaws
+pub mod TestedLaws
+pub mod CodeLaws
+pub mod Failing
+pub mod FailingLaws
+pub mod VerdictLaws
+pub mod Cleared
+pub mod UndoLaws
