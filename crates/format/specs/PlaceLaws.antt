@@ -67,7 +67,8 @@ module _ (s : List ℕ) (h : Held-book) (y : All-bytes s) (e : read s ≡ done h
       ∙ ap (λ k. length (join (take i (records s))) + k)
       (length-append (getD (records s) i []) [] ∙ omega arith)
 
-  trailer-eight : length (trailer-of s) ≡ 8
+  -- which is 8 bytes long
+  pub trailer-eight : length (trailer-of s) ≡ 8
   trailer-eight = ap length (ap trailer-of (sym (read-sheet s h e y)) ∙ trailer-back h (read-passes s h e))
       ∙ length-trailer h
 
@@ -80,7 +81,8 @@ module _ (s : List ℕ) (h : Held-book) (y : All-bytes s) (e : read s ≡ done h
       let c = length-append (join (records s)) (trailer-of s) in
       omega (arith, trailer-eight)
 
-  here : (i : ℕ) → i < length (records s)
+  -- where a record stands, it and all that follows are left
+  pub here : (i : ℕ) → i < length (records s)
       → drop (record-place s i) s ≡ getD (records s) i [] ++ (join (drop (suc i) (records s)) ++ trailer-of s)
   unfolding record-place
   here i l = ap (drop (length (join (take i (records s))))) (sym (records-joined s h y e))
@@ -115,6 +117,17 @@ module _ (s : List ℕ) (h : Held-book) (y : All-bytes s) (e : read s ≡ done h
       m : Held-model
       m = getD (h .models) i some-model
 
+  -- and is as long as that says
+  pub model-size : (i : ℕ) → i < length (h .models)
+      → model-length (drop (record-place s i) s) ≡ length (getD (records s) i [])
+  model-size i l =
+      ap model-length (here i (omega (arith, records-count s h y e)) ∙ ap (λ r. r ++ rest) (model-in i l))
+      ∙ model-length-back (getD (h .models) i some-model) rest
+      ∙ ap length (sym (model-in i l))
+    where
+      rest : List ℕ
+      rest = join (drop (suc i) (records s)) ++ trailer-of s
+
   step-in : (k : ℕ) → k < length (h .steps)
       → getD (records s) (length (h .models) + k) [] ≡ step-bytes (getD (h .steps) k some-step)
   unfolding book-records
@@ -138,6 +151,9 @@ module _ (s : List ℕ) (h : Held-book) (y : All-bytes s) (e : read s ≡ done h
 
       x : Held-step
       x = getD (h .steps) k some-step
+
+  pub step-size : (k : ℕ) → k < length (h .steps) → length (getD (records s) (length (h .models) + k) []) ≡ 8
+  step-size k l = ap length (step-in k l) ∙ length-step (getD (h .steps) k some-step)
 
   offset-is : read-trailer (trailer-of s) .offset ≡ length (join A)
   unfolding said models-bytes

@@ -35,7 +35,7 @@ unfolding join term-bytes u16-bytes u32-bytes
 length-terms [] = refl
 length-terms (t ∷ ts) = omega (arith, length-terms ts)
 
-length-term : (t : Held-term) → length (term-bytes t) ≡ 6
+pub length-term : (t : Held-term) → length (term-bytes t) ≡ 6
 unfolding term-bytes u16-bytes u32-bytes
 length-term t = refl
 
@@ -206,7 +206,7 @@ module _ (h : Held-book) (p : Held-passes h) where
     length-append (model-bytes m) (join (map model-bytes ms)),
   )
 
-  sheet-length : length (sheet-bytes h) ≡ length P + 8 * length (h .steps) + 8
+  pub sheet-length : length (sheet-bytes h) ≡ length P + 8 * length (h .steps) + 8
   unfolding sheet-bytes
   sheet-length = omega (
     arith,
@@ -216,7 +216,7 @@ module _ (h : Held-book) (p : Held-passes h) where
     length-steps (h .steps),
   )
 
-  models-short : length P ≤ 6224
+  pub models-short : length P ≤ 6224
   unfolding models-bytes
   models-short = omega (arith, limits .models, models-bounded o 0 (h .models) (p .models))
 
