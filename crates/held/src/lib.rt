@@ -231,7 +231,7 @@ fn degree(key: u16) -> u16
 }
 
 // Whether a term may stand in a model where keys before it are below `least`.
-fn term_sound(n: u8, d: u8, least: u32, key: u16, coefficient: i64) -> bool
+pub fn term_sound(n: u8, d: u8, least: u32, key: u16, coefficient: i64) -> bool
     requires { ⌜ 1 ≤ n ⌝ }
     ensures { λ r. ⌜ r ≡ term-sound n d least key coefficient ⌝ }
 {

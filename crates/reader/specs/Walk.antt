@@ -1,0 +1,80 @@
+-- Walking forward through a sheet: the trailer, the models and the steps, up to the first fault.
+use mathlib.Core.Bool.{Bool, true, false, _&&_}
+use mathlib.Core.List.{List, [], _∷_, _++_, map}
+use Prim.Native.Nat.{ℕ, zero, suc, _-_}
+use lib.Dec.{leb}
+use lib.ListN.{length, take, drop}
+use Rattle.calculus.specs.Model.{sound}
+use Rattle.calculus.specs.Book.{most-models, most-steps}
+use Rattle.held.specs.Arrays.{padded}
+use Rattle.format.specs.Held.{Held-model, Held-step, view-model}
+use Rattle.format.specs.Format as F
+use Rattle.format.specs.Format.{read-model, model-length, read-steps}
+use Rattle.format.specs.StepFieldLaws.{fields-sound}
+use Rattle.book.specs.Book.{no-model, no-step, stored-model, stored-step}
+use Rattle.book.specs.Failing.{first-failing}
+use Rattle.reader.specs.declared.Trailer.{Trailer}
+use Rattle.reader.specs.declared.Walked.{Walked}
+use Rattle.reader.specs.declared.Stepped.{Stepped}
+
+-- ---- the trailer
+-- the struct of what a trailer says
+unfoldable pub stored-trailer : F.Trailer → Trailer
+stored-trailer t = record {
+  n = t .n;
+  d = t .d;
+  models = t .models;
+  steps = t .steps;
+  offset = t .offset;
+  marked = t .marked;
+}
+
+-- and back
+unfoldable pub held-trailer : Trailer → F.Trailer
+held-trailer t = record {
+  n = t .n;
+  d = t .d;
+  models = t .models;
+  steps = t .steps;
+  offset = t .offset;
+  marked = t .marked;
+}
+
+-- ---- models
+-- the record at the head fits, and its model keeps the rules
+unfoldable pub record-sound : (n d : ℕ) → List ℕ → Bool
+record-sound n d s = leb (model-length s) (length s) && sound d (view-model (read-model n s))
+
+-- those read, and the bytes that are left
+pub record Walk : Type 0 where
+  pub passed : List Held-model
+  pub left : List ℕ
+
+-- c more models after those read before, up to the first fault
+unfoldable pub walk : (n d : ℕ) (before : List Held-model) (c : ℕ) → List ℕ → Walk
+walk n d before zero s = record { passed = before; left = s }
+walk n d before (suc c) s = elim (record-sound n d s) [
+  | true ↦ walk n d (before ++ (read-model n s ∷ [])) c (drop (model-length s) s)
+  | false ↦ record { passed = before; left = s }
+]
+
+-- the struct of a walk over s
+unfoldable pub walked : (n d c : ℕ) → List ℕ → Walked
+walked n d c s =
+    let w : Walk = walk n d [] c s in
+    record {
+      place = length (w .passed);
+      end = length s - length (w .left);
+      models = padded no-model most-models (map stored-model (w .passed));
+    }
+
+-- ---- steps
+-- the struct of a walk over c steps
+unfoldable pub stepped : (n models c : ℕ) → List ℕ → Stepped
+stepped n m c s =
+    let steps : List Held-step = read-steps c s in
+    let fault : ℕ = first-failing 0 (fields-sound n m) steps in
+    record {
+      place = fault;
+      steps = padded no-step most-steps (map stored-step (take fault steps));
+    }
