@@ -17,10 +17,12 @@ use Rattle.collector.specs.Collector.{sorted-into, counted, answer}
 
 -- ---- sums by key
 -- a table with room for the products of one term with count others
-pub record Row-ready (slots keys : List ℕ) (sums : List ℤ) (n key : ℕ) (c : ℤ) (kb : List ℕ) (cb : List ℤ) (count : ℕ)
-    : Type 0 where
-  pub table : Table slots keys sums n
-  pub slots-room : home-slots + (n + count) < length slots
+pub record Row-ready (homes : ℕ) (slots keys : List ℕ) (sums : List ℤ) (n key : ℕ) (c : ℤ)
+    (kb : List ℕ) (cb : List ℤ) (count : ℕ) : Type 0 where
+  pub table : Table homes slots keys sums n
+  pub homes-enough : count ≤ homes
+  pub homes-few : homes ≤ home-slots
+  pub slots-room : homes + (n + count) < length slots
   pub keys-room : n + count < length keys
   pub sums-room : n + count < length sums
   pub few : n + count ≤ most-entries
@@ -30,12 +32,14 @@ pub record Row-ready (slots keys : List ℕ) (sums : List ℤ) (n key : ℕ) (c 
   pub small : natAbs c * size (terms count kb cb) + size (entries n keys sums) < 2 ^ 63
 
 -- an empty table with room for the products of na terms with nb others
-pub record Collect-ready (slots keys : List ℕ) (sums : List ℤ) (ka : List ℕ) (ca : List ℤ) (na : ℕ)
+pub record Collect-ready (homes : ℕ) (slots keys : List ℕ) (sums : List ℤ) (ka : List ℕ) (ca : List ℤ) (na : ℕ)
     (kb : List ℕ) (cb : List ℤ) (nb : ℕ) : Type 0 where
   pub empty : (s : ℕ) → getD slots s 0 ≡ 0
-  pub slots-room : home-slots + most-entries < length slots
-  pub keys-room : most-entries < length keys
-  pub sums-room : most-entries < length sums
+  pub homes-enough : na * nb ≤ homes
+  pub homes-few : homes ≤ home-slots
+  pub slots-room : homes + na * nb < length slots
+  pub keys-room : na * nb < length keys
+  pub sums-room : na * nb < length sums
   pub first-few : na ≤ most-terms
   pub second-few : nb ≤ most-terms
   pub first-keys : na ≤ length ka
@@ -46,8 +50,9 @@ pub record Collect-ready (slots keys : List ℕ) (sums : List ℤ) (ka : List �
   pub small : size (terms na ka ca) * size (terms nb kb cb) < 2 ^ 63
 
 -- a table of at most so many entries: the old ones and the terms q
-pub record Collected (old : Terms) (most : ℕ) (q : Terms) (slots keys : List ℕ) (sums : List ℤ) (n : ℕ) : Type 0 where
-  pub table : Table slots keys sums n
+pub record Collected (homes : ℕ) (old : Terms) (most : ℕ) (q : Terms) (slots keys : List ℕ) (sums : List ℤ) (n : ℕ)
+    : Type 0 where
+  pub table : Table homes slots keys sums n
   pub few : n ≤ most
   pub sum : entries n keys sums ≡ accumulated-all old q
 
@@ -93,7 +98,16 @@ pub record Factors (ka : List ℕ) (ca : List ℤ) (na : ℕ) (kb : List ℕ) (c
   pub second-coefficients : nb ≤ length cb
   pub small : size (first .terms) * size (second .terms) < 2 ^ 63
 
--- what is lent for a product: a table, whatever is in it
+-- an empty table with room for so many products or more: for each, four home slots and one more, and a slot behind all
+pub record Empty-table (products room : ℕ) (slots keys : List ℕ) (sums : List ℤ) : Type 0 where
+  pub enough : products ≤ room
+  pub few : room ≤ most-entries
+  pub empty : (s : ℕ) → getD slots s 0 ≡ 0
+  pub slots-room : 5 * room < length slots
+  pub keys-room : room < length keys
+  pub sums-room : room < length sums
+
+-- what is lent for any product: a table, whatever is in it
 pub record Lent-table (slots keys : List ℕ) (sums : List ℤ) : Type 0 where
   pub slots-room : home-slots + most-entries < length slots
   pub keys-room : most-entries < length keys

@@ -2,13 +2,13 @@
 use mathlib.Core.Path.{_≡_, refl, sym, _∙_, ap, ap₂, subst}
 use mathlib.Core.List.{List}
 use Prim.Native.Nat.{ℕ, _+_, _*_, _^_, _≤_, _<_}
-use native.Mathlib.Decide.{decLe}
+use native.Mathlib.Decide.{decLe, decLt}
 use native.Mathlib.Nat as NatL
 use native.Mathlib.Omega.{arith}
 use borrow.Author.Tests.{le-leb, lt-leb}
 use lib.Dec.{T}
-use lib.IntN.{ℤ}
-use lib.ListN.{length}
+use lib.IntN.{ℤ, pos}
+use lib.ListN.{length, getD, replicate, length-replicate, getD-replicate, List·getD-eq-default}
 use Rattle.fixed.specs.Fixed.{span-limit, round-up}
 use Rattle.fixed.specs.FixedLaws.{span-square-fits}
 use Rattle.calculus.specs.Key.{key-width}
@@ -24,7 +24,7 @@ use Rattle.held.specs.Held.{view, pack, answer}
 use Rattle.held.specs.HeldLaws.{limits, view-pack}
 use Rattle.addition.specs.Addition.{Packed}
 use Rattle.addition.specs.LimitLaws.{answer-many, pack-packed}
-use Rattle.table.specs.Table.{terms}
+use Rattle.table.specs.Table.{terms, most-entries}
 use Rattle.collector.specs.declared.Gathered.{Gathered}
 use Rattle.collector.specs.Wide.{wide-terms}
 use Rattle.collector.specs.Collector.{counted, answer as answer-of}
@@ -56,6 +56,25 @@ many-terms c a b l = go (decLe c most-terms)
     go : Dec (c ≤ most-terms) → most-terms < c
     go (yes h) = absurd (omega (arith, ap (λ (r : Gathered). r .count) (counted-few c a b h)))
     go (no h) = omega arith
+
+-- ---- a table of zeros
+zeros : (n s : ℕ) → getD {A = ℕ} (replicate n 0) s 0 ≡ 0
+zeros n s = elim (decLt s n) [
+  | yes h ↦ getD-replicate n s 0 0 h
+  | no h ↦ List·getD-eq-default (replicate n 0) 0 {n = s} (rw length-replicate (omega arith))
+]
+
+pub zeros-empty : (products room : ℕ) → products ≤ room → room ≤ most-entries
+    → Contracts.Empty-table products room (replicate (5 * room + 1) 0) (replicate (room + 1) 0)
+    (replicate (room + 1) (pos 0))
+zeros-empty products room e l = record {
+  enough = e;
+  few = l;
+  empty = zeros (5 * room + 1);
+  slots-room = rw length-replicate (omega arith);
+  keys-room = rw length-replicate (omega arith);
+  sums-room = rw length-replicate (omega arith);
+}
 
 -- ---- one factor
 module _ (d : ℕ) (m : Model) (h : T (sound d (view m))) where
@@ -98,6 +117,10 @@ module _ (d : ℕ) (f g : Model) (h : Factors d f g) where
 
   product-fits : T (every (λ k c. fits (f .n) d k) (product .terms))
   product-fits = kept-fits (f .n) d (view f) (view g) first-fitting second-fitting
+
+  pub products-few : f .count * g .count ≤ most-entries
+  unfolding most-terms
+  products-few = NatL.mul-le-mul (limits d f (h .first) .few) (limits d g (h .second) .few)
 
   -- ---- the factors by their wide keys
   module _ {ka kb : List ℕ} {ca cb : List ℤ} {a b : ℕ} (uf : Unpacked f ka ca a) (ug : Unpacked g kb cb b)

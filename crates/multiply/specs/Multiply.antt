@@ -1,4 +1,4 @@
--- Products of models in memory: what is asked of the factors.
+-- Products of models in memory: what is asked of the factors, and the size of the smaller table.
 use mathlib.Core.Path.{_≡_}
 use Prim.Native.Nat.{ℕ, _≤_}
 use lib.Dec.{T}
@@ -12,3 +12,7 @@ pub record Factors (d : ℕ) (f g : Model) : Type 0 where
   pub first : T (sound d (view f))
   pub second : T (sound d (view g))
   pub vars : f .n ≡ g .n
+
+-- for how many products the smaller table has room
+abbrev pub few-products : ℕ
+few-products = 256

@@ -1,14 +1,14 @@
 // The product of two models: their terms go to the collector by wide keys, and what it keeps is packed again.
 ghost use mathlib.Core.Path.{_≡_};
-ghost use Prim.Native.Nat.{_+_, _*_, _^_, _<_};
+ghost use Prim.Native.Nat.{_+_, _*_, _^_, _<_, _≤_};
 ghost use Rattle.fixed.specs.Fixed.{«round-up»};
 ghost use Rattle.calculus.specs.KeyLaws.{Below};
 ghost use Rattle.calculus.specs.Refusal.{«at-place»};
 ghost use Rattle.calculus.specs.Operations.{multiply};
 ghost use Rattle.held.specs.Held.{view, answer};
 ghost use Rattle.table.specs.Table.{terms};
-ghost use Rattle.collector.specs.Contracts.{«Lent-table»};
-ghost use Rattle.multiply.specs.Multiply.{Factors};
+ghost use Rattle.collector.specs.Contracts.{«Empty-table», «Lent-table»};
+ghost use Rattle.multiply.specs.Multiply.{Factors, «few-products»};
 ghost use Rattle.multiply.specs.Transfer.{widened, «Unpack-ready», Unpacked};
 ghost use Rattle.multiply.specs.Transfer.{«wide-exponents», narrowed, «Pack-ready», packed};
 use held::Answer;
@@ -18,6 +18,9 @@ use held::Term;
 
 // How many terms a model can have.
 const MOST_TERMS: usize = 64;
+
+// For how many products the smaller table has room.
+const FEW_PRODUCTS: usize = 256;
 
 // ---- keys
 // What the four exponents of a key count in a wide key, that of variable 1 in the highest byte; the lower bytes are 0.
@@ -111,17 +114,18 @@ fn radius(a: u64, e1: u64, b: u64, e2: u64, rounding: u64, swept: u64) -> u64
     fixed::round_up(a * e2 + b * e1 + e1 * e2 + rounding + swept)
 }
 
-// f times g at order d, in a table that is lent, whatever is in it.
-pub fn multiplied(
+// f times g at order d, in a table whose slots are empty, with room for so many products.
+fn multiplied_in(
     d: u8,
     f: Model,
     g: Model,
     slots: &mut [u16],
     keys: &mut [u64],
     sums: &mut [i64],
+    room: usize,
 ) -> Answer
     requires { ⌜ Factors d f g ⌝ }
-    requires { ⌜ Lent-table (now slots) (now keys) (now sums) ⌝ }
+    requires { ⌜ Empty-table (f .count * g .count) room (now slots) (now keys) (now sums) ⌝ }
     ensures { λ r. ⌜ r ≡ answer (at-place 0 (multiply d (view f) (view g))) ⌝ }
 {
     let mut ka = [0u64; MOST_TERMS];
@@ -136,6 +140,7 @@ pub fn multiplied(
         slots,
         keys,
         sums,
+        room,
         &ka,
         &ca,
         f.count,
@@ -153,13 +158,57 @@ pub fn multiplied(
     addition::limited(pack(f.n, e, r.count, &kept, &coefficients))
 }
 
-// The same in a table of its own.
-pub fn multiplied_alone(d: u8, f: Model, g: Model) -> Answer
+// The same in a table that is lent, whatever is in it. Only as many slots as the products ask are emptied.
+pub fn multiplied(
+    d: u8,
+    f: Model,
+    g: Model,
+    slots: &mut [u16],
+    keys: &mut [u64],
+    sums: &mut [i64],
+) -> Answer
+    requires { ⌜ Factors d f g ⌝ }
+    requires { ⌜ Lent-table (now slots) (now keys) (now sums) ⌝ }
+    ensures { λ r. ⌜ r ≡ answer (at-place 0 (multiply d (view f) (view g))) ⌝ }
+{
+    let products = f.count * g.count;
+    let used = table::SLOTS_EACH * products + 1;
+    let part = &mut slots[..used];
+    collector::clear(part);
+    multiplied_in(d, f, g, part, keys, sums, products)
+}
+
+// The same in a table of its own, for few products: to fill the largest table with zeros takes longer than they do.
+fn multiplied_small(d: u8, f: Model, g: Model) -> Answer
+    requires { ⌜ Factors d f g ⌝ }
+    requires { ⌜ f .count * g .count ≤ few-products ⌝ }
+    ensures { λ r. ⌜ r ≡ answer (at-place 0 (multiply d (view f) (view g))) ⌝ }
+{
+    let mut slots = [0u16; table::SLOTS_EACH * FEW_PRODUCTS + 1];
+    let mut keys = [0u64; FEW_PRODUCTS + 1];
+    let mut sums = [0i64; FEW_PRODUCTS + 1];
+    multiplied_in(d, f, g, &mut slots, &mut keys, &mut sums, FEW_PRODUCTS)
+}
+
+// And for any number of products.
+fn multiplied_large(d: u8, f: Model, g: Model) -> Answer
     requires { ⌜ Factors d f g ⌝ }
     ensures { λ r. ⌜ r ≡ answer (at-place 0 (multiply d (view f) (view g))) ⌝ }
 {
     let mut slots = [0u16; table::SLOTS];
     let mut keys = [0u64; table::PLACES];
     let mut sums = [0i64; table::PLACES];
-    multiplied(d, f, g, &mut slots, &mut keys, &mut sums)
+    multiplied_in(d, f, g, &mut slots, &mut keys, &mut sums, table::ENTRIES)
+}
+
+// f times g at order d, without a table that is lent.
+pub fn multiplied_alone(d: u8, f: Model, g: Model) -> Answer
+    requires { ⌜ Factors d f g ⌝ }
+    ensures { λ r. ⌜ r ≡ answer (at-place 0 (multiply d (view f) (view g))) ⌝ }
+{
+    let products = f.count * g.count;
+    if products <= FEW_PRODUCTS {
+        return multiplied_small(d, f, g);
+    }
+    multiplied_large(d, f, g)
 }

@@ -40,7 +40,7 @@ accumulated t (s ∷ p) = elim (same (t .exponents) (s .exponents)) [
 ]
 
 -- ---- slots
--- how many slots a search can begin at
+-- the most slots that a search can begin at
 abbrev pub home-slots : ℕ
 home-slots = 16384
 
@@ -48,28 +48,30 @@ home-slots = 16384
 abbrev pub most-entries : ℕ
 most-entries = 4096
 
--- where the search for a key begins
-unfoldable pub home-slot : ℕ → ℕ
-home-slot key = (key % 2 ^ 32 * 1132569001 + key / 2 ^ 32 * 2571668233) / 2 ^ 18 % home-slots
+-- where the search for a key begins, of so many slots
+unfoldable pub home-slot : (homes key : ℕ) → ℕ
+home-slot homes key = (key % 2 ^ 32 * 1132569001 + key / 2 ^ 32 * 2571668233) % 2 ^ 32 * homes / 2 ^ 32
 
 -- no slot from the key's home slot to before h leads to the key
-abbrev pub Passed : (slots keys : List ℕ) (key h : ℕ) → Type 0
-Passed slots keys key h = (s : ℕ) → home-slot key ≤ s → s < h → getD keys (getD slots s 0) 0 ≡ key → ⊥
+abbrev pub Passed : (homes : ℕ) (slots keys : List ℕ) (key h : ℕ) → Type 0
+Passed homes slots keys key h = (s : ℕ) → home-slot homes key ≤ s → s < h → getD keys (getD slots s 0) 0 ≡ key → ⊥
 
 -- a search ends: it comes to an empty slot, which leads to place 0, where the key is put before
-pub record Searchable (slots keys : List ℕ) (key : ℕ) : Type 0 where
+pub record Searchable (homes : ℕ) (slots keys : List ℕ) (key : ℕ) : Type 0 where
+  pub some : 0 < homes
+  pub not-many : homes ≤ home-slots
   pub top : ℕ
   pub top-in : top < length slots
-  pub start : home-slot key ≤ top
+  pub start : home-slot homes key ≤ top
   pub empty : getD slots top 0 ≡ 0
   pub inside : (s : ℕ) → getD slots s 0 < length keys
   pub first : getD keys 0 0 ≡ key
 
 -- the first slot from the key's home slot on that leads to the key
-pub record Found (slots keys : List ℕ) (key h : ℕ) : Type 0 where
-  pub start : home-slot key ≤ h
+pub record Found (homes : ℕ) (slots keys : List ℕ) (key h : ℕ) : Type 0 where
+  pub start : home-slot homes key ≤ h
   pub inside : h < length slots
-  pub others : Passed slots keys key h
+  pub others : Passed homes slots keys key h
   pub there : getD keys (getD slots h 0) 0 ≡ key
 
 -- a search that begins at slot b comes to entry i, past full slots only
@@ -80,28 +82,31 @@ pub record Reached (slots : List ℕ) (b i : ℕ) : Type 0 where
   pub full : (s : ℕ) → b ≤ s → s ≤ place → 0 < getD slots s 0
 
 -- the slots lead to the n entries, each from its key's home slot; no key stands twice;
--- and the slots from home-slots + n on are empty
-pub record Table (slots keys : List ℕ) (sums : List ℤ) (n : ℕ) : Type 0 where
+-- and the slots from homes + n on are empty
+pub record Table (homes : ℕ) (slots keys : List ℕ) (sums : List ℤ) (n : ℕ) : Type 0 where
   pub keys-long : n < length keys
   pub sums-long : n < length sums
   pub low : (s : ℕ) → getD slots s 0 ≤ n
-  pub rest : (s : ℕ) → home-slots + n ≤ s → getD slots s 0 ≡ 0
-  pub reach : (i : ℕ) → 0 < i → i ≤ n → Reached slots (home-slot (getD keys i 0)) i
+  pub rest : (s : ℕ) → homes + n ≤ s → getD slots s 0 ≡ 0
+  pub reach : (i : ℕ) → 0 < i → i ≤ n → Reached slots (home-slot homes (getD keys i 0)) i
   pub distinct-keys : T (distinct (entries n keys sums))
 
 -- ---- one more term
 -- there is room for one more entry, and its sum fits
-pub record Room (slots keys : List ℕ) (sums : List ℤ) (n : ℕ) (z : ℤ) : Type 0 where
-  pub table : Table slots keys sums n
-  pub slots-room : home-slots + (n + 1) < length slots
+pub record Room (homes : ℕ) (slots keys : List ℕ) (sums : List ℤ) (n : ℕ) (z : ℤ) : Type 0 where
+  pub table : Table homes slots keys sums n
+  pub some : 0 < homes
+  pub not-many : homes ≤ home-slots
+  pub slots-room : homes + (n + 1) < length slots
   pub keys-room : n + 1 < length keys
   pub sums-room : n + 1 < length sums
   pub few : n + 1 < 2 ^ 16
   pub small : natAbs z + size (entries n keys sums) < 2 ^ 63
 
 -- the table holds those entries and t
-pub record Added (old : Terms) (n : ℕ) (t : Term ℤ) (slots keys : List ℕ) (sums : List ℤ) (count : ℕ) : Type 0 where
-  pub table : Table slots keys sums count
+pub record Added (homes : ℕ) (old : Terms) (n : ℕ) (t : Term ℤ) (slots keys : List ℕ) (sums : List ℤ) (count : ℕ)
+    : Type 0 where
+  pub table : Table homes slots keys sums count
   pub few : count ≤ n + 1
   pub sum : entries count keys sums ≡ accumulated t old
 
