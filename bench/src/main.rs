@@ -1,0 +1,20 @@
+//! Prints tables of times, each row measured side by side in one run: the proved library, FLINT, and the second
+//! implementation. Inputs are used in turn, so that no branch predictor learns one of them.
+
+mod flint;
+mod growth;
+mod products;
+mod sheets;
+mod timing;
+
+use reference::generate::Random;
+
+fn main() {
+    let seed = std::env::args()
+        .nth(1)
+        .map_or(0, |word| word.parse().expect("a seed is a number"));
+    let mut random = Random::new(seed);
+    products::print(&mut random);
+    sheets::print(&mut random);
+    growth::print(&mut random);
+}

@@ -1,0 +1,158 @@
+//! Products of two models in 4 variables. Ours is the whole public call through the library's C interface: both models
+//! copied from arrays and tested, all products collected by monomial, rounded, the radius, the result packed and stored.
+//! FLINT's is the exact product alone, of polynomials built beforehand. The second implementation's is its whole call.
+
+use crate::flint::Polynomial;
+use crate::timing::best;
+use hechroung::{Model, UNIT};
+use reference::calls;
+use reference::generate::Random;
+use reference::stored::{StoredModel, StoredTerm};
+use std::collections::BTreeSet;
+use std::hint::black_box;
+
+const INPUTS: usize = 64;
+const ROUNDS: usize = 40;
+const VARIABLES: u8 = 4;
+const RADIUS: u64 = 5;
+
+/// What the factors of a row are like.
+#[derive(Clone, Copy, PartialEq)]
+pub enum Kind {
+    /// Coefficients of any size: with many monomials more than 64 are kept, and the call refuses with 8.
+    Any,
+    /// One large coefficient and small others at the same keys, so that what is kept fits.
+    Kept,
+}
+
+/// Two factors, as each side takes them.
+pub struct Pair {
+    pub f: Model,
+    pub g: Model,
+    stored_f: StoredModel,
+    stored_g: StoredModel,
+    polynomials: (Polynomial, Polynomial),
+}
+
+impl Pair {
+    pub fn new(random: &mut Random, terms: usize, order: u8, kind: Kind) -> Pair {
+        let keys = keys(random, terms, order);
+        let other = match kind {
+            Kind::Kept => keys.clone(),
+            Kind::Any => self::keys(random, terms, order),
+        };
+        let f = model(random, &keys, kind);
+        let g = model(random, &other, kind);
+        Pair {
+            stored_f: stored(&f),
+            stored_g: stored(&g),
+            polynomials: (Polynomial::new(&f), Polynomial::new(&g)),
+            f,
+            g,
+        }
+    }
+
+    /// Both implementations' answers, which must agree: whether the product is accepted.
+    fn accepted(&self, order: u8) -> bool {
+        let ours = hechroung::multiply(order, &self.f, &self.g);
+        let theirs = calls::multiply(&self.stored_f, &self.stored_g, order);
+        assert_eq!(
+            stored(&ours.model),
+            theirs.model,
+            "both implementations give one model"
+        );
+        let refusal = theirs
+            .refusal
+            .map(|refusal| (refusal.number(), refusal.place()));
+        assert_eq!(
+            ours.refusal.map(|refusal| (refusal.number, refusal.place)),
+            refusal
+        );
+        refusal.is_none()
+    }
+}
+
+pub fn print(random: &mut Random) {
+    println!("| Product, 4 variables | Terms | Order | Accepted | Ours, µs | FLINT, µs | Ours / FLINT | Second, µs | Ours / second |");
+    println!("|---|---|---|---|---|---|---|---|---|");
+    row(random, "sparse, refused", 64, 15, Kind::Any);
+    row(random, "sparse, kept", 64, 15, Kind::Kept);
+    row(random, "dense, kept", 64, 4, Kind::Kept);
+    row(random, "dense, kept", 15, 4, Kind::Kept);
+    row(random, "dense, kept", 4, 4, Kind::Kept);
+    println!();
+}
+
+fn row(random: &mut Random, name: &str, terms: usize, order: u8, kind: Kind) {
+    let pairs: Vec<Pair> = (0..INPUTS)
+        .map(|_| Pair::new(random, terms, order, kind))
+        .collect();
+    let accepted = pairs.iter().filter(|pair| pair.accepted(order)).count();
+    let [ours, flint, second] = best(ROUNDS, INPUTS, |way, input| {
+        let pair = &pairs[input];
+        match way {
+            0 => {
+                let _ = black_box(hechroung::multiply(order, &pair.f, &pair.g));
+            }
+            1 => pair.polynomials.0.multiply(&pair.polynomials.1),
+            _ => {
+                let _ = black_box(calls::multiply(&pair.stored_f, &pair.stored_g, order));
+            }
+        }
+    });
+    println!(
+        "| {name} | {terms} x {terms} | {order} | {accepted} of {INPUTS} | {ours:.2} | {flint:.2} | {:.2} | {second:.1} | {:.3} |",
+        ours / flint,
+        ours / second
+    );
+}
+
+/// Different rising keys of degree at most the order, 0 among them. For high orders low exponents are the likelier.
+pub fn keys(random: &mut Random, terms: usize, order: u8) -> Vec<u16> {
+    let mut keys = BTreeSet::from([0]);
+    while keys.len() < terms {
+        let mut left = order;
+        let mut key = 0;
+        for _ in 0..VARIABLES {
+            let most = if order > 8 { left / 2 } else { left };
+            let exponent = random.byte(0, most);
+            left -= exponent;
+            key = key << 4 | u16::from(exponent);
+        }
+        keys.insert(key);
+    }
+    keys.into_iter().collect()
+}
+
+pub fn model(random: &mut Random, keys: &[u16], kind: Kind) -> Model {
+    let mut model = Model {
+        n: VARIABLES,
+        count: keys.len(),
+        radius: RADIUS,
+        ..Model::ZERO
+    };
+    for (place, &key) in keys.iter().enumerate() {
+        let size = match kind {
+            Kind::Any => random.between(1, 1 << 22),
+            Kind::Kept if place == 0 => UNIT + random.between(0, 999),
+            Kind::Kept => random.between(1, 60),
+        };
+        let sign = if place == 0 { 1 } else { random.sign() };
+        model.keys[place] = key;
+        model.coefficients[place] = size * sign;
+    }
+    model
+}
+
+fn stored(model: &Model) -> StoredModel {
+    let terms = std::array::from_fn(|place| StoredTerm {
+        key: model.keys[place],
+        coefficient: model.coefficients[place],
+    });
+    StoredModel {
+        n: model.n,
+        count: model.count,
+        radius: model.radius,
+        terms,
+    }
+}

@@ -1,0 +1,87 @@
+-- `hechroung_write` tests what it is handed, builds the book, writes it and stores the numbers.
+use mathlib.Core.Path.{sym, _∙_, ap}
+use borrow.Author.Needs.{needs}
+use borrow.Author.Tests.{not-true, not-false}
+use Rattle.exports.specs.Books.{Written-numbers, written-state, write-state, answered-write, write-book}
+use Rattle.handing.specs.Books.{handed-book}
+use Rattle.exports.specs.Books.{called-write}
+use Rattle.exports.specs.BooksLaws.{fits-numbers}
+use Rattle.exports.proofs.books.hechroung_write.Statement.{statement}
+use Rattle.exports.proofs.books.hechroung_write.Tie as tie
+
+model-places-requires : tie.Need-model-places-requires
+model-places-requires c κs = search needs
+
+step-places-requires : tie.Need-step-places-requires
+step-places-requires c κs = search needs
+
+book-fits-requires : tie.Need-book-fits-requires
+book-fits-requires c κs = search needs
+
+returns : tie.Need-returns
+unfolding called-write
+returns c =
+    let f = c .before in
+    let p = f .before in
+    rw (
+      sym (p .before .model-places .ensures),
+      sym (p .step-places .ensures),
+      sym (f .book-fits .ensures) ∙ not-true _ (c .if1 .taken),
+    )
+
+handed-models-requires : tie.Need-handed-models-requires
+handed-models-requires c κs = search needs
+
+handed-steps-requires : tie.Need-handed-steps-requires
+handed-steps-requires c κs = search needs
+
+write-requires : tie.Need-write-requires
+write-requires c κs = search needs
+
+store-written-requires : tie.Need-store-written-requires
+store-written-requires c κs =
+    let e = c .before .before .before .before .before .before .before in
+    fits-numbers _ _ _ _ _ (sym (e .before .book-fits .ensures) ∙ not-false _ (e .if1 .left))
+
+same-length : tie.Need-same-length
+same-length c = search needs
+
+same-length-2 : tie.Need-same-length-2
+same-length-2 c = search needs
+
+returns-2 : tie.Need-returns-2
+unfolding written-state answered-write write-book called-write handed-book
+returns-2 c =
+    let s = c .before .before in
+    let w = s .before .before .before .before in
+    let steps = w .before .before in
+    let models = steps .before in
+    let e = models .before in
+    let f = e .before in
+    let p = f .before in
+    ap (λ (z : Written-numbers). answered-write z (w .write .last .1 .0)) (s .store-written .ensures)
+    ∙ rw (
+      w .write .ensures .0,
+      w .write .ensures .1,
+      steps .handed-steps .ensures,
+      models .handed-models .ensures,
+      sym (p .before .model-places .ensures),
+      sym (p .step-places .ensures),
+      sym (f .book-fits .ensures) ∙ not-false _ (e .if1 .left),
+    )
+
+pub hechroung-write-spec : {M : Type 1} → statement M
+hechroung-write-spec =
+    tie.close
+    (tie.spec
+    model-places-requires
+    step-places-requires
+    book-fits-requires
+    returns
+    handed-models-requires
+    handed-steps-requires
+    write-requires
+    store-written-requires
+    same-length
+    same-length-2
+    returns-2)

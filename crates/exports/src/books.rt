@@ -1,0 +1,128 @@
+// Books written as sheets, and sheets written back.
+ghost use mathlib.Core.Path.{_≡_};
+ghost use Prim.Native.Nat.{_≤_};
+ghost use lib.Dec.{leb};
+ghost use lib.ListN.{length};
+ghost use Rattle.format.specs.Format.{read};
+ghost use Rattle.book.specs.Book.{«held-book», «read-answer»};
+ghost use Rattle.handing.specs.Books.{«step-places», «handed-steps», «model-places», «handed-models»};
+ghost use Rattle.handing.specs.Books.{«handed-book»};
+ghost use Rattle.exports.specs.Books.{«book-fits», «written-state», «stored-written»};
+ghost use Rattle.exports.specs.Books.{«write-state», «called-write», «called-rewrite»};
+use super::MISUSED;
+use book::Book;
+use book::Written;
+use handing::books;
+use handing::models;
+use held::Verdict;
+
+// The numbers of a write's answer: the refusal's place and the length.
+const NUMBERS: usize = 2;
+
+// Whether there are as many models and steps as the counts name, and room for the numbers.
+fn book_fits(
+    model_count: usize,
+    models: usize,
+    step_count: usize,
+    steps: usize,
+    numbers: usize,
+) -> bool
+    ensures { λ r. ⌜ r ≡ book-fits «model_count» models «step_count» steps numbers ⌝ }
+{
+    if models < models::least(model_count, book::MOST_MODELS) {
+        return false;
+    }
+    if steps < models::least(step_count, book::MOST_STEPS) {
+        return false;
+    }
+    NUMBERS <= numbers
+}
+
+// The place of a refused write and the length go into a slice; the refusal's number.
+fn store_written(w: Written, numbers: &mut [u64]) -> u8
+    requires { ⌜ 2 ≤ length (now numbers) ⌝ }
+    ensures { λ r. ⌜ written-state r (now (numbers .exit)) ≡ stored-written w (now (numbers .entry)) ⌝ }
+{
+    let v = w.verdict;
+    numbers[0] = models::verdict_place(v) as u64;
+    numbers[1] = w.length as u64;
+    models::verdict_number(v)
+}
+
+// A book is written as a sheet into the buffer: the refusal's number, 0 without one, or MISUSED. The refusal's place
+// and the length go into the numbers.
+#[no_mangle]
+pub extern "C" fn hechroung_write(
+    n: u8,
+    d: u8,
+    modelcount: usize,
+    stepcount: usize,
+    ns: &[u8],
+    counts: &[usize],
+    radii: &[u64],
+    keys: &[u16],
+    coefficients: &[i64],
+    fields: &[u8],
+    values: &[i64],
+    buffer: &mut [u8],
+    numbers: &mut [u64],
+) -> u8
+    ensures { λ r. ⌜ write-state r (now (buffer .exit)) (now (numbers .exit))
+        ≡ called-write
+        (book-fits modelcount (model-places (length (now (ns .entry))) (length (now (counts .entry)))
+        (length (now (radii .entry))) (length (now (keys .entry))) (length (now (coefficients .entry))))
+        stepcount (step-places (length (now (fields .entry))) (length (now (values .entry))))
+        (length (now (numbers .entry))))
+        (held-book (handed-book n d modelcount stepcount
+        (handed-models (now (ns .entry)) (now (counts .entry)) (now (radii .entry)) (now (keys .entry))
+        (now (coefficients .entry)))
+        (handed-steps (now (fields .entry)) (now (values .entry)))))
+        (now (buffer .entry)) (now (numbers .entry)) ⌝ }
+{
+    let models = books::model_places(
+        ns.len(),
+        counts.len(),
+        radii.len(),
+        keys.len(),
+        coefficients.len(),
+    );
+    let steps = books::step_places(fields.len(), values.len());
+    if !book_fits(modelcount, models, stepcount, steps, numbers.len()) {
+        return MISUSED;
+    }
+    let b = Book {
+        n: n,
+        d: d,
+        model_count: modelcount,
+        step_count: stepcount,
+        models: books::handed_models(ns, counts, radii, keys, coefficients),
+        steps: books::handed_steps(fields, values),
+    };
+    let w = writer::write(b, buffer);
+    store_written(w, numbers)
+}
+
+// A sheet is read, and what was read is written into the buffer: the refusal's number, 0 without one, or MISUSED. The
+// refusal's place and the length go into the numbers.
+#[no_mangle]
+pub extern "C" fn hechroung_rewrite(sheet: &[u8], buffer: &mut [u8], numbers: &mut [u64]) -> u8
+    ensures { λ r. ⌜ write-state r (now (buffer .exit)) (now (numbers .exit))
+        ≡ called-rewrite (leb 2 (length (now (numbers .entry)))) (read-answer (read (now (sheet .entry))))
+        (now (buffer .entry)) (now (numbers .entry)) ⌝ }
+{
+    if numbers.len() < NUMBERS {
+        return MISUSED;
+    }
+    let answer = reader::read(sheet);
+    let v = answer.verdict;
+    let Verdict::Accepted = v else {
+        let none = Written {
+            length: 0,
+            verdict: v,
+        };
+        return store_written(none, numbers);
+    };
+    let b = answer.book;
+    let w = writer::write(b, buffer);
+    store_written(w, numbers)
+}

@@ -1,0 +1,9 @@
+// The library for other languages: document 01's calls and runs on numbers and slices. Each exported function takes
+// anything that its types can hold. A slice that is too short, or a code that names no call, is answered with MISUSED,
+// and nothing is changed then; every other answer is document 01's, its number 0 where nothing is refused.
+pub mod calls; // calls.rt: the single calls
+pub mod books; // books.rt: books written
+pub mod sheets; // sheets.rt: sheets run and taken apart
+
+// The answer to a call that is not one: a slice is too short, or no call has this code.
+pub const MISUSED: u8 = 255;

@@ -1,0 +1,4 @@
+pub mod Models
+pub mod ModelsLaws
+pub mod Books
+pub mod BooksLaws

@@ -1,0 +1,39 @@
+/* Squares the curve x + 1/2, reads its range and its value at 1/4, writes the same as a sheet, runs that, and shows a
+   refusal and a misuse. */
+#include <hechroung.h>
+#include <inttypes.h>
+#include <stdio.h>
+
+int main(void) {
+    struct hechroung_model x, half, sum, square;
+    struct hechroung_ends range, value;
+    const int64_t quarter[4] = {HECHROUNG_UNIT / 4, 0, 0, 0};
+    size_t place = 0;
+
+    if (hechroung_variable(1, 1, &x) || hechroung_constant(1, HECHROUNG_UNIT / 2, &half) ||
+        hechroung_add(&x, &half, &sum, NULL) || hechroung_multiply(2, &sum, &sum, &square, NULL) ||
+        hechroung_range(&square, &range) || hechroung_evaluate(&square, quarter, &value))
+        return 1;
+
+    printf("radius %" PRIu64 "\n", square.radius);
+    for (size_t i = 0; i < square.count; i++)
+        printf("term %d %" PRId64 "\n", square.keys[i] >> 12, square.coefficients[i]);
+    printf("range %" PRId64 " %" PRId64 "\n", range.low, range.high);
+    printf("at 1/4 %" PRId64 " %" PRId64 "\n", value.low, value.high);
+
+    /* x, 1/2, their sum, its square, as the steps of a sheet in one variable of order 2 */
+    const struct hechroung_step steps[4] = {
+        {.code = 2, .v = 1}, {.code = 1, .value = HECHROUNG_UNIT / 2}, {.code = 4, .b = 1}, {.code = 6, .a = 2, .b = 2}};
+    uint8_t sheet[HECHROUNG_LONGEST_SHEET], lines[HECHROUNG_LONGEST_TEXT];
+    size_t length;
+    if (hechroung_write_sheet(1, 2, NULL, 0, steps, 4, sheet, sizeof sheet, &length, NULL)) return 1;
+    printf("sheet of %zu bytes\n", length);
+    fwrite(lines, 1, hechroung_print(sheet, length, lines, sizeof lines), stdout);
+
+    /* the second model is no model of one variable */
+    half.n = 7;
+    uint8_t number = hechroung_add(&x, &half, &sum, &place);
+    printf("refused %d %zu\n", number, place);
+    printf("misused %d\n", hechroung_add(&x, NULL, &sum, &place));
+    return 0;
+}

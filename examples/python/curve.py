@@ -1,0 +1,38 @@
+"""Squares the curve x + 1/2, reads its range and its value at 1/4, runs the same as a sheet, and shows a refusal and a
+misuse."""
+
+from hechroung import UNIT, Misused, Model, Refused
+from hechroung import add, constant, evaluate, lines, multiply, range_of, records, variable
+
+x = variable(1, 1)
+half = constant(1, UNIT // 2)
+total = add(x, half)
+square = multiply(2, total, total)
+low, high = range_of(square)
+value = evaluate(square, [UNIT // 4])
+
+print("radius", square.radius)
+for key, coefficient in square.terms:
+    print("term", key >> 12, coefficient)
+print("range", low, high)
+print("at 1/4", *value)
+
+# x, 1/2, their sum, its square, as the steps of a sheet in one variable of order 2: document 01's sample.
+sheet = bytes.fromhex(
+    "02 00 00 01 00 00 00 00  01 00 00 00 00 00 08 00  04 00 01 00 00 00 00 00  06 02 02 00 00 00 00 00"
+    "01 02 00 04 00 00 4D 4B"
+)
+assert b"".join(records(sheet)) == sheet[:-8]
+print("sheet of", len(sheet), "bytes")
+print(lines(sheet), end="")
+
+# The second model is no model of one variable.
+try:
+    add(x, Model(7, half.radius, half.terms))
+except Refused as refusal:
+    print("refused", refusal.number, refusal.place)
+# The wrapper hands over slices that are long enough; what is not a call is an error all the same.
+try:
+    multiply(2, x, None)
+except Misused as misuse:
+    print("misused", misuse.number)

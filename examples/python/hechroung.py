@@ -1,0 +1,147 @@
+"""Polynomial models with an error radius: a small wrapper over the proved library, through ctypes.
+
+Coefficients, radii, values and ends are whole numbers in units of 1/UNIT. What document 01 refuses is raised as Refused.
+"""
+
+import ctypes
+import os
+
+UNIT = 1 << 20
+MOST_TERMS = 64
+MISUSED = 255
+
+_FOLDER = os.path.join(os.path.dirname(os.path.abspath(__file__)), "..", "..", "target", "lib")
+_library = ctypes.CDLL(os.path.join(os.environ.get("HECHROUNG_LIB", _FOLDER), "libhechroung.so"))
+
+_u8, _u64, _i64, _size = ctypes.c_uint8, ctypes.c_uint64, ctypes.c_int64, ctypes.c_size_t
+_Keys = ctypes.c_uint16 * MOST_TERMS
+_Coefficients = _i64 * MOST_TERMS
+_handed = [_u8, _size, _u64, ctypes.POINTER(ctypes.c_uint16), _size, ctypes.POINTER(_i64), _size]
+_call = _library.hechroung_call
+_call.restype = _u8
+_call.argtypes = [_u8, _u8, _u8, _i64, *_handed, *_handed,
+                  ctypes.POINTER(ctypes.c_uint16), _size, ctypes.POINTER(_i64), _size, ctypes.POINTER(_u64), _size]
+_ends = _library.hechroung_ends
+_ends.restype = _u8
+_ends.argtypes = [_u8, *_handed, _i64, _i64, _i64, _i64, ctypes.POINTER(_i64), _size]
+_print = _library.hechroung_print
+_print.restype = _size
+_print.argtypes = [ctypes.c_char_p, _size, ctypes.c_char_p, _size]
+_record = _library.hechroung_record
+_record.restype = _size
+_record.argtypes = [ctypes.c_char_p, _size, _size, ctypes.c_char_p, _size]
+
+
+class Refused(Exception):
+    """Document 01's refusal: its number, 1 to 11, and its place."""
+
+    def __init__(self, number, place):
+        super().__init__(f"refused {number} {place}")
+        self.number, self.place = number, place
+
+
+class Misused(Exception):
+    """No call was made: an argument is missing or a slice too short."""
+
+    number = MISUSED
+
+
+class Model:
+    """n variables, a radius, and terms: pairs of a key and a coefficient, keys rising."""
+
+    def __init__(self, n, radius=0, terms=()):
+        self.n, self.radius, self.terms = n, radius, list(terms)
+
+
+def _arguments(model):
+    if not isinstance(model, Model):
+        raise Misused()
+    # More than 64 terms are handed over by their count, which is refused.
+    first = model.terms[:MOST_TERMS]
+    keys = _Keys(*(key for key, _ in first))
+    coefficients = _Coefficients(*(coefficient for _, coefficient in first))
+    return model.n, len(model.terms), model.radius, keys, MOST_TERMS, coefficients, MOST_TERMS
+
+
+def _called(code, d, i, value, f, g=Model(1)):
+    keys, coefficients, numbers = _Keys(), _Coefficients(), (_u64 * 4)()
+    number = _call(code, d, i, value, *_arguments(f), *_arguments(g),
+                   keys, MOST_TERMS, coefficients, MOST_TERMS, numbers, 4)
+    place, n, count, radius = numbers
+    _check(number, place)
+    return Model(n, radius, zip(keys[:count], coefficients[:count]))
+
+
+def _ended(code, f, point=()):
+    ends = (_i64 * 2)()
+    coordinates = [*point, 0, 0, 0, 0][:4]
+    _check(_ends(code, *_arguments(f), *coordinates, ends, 2), 0)
+    return tuple(ends)
+
+
+def _check(number, place):
+    if number == MISUSED:
+        raise Misused()
+    if number:
+        raise Refused(number, place)
+
+
+def constant(n, value):
+    return _called(1, 0, 0, value, Model(n))
+
+
+def variable(n, i):
+    return _called(2, 0, i, 0, Model(n))
+
+
+def negate(f):
+    return _called(3, 0, 0, 0, f)
+
+
+def add(f, g):
+    return _called(4, 0, 0, 0, f, g)
+
+
+def subtract(f, g):
+    return _called(5, 0, 0, 0, f, g)
+
+
+def multiply(d, f, g):
+    return _called(6, d, 0, 0, f, g)
+
+
+def substitute(d, i, f, g):
+    return _called(7, d, i, 0, f, g)
+
+
+def sweep(f, threshold):
+    return _called(8, 0, 0, threshold, f)
+
+
+def range_of(f):
+    return _ended(1, f)
+
+
+def integral(f):
+    return _ended(2, f)
+
+
+def evaluate(f, point):
+    return _ended(3, f, point)
+
+
+def lines(sheet):
+    """The lines that the program prints for a sheet, refused or not."""
+    text = ctypes.create_string_buffer(_print(sheet, len(sheet), b"", 0))
+    length = _print(sheet, len(sheet), text, len(text))
+    return text.raw[:length].decode("ascii")
+
+
+def records(sheet):
+    """The bytes of each model and each step; none of a sheet that is refused."""
+    i = 0
+    while length := _record(sheet, len(sheet), i, b"", 0):
+        record = ctypes.create_string_buffer(length)
+        _record(sheet, len(sheet), i, record, length)
+        yield record.raw
+        i += 1

@@ -1,0 +1,296 @@
+/* Hechroung: polynomial models in 1 to 4 variables on the box [-1, 1]^n, with an error radius. The functions that are
+   declared extern are proved (crates/exports); those that are written out here only spread a struct into numbers and
+   slices and test for null pointers.
+
+   Numbers. Coefficients, radii, values, coordinates and ends are whole numbers in units of 1/HECHROUNG_UNIT.
+
+   Answers. Every function that makes a call returns a byte:
+     0                   accepted
+     1 to 11             document 01's refusal; the answer is then the zero model in one variable, or ends 0
+     HECHROUNG_MISUSED   no call was made and nothing was written: a pointer is null, a slice is too short, or a code
+                         names no call
+
+   Memory. The caller owns everything. Nothing is kept after a call, nothing is allocated, and there is no state, so that
+   any number of threads may call at once. A call needs up to 160 KB of stack, the run of a sheet up to 400 KB.
+
+   Slices. A slice is a pointer and a length in elements. The functions declared extern never read or write outside the
+   lengths they are given; a pointer must be to that many elements, aligned, and a slice that is written must not overlap
+   another one. A null pointer must not be handed to them; the functions written out here test for it. */
+#ifndef HECHROUNG_H
+#define HECHROUNG_H
+
+#include <stddef.h>
+#include <stdint.h>
+#include <string.h>
+
+#ifdef __cplusplus
+extern "C" {
+#endif
+
+#define HECHROUNG_UNIT 1048576
+#define HECHROUNG_MOST_TERMS 64
+#define HECHROUNG_MOST_MODELS 16
+#define HECHROUNG_MOST_STEPS 64
+#define HECHROUNG_LONGEST_SHEET 6744
+#define HECHROUNG_LONGEST_TEXT 2048
+#define HECHROUNG_MISUSED 255
+
+/* A model: the first `count` of its terms, with keys strictly rising, and a radius. A key has four exponents of four bits
+   each, that of variable 1 in the highest bits. Any field may hold anything: a call tests the model and refuses with 5
+   what breaks a rule. Places beyond the count are not looked at; in an answer they hold zeros. */
+struct hechroung_model {
+    uint8_t n;
+    size_t count;
+    uint64_t radius;
+    uint16_t keys[HECHROUNG_MOST_TERMS];
+    int64_t coefficients[HECHROUNG_MOST_TERMS];
+};
+
+/* The low and the high end of a range, an integral or a value. */
+struct hechroung_ends {
+    int64_t low, high;
+};
+
+/* What a run gives: the last step's model, the ends of its range and of its integral over the box. Demand 3 of document
+   01 holds of it, for all functions within the sheet's models and all points of the box with fraction coordinates. */
+struct hechroung_summary {
+    struct hechroung_model model;
+    struct hechroung_ends range, integral;
+};
+
+/* A step of a book: document 01's code and its fields; those that the code does not name are 0. */
+struct hechroung_step {
+    uint8_t code, a, b, v;
+    int64_t value;
+};
+
+/* ---- the proved functions ---- */
+
+/* A call that answers with a model. Codes: 1 constant, 2 variable, 3 negate, 4 add, 5 subtract, 6 multiply,
+   7 substitute, 8 sweep. d is the order of multiply and substitute, i the variable of variable and substitute, from 1,
+   value the constant or the threshold; what a call does not name is not looked at, but the slices of both models are.
+   constant and variable take the n of the first model.
+   Read: for each model at least min(count, 64) keys and as many coefficients.
+   Written: keys and coefficients, at least 64 each, hold the answer's 64 places; numbers, at least 4, hold the refusal's
+   place, n, the count and the radius. What lies behind stays. */
+extern uint8_t hechroung_call(uint8_t code, uint8_t d, uint8_t i, int64_t value,
+                              uint8_t n1, size_t count1, uint64_t radius1,
+                              const uint16_t *keys1, size_t keys1_length,
+                              const int64_t *coefficients1, size_t coefficients1_length,
+                              uint8_t n2, size_t count2, uint64_t radius2,
+                              const uint16_t *keys2, size_t keys2_length,
+                              const int64_t *coefficients2, size_t coefficients2_length,
+                              uint16_t *keys, size_t keys_length,
+                              int64_t *coefficients, size_t coefficients_length,
+                              uint64_t *numbers, size_t numbers_length);
+
+/* A call that answers with two ends. Codes: 1 range, 2 integral, 3 evaluate at the point x1, .., x4; the others do not
+   look at the point. The place of a refusal is 0. Read: as above. Written: ends, at least 2, hold the low and the high
+   end. */
+extern uint8_t hechroung_ends(uint8_t code, uint8_t n, size_t count, uint64_t radius,
+                              const uint16_t *keys, size_t keys_length,
+                              const int64_t *coefficients, size_t coefficients_length,
+                              int64_t x1, int64_t x2, int64_t x3, int64_t x4,
+                              int64_t *ends, size_t ends_length);
+
+/* Runs a sheet: refusals 1 to 9. Read: the sheet, of any length. Written: keys, coefficients and numbers as above; ends, at
+   least 4, hold the low and high end of the range, then those of the integral. */
+extern uint8_t hechroung_run(const uint8_t *sheet, size_t sheet_length,
+                             uint16_t *keys, size_t keys_length, int64_t *coefficients, size_t coefficients_length,
+                             uint64_t *numbers, size_t numbers_length, int64_t *ends, size_t ends_length);
+
+/* Runs a sheet to the program's lines and returns their length, at most HECHROUNG_LONGEST_TEXT. As much of them as the
+   slice has room for is put at its start, without a zero at the end; what lies behind stays. */
+extern size_t hechroung_print(const uint8_t *sheet, size_t sheet_length, uint8_t *lines, size_t lines_length);
+
+/* Reads a sheet and writes what was read: refusals 1 to 6, 11 (the buffer is too short). Written: numbers, at least 2,
+   hold the refusal's place and the length, 0 with a refusal. The buffer holds the sheet; bytes beyond the length stay, and
+   a refused call changes none. */
+extern uint8_t hechroung_rewrite(const uint8_t *sheet, size_t sheet_length, uint8_t *buffer, size_t buffer_length,
+                                 uint64_t *numbers, size_t numbers_length);
+
+/* Record i of a sheet, from 0: each model's bytes, then each step's 8. It returns the record's length, or 0 where there is
+   none; a sheet that tests 1 to 6 refuse has none. As much of it as the slice has room for is put at its start. */
+extern size_t hechroung_record(const uint8_t *sheet, size_t sheet_length, size_t i, uint8_t *bytes, size_t bytes_length);
+
+/* Writes a book as a sheet: refusals 3, 5, 6, 11. Read: for at least min(model_count, 16) models an entry of ns, counts
+   and radii and 64 keys and coefficients each; for at least min(step_count, 64) steps four bytes of fields (code, a, b, v)
+   and a value. Written: buffer and numbers as for hechroung_rewrite. */
+extern uint8_t hechroung_write(uint8_t n, uint8_t d, size_t model_count, size_t step_count,
+                               const uint8_t *ns, size_t ns_length, const size_t *counts, size_t counts_length,
+                               const uint64_t *radii, size_t radii_length, const uint16_t *keys, size_t keys_length,
+                               const int64_t *coefficients, size_t coefficients_length,
+                               const uint8_t *fields, size_t fields_length, const int64_t *values, size_t values_length,
+                               uint8_t *buffer, size_t buffer_length, uint64_t *numbers, size_t numbers_length);
+
+/* ---- the same for structs. The answer may be one of the models that are read. A place of null is not written. ---- */
+
+static inline uint8_t hechroung_called_(uint8_t code, uint8_t d, uint8_t i, int64_t value,
+                                        const struct hechroung_model *f, const struct hechroung_model *g,
+                                        struct hechroung_model *answer, size_t *place) {
+    struct hechroung_model model;
+    uint64_t numbers[4] = {0, 0, 0, 0};
+    uint8_t number;
+    if (f == NULL || g == NULL || answer == NULL) return HECHROUNG_MISUSED;
+    number = hechroung_call(code, d, i, value,
+                            f->n, f->count, f->radius,
+                            f->keys, HECHROUNG_MOST_TERMS, f->coefficients, HECHROUNG_MOST_TERMS,
+                            g->n, g->count, g->radius,
+                            g->keys, HECHROUNG_MOST_TERMS, g->coefficients, HECHROUNG_MOST_TERMS,
+                            model.keys, HECHROUNG_MOST_TERMS, model.coefficients, HECHROUNG_MOST_TERMS, numbers, 4);
+    model.n = (uint8_t)numbers[1];
+    model.count = (size_t)numbers[2];
+    model.radius = numbers[3];
+    *answer = model;
+    if (place != NULL) *place = (size_t)numbers[0];
+    return number;
+}
+
+/* No terms, radius 0. */
+static inline struct hechroung_model hechroung_zero(uint8_t n) {
+    struct hechroung_model zero;
+    memset(&zero, 0, sizeof zero);
+    zero.n = n;
+    return zero;
+}
+
+/* The constant value, -2^30 to 2^30. Refusals 3 (n), 6 (value). */
+static inline uint8_t hechroung_constant(uint8_t n, int64_t value, struct hechroung_model *answer) {
+    struct hechroung_model of_n = hechroung_zero(n);
+    return hechroung_called_(1, 0, 0, value, &of_n, &of_n, answer, NULL);
+}
+
+/* Variable i, 1 to n. Refusals 3 (n), 6 (i). */
+static inline uint8_t hechroung_variable(uint8_t n, uint8_t i, struct hechroung_model *answer) {
+    struct hechroung_model of_n = hechroung_zero(n);
+    return hechroung_called_(2, 0, i, 0, &of_n, &of_n, answer, NULL);
+}
+
+/* All signs turned. Refusal 5. */
+static inline uint8_t hechroung_negate(const struct hechroung_model *f, struct hechroung_model *answer) {
+    return hechroung_called_(3, 0, 0, 0, f, f, answer, NULL);
+}
+
+/* The sum and the difference. Refusals 5 at place 0 or 1 (that model), 10, 8, 7. */
+static inline uint8_t hechroung_add(const struct hechroung_model *f, const struct hechroung_model *g,
+                                    struct hechroung_model *answer, size_t *place) {
+    return hechroung_called_(4, 0, 0, 0, f, g, answer, place);
+}
+
+static inline uint8_t hechroung_subtract(const struct hechroung_model *f, const struct hechroung_model *g,
+                                         struct hechroung_model *answer, size_t *place) {
+    return hechroung_called_(5, 0, 0, 0, f, g, answer, place);
+}
+
+/* The product; what is above degree d, 1 to 15, goes into the radius. Refusals 3 (d), 5 at place 0 or 1, 10, 8, 7. */
+static inline uint8_t hechroung_multiply(uint8_t d, const struct hechroung_model *f, const struct hechroung_model *g,
+                                         struct hechroung_model *answer, size_t *place) {
+    return hechroung_called_(6, d, 0, 0, f, g, answer, place);
+}
+
+/* g in the place of variable i of f, with order d. Refusals 3 (d), 5 at place 0 or 1, 10, 6 (i), 9, then 8 or 7. */
+static inline uint8_t hechroung_substitute(uint8_t d, uint8_t i, const struct hechroung_model *f,
+                                           const struct hechroung_model *g, struct hechroung_model *answer,
+                                           size_t *place) {
+    return hechroung_called_(7, d, i, 0, f, g, answer, place);
+}
+
+/* Terms but the constant one with |c| up to the threshold, 0 to 2^30, moved into the radius. Refusals 5, 6. */
+static inline uint8_t hechroung_sweep(const struct hechroung_model *f, int64_t threshold,
+                                      struct hechroung_model *answer) {
+    return hechroung_called_(8, 0, 0, threshold, f, f, answer, NULL);
+}
+
+static inline uint8_t hechroung_ended_(uint8_t code, const struct hechroung_model *f, const int64_t point[4],
+                                       struct hechroung_ends *answer) {
+    int64_t ends[2] = {0, 0};
+    uint8_t number;
+    if (f == NULL || point == NULL || answer == NULL) return HECHROUNG_MISUSED;
+    number = hechroung_ends(code, f->n, f->count, f->radius,
+                            f->keys, HECHROUNG_MOST_TERMS, f->coefficients, HECHROUNG_MOST_TERMS,
+                            point[0], point[1], point[2], point[3], ends, 2);
+    answer->low = ends[0];
+    answer->high = ends[1];
+    return number;
+}
+
+/* The range over the box: every function within the model has its values, times U, between the ends. Refusal 5. */
+static inline uint8_t hechroung_range(const struct hechroung_model *f, struct hechroung_ends *answer) {
+    static const int64_t nowhere[4] = {0, 0, 0, 0};
+    return hechroung_ended_(1, f, nowhere, answer);
+}
+
+/* The integral over the box, times U. Refusal 5. */
+static inline uint8_t hechroung_integral(const struct hechroung_model *f, struct hechroung_ends *answer) {
+    static const int64_t nowhere[4] = {0, 0, 0, 0};
+    return hechroung_ended_(2, f, nowhere, answer);
+}
+
+/* The values at the point X_i/U; coordinates above n are 0. Refusals 5, 6 (a coordinate above n), 9 (one outside
+   -U to U), 7. */
+static inline uint8_t hechroung_evaluate(const struct hechroung_model *f, const int64_t point[4],
+                                         struct hechroung_ends *answer) {
+    return hechroung_ended_(3, f, point, answer);
+}
+
+/* Runs a sheet. Refusals 1 to 9. */
+static inline uint8_t hechroung_run_sheet(const uint8_t *sheet, size_t length, struct hechroung_summary *answer,
+                                          size_t *place) {
+    uint64_t numbers[4] = {0, 0, 0, 0};
+    int64_t ends[4] = {0, 0, 0, 0};
+    uint8_t number;
+    if (sheet == NULL || answer == NULL) return HECHROUNG_MISUSED;
+    number = hechroung_run(sheet, length, answer->model.keys, HECHROUNG_MOST_TERMS,
+                           answer->model.coefficients, HECHROUNG_MOST_TERMS, numbers, 4, ends, 4);
+    answer->model.n = (uint8_t)numbers[1];
+    answer->model.count = (size_t)numbers[2];
+    answer->model.radius = numbers[3];
+    answer->range.low = ends[0];
+    answer->range.high = ends[1];
+    answer->integral.low = ends[2];
+    answer->integral.high = ends[3];
+    if (place != NULL) *place = (size_t)numbers[0];
+    return number;
+}
+
+/* Writes a book of these models and steps as a sheet; a buffer of HECHROUNG_LONGEST_SHEET bytes is always enough. Its
+   length is stored where `length` points. Refusals 3, 5, 6, 11; a refused write changes no byte and stores the length 0.
+   It takes some 12 KB of stack itself. */
+static inline uint8_t hechroung_write_sheet(uint8_t n, uint8_t d, const struct hechroung_model *models, size_t model_count,
+                                            const struct hechroung_step *steps, size_t step_count,
+                                            uint8_t *buffer, size_t buffer_length, size_t *length, size_t *place) {
+    uint8_t ns[HECHROUNG_MOST_MODELS] = {0}, fields[4 * HECHROUNG_MOST_STEPS] = {0}, number;
+    size_t counts[HECHROUNG_MOST_MODELS] = {0}, k, i;
+    uint64_t radii[HECHROUNG_MOST_MODELS] = {0}, numbers[2] = {0, 0};
+    uint16_t keys[HECHROUNG_MOST_MODELS * HECHROUNG_MOST_TERMS] = {0};
+    int64_t coefficients[HECHROUNG_MOST_MODELS * HECHROUNG_MOST_TERMS] = {0}, values[HECHROUNG_MOST_STEPS] = {0};
+    if ((models == NULL && model_count != 0) || (steps == NULL && step_count != 0) || buffer == NULL || length == NULL)
+        return HECHROUNG_MISUSED;
+    for (k = 0; k < model_count && k < HECHROUNG_MOST_MODELS; k++) {
+        ns[k] = models[k].n;
+        counts[k] = models[k].count;
+        radii[k] = models[k].radius;
+        memcpy(keys + k * HECHROUNG_MOST_TERMS, models[k].keys, sizeof models[k].keys);
+        memcpy(coefficients + k * HECHROUNG_MOST_TERMS, models[k].coefficients, sizeof models[k].coefficients);
+    }
+    for (i = 0; i < step_count && i < HECHROUNG_MOST_STEPS; i++) {
+        fields[4 * i] = steps[i].code;
+        fields[4 * i + 1] = steps[i].a;
+        fields[4 * i + 2] = steps[i].b;
+        fields[4 * i + 3] = steps[i].v;
+        values[i] = steps[i].value;
+    }
+    number = hechroung_write(n, d, model_count, step_count, ns, HECHROUNG_MOST_MODELS, counts, HECHROUNG_MOST_MODELS,
+                             radii, HECHROUNG_MOST_MODELS, keys, HECHROUNG_MOST_MODELS * HECHROUNG_MOST_TERMS,
+                             coefficients, HECHROUNG_MOST_MODELS * HECHROUNG_MOST_TERMS,
+                             fields, 4 * HECHROUNG_MOST_STEPS, values, HECHROUNG_MOST_STEPS,
+                             buffer, buffer_length, numbers, 2);
+    *length = (size_t)numbers[1];
+    if (place != NULL) *place = (size_t)numbers[0];
+    return number;
+}
+
+#ifdef __cplusplus
+}
+#endif
+#endif

@@ -1,0 +1,142 @@
+//! One case fed to both implementations.
+
+use crate::case::Case;
+use crate::{shaped, sheets};
+use hechroung::{Answer, Bounds, Ends, Model};
+use reference::calls::{Call, CallAnswer};
+use reference::refusal::Refusal;
+use reference::stored::StoredModel;
+
+/// What both implementations answered.
+pub struct Seen {
+    /// The number and place of the refusal.
+    pub refusal: Option<(u8, usize)>,
+    /// Whether the case was no call at all.
+    pub misused: bool,
+    /// How much of the enclosure was tried.
+    pub tried: Tried,
+    pub text: String,
+}
+
+/// Points and integrals of the exact outcome that were held against the answer of an accepted sheet.
+#[derive(Clone, Copy, Default)]
+pub struct Tried {
+    pub points: u64,
+    pub points_too_large: u64,
+    pub integrals: u64,
+}
+
+impl Seen {
+    pub fn of(refusal: Option<(u8, usize)>) -> Seen {
+        Seen {
+            refusal,
+            misused: false,
+            tried: Tried::default(),
+            text: refusal.map_or("accepted".into(), |(number, place)| {
+                format!("refused {number} {place}")
+            }),
+        }
+    }
+}
+
+/// The difference names the case by the line that `compare --cases` takes.
+pub fn compare(case: &Case) -> Result<Seen, String> {
+    let found = match case {
+        Case::Call(call) => compare_call(call),
+        Case::Shaped(call, shape) => shaped::compare(call, shape),
+        Case::Sheet(sheet) => sheets::compare(sheet),
+        Case::Rewrite(sheet, length) => sheets::compare_rewrite(sheet, *length),
+        Case::Book(book, length) => sheets::compare_write(book, *length),
+    };
+    found.map_err(|difference| format!("{}: {difference}\n{}", case.kind(), case.line()))
+}
+
+/// What the proved library answers to a single call.
+#[derive(Debug, PartialEq)]
+pub enum Proved {
+    Model(Box<Answer>),
+    Ends(Bounds),
+}
+
+fn compare_call(call: &Call) -> Result<Seen, String> {
+    let expected = call.answer();
+    let proved = proved_answer(call);
+    same(&proved, &translated(&expected))?;
+    Ok(Seen::of(expected.refusal().map(pair)))
+}
+
+pub fn same<T: PartialEq + std::fmt::Debug>(proved: &T, expected: &T) -> Result<(), String> {
+    if proved == expected {
+        return Ok(());
+    }
+    Err(format!(
+        "proved {proved:?}, second implementation {expected:?}"
+    ))
+}
+
+pub fn pair(refusal: Refusal) -> (u8, usize) {
+    (refusal.number(), refusal.place())
+}
+
+fn proved_answer(call: &Call) -> Proved {
+    let model = |answer| Proved::Model(Box::new(answer));
+    match call {
+        Call::Constant { n, value } => model(hechroung::constant(*n, *value)),
+        Call::Variable { n, i } => model(hechroung::variable(*n, *i)),
+        Call::Negate { f } => model(hechroung::negate(&to_model(f))),
+        Call::Add { f, g } => model(hechroung::add(&to_model(f), &to_model(g))),
+        Call::Subtract { f, g } => model(hechroung::subtract(&to_model(f), &to_model(g))),
+        Call::Multiply { f, g, order } => {
+            model(hechroung::multiply(*order, &to_model(f), &to_model(g)))
+        }
+        Call::Substitute { f, g, i, order } => model(hechroung::substitute(
+            *order,
+            *i,
+            &to_model(f),
+            &to_model(g),
+        )),
+        Call::Sweep { f, threshold } => model(hechroung::sweep(&to_model(f), *threshold)),
+        Call::Range { f } => Proved::Ends(hechroung::range(&to_model(f))),
+        Call::Integral { f } => Proved::Ends(hechroung::integral(&to_model(f))),
+        Call::Evaluate { f, point } => Proved::Ends(hechroung::evaluate(&to_model(f), *point)),
+    }
+}
+
+/// The second implementation's answer in the wrapper's types.
+pub fn translated(answer: &CallAnswer) -> Proved {
+    match answer {
+        CallAnswer::Model(answer) => Proved::Model(Box::new(Answer {
+            model: to_model(&answer.model),
+            refusal: answer.refusal.map(to_refusal),
+        })),
+        CallAnswer::Ends(answer) => Proved::Ends(Bounds {
+            ends: to_ends(answer.ends),
+            refusal: answer.refusal.map(to_refusal),
+        }),
+    }
+}
+
+pub fn to_model(stored: &StoredModel) -> Model {
+    Model {
+        n: stored.n,
+        count: stored.count,
+        radius: stored.radius,
+        keys: stored.terms.map(|term| term.key),
+        coefficients: stored.terms.map(|term| term.coefficient),
+    }
+}
+
+pub fn to_refusal(refusal: Refusal) -> hechroung::Refusal {
+    hechroung::Refusal {
+        number: refusal.number(),
+        place: refusal.place(),
+    }
+}
+
+pub fn to_ends(ends: reference::operations::Ends) -> Ends {
+    let narrowed = |end| i64::try_from(end).expect("ends are below 2^63");
+    Ends {
+        low: narrowed(ends.low),
+        high: narrowed(ends.high),
+    }
+}

@@ -1,0 +1,300 @@
+//! A case of the comparison, and the line that names it: a word and hex digits.
+
+use crate::shaped::Shape;
+use reference::book::{Book, Step};
+use reference::calls::Call;
+use reference::model::MOST_TERMS;
+use reference::stored::{StoredModel, StoredTerm};
+use reference::text::bytes_of_hex;
+
+/// What both implementations are fed with.
+#[derive(Clone, Debug, PartialEq)]
+pub enum Case {
+    /// A single call, by the wrapper.
+    Call(Call),
+    /// A single call by the exported functions themselves, with slices of any length and any code.
+    Shaped(Call, Shape),
+    /// A sheet: run, printed, taken apart record by record, and where it is accepted tried for enclosure.
+    Sheet(Vec<u8>),
+    /// A sheet, read and written back into a buffer of a length.
+    Rewrite(Vec<u8>, usize),
+    /// A book in memory, written into a buffer of a length.
+    Book(Box<Book>, usize),
+}
+
+impl Case {
+    /// The kind by which cases are counted.
+    pub fn kind(&self) -> &'static str {
+        match self {
+            Case::Call(call) => call.name(),
+            Case::Shaped(..) => "slices of any length",
+            Case::Sheet(_) => "sheet",
+            Case::Rewrite(..) => "sheet written back",
+            Case::Book(..) => "book written",
+        }
+    }
+
+    /// The line that `compare --cases` takes.
+    pub fn line(&self) -> String {
+        let mut bytes = Vec::new();
+        let word = match self {
+            Case::Call(call) => {
+                push_call(&mut bytes, call);
+                "call"
+            }
+            Case::Shaped(call, shape) => {
+                shape.push(&mut bytes);
+                push_call(&mut bytes, call);
+                "shaped"
+            }
+            Case::Sheet(sheet) => {
+                bytes.extend(sheet);
+                "sheet"
+            }
+            Case::Rewrite(sheet, length) => {
+                bytes.extend((*length as u64).to_le_bytes());
+                bytes.extend(sheet);
+                "rewrite"
+            }
+            Case::Book(book, length) => {
+                bytes.extend((*length as u64).to_le_bytes());
+                push_book(&mut bytes, book);
+                "book"
+            }
+        };
+        format!("{word} {}", hex(&bytes))
+    }
+
+    pub fn from_line(line: &str) -> Option<Case> {
+        let line = line.trim();
+        let (word, digits) = line.split_once(' ').unwrap_or((line, ""));
+        let bytes = bytes_of_hex(digits)?;
+        let mut bytes = Bytes(&bytes);
+        let case = match word {
+            "call" => Case::Call(take_call(&mut bytes)?),
+            "shaped" => {
+                let shape = Shape::take(&mut bytes)?;
+                Case::Shaped(take_call(&mut bytes)?, shape)
+            }
+            "sheet" => Case::Sheet(bytes.rest()),
+            "rewrite" => {
+                let length = bytes.number()? as usize;
+                Case::Rewrite(bytes.rest(), length)
+            }
+            "book" => {
+                let length = bytes.number()? as usize;
+                Case::Book(take_book(&mut bytes)?, length)
+            }
+            _ => return None,
+        };
+        bytes.0.is_empty().then_some(case)
+    }
+}
+
+fn hex(bytes: &[u8]) -> String {
+    bytes.iter().map(|byte| format!("{byte:02x}")).collect()
+}
+
+/// Bytes that are taken from the front.
+pub struct Bytes<'a>(&'a [u8]);
+
+impl Bytes<'_> {
+    pub fn take<const N: usize>(&mut self) -> Option<[u8; N]> {
+        let (first, rest) = self.0.split_first_chunk()?;
+        self.0 = rest;
+        Some(*first)
+    }
+
+    pub fn byte(&mut self) -> Option<u8> {
+        self.take().map(u8::from_le_bytes)
+    }
+
+    pub fn number(&mut self) -> Option<u64> {
+        self.take().map(u64::from_le_bytes)
+    }
+
+    fn rest(&mut self) -> Vec<u8> {
+        let rest = self.0.to_vec();
+        self.0 = &[];
+        rest
+    }
+}
+
+/// The call's number, then its arguments, little-endian.
+fn push_call(bytes: &mut Vec<u8>, call: &Call) {
+    match call {
+        Call::Constant { n, value } => {
+            bytes.extend([1, *n]);
+            bytes.extend(value.to_le_bytes());
+        }
+        Call::Variable { n, i } => bytes.extend([2, *n, *i]),
+        Call::Negate { f } => push_models(bytes, &[3], &[f]),
+        Call::Add { f, g } => push_models(bytes, &[4], &[f, g]),
+        Call::Subtract { f, g } => push_models(bytes, &[5], &[f, g]),
+        Call::Multiply { f, g, order } => push_models(bytes, &[6, *order], &[f, g]),
+        Call::Substitute { f, g, i, order } => push_models(bytes, &[7, *order, *i], &[f, g]),
+        Call::Sweep { f, threshold } => {
+            bytes.push(8);
+            bytes.extend(threshold.to_le_bytes());
+            push_models(bytes, &[], &[f]);
+        }
+        Call::Range { f } => push_models(bytes, &[9], &[f]),
+        Call::Integral { f } => push_models(bytes, &[10], &[f]),
+        Call::Evaluate { f, point } => {
+            bytes.push(11);
+            point.iter().for_each(|x| bytes.extend(x.to_le_bytes()));
+            push_models(bytes, &[], &[f]);
+        }
+    }
+}
+
+fn push_models(bytes: &mut Vec<u8>, before: &[u8], models: &[&StoredModel]) {
+    bytes.extend(before);
+    models.iter().for_each(|model| push_model(bytes, model));
+}
+
+/// All fields of the struct, those of all 64 places too.
+fn push_model(bytes: &mut Vec<u8>, model: &StoredModel) {
+    bytes.push(model.n);
+    bytes.extend((model.count as u64).to_le_bytes());
+    bytes.extend(model.radius.to_le_bytes());
+    for term in &model.terms {
+        bytes.extend(term.key.to_le_bytes());
+        bytes.extend(term.coefficient.to_le_bytes());
+    }
+}
+
+/// All fields of the struct, those of all 16 and 64 places too.
+fn push_book(bytes: &mut Vec<u8>, book: &Book) {
+    bytes.extend([book.n, book.d]);
+    bytes.extend((book.model_count as u64).to_le_bytes());
+    bytes.extend((book.step_count as u64).to_le_bytes());
+    book.models
+        .iter()
+        .for_each(|model| push_model(bytes, model));
+    book.steps
+        .iter()
+        .for_each(|step| bytes.extend(step.to_bytes()));
+}
+
+fn take_book(bytes: &mut Bytes) -> Option<Box<Book>> {
+    let mut book = Box::new(Book {
+        n: bytes.byte()?,
+        d: bytes.byte()?,
+        model_count: bytes.number()? as usize,
+        step_count: bytes.number()? as usize,
+        ..Book::ZEROS
+    });
+    for model in &mut book.models {
+        *model = *take_model(bytes)?;
+    }
+    for step in &mut book.steps {
+        *step = Step::from_bytes(bytes.take()?);
+    }
+    Some(book)
+}
+
+fn take_call(bytes: &mut Bytes) -> Option<Call> {
+    Some(match bytes.byte()? {
+        1 => Call::Constant {
+            n: bytes.byte()?,
+            value: bytes.number()? as i64,
+        },
+        2 => Call::Variable {
+            n: bytes.byte()?,
+            i: bytes.byte()?,
+        },
+        3 => Call::Negate {
+            f: take_model(bytes)?,
+        },
+        4 => Call::Add {
+            f: take_model(bytes)?,
+            g: take_model(bytes)?,
+        },
+        5 => Call::Subtract {
+            f: take_model(bytes)?,
+            g: take_model(bytes)?,
+        },
+        6 => Call::Multiply {
+            order: bytes.byte()?,
+            f: take_model(bytes)?,
+            g: take_model(bytes)?,
+        },
+        7 => Call::Substitute {
+            order: bytes.byte()?,
+            i: bytes.byte()?,
+            f: take_model(bytes)?,
+            g: take_model(bytes)?,
+        },
+        8 => Call::Sweep {
+            threshold: bytes.number()? as i64,
+            f: take_model(bytes)?,
+        },
+        9 => Call::Range {
+            f: take_model(bytes)?,
+        },
+        10 => Call::Integral {
+            f: take_model(bytes)?,
+        },
+        11 => Call::Evaluate {
+            point: take_point(bytes)?,
+            f: take_model(bytes)?,
+        },
+        _ => return None,
+    })
+}
+
+fn take_point(bytes: &mut Bytes) -> Option<[i64; 4]> {
+    let mut point = [0; 4];
+    for x in &mut point {
+        *x = bytes.number()? as i64;
+    }
+    Some(point)
+}
+
+fn take_model(bytes: &mut Bytes) -> Option<Box<StoredModel>> {
+    let mut model = Box::new(StoredModel {
+        n: bytes.byte()?,
+        count: bytes.number()? as usize,
+        radius: bytes.number()?,
+        terms: [StoredTerm::default(); MOST_TERMS],
+    });
+    for term in &mut model.terms {
+        term.key = bytes.take().map(u16::from_le_bytes)?;
+        term.coefficient = bytes.number()? as i64;
+    }
+    Some(model)
+}
+
+#[cfg(test)]
+mod tests {
+    use super::Case;
+    use crate::stream;
+
+    #[test]
+    fn every_line_names_its_case() {
+        for number in 0..3_000 {
+            let case = stream::case(5, number);
+            assert_eq!(Case::from_line(&case.line()), Some(case));
+        }
+    }
+
+    #[test]
+    fn other_lines_name_none() {
+        for line in [
+            "",
+            "call",
+            "call ",
+            "call 0",
+            "call 03",
+            "call 020101ff",
+            "cal 020101",
+            "shaped 00",
+            "sheet 0",
+        ] {
+            assert_eq!(Case::from_line(line), None, "{line}");
+        }
+        assert!(Case::from_line("call 020101").is_some());
+        assert_eq!(Case::from_line("sheet"), Some(Case::Sheet(Vec::new())));
+    }
+}

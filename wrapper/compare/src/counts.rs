@@ -1,0 +1,119 @@
+//! How often each kind of case was compared and each refusal reached.
+
+use crate::agree::{Seen, Tried};
+use std::collections::{BTreeMap, BTreeSet};
+
+/// The refusals of document 01's table.
+const REFUSALS: std::ops::RangeInclusive<u8> = 1..=11;
+
+#[derive(Default)]
+pub struct Counts {
+    kinds: BTreeMap<&'static str, Kind>,
+    tried: Tried,
+}
+
+/// What was seen of one kind of case.
+#[derive(Default)]
+struct Kind {
+    cases: u64,
+    accepted: u64,
+    /// A case that is no call: a slice was too short, or a code unknown.
+    misused: u64,
+    /// By number: how often, and at which places.
+    refused: BTreeMap<u8, (u64, BTreeSet<usize>)>,
+}
+
+impl Counts {
+    pub fn note(&mut self, kind: &'static str, seen: &Seen) {
+        self.try_add(seen.tried);
+        let kind = self.kinds.entry(kind).or_default();
+        kind.cases += 1;
+        match seen.refusal {
+            _ if seen.misused => kind.misused += 1,
+            None => kind.accepted += 1,
+            Some((number, place)) => {
+                let (times, places) = kind.refused.entry(number).or_default();
+                *times += 1;
+                places.insert(place);
+            }
+        }
+    }
+
+    pub fn note_failure(&mut self, kind: &'static str) {
+        self.kinds.entry(kind).or_default().cases += 1;
+    }
+
+    fn try_add(&mut self, tried: Tried) {
+        self.tried.points += tried.points;
+        self.tried.points_too_large += tried.points_too_large;
+        self.tried.integrals += tried.integrals;
+    }
+
+    pub fn add(&mut self, other: Counts) {
+        self.try_add(other.tried);
+        for (name, kind) in other.kinds {
+            self.kinds.entry(name).or_default().add(kind);
+        }
+    }
+
+    pub fn cases(&self) -> u64 {
+        self.kinds.values().map(|kind| kind.cases).sum()
+    }
+
+    /// The refusals that no case reached.
+    pub fn unreached(&self) -> Vec<u8> {
+        let reached = |number| {
+            self.kinds
+                .values()
+                .any(|kind| kind.refused.contains_key(&number))
+        };
+        REFUSALS.filter(|&number| !reached(number)).collect()
+    }
+
+    /// A line for each kind, and one for all: refusals as number: times at so many places.
+    pub fn print(&self) {
+        let mut all = Kind::default();
+        for (name, kind) in &self.kinds {
+            kind.print(name);
+            all.add(kind.clone_counts());
+        }
+        all.print("all");
+        println!(
+            "enclosure tried with exact fractions: {} points ({} too large), {} integrals",
+            self.tried.points, self.tried.points_too_large, self.tried.integrals
+        );
+    }
+}
+
+impl Kind {
+    fn add(&mut self, other: Kind) {
+        self.cases += other.cases;
+        self.accepted += other.accepted;
+        self.misused += other.misused;
+        for (number, (times, places)) in other.refused {
+            let mine = self.refused.entry(number).or_default();
+            mine.0 += times;
+            mine.1.extend(places);
+        }
+    }
+
+    fn clone_counts(&self) -> Kind {
+        Kind {
+            refused: self.refused.clone(),
+            ..*self
+        }
+    }
+
+    fn print(&self, name: &str) {
+        println!("{name}: {} cases, {} accepted", self.cases, self.accepted);
+        if self.misused > 0 {
+            println!("    misused: {}", self.misused);
+        }
+        for (number, (times, places)) in &self.refused {
+            let last = places.last().copied().unwrap_or_default();
+            let count = places.len();
+            let noun = if count == 1 { "place" } else { "places" };
+            println!("    refused {number}: {times} times at {count} {noun}, the last {last}");
+        }
+    }
+}

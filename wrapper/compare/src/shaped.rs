@@ -1,0 +1,313 @@
+//! The exported functions themselves, with slices of any length and any code: what is too short or unknown is answered
+//! with 255 and changes nothing, and what lies beyond an answer stays.
+
+use crate::agree::{pair, same, to_ends, to_model, Seen};
+use crate::case::Bytes;
+use hechroung::raw::{self, Handed, MISUSED};
+use hechroung::Model;
+use reference::calls::{Call, CallAnswer};
+use reference::generate::Random;
+use reference::model::MOST_TERMS;
+
+/// The lengths of the slices, and the code in the place of the call's own where it is not 0.
+#[derive(Clone, Copy, Debug, PartialEq)]
+pub struct Shape {
+    pub code: u8,
+    pub inputs: [u8; 4],
+    pub outputs: [u8; 3],
+}
+
+/// What the slices for the answer hold before.
+const KEY: u16 = 0xABCD;
+const COEFFICIENT: i64 = -0x0123_4567_89AB_CDEF;
+const NUMBER: u64 = 0xFEDC_BA98_7654_3210;
+
+impl Shape {
+    /// Mostly long enough.
+    pub fn random(random: &mut Random) -> Shape {
+        let code = if random.one_in(12) {
+            random.byte(9, 255)
+        } else {
+            0
+        };
+        let mut length = |least: u8| match random.below(20) {
+            0 => random.byte(0, least),
+            1 => least - 1,
+            2..=4 => random.byte(least, 200),
+            _ => least,
+        };
+        Shape {
+            inputs: [length(64), length(64), length(64), length(64)],
+            outputs: [length(64), length(64), length(4)],
+            code,
+        }
+    }
+
+    pub fn push(&self, bytes: &mut Vec<u8>) {
+        bytes.push(self.code);
+        bytes.extend(self.inputs);
+        bytes.extend(self.outputs);
+    }
+
+    pub fn take(bytes: &mut Bytes) -> Option<Shape> {
+        Some(Shape {
+            code: bytes.byte()?,
+            inputs: bytes.take()?,
+            outputs: bytes.take()?,
+        })
+    }
+}
+
+/// A call's code, arguments and models, as the exported functions take them.
+struct Arguments {
+    code: u8,
+    d: u8,
+    i: u8,
+    value: i64,
+    f: Model,
+    g: Model,
+    point: [i64; 4],
+}
+
+pub fn compare(call: &Call, shape: &Shape) -> Result<Seen, String> {
+    let mut arguments = arguments(call);
+    if shape.code != 0 {
+        arguments.code = shape.code;
+    }
+    match call.answer() {
+        CallAnswer::Model(answer) => {
+            let numbers = [
+                answer.refusal.map_or(0, |refusal| refusal.place() as u64),
+                u64::from(answer.model.n),
+                answer.model.count as u64,
+                answer.model.radius,
+            ];
+            let model = to_model(&answer.model);
+            compare_model(
+                &arguments,
+                shape,
+                answer.refusal.map(pair),
+                &model,
+                &numbers,
+            )
+        }
+        CallAnswer::Ends(answer) => {
+            let ends = to_ends(answer.ends);
+            compare_ends(
+                &arguments,
+                shape,
+                answer.refusal.map(pair),
+                &[ends.low, ends.high],
+            )
+        }
+    }
+}
+
+fn compare_model(
+    arguments: &Arguments,
+    shape: &Shape,
+    refusal: Option<(u8, usize)>,
+    model: &Model,
+    numbers: &[u64; 4],
+) -> Result<Seen, String> {
+    let [keys1, coefficients1, keys2, coefficients2] = shape.inputs.map(usize::from);
+    let outputs = shape.outputs.map(usize::from);
+    let (keys_f, coefficients_f) = slices(&arguments.f, keys1, coefficients1);
+    let (keys_g, coefficients_g) = slices(&arguments.g, keys2, coefficients2);
+    let mut keys = vec![KEY; outputs[0]];
+    let mut coefficients = vec![COEFFICIENT; outputs[1]];
+    let mut stored = vec![NUMBER; outputs[2]];
+    let number = raw::call(
+        arguments.code,
+        arguments.d,
+        arguments.i,
+        arguments.value,
+        handed(&arguments.f, &keys_f, &coefficients_f),
+        handed(&arguments.g, &keys_g, &coefficients_g),
+        &mut keys,
+        &mut coefficients,
+        &mut stored,
+    );
+    let fits = (1..=8).contains(&arguments.code)
+        && lent(&arguments.f, keys1, coefficients1)
+        && lent(&arguments.g, keys2, coefficients2)
+        && outputs[0] >= MOST_TERMS
+        && outputs[1] >= MOST_TERMS
+        && outputs[2] >= 4;
+    if !fits {
+        return misused(
+            number,
+            &(keys, coefficients, stored),
+            &(
+                vec![KEY; outputs[0]],
+                vec![COEFFICIENT; outputs[1]],
+                vec![NUMBER; outputs[2]],
+            ),
+        );
+    }
+    let expected = (
+        refusal.map_or(0, |(number, _)| number),
+        over(&model.keys, KEY, outputs[0]),
+        over(&model.coefficients, COEFFICIENT, outputs[1]),
+        over(numbers, NUMBER, outputs[2]),
+    );
+    same(&(number, keys, coefficients, stored), &expected)?;
+    Ok(Seen::of(refusal))
+}
+
+fn compare_ends(
+    arguments: &Arguments,
+    shape: &Shape,
+    refusal: Option<(u8, usize)>,
+    ends: &[i64; 2],
+) -> Result<Seen, String> {
+    let [length_keys, length_coefficients, length_ends, _] = shape.inputs.map(usize::from);
+    let length_ends = length_ends % 4;
+    let (keys, coefficients) = slices(&arguments.f, length_keys, length_coefficients);
+    let mut stored = vec![COEFFICIENT; length_ends];
+    let handed = handed(&arguments.f, &keys, &coefficients);
+    let number = raw::ends(arguments.code, handed, arguments.point, &mut stored);
+    let fits = (1..=3).contains(&arguments.code)
+        && lent(&arguments.f, length_keys, length_coefficients)
+        && length_ends >= 2;
+    if !fits {
+        return misused(number, &stored, &vec![COEFFICIENT; length_ends]);
+    }
+    let expected = (
+        refusal.map_or(0, |(number, _)| number),
+        over(ends, COEFFICIENT, length_ends),
+    );
+    same(&(number, stored), &expected)?;
+    Ok(Seen::of(refusal))
+}
+
+/// Whether slices have every place that a count names.
+fn lent(model: &Model, keys: usize, coefficients: usize) -> bool {
+    keys.min(coefficients) >= model.count.min(MOST_TERMS)
+}
+
+/// Slices of these lengths: cut off, or with more behind.
+fn slices(model: &Model, keys: usize, coefficients: usize) -> (Vec<u16>, Vec<i64>) {
+    let longer = |length: usize| length.max(MOST_TERMS);
+    let mut lent_keys = over(&model.keys, KEY, longer(keys));
+    let mut lent_coefficients = over(&model.coefficients, COEFFICIENT, longer(coefficients));
+    lent_keys.truncate(keys);
+    lent_coefficients.truncate(coefficients);
+    (lent_keys, lent_coefficients)
+}
+
+fn handed<'a>(model: &Model, keys: &'a [u16], coefficients: &'a [i64]) -> Handed<'a> {
+    Handed {
+        n: model.n,
+        count: model.count,
+        radius: model.radius,
+        keys,
+        coefficients,
+    }
+}
+
+/// The first places hold these, the others what they held.
+fn over<T: Copy>(first: &[T], held: T, length: usize) -> Vec<T> {
+    let mut all = first.to_vec();
+    all.resize(length, held);
+    all
+}
+
+fn misused<T: PartialEq + std::fmt::Debug>(
+    number: u8,
+    held: &T,
+    before: &T,
+) -> Result<Seen, String> {
+    same(&(number, held), &(MISUSED, before))?;
+    Ok(Seen {
+        misused: true,
+        text: "misused".into(),
+        ..Seen::of(None)
+    })
+}
+
+fn arguments(call: &Call) -> Arguments {
+    let none = Arguments {
+        code: 0,
+        d: 0,
+        i: 0,
+        value: 0,
+        f: Model::ZERO,
+        g: Model::ZERO,
+        point: [0; 4],
+    };
+    match call {
+        Call::Constant { n, value } => Arguments {
+            code: 1,
+            value: *value,
+            f: Model {
+                n: *n,
+                ..Model::ZERO
+            },
+            ..none
+        },
+        Call::Variable { n, i } => Arguments {
+            code: 2,
+            i: *i,
+            f: Model {
+                n: *n,
+                ..Model::ZERO
+            },
+            ..none
+        },
+        Call::Negate { f } => Arguments {
+            code: 3,
+            f: to_model(f),
+            ..none
+        },
+        Call::Add { f, g } => Arguments {
+            code: 4,
+            f: to_model(f),
+            g: to_model(g),
+            ..none
+        },
+        Call::Subtract { f, g } => Arguments {
+            code: 5,
+            f: to_model(f),
+            g: to_model(g),
+            ..none
+        },
+        Call::Multiply { f, g, order } => Arguments {
+            code: 6,
+            d: *order,
+            f: to_model(f),
+            g: to_model(g),
+            ..none
+        },
+        Call::Substitute { f, g, i, order } => Arguments {
+            code: 7,
+            d: *order,
+            i: *i,
+            f: to_model(f),
+            g: to_model(g),
+            ..none
+        },
+        Call::Sweep { f, threshold } => Arguments {
+            code: 8,
+            value: *threshold,
+            f: to_model(f),
+            ..none
+        },
+        Call::Range { f } => Arguments {
+            code: 1,
+            f: to_model(f),
+            ..none
+        },
+        Call::Integral { f } => Arguments {
+            code: 2,
+            f: to_model(f),
+            ..none
+        },
+        Call::Evaluate { f, point } => Arguments {
+            code: 3,
+            point: *point,
+            f: to_model(f),
+            ..none
+        },
+    }
+}

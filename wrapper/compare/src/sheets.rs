@@ -1,0 +1,144 @@
+//! Sheets and books, fed to both implementations.
+
+use crate::agree::{pair, same, to_ends, to_model, to_refusal, Seen, Tried};
+use hechroung::{Step, Summary, Written};
+use reference::book::Book;
+use reference::exact::check_result;
+use reference::generate::{functions, Random};
+use reference::model::{monomial_of_key, Model};
+use reference::operations::Ends;
+use reference::records;
+use reference::run::{run_sheet, RunResult};
+use reference::text;
+use reference::write::write;
+use reference::{sheet, write::WriteAnswer};
+
+/// One accepted sheet in so many is also tried for enclosure, which is slow.
+const TRIED: u64 = 16;
+
+/// Run, lines and records of a sheet; now and then the exact enclosure.
+pub fn compare(bytes: &[u8]) -> Result<Seen, String> {
+    let expected = run_sheet(bytes);
+    let summary = hechroung::run(bytes);
+    let translated = Summary {
+        model: to_model(&expected.model),
+        range: to_ends(expected.range),
+        integral: to_ends(expected.integral),
+        refusal: expected.refusal.map(to_refusal),
+    };
+    same(&summary, &translated)?;
+    same(&hechroung::lines(bytes), &text::lines(&expected))?;
+    compare_records(bytes)?;
+    let mut seen = Seen::of(expected.refusal.map(pair));
+    let mark = bytes.iter().fold(0u64, |mark, &byte| {
+        mark.wrapping_mul(0x0100_0000_01B3) ^ u64::from(byte)
+    });
+    if seen.refusal.is_none() && (mark >> 20) % TRIED == 0 {
+        seen.tried = enclosed(bytes, &summary, mark)?;
+    }
+    Ok(seen)
+}
+
+fn compare_records(bytes: &[u8]) -> Result<(), String> {
+    let expected = records::open(bytes)
+        .reader
+        .map(|record| record.bytes().to_vec());
+    same(
+        &hechroung::records(bytes).collect::<Vec<_>>(),
+        &expected.collect::<Vec<_>>(),
+    )
+}
+
+/// Exact outcomes of functions within the sheet's models, held against what the proved library answers.
+fn enclosed(bytes: &[u8], summary: &Summary, seed: u64) -> Result<Tried, String> {
+    let book = sheet::sound_book(bytes).map_err(|refusal| format!("{refusal:?}"))?;
+    let mut random = Random::new(seed);
+    let inside = functions::within_models(&mut random, &book);
+    let points = functions::points(&mut random, book.n);
+    let result = RunResult {
+        model: sound(&summary.model),
+        range: wide(summary.range),
+        integral: wide(summary.integral),
+    };
+    let checked = check_result(&book, &result, &inside, &points)
+        .map_err(|violation| format!("not enclosed: {violation:?}"))?;
+    Ok(Tried {
+        points: checked.points as u64,
+        points_too_large: checked.points_too_large as u64,
+        integrals: u64::from(checked.integral),
+    })
+}
+
+/// The model of an accepted answer.
+fn sound(model: &hechroung::Model) -> Model {
+    let terms = model
+        .terms()
+        .map(|(key, c)| (monomial_of_key(key), i128::from(c)));
+    Model {
+        n: usize::from(model.n),
+        polynomial: terms.collect(),
+        radius: i128::from(model.radius),
+    }
+}
+
+fn wide(ends: hechroung::Ends) -> Ends {
+    Ends {
+        low: i128::from(ends.low),
+        high: i128::from(ends.high),
+    }
+}
+
+/// A sheet read and written back. What was refused changes no byte.
+pub fn compare_rewrite(bytes: &[u8], length: usize) -> Result<Seen, String> {
+    let (mut buffer, mut expected_buffer) = (patterned(length), patterned(length));
+    let read = sheet::read(bytes);
+    let expected = match read.refusal {
+        None => write(&read.book, &mut expected_buffer),
+        refusal => WriteAnswer { length: 0, refusal },
+    };
+    let written = hechroung::rewrite(bytes, &mut buffer);
+    compare_written(&(written, buffer), &expected, expected_buffer)
+}
+
+/// A book in memory, written.
+pub fn compare_write(book: &Book, length: usize) -> Result<Seen, String> {
+    let (mut buffer, mut expected_buffer) = (patterned(length), patterned(length));
+    let expected = write(book, &mut expected_buffer);
+    let written = hechroung::write(&to_book(book), &mut buffer);
+    compare_written(&(written, buffer), &expected, expected_buffer)
+}
+
+fn compare_written(
+    proved: &(Written, Vec<u8>),
+    expected: &WriteAnswer,
+    expected_buffer: Vec<u8>,
+) -> Result<Seen, String> {
+    let translated = Written {
+        length: expected.length,
+        refusal: expected.refusal.map(to_refusal),
+    };
+    same(proved, &(translated, expected_buffer))?;
+    Ok(Seen::of(expected.refusal.map(pair)))
+}
+
+/// A buffer in which any change is seen.
+fn patterned(length: usize) -> Vec<u8> {
+    (0..length).map(|i| (i * 151 + 7) as u8).collect()
+}
+
+fn to_book(book: &Book) -> hechroung::Book {
+    hechroung::Book {
+        n: book.n,
+        d: book.d,
+        model_count: book.model_count,
+        step_count: book.step_count,
+        models: book.models.map(|model| to_model(&model)),
+        steps: book.steps.map(|step| Step {
+            code: step.code,
+            a: step.a,
+            b: step.b,
+            v: step.v,
+            value: i64::from(step.value),
+        }),
+    }
+}

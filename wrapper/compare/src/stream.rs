@@ -1,0 +1,59 @@
+//! The cases, one for each number from 0 and independent of each other.
+
+use crate::case::Case;
+use crate::limits;
+use crate::shaped::Shape;
+use reference::generate::{self, books, hostile, Random};
+use reference::sheet::LONGEST_SHEET;
+
+/// The case of a number.
+pub fn case(seed: u64, number: u64) -> Case {
+    let mut random = Random::new(seed ^ number.wrapping_mul(0x2545_F491_4F6C_DD1D));
+    match random.below(20) {
+        0..=4 => Case::Call(hostile::call(seed, number)),
+        5..=7 => Case::Call(limits::call(&mut random)),
+        8 => Case::Shaped(hostile::call(seed, number), Shape::random(&mut random)),
+        9..=15 => Case::Sheet(generate::sheet(seed, number).bytes),
+        16 | 17 => {
+            let sheet = generate::sheet(seed, number).bytes;
+            let length = buffer_length(&mut random, sheet.len());
+            Case::Rewrite(sheet, length)
+        }
+        _ => {
+            let book = books::book(seed, number);
+            let length = buffer_length(&mut random, length_of(&book));
+            Case::Book(Box::new(book), length)
+        }
+    }
+}
+
+/// Cases that are compared whatever the seed.
+pub fn named() -> Vec<Case> {
+    let sheets = generate::named_sheets()
+        .into_iter()
+        .map(|sample| sample.bytes);
+    let both = sheets.flat_map(|sheet| {
+        let length = sheet.len();
+        [Case::Sheet(sheet.clone()), Case::Rewrite(sheet, length)]
+    });
+    both.collect()
+}
+
+/// Mostly enough; at times exactly so, one short, or anything.
+fn buffer_length(random: &mut Random, needed: usize) -> usize {
+    match random.below(8) {
+        0 => needed.saturating_sub(1),
+        1 => random.size(0, needed.max(1)),
+        2 => LONGEST_SHEET + random.size(0, 40),
+        3 => 0,
+        4 => needed + random.size(1, 40),
+        _ => needed,
+    }
+}
+
+/// The length that a book's counts name, if they name one.
+fn length_of(book: &reference::book::Book) -> usize {
+    let models = book.models.iter().take(book.model_count);
+    let terms: usize = models.map(|model| 5 + 6 * model.count.min(64)).sum();
+    terms + 8 * book.step_count.min(64) + 8
+}

@@ -1,0 +1,256 @@
+//! Polynomial models in 1 to 4 variables on the box [-1, 1]^n, with an error radius: a safe wrapper over the proved
+//! library of this repository. Every call takes anything whatever; what is unfit gets the refusal that document 01 lists
+//! for it.
+//!
+//! Coefficients, radii and ends are whole numbers in units of 1/[`UNIT`].
+//!
+//! ```
+//! use hechroung::{range, Model, UNIT};
+//!
+//! let x = Model::variable(1, 1)?;
+//! let half = Model::constant(1, UNIT / 2)?;
+//! let sum = hechroung::add(&x, &half).accepted()?;
+//! let square = hechroung::multiply(2, &sum, &sum).accepted()?;
+//! let ends = range(&square).accepted()?;
+//! assert_eq!((ends.low, ends.high), (-1_835_008, 2_359_296));
+//! # Ok::<(), hechroung::Refusal>(())
+//! ```
+
+#![deny(unsafe_op_in_unsafe_fn)]
+#![deny(unsafe_code)]
+
+#[allow(unsafe_code)]
+pub mod raw;
+mod sheets;
+
+pub use sheets::{lines, records, rewrite, run, write, Book, Step, Summary, Written};
+
+use raw::{Handed, MISUSED};
+use std::error::Error;
+use std::fmt;
+
+/// U: a coefficient c stands for c / U.
+pub const UNIT: i64 = 1 << 20;
+/// The places of a model's terms.
+pub const MOST_TERMS: usize = 64;
+/// The places of a book's models and of its steps.
+pub const MOST_MODELS: usize = 16;
+pub const MOST_STEPS: usize = 64;
+/// The length of the longest sheet.
+pub const LONGEST_SHEET: usize = 6_744;
+
+/// A model: the first `count` of its terms, with keys strictly rising, and a radius. Any field may hold anything; a call
+/// refuses what is no model. A key has four exponents of four bits each, that of variable 1 in the highest bits.
+#[derive(Clone, Copy, Debug, PartialEq, Eq)]
+pub struct Model {
+    pub n: u8,
+    pub count: usize,
+    pub radius: u64,
+    pub keys: [u16; MOST_TERMS],
+    pub coefficients: [i64; MOST_TERMS],
+}
+
+/// Document 01's number of a refusal, 1 to 11, and its place.
+#[derive(Clone, Copy, Debug, PartialEq, Eq, PartialOrd, Ord)]
+pub struct Refusal {
+    pub number: u8,
+    pub place: usize,
+}
+
+/// A model, or the zero model beside a refusal.
+#[derive(Clone, Copy, Debug, PartialEq, Eq)]
+pub struct Answer {
+    pub model: Model,
+    pub refusal: Option<Refusal>,
+}
+
+/// Two ends.
+#[derive(Clone, Copy, Debug, Default, PartialEq, Eq)]
+pub struct Ends {
+    pub low: i64,
+    pub high: i64,
+}
+
+/// Two ends, or zeros beside a refusal.
+#[derive(Clone, Copy, Debug, PartialEq, Eq)]
+pub struct Bounds {
+    pub ends: Ends,
+    pub refusal: Option<Refusal>,
+}
+
+impl Model {
+    /// No terms and radius 0, in one variable.
+    pub const ZERO: Model = Model {
+        n: 1,
+        count: 0,
+        radius: 0,
+        keys: [0; MOST_TERMS],
+        coefficients: [0; MOST_TERMS],
+    };
+
+    /// The constant `value`, in units. Refusals 3, 6.
+    pub fn constant(n: u8, value: i64) -> Result<Model, Refusal> {
+        constant(n, value).accepted()
+    }
+
+    /// Variable i, from 1. Refusals 3, 6.
+    pub fn variable(n: u8, i: u8) -> Result<Model, Refusal> {
+        variable(n, i).accepted()
+    }
+
+    /// The terms in use, each a key and a coefficient; a count above 64 has no more than 64.
+    pub fn terms(&self) -> impl Iterator<Item = (u16, i64)> + '_ {
+        let terms = self.keys.iter().zip(&self.coefficients).take(self.count);
+        terms.map(|(&key, &coefficient)| (key, coefficient))
+    }
+
+    fn handed(&self) -> Handed<'_> {
+        Handed {
+            n: self.n,
+            count: self.count,
+            radius: self.radius,
+            keys: &self.keys,
+            coefficients: &self.coefficients,
+        }
+    }
+}
+
+impl Answer {
+    pub fn accepted(self) -> Result<Model, Refusal> {
+        self.refusal.map_or(Ok(self.model), Err)
+    }
+}
+
+impl Bounds {
+    pub fn accepted(self) -> Result<Ends, Refusal> {
+        self.refusal.map_or(Ok(self.ends), Err)
+    }
+}
+
+impl fmt::Display for Refusal {
+    fn fmt(&self, out: &mut fmt::Formatter<'_>) -> fmt::Result {
+        let reason = match self.number {
+            1 => "the sheet is too short or too long",
+            2 => "the sheet's mark is missing",
+            3 => "n, the order or a count is outside its limits",
+            4 => "the sheet's offset does not fit its length",
+            5 => "a model breaks a rule",
+            6 => "a step breaks its form, or an argument is wrong",
+            7 => "a span is above 2^30",
+            8 => "there are more than 64 terms",
+            9 => "the box is left",
+            10 => "the models differ in their number of variables",
+            _ => "the buffer is too short",
+        };
+        write!(out, "refused {} {}: {reason}", self.number, self.place)
+    }
+}
+
+impl Error for Refusal {}
+
+/// The constant `value`, in units. Refusals 3, 6.
+pub fn constant(n: u8, value: i64) -> Answer {
+    called(1, 0, 0, value, Handed { n, ..Handed::NONE }, Handed::NONE)
+}
+
+/// Variable i, from 1. Refusals 3, 6.
+pub fn variable(n: u8, i: u8) -> Answer {
+    called(2, 0, i, 0, Handed { n, ..Handed::NONE }, Handed::NONE)
+}
+
+/// All signs turned. Refusal 5.
+pub fn negate(f: &Model) -> Answer {
+    called(3, 0, 0, 0, f.handed(), Handed::NONE)
+}
+
+/// The sum. Refusals 5 at place 0 or 1, 10, 8, 7.
+pub fn add(f: &Model, g: &Model) -> Answer {
+    called(4, 0, 0, 0, f.handed(), g.handed())
+}
+
+/// The difference. Refusals 5 at place 0 or 1, 10, 8, 7.
+pub fn subtract(f: &Model, g: &Model) -> Answer {
+    called(5, 0, 0, 0, f.handed(), g.handed())
+}
+
+/// The product; what is above degree d goes into the radius. Refusals 3, 5 at place 0 or 1, 10, 8, 7.
+pub fn multiply(d: u8, f: &Model, g: &Model) -> Answer {
+    called(6, d, 0, 0, f.handed(), g.handed())
+}
+
+/// g put in for variable i of f. Refusals 3, 5 at place 0 or 1, 10, 6, 9, then the first 8 or 7 inside.
+pub fn substitute(d: u8, i: u8, f: &Model, g: &Model) -> Answer {
+    called(7, d, i, 0, f.handed(), g.handed())
+}
+
+/// Terms but the constant one with |c| at most the threshold moved into the radius. Refusals 5, 6.
+pub fn sweep(f: &Model, threshold: i64) -> Answer {
+    called(8, 0, 0, threshold, f.handed(), Handed::NONE)
+}
+
+/// The range over the box. Refusal 5.
+pub fn range(f: &Model) -> Bounds {
+    bounds(1, f, [0; 4])
+}
+
+/// The integral over the box. Refusal 5.
+pub fn integral(f: &Model) -> Bounds {
+    bounds(2, f, [0; 4])
+}
+
+/// The values at the point X_1/U, .., X_n/U; coordinates above n are 0. Refusals 5, 6, 9, 7.
+pub fn evaluate(f: &Model, point: [i64; 4]) -> Bounds {
+    bounds(3, f, point)
+}
+
+fn called(code: u8, d: u8, i: u8, value: i64, f: Handed<'_>, g: Handed<'_>) -> Answer {
+    let mut model = Model::ZERO;
+    let mut numbers = [0; 4];
+    let number = raw::call(
+        code,
+        d,
+        i,
+        value,
+        f,
+        g,
+        &mut model.keys,
+        &mut model.coefficients,
+        &mut numbers,
+    );
+    let [place, n, count, radius] = numbers;
+    model.n = narrowed(n);
+    model.count = narrowed(count);
+    model.radius = radius;
+    Answer {
+        model,
+        refusal: refusal(number, narrowed(place)),
+    }
+}
+
+/// The place of a refused call of one model is 0.
+fn bounds(code: u8, f: &Model, point: [i64; 4]) -> Bounds {
+    let mut ends = [0; 2];
+    let number = raw::ends(code, f.handed(), point, &mut ends);
+    let [low, high] = ends;
+    Bounds {
+        ends: Ends { low, high },
+        refusal: refusal(number, 0),
+    }
+}
+
+fn refusal(number: u8, place: usize) -> Option<Refusal> {
+    assert!(
+        number != MISUSED,
+        "every slice is long enough, and every code is known"
+    );
+    (number != 0).then_some(Refusal { number, place })
+}
+
+/// A number that was a byte or a size before it was stored.
+fn narrowed<T>(number: u64) -> T
+where
+    T: TryFrom<u64>,
+    T::Error: fmt::Debug,
+{
+    T::try_from(number).expect("the library stores what fits")
+}

@@ -1,0 +1,320 @@
+//! The exported functions as they are, on slices of any length. All unsafe code of this crate stands here.
+//!
+//! Each contract (crates/exports) takes any number and any slices. A slice that is too short, or a code that names no
+//! call, is answered with [`MISUSED`], and nothing is changed then.
+
+/// The answer to a call that is not one.
+pub const MISUSED: u8 = 255;
+
+/// A model that is handed over: the slices hold at least min(count, 64) places each.
+#[derive(Clone, Copy, Debug)]
+pub struct Handed<'a> {
+    pub n: u8,
+    pub count: usize,
+    pub radius: u64,
+    pub keys: &'a [u16],
+    pub coefficients: &'a [i64],
+}
+
+impl Handed<'_> {
+    /// Stands where a call takes no model.
+    pub const NONE: Handed<'static> = Handed {
+        n: 0,
+        count: 0,
+        radius: 0,
+        keys: &[],
+        coefficients: &[],
+    };
+}
+
+// A slice passes as a pointer and a length.
+extern "C" {
+    fn hechroung_call(
+        code: u8,
+        d: u8,
+        i: u8,
+        value: i64,
+        n1: u8,
+        count1: usize,
+        radius1: u64,
+        keys1: *const u16,
+        keys1_length: usize,
+        coefficients1: *const i64,
+        coefficients1_length: usize,
+        n2: u8,
+        count2: usize,
+        radius2: u64,
+        keys2: *const u16,
+        keys2_length: usize,
+        coefficients2: *const i64,
+        coefficients2_length: usize,
+        keys: *mut u16,
+        keys_length: usize,
+        coefficients: *mut i64,
+        coefficients_length: usize,
+        numbers: *mut u64,
+        numbers_length: usize,
+    ) -> u8;
+
+    fn hechroung_ends(
+        code: u8,
+        n: u8,
+        count: usize,
+        radius: u64,
+        keys: *const u16,
+        keys_length: usize,
+        coefficients: *const i64,
+        coefficients_length: usize,
+        x1: i64,
+        x2: i64,
+        x3: i64,
+        x4: i64,
+        ends: *mut i64,
+        ends_length: usize,
+    ) -> u8;
+
+    fn hechroung_run(
+        sheet: *const u8,
+        sheet_length: usize,
+        keys: *mut u16,
+        keys_length: usize,
+        coefficients: *mut i64,
+        coefficients_length: usize,
+        numbers: *mut u64,
+        numbers_length: usize,
+        ends: *mut i64,
+        ends_length: usize,
+    ) -> u8;
+
+    fn hechroung_print(
+        sheet: *const u8,
+        sheet_length: usize,
+        text: *mut u8,
+        text_length: usize,
+    ) -> usize;
+
+    fn hechroung_rewrite(
+        sheet: *const u8,
+        sheet_length: usize,
+        buffer: *mut u8,
+        buffer_length: usize,
+        numbers: *mut u64,
+        numbers_length: usize,
+    ) -> u8;
+
+    fn hechroung_record(
+        sheet: *const u8,
+        sheet_length: usize,
+        i: usize,
+        bytes: *mut u8,
+        bytes_length: usize,
+    ) -> usize;
+
+    fn hechroung_write(
+        n: u8,
+        d: u8,
+        model_count: usize,
+        step_count: usize,
+        ns: *const u8,
+        ns_length: usize,
+        counts: *const usize,
+        counts_length: usize,
+        radii: *const u64,
+        radii_length: usize,
+        keys: *const u16,
+        keys_length: usize,
+        coefficients: *const i64,
+        coefficients_length: usize,
+        fields: *const u8,
+        fields_length: usize,
+        values: *const i64,
+        values_length: usize,
+        buffer: *mut u8,
+        buffer_length: usize,
+        numbers: *mut u64,
+        numbers_length: usize,
+    ) -> u8;
+}
+
+/// A book that is handed over: for each model an entry of `ns`, `counts` and `radii` and 64 keys and coefficients; for
+/// each step four bytes (code, a, b, v) and a value. The slices hold at least min(model_count, 16) models and
+/// min(step_count, 64) steps.
+#[derive(Clone, Copy, Debug)]
+pub struct HandedBook<'a> {
+    pub n: u8,
+    pub d: u8,
+    pub model_count: usize,
+    pub step_count: usize,
+    pub ns: &'a [u8],
+    pub counts: &'a [usize],
+    pub radii: &'a [u64],
+    pub keys: &'a [u16],
+    pub coefficients: &'a [i64],
+    pub fields: &'a [u8],
+    pub values: &'a [i64],
+}
+
+/// A call that answers with a model. Codes: 1 constant, 2 variable, 3 negate, 4 add, 5 subtract, 6 multiply,
+/// 7 substitute, 8 sweep. It returns the refusal's number, 0 without one. 64 keys and 64 coefficients go into the
+/// slices, and the refusal's place, n, the count and the radius into `numbers`.
+#[allow(clippy::too_many_arguments)]
+pub fn call(
+    code: u8,
+    d: u8,
+    i: u8,
+    value: i64,
+    f: Handed<'_>,
+    g: Handed<'_>,
+    keys: &mut [u16],
+    coefficients: &mut [i64],
+    numbers: &mut [u64],
+) -> u8 {
+    // SAFETY: each pointer comes from a slice that stays borrowed during the call, with the slice's own length, and no
+    // two slices that are written overlap each other or one that is read. The contract asks for nothing else.
+    unsafe {
+        hechroung_call(
+            code,
+            d,
+            i,
+            value,
+            f.n,
+            f.count,
+            f.radius,
+            f.keys.as_ptr(),
+            f.keys.len(),
+            f.coefficients.as_ptr(),
+            f.coefficients.len(),
+            g.n,
+            g.count,
+            g.radius,
+            g.keys.as_ptr(),
+            g.keys.len(),
+            g.coefficients.as_ptr(),
+            g.coefficients.len(),
+            keys.as_mut_ptr(),
+            keys.len(),
+            coefficients.as_mut_ptr(),
+            coefficients.len(),
+            numbers.as_mut_ptr(),
+            numbers.len(),
+        )
+    }
+}
+
+/// A call that answers with two ends. Codes: 1 range, 2 integral, 3 evaluate at `point`. It returns the refusal's
+/// number, 0 without one; the low and the high end go into `ends`.
+pub fn ends(code: u8, f: Handed<'_>, point: [i64; 4], ends: &mut [i64]) -> u8 {
+    let [x1, x2, x3, x4] = point;
+    // SAFETY: as in `call`.
+    unsafe {
+        hechroung_ends(
+            code,
+            f.n,
+            f.count,
+            f.radius,
+            f.keys.as_ptr(),
+            f.keys.len(),
+            f.coefficients.as_ptr(),
+            f.coefficients.len(),
+            x1,
+            x2,
+            x3,
+            x4,
+            ends.as_mut_ptr(),
+            ends.len(),
+        )
+    }
+}
+
+/// Runs a sheet: the refusal's number, 0 without one. The result goes into `keys`, `coefficients` and `numbers` as in
+/// [`call`], the ends of its range and of its integral into `ends`.
+pub fn run(
+    sheet: &[u8],
+    keys: &mut [u16],
+    coefficients: &mut [i64],
+    numbers: &mut [u64],
+    ends: &mut [i64],
+) -> u8 {
+    // SAFETY: as in `call`.
+    unsafe {
+        hechroung_run(
+            sheet.as_ptr(),
+            sheet.len(),
+            keys.as_mut_ptr(),
+            keys.len(),
+            coefficients.as_mut_ptr(),
+            coefficients.len(),
+            numbers.as_mut_ptr(),
+            numbers.len(),
+            ends.as_mut_ptr(),
+            ends.len(),
+        )
+    }
+}
+
+/// Runs a sheet to the program's lines: their length. As much of them as `text` has room for is put there.
+pub fn print(sheet: &[u8], text: &mut [u8]) -> usize {
+    // SAFETY: as in `call`.
+    unsafe { hechroung_print(sheet.as_ptr(), sheet.len(), text.as_mut_ptr(), text.len()) }
+}
+
+/// Reads a sheet and writes what was read: the refusal's number, 0 without one. Its place and the length go into
+/// `numbers`.
+pub fn rewrite(sheet: &[u8], buffer: &mut [u8], numbers: &mut [u64]) -> u8 {
+    // SAFETY: as in `call`.
+    unsafe {
+        hechroung_rewrite(
+            sheet.as_ptr(),
+            sheet.len(),
+            buffer.as_mut_ptr(),
+            buffer.len(),
+            numbers.as_mut_ptr(),
+            numbers.len(),
+        )
+    }
+}
+
+/// Record i of a sheet, from 0: its length, or 0 where there is none. As much of it as `bytes` has room for is put there.
+pub fn record(sheet: &[u8], i: usize, bytes: &mut [u8]) -> usize {
+    // SAFETY: as in `call`.
+    unsafe {
+        hechroung_record(
+            sheet.as_ptr(),
+            sheet.len(),
+            i,
+            bytes.as_mut_ptr(),
+            bytes.len(),
+        )
+    }
+}
+
+/// Writes a book as a sheet: the refusal's number, 0 without one. Its place and the length go into `numbers`.
+pub fn write(book: HandedBook<'_>, buffer: &mut [u8], numbers: &mut [u64]) -> u8 {
+    // SAFETY: as in `call`.
+    unsafe {
+        hechroung_write(
+            book.n,
+            book.d,
+            book.model_count,
+            book.step_count,
+            book.ns.as_ptr(),
+            book.ns.len(),
+            book.counts.as_ptr(),
+            book.counts.len(),
+            book.radii.as_ptr(),
+            book.radii.len(),
+            book.keys.as_ptr(),
+            book.keys.len(),
+            book.coefficients.as_ptr(),
+            book.coefficients.len(),
+            book.fields.as_ptr(),
+            book.fields.len(),
+            book.values.as_ptr(),
+            book.values.len(),
+            buffer.as_mut_ptr(),
+            buffer.len(),
+            numbers.as_mut_ptr(),
+            numbers.len(),
+        )
+    }
+}

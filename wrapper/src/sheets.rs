@@ -1,0 +1,192 @@
+//! Sheets and books.
+
+use crate::raw::{self, HandedBook};
+use crate::{narrowed, refusal, Ends, Model, Refusal, MOST_MODELS, MOST_STEPS, MOST_TERMS};
+
+/// What a run gives: the last step's model, its range and its integral; beside a refusal the zero model and ends 0.
+#[derive(Clone, Copy, Debug, PartialEq, Eq)]
+pub struct Summary {
+    pub model: Model,
+    pub range: Ends,
+    pub integral: Ends,
+    pub refusal: Option<Refusal>,
+}
+
+/// The length of what was written, 0 beside a refusal.
+#[derive(Clone, Copy, Debug, PartialEq, Eq)]
+pub struct Written {
+    pub length: usize,
+    pub refusal: Option<Refusal>,
+}
+
+/// A step: its code and its fields.
+#[derive(Clone, Copy, Debug, Default, PartialEq, Eq)]
+pub struct Step {
+    pub code: u8,
+    pub a: u8,
+    pub b: u8,
+    pub v: u8,
+    pub value: i64,
+}
+
+/// A sheet's matter in memory. Any field may hold anything.
+#[derive(Clone, Debug, PartialEq, Eq)]
+pub struct Book {
+    pub n: u8,
+    pub d: u8,
+    pub model_count: usize,
+    pub step_count: usize,
+    pub models: [Model; MOST_MODELS],
+    pub steps: [Step; MOST_STEPS],
+}
+
+impl Summary {
+    /// The summary, or why the sheet is refused.
+    pub fn accepted(self) -> Result<Summary, Refusal> {
+        self.refusal.map_or(Ok(self), Err)
+    }
+}
+
+impl Written {
+    /// The length, or why the write is refused.
+    pub fn accepted(self) -> Result<usize, Refusal> {
+        self.refusal.map_or(Ok(self.length), Err)
+    }
+}
+
+impl Book {
+    /// A book of these models and steps. What does not fit 16 and 64 places is left out, and its count refused.
+    pub fn new(n: u8, d: u8, models: &[Model], steps: &[Step]) -> Book {
+        let mut book = Book {
+            n,
+            d,
+            model_count: models.len(),
+            step_count: steps.len(),
+            models: [Model::ZERO; MOST_MODELS],
+            steps: [Step::default(); MOST_STEPS],
+        };
+        for (place, model) in book.models.iter_mut().zip(models) {
+            *place = *model;
+        }
+        for (place, step) in book.steps.iter_mut().zip(steps) {
+            *place = *step;
+        }
+        book
+    }
+}
+
+/// Runs a sheet. Refusals 1 to 9.
+pub fn run(sheet: &[u8]) -> Summary {
+    let mut model = Model::ZERO;
+    let mut numbers = [0; 4];
+    let mut ends = [0; 4];
+    let number = raw::run(
+        sheet,
+        &mut model.keys,
+        &mut model.coefficients,
+        &mut numbers,
+        &mut ends,
+    );
+    let [place, n, count, radius] = numbers;
+    model.n = narrowed(n);
+    model.count = narrowed(count);
+    model.radius = radius;
+    let [low, high, integral_low, integral_high] = ends;
+    Summary {
+        model,
+        range: Ends { low, high },
+        integral: Ends {
+            low: integral_low,
+            high: integral_high,
+        },
+        refusal: refusal(number, narrowed(place)),
+    }
+}
+
+/// The lines that the program prints for a sheet.
+pub fn lines(sheet: &[u8]) -> String {
+    let mut text = vec![0; raw::print(sheet, &mut [])];
+    raw::print(sheet, &mut text);
+    String::from_utf8(text).expect("the lines are ASCII")
+}
+
+/// The records of a sheet in order, each model's bytes and then each step's 8. A sheet that tests 1 to 6 refuse has none.
+pub fn records(sheet: &[u8]) -> impl Iterator<Item = Vec<u8>> + '_ {
+    (0..).map_while(|i| {
+        let mut bytes = vec![0; raw::record(sheet, i, &mut [])];
+        raw::record(sheet, i, &mut bytes);
+        (!bytes.is_empty()).then_some(bytes)
+    })
+}
+
+/// Reads a sheet and writes what was read into the buffer. Refusals 1 to 6, 11; a refused call changes no byte.
+pub fn rewrite(sheet: &[u8], buffer: &mut [u8]) -> Written {
+    let mut numbers = [0; 2];
+    let number = raw::rewrite(sheet, buffer, &mut numbers);
+    written(number, numbers)
+}
+
+/// Writes a book as a sheet into the buffer. Refusals 3, 5, 6, 11; a refused write changes no byte, and bytes beyond the
+/// length stay.
+pub fn write(book: &Book, buffer: &mut [u8]) -> Written {
+    let mut numbers = [0; 2];
+    let number = raw::write(Flat::of(book).handed(book), buffer, &mut numbers);
+    written(number, numbers)
+}
+
+fn written(number: u8, numbers: [u64; 2]) -> Written {
+    let [place, length] = numbers;
+    Written {
+        length: narrowed(length),
+        refusal: refusal(number, narrowed(place)),
+    }
+}
+
+/// A book's arrays, one after the other.
+struct Flat {
+    ns: [u8; MOST_MODELS],
+    counts: [usize; MOST_MODELS],
+    radii: [u64; MOST_MODELS],
+    keys: Vec<u16>,
+    coefficients: Vec<i64>,
+    fields: Vec<u8>,
+    values: [i64; MOST_STEPS],
+}
+
+impl Flat {
+    fn of(book: &Book) -> Flat {
+        let mut flat = Flat {
+            ns: book.models.map(|model| model.n),
+            counts: book.models.map(|model| model.count),
+            radii: book.models.map(|model| model.radius),
+            keys: Vec::with_capacity(MOST_MODELS * MOST_TERMS),
+            coefficients: Vec::with_capacity(MOST_MODELS * MOST_TERMS),
+            fields: Vec::with_capacity(4 * MOST_STEPS),
+            values: book.steps.map(|step| step.value),
+        };
+        for model in &book.models {
+            flat.keys.extend(model.keys);
+            flat.coefficients.extend(model.coefficients);
+        }
+        for step in &book.steps {
+            flat.fields.extend([step.code, step.a, step.b, step.v]);
+        }
+        flat
+    }
+
+    fn handed(&self, book: &Book) -> HandedBook<'_> {
+        HandedBook {
+            n: book.n,
+            d: book.d,
+            model_count: book.model_count,
+            step_count: book.step_count,
+            ns: &self.ns,
+            counts: &self.counts,
+            radii: &self.radii,
+            keys: &self.keys,
+            coefficients: &self.coefficients,
+            fields: &self.fields,
+            values: &self.values,
+        }
+    }
+}
