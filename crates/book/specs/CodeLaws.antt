@@ -10,7 +10,8 @@ use Rattle.calculus.specs.Book.{input, limits-sound, model-sound, most-models, 
 use Rattle.held.specs.declared.Model.{Model}
 use Rattle.held.specs.Held.{view}
 use Rattle.format.specs.Held.{Held-step, outline, held-model-sound, held-step-sound}
-use Rattle.format.specs.StepFieldLaws.{fields-sound, step-by-fields}
+use Rattle.format.specs.Fields.{fields-sound}
+use Rattle.format.specs.StepFieldLaws.{step-by-fields}
 use Rattle.book.specs.Book.{held-model}
 use Rattle.book.specs.BookLaws.{view-held-model}
 

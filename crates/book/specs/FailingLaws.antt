@@ -17,7 +17,7 @@ use Rattle.held.specs.Held.{view}
 use Rattle.held.specs.Arrays.{first-places}
 use Rattle.held.specs.ArrayLaws.{first-take, length-first}
 use Rattle.format.specs.Held.{outline, outline-of, held-model-sound, held-step-sound}
-use Rattle.format.specs.StepFieldLaws.{fields-sound}
+use Rattle.format.specs.Fields.{fields-sound}
 use Rattle.book.specs.declared.Step.{Step}
 use Rattle.book.specs.declared.Book.{Book}
 use Rattle.book.specs.Book.{no-model, no-step, held-model, held-step, held-book}

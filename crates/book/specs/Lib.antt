@@ -7,3 +7,5 @@ pub mod FailingLaws
 pub mod VerdictLaws
 pub mod Cleared
 pub mod UndoLaws
+pub mod Zeros
+pub mod ZeroLaws

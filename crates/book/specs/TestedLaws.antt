@@ -12,8 +12,8 @@ use Rattle.held.specs.declared.Refusal.{Refusal}
 use Rattle.held.specs.declared.Verdict.the-variants.{Accepted, Refused}
 use Rattle.held.specs.Held.{refusal, cause}
 use Rattle.held.specs.HeldLaws.{cause-refusal}
-use Rattle.format.specs.Held.{Held-book, outline-of, held-model-sound, held-step-sound, held-tested}
-use Rattle.format.specs.HeldLaws.{Held-passes, held-tested-passes, held-tested-done}
+use Rattle.format.specs.Held.{Held-book, outline-of, held-model-sound, held-step-sound, held-tested, Held-passes}
+use Rattle.format.specs.HeldLaws.{held-tested-passes, held-tested-done}
 use Rattle.book.specs.declared.Book.{Book}
 use Rattle.book.specs.Book.{held-book, verdict, book-verdict}
 

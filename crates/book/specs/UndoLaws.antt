@@ -16,9 +16,9 @@ use Rattle.held.specs.Arrays.{first-places, padded}
 use Rattle.held.specs.ArrayLaws.{first-take}
 use Rattle.held.specs.Held.{zero-term, places, pad}
 use Rattle.format.specs.Bytes.{All-bytes}
-use Rattle.format.specs.Held.{Held-book, outline-of, held-model-sound}
+use Rattle.format.specs.Held.{Held-book, outline-of, held-model-sound, Held-passes}
 use Rattle.format.specs.Format.{read, write, sheet-bytes}
-use Rattle.format.specs.HeldLaws.{Held-passes, In-limits, in-limits}
+use Rattle.format.specs.HeldLaws.{In-limits, in-limits}
 use Rattle.format.specs.SmallLaws.{model-facts}
 use Rattle.format.specs.ReadBackLaws.{read-back, written-reads-back}
 use Rattle.format.specs.WriteBackLaws.{read-writes-back}

@@ -7,7 +7,7 @@ ghost use Rattle.calculus.specs.Model.{between, sound};
 ghost use Rattle.calculus.specs.Book.{«most-models», «most-steps», «limits-sound»};
 ghost use Rattle.held.specs.Held.{view};
 ghost use Rattle.format.specs.Held.{outline};
-ghost use Rattle.format.specs.StepFieldLaws.{«limit-a», «limit-b», «v-sound», «value-sound», «fields-sound»};
+ghost use Rattle.format.specs.Fields.{«limit-a», «limit-b», «v-sound», «value-sound», «fields-sound»};
 ghost use Rattle.book.specs.Book.{«held-step», «book-verdict»};
 ghost use Rattle.book.specs.Failing.{«first-unsound-model», «first-unsound-step»};
 use held::Model;

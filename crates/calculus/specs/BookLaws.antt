@@ -15,7 +15,8 @@ use Rattle.calculus.specs.Book.{Book, limits-sound, model-sound, step-so
 use Rattle.calculus.specs.Book.{Summary, summary, run-sound, run}
 use Rattle.calculus.specs.TestLaws.{and-left, and-right}
 use Rattle.calculus.specs.MonomialLaws.{index-suc}
-use Rattle.calculus.specs.RefusalLaws.{all-from, require-at-passed, require-each-passed, Passed, passed-at}
+use Rattle.calculus.specs.Refusal.{all-from}
+use Rattle.calculus.specs.RefusalLaws.{require-at-passed, require-each-passed, Passed, passed-at}
 use Rattle.calculus.specs.RefusalLaws.{passed-each}
 
 -- ---- the tests

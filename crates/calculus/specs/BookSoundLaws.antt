@@ -15,7 +15,7 @@ use Rattle.calculus.specs.Book.{sweep, Book, most-models, limits-sound, 
 use Rattle.calculus.specs.Book.{result-of, run-step, run-steps, Summary, summary, run-sound}
 use Rattle.calculus.specs.TestLaws.{and-left, and-right, both}
 use Rattle.calculus.specs.RefusalLaws.{If-accepted, holds, If-done, is-done, if-done, followed-done, placed}
-use Rattle.calculus.specs.RefusalLaws.{all-from}
+use Rattle.calculus.specs.Refusal.{all-from}
 use Rattle.calculus.specs.SoundLaws as S
 use Rattle.calculus.specs.SoundLaws.{Sound, sound-parts, parts-sound, zero-sound, negate-sound, add-sound}
 use Rattle.calculus.specs.SoundLaws.{subtract-sound, multiply-sound, substitute-sound, sweep-sound}

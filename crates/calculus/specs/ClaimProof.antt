@@ -25,7 +25,7 @@ use Rattle.calculus.specs.Claim.{Lies, All-within, Claim}
 use Rattle.calculus.specs.TestLaws.{and-left, and-right}
 use Rattle.calculus.specs.RefusalLaws.{If-accepted, holds, vacuous, require-accepted, then-accepted, weaken}
 use Rattle.calculus.specs.RefusalLaws.{always, If-done, is-done, if-done, followed-done, placed, constantly}
-use Rattle.calculus.specs.RefusalLaws.{all-from}
+use Rattle.calculus.specs.Refusal.{all-from}
 use Rattle.calculus.specs.ValueLaws.{Near, near-at, at-near}
 use Rattle.calculus.specs.EnclosureLaws.{limited-accepted, zero-near, constant-near, variable-near, negate-near}
 use Rattle.calculus.specs.EnclosureLaws.{add-near, subtract-near, multiply-near, sweep-near}

@@ -21,7 +21,7 @@ use Rattle.calculus.specs.Outcome.{Function, 0ℚ, coordinate, with-coor
 use Rattle.calculus.specs.Outcome.{outcomes-after, outcomes, outcome, ℚ-Polynomial, value-of}
 use Rattle.calculus.specs.Outcome.{polynomial-of, step-polynomial, polynomials-after, outcome-polynomial}
 use Rattle.calculus.specs.TestLaws.{and-left, and-right}
-use Rattle.calculus.specs.RefusalLaws.{all-from}
+use Rattle.calculus.specs.Refusal.{all-from}
 use Rattle.calculus.specs.MonomialLaws.{index-suc, length-replace, monomial-single}
 use Rattle.calculus.specs.EachLaws.{Each, nil, each-snoc, each-at, each-last}
 use Rattle.calculus.specs.BookLaws.{between-low, variable-inside}

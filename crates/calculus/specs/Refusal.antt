@@ -1,5 +1,5 @@
 -- Refusals with their numbers, answers that may be refused, and what is handed back in each case.
-use mathlib.Core.Bool.{Bool, true, false}
+use mathlib.Core.Bool.{Bool, true, false, _&&_}
 use mathlib.Core.List.{List, [], _∷_}
 use Prim.Native.Nat.{ℕ, suc}
 
@@ -78,6 +78,11 @@ require-at i false r a = stopped r i
 unfoldable pub require-each : {A B : Type 0} → ℕ → (ℕ → B → Bool) → List B → Refusal → Result A → Result A
 require-each i ok [] r a = a
 require-each i ok (x ∷ l) r a = require-at i (ok i x) r (require-each (suc i) ok l r a)
+
+-- whether each passes, numbered from i on
+unfoldable pub all-from : {A : Type 0} → ℕ → (ℕ → A → Bool) → List A → Bool
+all-from i ok [] = true
+all-from i ok (x ∷ l) = ok i x && all-from (suc i) ok l
 
 infixl 20 _followed-by_
 -- the first refusal decides

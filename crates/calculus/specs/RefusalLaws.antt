@@ -6,7 +6,7 @@ use Prim.Native.Nat.{ℕ, suc}
 use native.Mathlib.Omega.{arith}
 use lib.Dec.{T}
 use Rattle.calculus.specs.Refusal.{Refusal, Answer, accepted, refused, require, _then_, Result, done, stopped}
-use Rattle.calculus.specs.Refusal.{at-place, require-at, require-each, _followed-by_}
+use Rattle.calculus.specs.Refusal.{at-place, require-at, require-each, all-from, _followed-by_}
 use Rattle.calculus.specs.TestLaws.{and-left, and-right, both}
 
 -- ---- P of what is accepted
@@ -69,11 +69,6 @@ require-at-done i true r a h = h tt
 require-at-done i false r a h = is-stopped
 
 -- ---- tests before a result
--- each passes, numbered from i on
-unfoldable pub all-from : {A : Type 0} → ℕ → (ℕ → A → Bool) → List A → Bool
-all-from i ok [] = true
-all-from i ok (x ∷ l) = ok i x && all-from (suc i) ok l
-
 -- what passes is not refused
 pub require-at-passed : {A : Type 0} (i : ℕ) (b : Bool) (r : Refusal) (a : Result A) → T b → require-at i b r a ≡ a
 unfolding require-at

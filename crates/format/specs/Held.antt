@@ -3,13 +3,14 @@ use mathlib.Core.Bool.{Bool, true, false}
 use mathlib.Core.List.{List, [], _∷_, map}
 use mathlib.Core.Option.{Option, some, none}
 use Prim.Native.Nat.{ℕ, _+_}
-use lib.Dec.{eqb}
+use lib.Dec.{T, eqb}
 use lib.IntN.{ℤ, natAbs}
 use lib.ListN.{length, replicate, getElem?}
 use Rattle.polynomial.specs.Polynomial.{Term}
 use Rattle.calculus.specs.Key.{monomial-of}
 use Rattle.calculus.specs.Model.{Model, zero-model}
 use Rattle.calculus.specs.Refusal.{bad-limits, bad-model, bad-step, Result, require-at, require-each}
+use Rattle.calculus.specs.Refusal.{all-from}
 use Rattle.calculus.specs.Book.{Step, input, constant, variable, negate, add, subtract, multiply, substitute, sweep}
 use Rattle.calculus.specs.Book.{Book, limits-sound, model-sound, step-sound}
 
@@ -119,3 +120,9 @@ held-tested h r =
     require-at 0 (limits-sound (outline-of h)) bad-limits
     (require-each 0 (λ i. held-model-sound (outline-of h)) (h .models) bad-model
     (require-each 0 (held-step-sound (outline-of h)) (h .steps) bad-step r))
+
+-- a held book that passes them
+pub record Held-passes (h : Held-book) : Type 0 where
+  pub limits : T (limits-sound (outline-of h))
+  pub models : T (all-from 0 (λ i. held-model-sound (outline-of h)) (h .models))
+  pub steps : T (all-from 0 (held-step-sound (outline-of h)) (h .steps))

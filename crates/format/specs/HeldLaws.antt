@@ -13,11 +13,12 @@ use Rattle.calculus.specs.Tests.{vars-sound, order-sound, variable-sound}
 use Rattle.calculus.specs.Book.{Step, input, constant, variable, negate, add, subtract, multiply, substitute, sweep}
 use Rattle.calculus.specs.Book.{Book, most-models, most-steps, limits-sound, model-sound, step-sound, run, run-sound}
 use Rattle.calculus.specs.TestLaws.{and-left, and-right, both}
-use Rattle.calculus.specs.RefusalLaws.{all-from, require-at-passed, require-each-passed, Passed, passed-at, passed-each}
+use Rattle.calculus.specs.Refusal.{all-from}
+use Rattle.calculus.specs.RefusalLaws.{require-at-passed, require-each-passed, Passed, passed-at, passed-each}
 use Rattle.calculus.specs.BookLaws.{Passes, run-passes, between-low, between-high}
 use Rattle.format.specs.Held.{Held-model, Held-step, Held-book, view-model}
 use Rattle.format.specs.Held.{view-step, view-steps, view-book, outline, outline-of}
-use Rattle.format.specs.Held.{held-model-sound, held-step-sound, held-tested}
+use Rattle.format.specs.Held.{held-model-sound, held-step-sound, held-tested, Held-passes}
 
 -- ---- the limits
 pub record In-limits (n d m k : ℕ) : Type 0 where
@@ -110,11 +111,6 @@ stands-for b i s h = go (view-step s) refl h
     go none e k = absurd k
 
 -- ---- the book of a held book that passes
-pub record Held-passes (h : Held-book) : Type 0 where
-  pub limits : T (limits-sound (outline-of h))
-  pub models : T (all-from 0 (λ i. held-model-sound (outline-of h)) (h .models))
-  pub steps : T (all-from 0 (held-step-sound (outline-of h)) (h .steps))
-
 pub held-tested-passes : {A : Type 0} (h : Held-book) (r : Result A) → Held-passes h → held-tested h r ≡ r
 unfolding held-tested
 held-tested-passes h r p = require-at-passed 0 (limits-sound (outline-of h)) bad-limits _ (p .limits)

@@ -1,6 +1,7 @@
 -- Definitions, in order of reading.
 pub mod Bytes
 pub mod Held
+pub mod Fields
 pub mod Format
 pub mod Lines
 pub mod Samples
@@ -19,8 +20,9 @@ pub mod WrittenBytesLaws
 -- The records handed out, and where they stand.
 pub mod RecordLaws
 pub mod PlaceLaws
--- The claim about a sheet.
+-- The claim about a sheet, and its proof.
 pub mod SheetClaim
+pub mod SheetClaimProof
 -- What loops that walk forward need.
 pub mod ReadLoopLaws
 pub mod WriteLoopLaws

@@ -6,12 +6,11 @@ use lib.ListN.{length, take, drop, length-append, length-map}
 use lib.Seq.{drop-at, take-at}
 use Rattle.calculus.specs.Refusal.{done, _followed-by_}
 use Rattle.format.specs.Bytes.{All-bytes, join}
-use Rattle.format.specs.Held.{Held-model, Held-step, Held-book}
+use Rattle.format.specs.Held.{Held-model, Held-step, Held-book, Held-passes}
 use Rattle.format.specs.Format.{model-length, trailer-of, read}
 use Rattle.format.specs.Format.{model-records, step-records, records, opened}
 use Rattle.format.specs.Format.{model-bytes, step-bytes, models-bytes, trailer-bytes, sheet-bytes}
 use Rattle.format.specs.BytesLaws.{join-++}
-use Rattle.format.specs.HeldLaws.{Held-passes}
 use Rattle.format.specs.ReadBackLaws.{length-step, model-length-back, model-rest, trailer-back}
 use Rattle.format.specs.ReadBackLaws.{said, sheet-trailer}
 use Rattle.format.specs.WriteBackLaws.{read-passes, read-sheet}

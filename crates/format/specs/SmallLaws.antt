@@ -20,7 +20,8 @@ use Rattle.calculus.specs.SoundLaws.{Sound, sound-parts}
 use Rattle.calculus.specs.BookLaws.{between-high}
 use Rattle.format.specs.Held.{Held-term, Held-model, Held-step, view-term, view-model}
 use Rattle.format.specs.Held.{held-model-sound, held-step-sound}
-use Rattle.format.specs.StepFieldLaws.{limit-a, limit-b, v-sound, value-sound, Fields, fields-of}
+use Rattle.format.specs.Fields.{limit-a, limit-b, v-sound, value-sound}
+use Rattle.format.specs.StepFieldLaws.{Fields, fields-of}
 
 -- ---- the numbers of a model that passes
 pub record Model-facts (n d : ℕ) (m : Held-model) : Type 0 where

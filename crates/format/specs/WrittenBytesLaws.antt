@@ -8,13 +8,12 @@ use lib.ListN.{length}
 use Rattle.calculus.specs.Refusal.{done}
 use Rattle.calculus.specs.Book.{Book}
 use Rattle.calculus.specs.TestLaws.{and-left, and-right}
-use Rattle.calculus.specs.RefusalLaws.{all-from}
+use Rattle.calculus.specs.Refusal.{all-from}
 use Rattle.format.specs.Bytes.{byte, All-bytes, join, u16-bytes, u32-bytes}
 use Rattle.format.specs.Held.{Held-term, Held-model, Held-step, Held-book, outline-of}
-use Rattle.format.specs.Held.{held-model-sound, held-step-sound}
+use Rattle.format.specs.Held.{held-model-sound, held-step-sound, Held-passes}
 use Rattle.format.specs.Format.{term-bytes, model-bytes, step-bytes, models-bytes, trailer-bytes, sheet-bytes}
 use Rattle.format.specs.Format.{write}
-use Rattle.format.specs.HeldLaws.{Held-passes}
 use Rattle.format.specs.SmallLaws.{model-facts, Step-facts, step-facts}
 use Rattle.format.specs.ReadBackLaws.{limits, outline-small, Is-written, is-written}
 

@@ -20,7 +20,7 @@ use Rattle.format.specs.Held.{Held-model, Held-step, Held-book, view-model, out
 use Rattle.format.specs.Format.{read-model, model-length, read-models, read-steps, read-records}
 use Rattle.format.specs.Format.{shortest, longest, trailer-of, read-trailer, read}
 use Rattle.format.specs.ReadLoopLaws.{refused}
-use Rattle.format.specs.StepFieldLaws.{fields-sound}
+use Rattle.format.specs.Fields.{fields-sound}
 use Rattle.format.specs.WriteBackLaws.{length-read-steps}
 use Rattle.book.specs.Book.{no-model, no-step, stored-model, stored-step, stored-book, read-answer}
 use Rattle.book.specs.CodeLaws.{step-by-code}

@@ -14,7 +14,7 @@ use Rattle.held.specs.ArrayLaws.{take-more, padded-more}
 use Rattle.held.specs.HeldLaws.{map-++}
 use Rattle.format.specs.Held.{Held-step}
 use Rattle.format.specs.Format.{read-step, read-steps}
-use Rattle.format.specs.StepFieldLaws.{fields-sound}
+use Rattle.format.specs.Fields.{fields-sound}
 use Rattle.format.specs.ReadLoopLaws.{read-step-at}
 use Rattle.format.specs.WriteBackLaws.{length-read-steps}
 use Rattle.book.specs.declared.Step.{Step}

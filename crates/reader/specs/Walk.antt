@@ -10,7 +10,7 @@ use Rattle.held.specs.Arrays.{padded}
 use Rattle.format.specs.Held.{Held-model, Held-step, view-model}
 use Rattle.format.specs.Format as F
 use Rattle.format.specs.Format.{read-model, model-length, read-steps}
-use Rattle.format.specs.StepFieldLaws.{fields-sound}
+use Rattle.format.specs.Fields.{fields-sound}
 use Rattle.book.specs.Book.{no-model, no-step, stored-model, stored-step}
 use Rattle.book.specs.Failing.{first-failing}
 use Rattle.reader.specs.declared.Trailer.{Trailer}

@@ -81,7 +81,7 @@ struct Stepped {
 // ---- numbers at a place, little-endian
 
 // A byte.
-pub fn byte_at(s: &[u8], at: usize) -> u8
+fn byte_at(s: &[u8], at: usize) -> u8
     requires { ⌜ at < length (now s) ⌝ }
     ensures { λ r. ⌜ r ≡ byte at (now (s .entry)) ⌝ }
 {
@@ -99,7 +99,7 @@ pub fn u16_at(s: &[u8], at: usize) -> u16
 }
 
 // 4 bytes without a sign.
-pub fn u32_at(s: &[u8], at: usize) -> u32
+fn u32_at(s: &[u8], at: usize) -> u32
     requires { ⌜ at + 4 ≤ length (now s) ⌝ }
     ensures { λ r. ⌜ r ≡ u32 (drop at (now (s .entry))) ⌝ }
 {
@@ -122,7 +122,7 @@ fn signed_of(bits: u32) -> i64
 }
 
 // 4 bytes, two's complement.
-pub fn signed_at(s: &[u8], at: usize) -> i64
+fn signed_at(s: &[u8], at: usize) -> i64
     requires { ⌜ at + 4 ≤ length (now s) ⌝ }
     ensures { λ r. ⌜ r ≡ signed (u32 (drop at (now (s .entry)))) ⌝ }
 {

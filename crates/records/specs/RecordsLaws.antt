@@ -313,3 +313,14 @@ pub stepping-hands-out : (s : RefT (List ℕ)) → All-bytes (now s) → (i : �
     → if-any (at-hand (stepped i (opening s .records))) ≡ handed-out (now s) i
 unfolding walk
 stepping-hands-out s y i = ap (λ r. if-any (at-hand r)) (stepped-at s i) ∙ walk-hands-out (now s) y i
+
+-- the kind of record that the struct has at hand after i steps
+pub stepping-kind : (s : RefT (List ℕ)) (h : Held-book) → All-bytes (now s) → read (now s) ≡ done h → (i : ℕ)
+    → kind-at (now s) (stepped i (opening s .records) .at) ≡ kind-of (length (h .models)) (length (h .steps)) i
+stepping-kind s h y e i = ap (λ r. kind-at (now s) (r .at)) (stepped-at s i) ∙ kind-walked (now s) h y e i
+
+-- a refused sheet has none
+pub stepping-none : (s : RefT (List ℕ)) (x : Refusal) (p : ℕ) → read (now s) ≡ stopped x p → (i : ℕ)
+    → kind-at (now s) (stepped i (opening s .records) .at) ≡ End
+stepping-none s x p e i = ap (λ r. kind-at (now s) (r .at)) (stepped-at s i)
+    ∙ ap (kind-at (now s)) (place-end (now s) x p e i) ∙ kind-none (now s) (length (now s)) (omega arith)

@@ -10,8 +10,7 @@ use Rattle.held.specs.Arrays.{first-places}
 use Rattle.held.specs.ArrayLaws.{first-take, length-first}
 use Rattle.held.specs.declared.Model.{Model}
 use Rattle.held.specs.Held.{view}
-use Rattle.format.specs.Held.{view-model, view-book}
-use Rattle.format.specs.HeldLaws.{Held-passes}
+use Rattle.format.specs.Held.{view-model, view-book, Held-passes}
 use Rattle.book.specs.declared.Book.{Book}
 use Rattle.book.specs.Book.{no-model, no-step, held-model, held-step, held-book}
 use Rattle.book.specs.BookLaws.{view-held-model}

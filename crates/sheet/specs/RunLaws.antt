@@ -17,7 +17,7 @@ use Rattle.calculus.specs.Refusal as R
 use Rattle.calculus.specs.Refusal.{accepted, refused, done, at-place, _followed-by_}
 use Rattle.calculus.specs.Tests.{vars-sound}
 use Rattle.calculus.specs.TestLaws.{and-right}
-use Rattle.calculus.specs.RefusalLaws.{all-from}
+use Rattle.calculus.specs.Refusal.{all-from}
 use Rattle.calculus.specs.SoundLaws.{Sound, zero-sound}
 use Rattle.calculus.specs.EachLaws.{All, nil, each-snoc, each-at, each-last}
 use Rattle.calculus.specs.Book.{Step, input, Book, most-steps, model-sound, step-sound}
@@ -34,9 +34,10 @@ use Rattle.held.specs.Held.{view, pack, answer}
 use Rattle.held.specs.HeldLaws.{map-++}
 use Rattle.substitute.specs.AnswerLaws.{sound-order, Holds, held-vars, held-view, held-sound, Got, got}
 use Rattle.format.specs.Held.{Held-step, Held-book, view-model, view-step, view-book, outline, outline-of}
-use Rattle.format.specs.Held.{held-step-sound}
-use Rattle.format.specs.HeldLaws.{In-limits, in-limits, Held-passes, steps-pass, view-at, view-passes}
-use Rattle.format.specs.StepFieldLaws.{limit-a, limit-b, v-sound, Fields, fields-of}
+use Rattle.format.specs.Held.{held-step-sound, Held-passes}
+use Rattle.format.specs.HeldLaws.{In-limits, in-limits, steps-pass, view-at, view-passes}
+use Rattle.format.specs.Fields.{limit-a, limit-b, v-sound}
+use Rattle.format.specs.StepFieldLaws.{Fields, fields-of}
 use Rattle.steps.specs.Steps.{step-answer, Step-ready}
 use Rattle.steps.specs.StepLaws.{step-is}
 use Rattle.sheet.specs.Sheet.{refused-summary, run-answer, verdict-at}

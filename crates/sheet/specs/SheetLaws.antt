@@ -4,7 +4,9 @@ use mathlib.Core.List.{List}
 use Prim.Native.Nat.{ℕ, _≤_}
 use native.Mathlib.Omega.{arith}
 use lib.Dec.{T, eqb}
-use Rattle.calculus.specs.Model.{most-degree, sound}
+use Rattle.calculus.specs.Model.{most-degree, sound, zero-model}
+use Rattle.calculus.specs.Operations.{zero-ends}
+use Rattle.calculus.specs.Refusal as R
 use Rattle.calculus.specs.Refusal.{Result, done, stopped, _followed-by_, number, returned}
 use Rattle.calculus.specs.TestLaws.{and-right}
 use Rattle.calculus.specs.Book as B
@@ -14,13 +16,15 @@ use Rattle.calculus.specs.Claim.{Claim}
 use Rattle.calculus.specs.ClaimProof.{claim-sound}
 use Rattle.held.specs.declared.Refusal.{Refusal}
 use Rattle.held.specs.declared.Verdict.the-variants.{Accepted, Refused}
+use Rattle.held.specs.Arrays.{first-places, padded}
 use Rattle.held.specs.Held.{view, pack, verdict-number, verdict-place}
 use Rattle.held.specs.HeldLaws.{view-pack-sound, refusal-cause, cause-refusal}
-use Rattle.format.specs.Held.{Held-book, view-book}
-use Rattle.format.specs.HeldLaws.{Held-passes, Held-done, held-tested-done, view-passes}
+use Rattle.format.specs.Held.{Held-book, view-book, Held-passes}
+use Rattle.format.specs.HeldLaws.{Held-done, held-tested-done, view-passes}
 use Rattle.format.specs.Format.{read, run-sheet}
 use Rattle.format.specs.WriteBackLaws.{Came, came, read-passes}
-use Rattle.format.specs.SheetClaim.{Sheet-claim, sheet-claim}
+use Rattle.format.specs.SheetClaim.{Sheet-claim}
+use Rattle.format.specs.SheetClaimProof.{sheet-claim}
 use Rattle.book.specs.declared.Read.{Read}
 use Rattle.book.specs.declared.Book.{Book}
 use Rattle.book.specs.Book.{held-book, read-answer, book-verdict}
@@ -142,3 +146,10 @@ pub answer-place : (a : Result B.Summary) → verdict-place (run-answer a .verdi
 unfolding run-answer refused-summary verdict-place returned-summary returned
 answer-place (done s) = refl
 answer-place (stopped r i) = refl
+
+-- a refused run answers what document 01 names for it: the zero model in one variable and ends 0
+pub refused-value : (q : R.Refusal) (i : ℕ)
+    → summary-of (run-answer (stopped q i)) ≡ returned-summary (stopped q i) .value
+unfolding run-answer refused-summary summary-of ends-of returned-summary returned view pack first-places padded
+    zero-model zero-ends
+refused-value q i = refl

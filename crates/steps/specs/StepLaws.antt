@@ -24,7 +24,7 @@ use Rattle.multiply.specs.Multiply.{Factors}
 use Rattle.substitute.specs.Substitute.{Substitution}
 use Rattle.substitute.specs.AnswerLaws.{sound-order}
 use Rattle.format.specs.Held.{Held-step, Form, forms, step-of, view-step}
-use Rattle.format.specs.StepFieldLaws.{v-sound}
+use Rattle.format.specs.Fields.{v-sound}
 use Rattle.steps.specs.Steps.{step-answers, step-answer, Step-ready}
 
 -- ---- what the operations ask

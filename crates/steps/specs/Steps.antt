@@ -15,7 +15,7 @@ use Rattle.calculus.specs.Tests.{vars-sound}
 use Rattle.held.specs.declared.Model.{Model}
 use Rattle.held.specs.Held.{view}
 use Rattle.format.specs.Held.{Held-step}
-use Rattle.format.specs.StepFieldLaws.{v-sound}
+use Rattle.format.specs.Fields.{v-sound}
 
 -- what the codes 0 to 8 give, in order, where field a names the model m or the result f, and b the result g
 unfoldable pub step-answers : (n d : ℕ) → Held-step → (m f g : C.Model) → List (R.Answer C.Model)

@@ -16,10 +16,10 @@ use Rattle.calculus.specs.TestLaws.{and-right}
 use Rattle.calculus.specs.BookLaws.{Ran, sound-ran}
 use Rattle.calculus.specs.BookSoundLaws.{result-sound}
 use Rattle.substitute.specs.AnswerLaws.{sound-order}
-use Rattle.format.specs.Held.{Held-book, view-book, outline, outline-of}
+use Rattle.format.specs.Held.{Held-book, view-book, outline, outline-of, Held-passes}
 use Rattle.format.specs.Format.{shortest, longest, read, run-sheet}
 use Rattle.format.specs.Lines.{lines, printed}
-use Rattle.format.specs.HeldLaws.{Held-passes, in-limits, view-passes}
+use Rattle.format.specs.HeldLaws.{in-limits, view-passes}
 use Rattle.format.specs.WriteBackLaws.{Came, came, read-passes}
 
 -- ---- a sheet that is too long

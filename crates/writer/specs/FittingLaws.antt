@@ -15,9 +15,9 @@ use Rattle.held.specs.declared.Model.{Model}
 use Rattle.held.specs.Held.{zero-term}
 use Rattle.format.specs.Bytes.{join}
 use Rattle.format.specs.Held.{Held-term, Held-model, view-term, outline-of}
-use Rattle.format.specs.Held.{held-model-sound, held-step-sound}
+use Rattle.format.specs.Held.{held-model-sound, held-step-sound, Held-passes}
 use Rattle.format.specs.Format.{model-bytes, models-bytes}
-use Rattle.format.specs.HeldLaws.{In-limits, Held-passes}
+use Rattle.format.specs.HeldLaws.{In-limits}
 use Rattle.format.specs.SmallLaws.{Model-facts, model-facts, Step-facts, step-facts}
 use Rattle.format.specs.ReadBackLaws.{limits, outline-small, length-model}
 use Rattle.book.specs.declared.Step.{Step}

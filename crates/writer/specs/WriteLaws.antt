@@ -17,9 +17,9 @@ use Rattle.held.specs.declared.Verdict.the-variants.{Accepted, Refused}
 use Rattle.held.specs.Held.{refusal, cause}
 use Rattle.held.specs.HeldLaws.{refusal-cause}
 use Rattle.format.specs.Bytes.{join}
-use Rattle.format.specs.Held.{Held-book}
+use Rattle.format.specs.Held.{Held-book, Held-passes}
 use Rattle.format.specs.Format.{step-bytes, models-bytes, trailer-bytes, sheet-bytes, write, written}
-use Rattle.format.specs.HeldLaws.{Held-passes, held-tested-passes}
+use Rattle.format.specs.HeldLaws.{held-tested-passes}
 use Rattle.format.specs.ReadBackLaws.{sheet-length}
 use Rattle.book.specs.declared.Book.{Book}
 use Rattle.book.specs.declared.Written.{Written}

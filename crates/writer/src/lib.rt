@@ -8,7 +8,7 @@ ghost use lib.Seq.{sets};
 ghost use Rattle.format.specs.Bytes.{join, «u16-bytes», «u32-bytes», bits};
 ghost use Rattle.format.specs.Format.{«term-bytes», «model-bytes», «step-bytes», «models-bytes», «trailer-bytes»};
 ghost use Rattle.format.specs.Format.{write, written};
-ghost use Rattle.format.specs.HeldLaws.{Held-passes};
+ghost use Rattle.format.specs.Held.{Held-passes};
 ghost use Rattle.book.specs.Book.{«held-model», «held-step», «held-book», «write-answer»};
 ghost use Rattle.writer.specs.Fitting.{Model-fits};
 use book::Book;
@@ -42,7 +42,7 @@ const SECOND_MARK: u8 = 0x4B;
 // ---- numbers, little-endian; the rest of the buffer stays
 
 // Two bytes.
-pub fn put_u16(buffer: &mut [u8], at: usize, x: u16)
+fn put_u16(buffer: &mut [u8], at: usize, x: u16)
     requires { ⌜ at + 2 ≤ length (now buffer) ⌝ }
     ensures { λ r. ⌜ now (buffer .exit) ≡ sets (now (buffer .entry)) at (u16-bytes x) ⌝ }
 {
@@ -51,7 +51,7 @@ pub fn put_u16(buffer: &mut [u8], at: usize, x: u16)
 }
 
 // Four bytes.
-pub fn put_u32(buffer: &mut [u8], at: usize, u: u32)
+fn put_u32(buffer: &mut [u8], at: usize, u: u32)
     requires { ⌜ at + 4 ≤ length (now buffer) ⌝ }
     ensures { λ r. ⌜ now (buffer .exit) ≡ sets (now (buffer .entry)) at (u32-bytes u) ⌝ }
 {
@@ -63,7 +63,7 @@ pub fn put_u32(buffer: &mut [u8], at: usize, u: u32)
 
 // Two's complement in 32 bits. Coefficients and values that pass the tests are at most the span limit in size, which
 // `span-four-bytes` puts below 2^31.
-pub fn bits_of(z: i64) -> u32
+fn bits_of(z: i64) -> u32
     requires { ⌜ natAbs z < 2 ^ 31 ⌝ }
     ensures { λ r. ⌜ r ≡ bits z ⌝ }
 {
@@ -71,7 +71,7 @@ pub fn bits_of(z: i64) -> u32
 }
 
 // Four bytes with a sign.
-pub fn put_i32(buffer: &mut [u8], at: usize, z: i64)
+fn put_i32(buffer: &mut [u8], at: usize, z: i64)
     requires { ⌜ natAbs z < 2 ^ 31 ⌝ }
     requires { ⌜ at + 4 ≤ length (now buffer) ⌝ }
     ensures { λ r. ⌜ now (buffer .exit) ≡ sets (now (buffer .entry)) at (u32-bytes (bits z)) ⌝ }
@@ -203,8 +203,8 @@ fn put_trailer(buffer: &mut [u8], at: usize, b: Book, offset: usize)
 // The sheet of a book, its length answered; bytes beyond that length stay. A refused write answers the length 0, and
 // all bytes stay.
 pub fn write(book: Book, buffer: &mut [u8]) -> Written
-    ensures { λ r. ⌜ r ≡ write-answer (write (held-book book) (now (buffer .entry))) ⌝ }
-    ensures { λ r. ⌜ now (buffer .exit) ≡ written (held-book book) (now (buffer .entry)) .value .buffer ⌝ }
+    ensures answers { λ r. ⌜ r ≡ write-answer (write (held-book book) (now (buffer .entry))) ⌝ }
+    ensures leaves { λ r. ⌜ now (buffer .exit) ≡ written (held-book book) (now (buffer .entry)) .value .buffer ⌝ }
 {
     let v = book::tested(book);
     let Verdict::Accepted = v else {

@@ -1,6 +1,6 @@
 -- `limit_a` is the limit by the code.
 use borrow.Author.Tests.{eq-eqb, ne-eqb, le-leb, lt-leb}
-use Rattle.format.specs.StepFieldLaws.{limit-a}
+use Rattle.format.specs.Fields.{limit-a}
 use Rattle.book.proofs.limit_a.Statement.{statement}
 use Rattle.book.proofs.limit_a.Tie as tie
 

@@ -1,6 +1,6 @@
 -- `limit_b` is the limit by the code.
 use borrow.Author.Tests.{le-leb, lt-leb}
-use Rattle.format.specs.StepFieldLaws.{limit-b}
+use Rattle.format.specs.Fields.{limit-b}
 use Rattle.book.proofs.limit_b.Statement.{statement}
 use Rattle.book.proofs.limit_b.Tie as tie
 

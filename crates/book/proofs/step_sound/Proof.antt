@@ -8,7 +8,7 @@ use lib.Dec.{leb, ltb}
 use mir.Facts.{toZ-ofZ}
 use mir.Syntax.{w64}
 use mir.Val.{toZ, ofZ}
-use Rattle.format.specs.StepFieldLaws.{limit-a, limit-b, v-sound, value-sound, fields-sound}
+use Rattle.format.specs.Fields.{limit-a, limit-b, v-sound, value-sound, fields-sound}
 use Rattle.book.specs.Book.{held-step}
 use Rattle.book.proofs.step_sound.Statement.{statement}
 use Rattle.book.proofs.step_sound.Tie as tie

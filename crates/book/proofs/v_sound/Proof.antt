@@ -3,7 +3,7 @@ use mathlib.Core.Path.{_∙_}
 use borrow.Author.Needs.{needs}
 use borrow.Author.Tests.{eq-eqb, ne-eqb}
 use Rattle.calculus.specs.Tests.{variable-sound}
-use Rattle.format.specs.StepFieldLaws.{v-sound}
+use Rattle.format.specs.Fields.{v-sound}
 use Rattle.book.proofs.v_sound.Statement.{statement}
 use Rattle.book.proofs.v_sound.Tie as tie
 

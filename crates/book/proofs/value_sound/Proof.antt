@@ -8,7 +8,7 @@ use mir.Facts.{toZ-ofZ}
 use mir.Syntax.{w64}
 use mir.Val.{toZ, ofZ}
 use Rattle.calculus.specs.Tests.{constant-sound, threshold-sound}
-use Rattle.format.specs.StepFieldLaws.{value-sound}
+use Rattle.format.specs.Fields.{value-sound}
 use Rattle.book.proofs.value_sound.Statement.{statement}
 use Rattle.book.proofs.value_sound.Tie as tie
 

@@ -6,7 +6,7 @@ use native.Mathlib.Omega.{arith}
 use borrow.Author.Needs.{needs}
 use lib.ListN.{length, getD, length-map}
 use Rattle.calculus.specs.Book.{most-steps}
-use Rattle.format.specs.HeldLaws.{Held-passes}
+use Rattle.format.specs.Held.{Held-passes}
 use Rattle.held.specs.declared.Model.{Model}
 use Rattle.held.specs.Held.{view}
 use Rattle.book.specs.declared.Book.{Book}

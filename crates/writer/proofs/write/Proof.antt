@@ -5,7 +5,7 @@ use native.Mathlib.Omega.{arith}
 use borrow.Author.Needs.{needs}
 use lib.ListN.{length}
 use Rattle.format.specs.Format.{models-bytes, sheet-bytes}
-use Rattle.format.specs.HeldLaws.{Held-passes}
+use Rattle.format.specs.Held.{Held-passes}
 use Rattle.format.specs.ReadBackLaws.{sheet-length, models-short}
 use Rattle.book.specs.declared.Book.{Book}
 use Rattle.book.specs.Book.{held-book}

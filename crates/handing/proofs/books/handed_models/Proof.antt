@@ -1,9 +1,9 @@
 -- `handed_models` stores the models one after the other.
-use mathlib.Core.Path.{_≡_, refl, sym, _∙_, ap}
+use mathlib.Core.Path.{_≡_, refl}
 use Prim.Native.Nat.{_+_, _*_, _≤_, _-_}
 use native.Mathlib.Omega.{arith}
 use borrow.Author.Needs.{needs}
-use lib.ListN.{length, getD}
+use lib.ListN.{length}
 use Rattle.calculus.specs.Model.{most-terms}
 use Rattle.calculus.specs.Book.{most-models}
 use Rattle.held.specs.Arrays.{padded}

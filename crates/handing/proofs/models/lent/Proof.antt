@@ -1,5 +1,5 @@
 -- `lent` compares each length with the places that are named.
-use mathlib.Core.Path.{sym, _∙_}
+use mathlib.Core.Path.{sym}
 use borrow.Author.Needs.{needs}
 use borrow.Author.Tests.{le-leb, lt-leb}
 use Rattle.calculus.specs.Model.{most-terms}
