@@ -2,13 +2,17 @@
 
 use crate::products::{keys, model, Kind};
 use crate::timing::best;
+use hechroung::Model;
 use reference::book::{Step, ADD, INPUT, MULTIPLY};
 use reference::generate::{Draft, DraftModel, Random};
+use reference::stored::StoredModel;
 use reference::{run::run_sheet, sheet, text};
 use std::hint::black_box;
 
 const INPUTS: usize = 16;
 const ROUNDS: usize = 20;
+/// The order of the largest sheets.
+const ORDER: u8 = 15;
 /// The most models and steps.
 const MODELS: usize = 16;
 const STEPS: usize = 64;
@@ -30,6 +34,63 @@ pub fn print(random: &mut Random) {
     );
     read_row("read, largest", STEPS, &largest);
     println!();
+    products_row(&largest);
+}
+
+/// The largest run beside the sum of its products, each made again by a single call on the same operands.
+fn products_row(sheets: &[Vec<u8>]) {
+    let products: Vec<Vec<(Model, Model)>> = sheets.iter().map(|sheet| products(sheet)).collect();
+    let [run, calls] = best(ROUNDS, sheets.len(), |way, input| match way {
+        0 => {
+            let _ = black_box(hechroung::run(&sheets[input]));
+        }
+        _ => {
+            for (f, g) in &products[input] {
+                let _ = black_box(hechroung::multiply(ORDER, f, g));
+            }
+        }
+    });
+    println!("| Largest run, µs | Its products as single calls, µs | Run / products |");
+    println!("|---|---|---|");
+    println!("| {run:.1} | {calls:.1} | {:.2} |", run / calls);
+    println!();
+}
+
+/// The operands of each product of a sheet of inputs and products.
+fn products(sheet: &[u8]) -> Vec<(Model, Model)> {
+    let book = sheet::read(sheet).book;
+    let mut results: Vec<Model> = Vec::new();
+    let mut products = Vec::new();
+    for step in &book.steps[..book.step_count] {
+        let result = if step.code == INPUT {
+            handed(&book.models[usize::from(step.a)])
+        } else {
+            let f = results[usize::from(step.a)];
+            let g = results[usize::from(step.b)];
+            products.push((f, g));
+            hechroung::multiply(ORDER, &f, &g).model
+        };
+        results.push(result);
+    }
+    let last = hechroung::run(sheet);
+    assert_eq!(last.refusal, None, "the largest sheet is accepted");
+    assert_eq!(
+        results.last(),
+        Some(&last.model),
+        "the single calls end where the run does"
+    );
+    products
+}
+
+/// A model of the second implementation as the wrapper has it.
+fn handed(stored: &StoredModel) -> Model {
+    Model {
+        n: stored.n,
+        count: stored.count,
+        radius: stored.radius,
+        keys: std::array::from_fn(|place| stored.terms[place].key),
+        coefficients: std::array::from_fn(|place| stored.terms[place].coefficient),
+    }
 }
 
 fn run_row(name: &str, steps: usize, sheets: &[Vec<u8>]) {
@@ -114,7 +175,7 @@ pub fn largest(random: &mut Random, count: usize) -> Vec<u8> {
         steps.push(Step::two(MULTIPLY, last, random.byte(0, 1)));
     }
     steps.truncate(count);
-    Draft::new(4, 15, models, steps).bytes()
+    Draft::new(4, ORDER, models, steps).bytes()
 }
 
 /// Small coefficients but for the constant one, so that 62 products in a row keep the same 64 terms.
