@@ -47,7 +47,7 @@ answers (done s) r e v = record { result = s; is-done = refl; is-packed = e }
 answers (stopped q i) r e v = let z : _≡_ {A = ℕ} 0 1 = cc in absurd (omega arith)
 
 -- the struct holds what was packed, if that was sound
-summary-back : (s : B.Summary) → view (pack (s .model)) ≡ s .model → summary-of (run-answer (done s)) ≡ s
+pub summary-back : (s : B.Summary) → view (pack (s .model)) ≡ s .model → summary-of (run-answer (done s)) ≡ s
 unfolding summary-of run-answer stored-ends ends-of
 summary-back s e = ap (λ m. record { model = m; range = s .range; integral = s .integral }) e
 

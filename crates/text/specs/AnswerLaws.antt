@@ -14,7 +14,8 @@ use Rattle.held.specs.HeldLaws.{view-pack-sound, cause-refusal}
 use Rattle.format.specs.Format.{run-sheet}
 use Rattle.format.specs.Lines.{lines, printed}
 use Rattle.sheet.specs.declared.Summary.{Summary}
-use Rattle.sheet.specs.Sheet.{stored-ends, refused-summary, run-answer, ends-of, summary-of}
+use Rattle.sheet.specs.Sheet.{refused-summary, run-answer, summary-of}
+use Rattle.sheet.specs.SheetLaws.{summary-back}
 use Rattle.text.specs.Text.{refusal-line}
 use Rattle.text.specs.LineLaws.{refused-line}
 use Rattle.text.specs.RunLaws.{printed-run, accepted-run}
@@ -28,10 +29,6 @@ pub record Accepts (s : List ℕ) (a : Summary) : Type 0 where
 packed-back : (r : B.Summary) → T (sound most-degree (r .model)) → view (pack (r .model)) ≡ r .model
 packed-back r h = view-pack-sound most-degree (r .model) (omega arith) h
 
-summary-back : (r : B.Summary) → T (sound most-degree (r .model)) → summary-of (run-answer (done r)) ≡ r
-unfolding summary-of run-answer stored-ends ends-of
-summary-back r h = ap (λ m. record { model = m; range = r .range; integral = r .integral }) (packed-back r h)
-
 accepts-of : (s : List ℕ) (x : Result B.Summary) (a : Summary) → run-sheet s ≡ x → a ≡ run-answer x
     → a .verdict ≡ Accepted → Accepts s a
 unfolding run-answer refused-summary
@@ -40,7 +37,7 @@ accepts-of s (done r) a h e v =
     record {
       model = subst (λ m. T (sound most-degree m))
           (sym (ap (λ (t : Summary). view (t .model)) e ∙ packed-back r (g .model))) (g .model);
-      text = ap (λ t. lines (done t)) (ap summary-of e ∙ summary-back r (g .model)) ∙ ap lines (sym h)
+      text = ap (λ t. lines (done t)) (ap summary-of e ∙ summary-back r (packed-back r (g .model))) ∙ ap lines (sym h)
           ∙ sym (printed-run s);
     }
 accepts-of s (stopped q i) a h e v = let z : _≡_ {A = ℕ} 0 1 = cc in absurd (omega arith)

@@ -1,6 +1,6 @@
 -- What is known of a sheet's run: it does not look past the limit, and an accepted result is a sound model.
 use mathlib.Core.Path.{_≡_, refl, sym, _∙_, ap}
-use mathlib.Core.Bool.{Bool, true, false, _&&_}
+use mathlib.Core.Bool.{false, _&&_}
 use mathlib.Core.List.{List}
 use Prim.Native.Nat.{ℕ, suc, _≤_, _<_}
 use native.Mathlib.Decide.{decLe}
@@ -16,6 +16,7 @@ use Rattle.calculus.specs.TestLaws.{and-right}
 use Rattle.calculus.specs.BookLaws.{Ran, sound-ran}
 use Rattle.calculus.specs.BookSoundLaws.{result-sound}
 use Rattle.substitute.specs.AnswerLaws.{sound-order}
+use Rattle.format.specs.ReadLoopLaws.{and-false}
 use Rattle.format.specs.Held.{Held-book, view-book, outline, outline-of, Held-passes}
 use Rattle.format.specs.Format.{shortest, longest, read, run-sheet}
 use Rattle.format.specs.Lines.{lines, printed}
@@ -25,11 +26,8 @@ use Rattle.format.specs.WriteBackLaws.{Came, came, read-passes}
 -- ---- a sheet that is too long
 long-refused : (s : List ℕ) → longest < length s → run-sheet s ≡ stopped bad-length 0
 unfolding run-sheet read between require-at _followed-by_
-long-refused s h = rw (lt-leb (length s) longest h, and-none (leb shortest (length s)), require-at, _followed-by_)
-  where
-    and-none : (a : Bool) → a && false ≡ false
-    and-none true = refl
-    and-none false = refl
+long-refused s h =
+    rw (lt-leb (length s) longest h, and-false (leb shortest (length s)) false refl, require-at, _followed-by_)
 
 -- what the program reads of its input is run as the whole of it
 pub printed-run : (s : List ℕ) → printed s ≡ lines (run-sheet s)

@@ -12,10 +12,11 @@ use Rattle.held.specs.Held.{view}
 use Rattle.book.specs.declared.Book.{Book}
 use Rattle.book.specs.declared.Step.{Step}
 use Rattle.book.specs.Book.{no-step, held-step, held-book}
+use Rattle.book.specs.FailingLaws.{count-steps}
 use Rattle.sheet.specs.RunLaws.{empty-place, Running, Named, Step-at, running-first, first-place, second-place}
 use Rattle.sheet.specs.RunLaws.{model-place, step-ready, step-refused, step-accepted}
 use Rattle.sheet.specs.RunLaws.{last-sound, last-packed, last-answer}
-use Rattle.sheet.specs.MemoryLaws.{step-count, few-steps, some-step, step-here, model-here}
+use Rattle.sheet.specs.MemoryLaws.{few-steps, some-step, step-here, model-here}
 use Rattle.sheet.specs.Sheet.{refused-summary, verdict-at}
 use Rattle.sheet.proofs.run_passed.Statement.{statement}
 use Rattle.sheet.proofs.run_passed.Tie as tie
@@ -235,12 +236,12 @@ module _ (c : tie.After-last Inv-loop μ-loop) where
   ended : Running (held-book whole) (length (held-book whole .steps)) (end .loop .results)
   ended =
       let e : end .loop .i ≡ length (held-book whole .steps) =
-      omega (arith, end .loop .inv .0, c .before .loop-test .left, step-count whole) in
+      omega (arith, end .loop .inv .0, c .before .loop-test .left, count-steps whole) in
       subst (λ i. Running (held-book whole) i (end .loop .results)) e (end .loop .inv .1)
 
   is-last : getD (end .loop .results) (whole .«step_count» - 1) empty-place
       ≡ getD (end .loop .results) (length (held-book whole .steps) - 1) empty-place
-  is-last = ap (λ k. getD (end .loop .results) (k - 1) empty-place) (sym (step-count whole))
+  is-last = ap (λ k. getD (end .loop .results) (k - 1) empty-place) (sym (count-steps whole))
 
 summarized-requires : tie.Need-summarized-requires Inv-loop μ-loop
 summarized-requires c κs =
