@@ -1,5 +1,3 @@
-pub mod Calls
-pub mod CallsLaws
 pub mod Books
 pub mod BooksLaws
 pub mod Sheets

@@ -5,15 +5,13 @@ ghost use lib.Dec.{leb};
 ghost use lib.ListN.{length};
 ghost use Rattle.format.specs.Format.{read};
 ghost use Rattle.book.specs.Book.{«held-book», «read-answer»};
-ghost use Rattle.handing.specs.Books.{«step-places», «handed-steps», «model-places», «handed-models»};
-ghost use Rattle.handing.specs.Books.{«handed-book»};
+ghost use Rattle.handbook.specs.Books.{«step-places», «handed-steps», «model-places», «handed-models»};
+ghost use Rattle.handbook.specs.Books.{«handed-book»};
 ghost use Rattle.exports.specs.Books.{«book-fits», «written-state», «stored-written»};
 ghost use Rattle.exports.specs.Books.{«write-state», «called-write», «called-rewrite»};
 use super::MISUSED;
 use book::Book;
 use book::Written;
-use handing::books;
-use handing::models;
 use held::Verdict;
 
 // The numbers of a write's answer: the refusal's place and the length.
@@ -29,10 +27,10 @@ fn book_fits(
 ) -> bool
     ensures { λ r. ⌜ r ≡ book-fits «model_count» models «step_count» steps numbers ⌝ }
 {
-    if models < models::least(model_count, book::MOST_MODELS) {
+    if models < handing::least(model_count, book::MOST_MODELS) {
         return false;
     }
-    if steps < models::least(step_count, book::MOST_STEPS) {
+    if steps < handing::least(step_count, book::MOST_STEPS) {
         return false;
     }
     NUMBERS <= numbers
@@ -44,9 +42,9 @@ fn store_written(w: Written, numbers: &mut [u64]) -> u8
     ensures { λ r. ⌜ written-state r (now (numbers .exit)) ≡ stored-written w (now (numbers .entry)) ⌝ }
 {
     let v = w.verdict;
-    numbers[0] = models::verdict_place(v) as u64;
+    numbers[0] = handing::verdict_place(v) as u64;
     numbers[1] = w.length as u64;
-    models::verdict_number(v)
+    handing::verdict_number(v)
 }
 
 // A book is written as a sheet into the buffer: the refusal's number, 0 without one, or MISUSED. The refusal's place
@@ -79,14 +77,14 @@ pub extern "C" fn hechroung_write(
         (handed-steps (now (fields .entry)) (now (values .entry)))))
         (now (buffer .entry)) (now (numbers .entry)) ⌝ }
 {
-    let models = books::model_places(
+    let models = handbook::model_places(
         ns.len(),
         counts.len(),
         radii.len(),
         keys.len(),
         coefficients.len(),
     );
-    let steps = books::step_places(fields.len(), values.len());
+    let steps = handbook::step_places(fields.len(), values.len());
     if !book_fits(modelcount, models, stepcount, steps, numbers.len()) {
         return MISUSED;
     }
@@ -95,8 +93,8 @@ pub extern "C" fn hechroung_write(
         d: d,
         model_count: modelcount,
         step_count: stepcount,
-        models: books::handed_models(ns, counts, radii, keys, coefficients),
-        steps: books::handed_steps(fields, values),
+        models: handbook::handed_models(ns, counts, radii, keys, coefficients),
+        steps: handbook::handed_steps(fields, values),
     };
     let w = writer::write(b, buffer);
     store_written(w, numbers)

@@ -12,7 +12,6 @@ ghost use Rattle.text.specs.Text.{laid};
 ghost use Rattle.handing.specs.Models.{«model-room»};
 ghost use Rattle.exports.specs.Sheets.{«four-ends», «run-state», «stored-summary», «called-run»};
 use super::MISUSED;
-use handing::models;
 use sheet::Ends;
 use sheet::Summary;
 
@@ -52,10 +51,10 @@ fn store_summary(
     let v = s.verdict;
     let range = s.range;
     let integral = s.integral;
-    models::store_terms(m, keys, coefficients);
-    models::store_numbers(models::verdict_place(v), m, numbers);
+    handing::store_terms(m, keys, coefficients);
+    handing::store_numbers(handing::verdict_place(v), m, numbers);
     store_ends(range, integral, ends);
-    models::verdict_number(v)
+    handing::verdict_number(v)
 }
 
 // A sheet is run: the refusal's number, 0 without one, or MISUSED. The result's 64 keys and coefficients go into two
@@ -75,7 +74,7 @@ pub extern "C" fn hechroung_run(
         (run-answer (run-sheet (now (sheet .entry))))
         (now (keys .entry)) (now (coefficients .entry)) (now (numbers .entry)) (now (ends .entry)) ⌝ }
 {
-    if !models::model_room(keys.len(), coefficients.len(), numbers.len()) {
+    if !handing::model_room(keys.len(), coefficients.len(), numbers.len()) {
         return MISUSED;
     }
     if ends.len() < ENDS {
@@ -98,7 +97,7 @@ pub extern "C" fn hechroung_print(sheet: &[u8], lines: &mut [u8]) -> usize
 fn copy(bytes: &[u8], out: &mut [u8])
     ensures { λ r. ⌜ now (out .exit) ≡ laid (now (bytes .entry)) (now (out .entry)) ⌝ }
 {
-    let places = models::least(bytes.len(), out.len());
+    let places = handing::least(bytes.len(), out.len());
     let mut i = 0;
     while i < places {
         out[i] = bytes[i];

@@ -1,4 +1,2 @@
 pub mod Models
 pub mod ModelsLaws
-pub mod Books
-pub mod BooksLaws

@@ -3,7 +3,7 @@ use mathlib.Core.Path.{sym, _∙_, ap}
 use borrow.Author.Needs.{needs}
 use borrow.Author.Tests.{not-true, not-false}
 use Rattle.exports.specs.Books.{Written-numbers, written-state, answered-write, write-book}
-use Rattle.handing.specs.Books.{handed-book}
+use Rattle.handbook.specs.Books.{handed-book}
 use Rattle.exports.specs.Books.{called-write}
 use Rattle.exports.specs.BooksLaws.{fits-numbers}
 use Rattle.exports.proofs.books.hechroung_write.Statement.{statement}
