@@ -23,7 +23,7 @@ use std::thread;
 use std::time::Instant;
 
 /// What the gate runs.
-const CASES: u64 = 400_000;
+const CASES: u64 = 250_000;
 const SEED: u64 = 1;
 /// Failures that are printed; all are counted.
 const MOST_PRINTED: usize = 20;
