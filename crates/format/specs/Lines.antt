@@ -47,13 +47,21 @@ term-line t = line (text "term" ∷ (map decimal (t .exponents) ++ (signed-decim
 unfoldable pub ends-line : List ℕ → Ends → List ℕ
 ends-line word e = line (word ∷ signed-decimal (e .low) ∷ signed-decimal (e .high) ∷ [])
 
+-- `radius` and the radius
+unfoldable pub radius-line : ℕ → List ℕ
+radius-line e = line (text "radius" ∷ decimal e ∷ [])
+
+-- `refused`, number and place
+unfoldable pub refusal-line : (number place : ℕ) → List ℕ
+refusal-line number place = line (text "refused" ∷ decimal number ∷ decimal place ∷ [])
+
 -- the lines of a run
 unfoldable pub lines : Result Summary → List ℕ
 lines (done s) =
-    line (text "radius" ∷ decimal (s .model .radius) ∷ [])
+    radius-line (s .model .radius)
     ++ (join (map term-line (s .model .terms))
     ++ (ends-line (text "range") (s .range) ++ ends-line (text "integral") (s .integral)))
-lines (stopped r i) = line (text "refused" ∷ decimal (number r) ∷ decimal i ∷ [])
+lines (stopped r i) = refusal-line (number r) i
 
 -- what the program prints: of its input it reads at most one byte more than the largest sheet has
 unfoldable pub printed : (input : List ℕ) → List ℕ

@@ -12,12 +12,11 @@ use Rattle.held.specs.declared.Verdict.the-variants.{Accepted, Refused}
 use Rattle.held.specs.Held.{view, pack, refusal, cause}
 use Rattle.held.specs.HeldLaws.{view-pack-sound, cause-refusal}
 use Rattle.format.specs.Format.{run-sheet}
-use Rattle.format.specs.Lines.{lines, printed}
+use Rattle.format.specs.Lines.{refusal-line, lines, printed}
 use Rattle.sheet.specs.declared.Summary.{Summary}
 use Rattle.sheet.specs.Sheet.{refused-summary, run-answer, summary-of}
 use Rattle.sheet.specs.SheetLaws.{summary-back}
-use Rattle.text.specs.Text.{refusal-line}
-use Rattle.text.specs.LineLaws.{refused-line}
+use Rattle.lines.specs.LineLaws.{refused-line}
 use Rattle.text.specs.RunLaws.{printed-run, accepted-run}
 
 -- an accepted answer: a sound model, and its lines are the text

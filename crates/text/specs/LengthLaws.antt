@@ -31,12 +31,14 @@ use Rattle.bounds.specs.Bounds.{rule}
 use Rattle.bounds.specs.BoundsLaws.{range-within, integral-within, volume-le}
 use Rattle.format.specs.Bytes.{join}
 use Rattle.format.specs.Format.{run-sheet}
-use Rattle.format.specs.Lines.{text, decimal, signed-decimal, term-line, ends-line, lines, printed}
+use Rattle.format.specs.Lines.{text, decimal, signed-decimal, term-line, ends-line, radius-line, refusal-line}
+use Rattle.format.specs.Lines.{lines, printed}
 use Rattle.format.specs.LinesLaws.{decimal-digit, decimal-more}
-use Rattle.text.specs.Text.{laid, most-text, natural, integer, radius-line, refusal-line}
+use Rattle.decimal.specs.Put.{natural, integer}
+use Rattle.lines.specs.LineLaws.{line-end, radius-pieces, refusal-pieces, ends-pieces, term-pieces, lines-pieces}
+use Rattle.lines.specs.LineLaws.{refused-line}
+use Rattle.text.specs.Text.{laid, most-text}
 use Rattle.text.specs.TextLaws.{laid-whole}
-use Rattle.text.specs.LineLaws.{line-end, radius-pieces, refusal-pieces, ends-pieces, term-pieces, lines-pieces}
-use Rattle.text.specs.LineLaws.{refused-line}
 use Rattle.text.specs.PlaceLaws.{near-sheet, near-place}
 use Rattle.text.specs.RunLaws.{printed-run, accepted-run}
 

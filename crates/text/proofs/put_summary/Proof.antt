@@ -8,11 +8,12 @@ use mir.Val.{toZ, ofZ}
 use Rattle.calculus.specs.Book.{Summary}
 use Rattle.held.specs.Held.{view}
 use Rattle.format.specs.Bytes.{join}
-use Rattle.format.specs.Lines.{text, term-line, ends-line}
+use Rattle.format.specs.Lines.{text, term-line, ends-line, radius-line}
 use Rattle.sheet.specs.Sheet.{ends-of, summary-of}
-use Rattle.text.specs.Text.{Put, Room, ends, radius-line}
-use Rattle.text.specs.TextLaws.{_then-put_, put-as}
-use Rattle.text.specs.LineLaws.{room-before, room-behind, lines-pieces, ends-back}
+use Rattle.decimal.specs.Put.{Put, Room}
+use Rattle.decimal.specs.PutLaws.{_then-put_, put-as, room-before, room-behind}
+use Rattle.lines.specs.Parts.{ends}
+use Rattle.lines.specs.LineLaws.{lines-pieces, ends-back}
 use Rattle.text.proofs.put_summary.Statement.{statement}
 use Rattle.text.proofs.put_summary.Tie as tie
 
