@@ -4,7 +4,6 @@ pub mod TestedLaws
 pub mod CodeLaws
 pub mod Failing
 pub mod FailingLaws
-pub mod VerdictLaws
 pub mod Cleared
 pub mod UndoLaws
 pub mod Zeros

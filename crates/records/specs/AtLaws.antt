@@ -1,19 +1,16 @@
--- Laws of a place: what the record there is, and how long; laws of opening, from the verdict of a read.
+-- Laws of a place: what the record there is; laws of opening, from the verdict of a read.
 use mathlib.Core.Path.{_≡_, refl, sym, _∙_, ap, ap₂, subst}
-use mathlib.Core.Bool.{Bool, true, false, cond}
 use mathlib.Core.List.{List, []}
-use Prim.Native.Nat.{ℕ, zero, suc, _+_, _-_, _*_, _≤_, _<_}
+use Prim.Native.Nat.{ℕ, zero, suc, _+_, _-_, _≤_, _<_}
 use native.Mathlib.Omega.{arith}
 use borrow.Author.Tests.{lt-ltb, le-ltb}
-use lib.Dec.{ltb}
 use lib.ListN.{length, drop, length-append}
-use lib.Seq.{drop-drop}
 use Rattle.calculus.specs.Refusal.{number, Result, done, stopped, _followed-by_, returned}
 use Rattle.held.specs.declared.Refusal.{Refusal}
 use Rattle.held.specs.declared.Verdict.the-variants.{Accepted, Refused}
 use Rattle.held.specs.Held.{verdict-number, verdict-place}
 use Rattle.held.specs.HeldLaws.{cause-refusal}
-use Rattle.format.specs.Bytes.{byte, All-bytes, u16}
+use Rattle.format.specs.Bytes.{byte, All-bytes}
 use Rattle.format.specs.Held.{Held-book}
 use Rattle.format.specs.Format.{shortest, model-length, trailer-of, read-trailer, read}
 use Rattle.format.specs.Format.{model-records, step-records, records, opened, returned-records}
@@ -21,32 +18,12 @@ use Rattle.format.specs.ReadLoopLaws.{byte-at}
 use Rattle.format.specs.ReadBackLaws.{sheet-shortest}
 use Rattle.format.specs.WriteBackLaws.{read-passes, read-sheet}
 use Rattle.book.specs.Book.{verdict, read-answer}
-use Rattle.records.specs.Records.{first-step, record-size, kind-at, start-of, start, start-answer}
+use Rattle.places.specs.Places.{first-step}
+use Rattle.records.specs.Records.{kind-at, start-of, start, start-answer}
 use Rattle.records.specs.declared.Kind.the-variants.{Model, Step, End}
 
 -- ---- at a place
-module _ (s : List ℕ) where
-  pub first-step-is : first-step s ≡ u16 (drop (length s - 8 + 4) s)
-  unfolding first-step read-trailer trailer-of
-  first-step-is = ap u16 (drop-drop 4 (length s - 8) s)
-
 module _ (s : List ℕ) (at : ℕ) where
-  pub size-model : at < first-step s → record-size s at ≡ 5 + 6 * byte (at + 4) s
-  unfolding record-size model-length
-  size-model h = rw (lt-ltb at (first-step s) h, byte-at at 4 s)
-
-  pub size-step : first-step s ≤ at → record-size s at ≡ 8
-  unfolding record-size
-  size-step h = rw (le-ltb at (first-step s) h)
-
-  pub size-some : 5 ≤ record-size s at
-  unfolding record-size model-length
-  size-some = go (ltb at (first-step s))
-    where
-      go : (t : Bool) → 5 ≤ cond t (5 + 6 * byte 4 (drop at s)) 8
-      go true = omega arith
-      go false = omega arith
-
   pub kind-none : length s - 8 ≤ at → kind-at s at ≡ End
   unfolding kind-at
   kind-none h = rw (le-ltb at (length s - 8) h)

@@ -1,14 +1,15 @@
--- Stepping through a sheet by places: what stands at a place, where the next record stands, and what opening answers.
+-- Stepping through a sheet by places: what stands at a place, what opening answers, and where asking again leads.
 use mathlib.Core.Bool.{cond}
 use mathlib.Core.List.{List, [], _∷_}
 use mathlib.Core.Option.{Option, none, some}
-use Prim.Native.Nat.{ℕ, zero, suc, _+_, _-_, min}
+use Prim.Native.Nat.{ℕ, zero, suc, _+_, _-_}
 use lib.Dec.{ltb}
-use lib.ListN.{length, take, drop}
+use lib.ListN.{length}
 use denote.Ref.{RefT, now}
 use Rattle.calculus.specs.Refusal.{Result, done, stopped}
-use Rattle.format.specs.Format.{model-length, trailer-of, read-trailer, opened, handed-out}
+use Rattle.format.specs.Format.{opened, handed-out}
 use Rattle.book.specs.Book.{verdict}
+use Rattle.places.specs.Places.{first-step, next-at, bytes-at}
 use Rattle.records.specs.declared.Records.{Records}
 use Rattle.records.specs.declared.Opened.{Opened}
 use Rattle.records.specs.declared.Start.{Start}
@@ -16,27 +17,7 @@ use Rattle.records.specs.declared.Kind.{Kind}
 use Rattle.records.specs.declared.Kind.the-variants.{Model, Step, End}
 
 -- ---- by places
--- where the first step stands, by the trailer
-unfoldable pub first-step : List ℕ → ℕ
-first-step s = read-trailer (trailer-of s) .offset
-
--- how long the record at a place should be: a model's length is found by its term count, a step's is 8
-unfoldable pub record-size : List ℕ → (at : ℕ) → ℕ
-record-size s at = cond (ltb at (first-step s)) (model-length (drop at s)) 8
-
--- how long it is: no record reaches into the trailer, and from the trailer on there is none
-unfoldable pub length-at : List ℕ → (at : ℕ) → ℕ
-length-at s at = min (record-size s at) (length s - 8 - at)
-
--- where the next one stands: the place itself where there is none
-unfoldable pub next-at : List ℕ → (at : ℕ) → ℕ
-next-at s at = at + length-at s at
-
--- its bytes: empty where there is none
-unfoldable pub bytes-at : List ℕ → (at : ℕ) → List ℕ
-bytes-at s at = take (length-at s at) (drop at s)
-
--- whether it is a model or a step
+-- whether the record there is a model or a step
 unfoldable pub kind-at : List ℕ → (at : ℕ) → Kind
 kind-at s at = cond (ltb at (length s - 8)) (cond (ltb at (first-step s)) Model Step) End
 

@@ -18,12 +18,14 @@ use Rattle.format.specs.RecordLaws.{book-records, records-are, records-joined, 
 use Rattle.format.specs.PlaceLaws.{record-place, next-place, last-place, trailer-eight, here, model-size, step-size}
 use Rattle.format.specs.PlaceLaws.{model-before, step-after}
 use Rattle.records.specs.declared.Records.{Records}
-use Rattle.records.specs.Records.{first-step, record-size, length-at, next-at, bytes-at, start-of, start}
+use Rattle.places.specs.Places.{first-step, record-size, length-at, next-at, bytes-at}
+use Rattle.places.specs.PlacesLaws.{size-step, size-some}
+use Rattle.records.specs.Records.{start-of, start}
 use Rattle.records.specs.Records.{opening, advanced, at-hand, stepped, place-after, walk, if-any, bytes-of}
 use Rattle.records.specs.Records.{record-bytes}
 use Rattle.records.specs.Records.{kind-at, kind-of}
 use Rattle.records.specs.declared.Kind.the-variants.{Model, Step, End}
-use Rattle.records.specs.AtLaws.{size-step, size-some, kind-none, kind-model, kind-step, value-accepted}
+use Rattle.records.specs.AtLaws.{kind-none, kind-model, kind-step, value-accepted}
 
 -- ---- lists
 -- the element there is where there is one

@@ -1,9 +1,7 @@
 // Stepping through a sheet record by record without copying it.
 ghost use mathlib.Core.Path.{_≡_};
-ghost use Prim.Native.Nat.{_+_, _≤_, _<_};
 ghost use lib.ListN.{length};
 ghost use Rattle.format.specs.Format.{«returned-records»};
-ghost use Rattle.records.specs.Records.{«first-step», «record-size», «length-at», «next-at», «bytes-at»};
 ghost use Rattle.records.specs.Records.{«kind-at», «start-answer», «record-bytes»};
 ghost use Rattle.records.specs.Records.{opening, advanced, «at-hand»};
 use held::Verdict;
@@ -34,69 +32,7 @@ pub struct Opened<'a> {
 }
 
 // ---- the work, on a slice and a place
-// Where the first step stands, by the trailer.
-fn first_step(s: &[u8]) -> usize
-    requires { ⌜ 8 ≤ length (now s) ⌝ }
-    ensures { λ r. ⌜ r ≡ first-step (now (s .entry)) ⌝ }
-{
-    let end = s.len() - 8;
-    reader::u16_at(s, end + 4) as usize
-}
-
-// How long the record at a place should be: a model's by its term count.
-fn size_at(s: &[u8], at: usize) -> usize
-    requires { ⌜ at + 8 < length (now s) ⌝ }
-    ensures { λ r. ⌜ r ≡ record-size (now (s .entry)) at ⌝ }
-{
-    let first = first_step(s);
-    if at < first {
-        let count = s[at + 4] as usize;
-        return 5 + 6 * count;
-    }
-    8
-}
-
-// How long it is: 0 where there is none.
-pub fn length_at(s: &[u8], at: usize) -> usize
-    ensures { λ r. ⌜ r ≡ length-at (now (s .entry)) at ⌝ }
-{
-    let length = s.len();
-    if length < 8 {
-        return 0;
-    }
-    let end = length - 8;
-    if end <= at {
-        return 0;
-    }
-    let left = end - at;
-    let size = size_at(s, at);
-    if left < size {
-        return left;
-    }
-    size
-}
-
-// Where the record behind it stands: the place itself where there is none.
-pub fn next_at(s: &[u8], at: usize) -> usize
-    ensures { λ r. ⌜ r ≡ next-at (now (s .entry)) at ⌝ }
-{
-    let length = length_at(s, at);
-    at + length
-}
-
-// Its bytes: empty where there is none.
-pub fn bytes_at(s: &[u8], at: usize) -> &[u8]
-    ensures { λ r. ⌜ now r ≡ bytes-at (now (s .entry)) at ⌝ }
-{
-    let length = length_at(s, at);
-    if length == 0 {
-        return &s[0..0];
-    }
-    let next = at + length;
-    &s[at..next]
-}
-
-// Whether it is a model or a step.
+// Whether the record at a place is a model or a step.
 pub fn kind_at(s: &[u8], at: usize) -> Kind
     ensures { λ r. ⌜ r ≡ kind-at (now (s .entry)) at ⌝ }
 {
@@ -108,7 +44,7 @@ pub fn kind_at(s: &[u8], at: usize) -> Kind
     if trailer <= at {
         return Kind::End;
     }
-    let first = first_step(s);
+    let first = places::first_step(s);
     if first <= at {
         return Kind::Step;
     }
@@ -157,10 +93,10 @@ pub fn record(sheet: &[u8], i: usize) -> &[u8]
     let mut at = 0;
     let mut k = 0;
     while k < i {
-        at = next_at(sheet, at);
+        at = places::next_at(sheet, at);
         k += 1;
     }
-    bytes_at(sheet, at)
+    places::bytes_at(sheet, at)
 }
 
 // ---- over the struct
@@ -183,7 +119,7 @@ impl<'a> Records<'a> {
     pub fn bytes(self) -> &'a [u8]
         ensures { λ b. ⌜ now b ≡ at-hand (self .entry) ⌝ }
     {
-        bytes_at(self.sheet, self.at)
+        places::bytes_at(self.sheet, self.at)
     }
 
     // Whether a model or a step is at hand.
@@ -199,7 +135,7 @@ impl<'a> Records<'a> {
     {
         let sheet = self.sheet;
         let at = self.at;
-        self.at = next_at(sheet, at);
-        bytes_at(sheet, at)
+        self.at = places::next_at(sheet, at);
+        places::bytes_at(sheet, at)
     }
 }

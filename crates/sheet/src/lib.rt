@@ -147,7 +147,7 @@ pub fn run_book(b: Book) -> Summary
     ensures exact { λ r. ⌜ r ≡ run-answer (run-held (held-book b)) ⌝ }
     ensures encloses { λ r. ⌜ Encloses-book (held-book b) r ⌝ }
 {
-    let v = book::tested(b);
+    let v = booktest::tested(b);
     let Verdict::Accepted = v else {
         return refused(v);
     };

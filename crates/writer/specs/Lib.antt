@@ -1,7 +1,3 @@
-pub mod Fitting
-pub mod BitsLaws
-pub mod PutLaws
 pub mod StoreLaws
-pub mod FittingLaws
 pub mod WriteLaws
 pub mod AnswerLaws

@@ -1,204 +1,11 @@
 // Writing a book into a lent buffer as a sheet: tests 3, 5, 6 and 11 come first, so a refused write changes no byte.
 ghost use mathlib.Core.Path.{_≡_};
-ghost use Prim.Native.Nat.{_+_, _*_, _^_, _<_, _≤_};
-ghost use mathlib.Core.List.{map};
-ghost use lib.IntN.{natAbs};
-ghost use lib.ListN.{length};
-ghost use lib.Seq.{sets};
-ghost use Rattle.format.specs.Bytes.{join, «u16-bytes», «u32-bytes», bits};
-ghost use Rattle.format.specs.Format.{«term-bytes», «model-bytes», «step-bytes», «models-bytes», «trailer-bytes»};
 ghost use Rattle.format.specs.Format.{write, written};
-ghost use Rattle.format.specs.Held.{Held-passes};
-ghost use Rattle.book.specs.Book.{«held-model», «held-step», «held-book», «write-answer»};
-ghost use Rattle.writer.specs.Fitting.{Model-fits};
+ghost use Rattle.book.specs.Book.{«held-book», «write-answer»};
 use book::Book;
-use book::Step;
 use book::Written;
-use held::Model;
 use held::Refusal;
 use held::Verdict;
-
-// The bytes of a model's radius and count.
-const HEAD_BYTES: usize = 5;
-
-// Those of a term.
-const TERM_BYTES: usize = 6;
-
-// Those of a step.
-const STEP_BYTES: usize = 8;
-
-// Those of the trailer.
-const TRAILER_BYTES: usize = 8;
-
-// What two's complement adds to a negative number.
-const WORD: i64 = 1 << 32;
-
-// The last byte of a sheet but one.
-const FIRST_MARK: u8 = 0x4D;
-
-// And the last.
-const SECOND_MARK: u8 = 0x4B;
-
-// ---- numbers, little-endian; the rest of the buffer stays
-
-// Two bytes.
-fn put_u16(buffer: &mut [u8], at: usize, x: u16)
-    requires { ⌜ at + 2 ≤ length (now buffer) ⌝ }
-    ensures { λ r. ⌜ now (buffer .exit) ≡ sets (now (buffer .entry)) at (u16-bytes x) ⌝ }
-{
-    buffer[at] = (x % 256) as u8;
-    buffer[at + 1] = (x / 256 % 256) as u8;
-}
-
-// Four bytes.
-fn put_u32(buffer: &mut [u8], at: usize, u: u32)
-    requires { ⌜ at + 4 ≤ length (now buffer) ⌝ }
-    ensures { λ r. ⌜ now (buffer .exit) ≡ sets (now (buffer .entry)) at (u32-bytes u) ⌝ }
-{
-    buffer[at] = (u % 256) as u8;
-    buffer[at + 1] = (u / 256 % 256) as u8;
-    buffer[at + 2] = (u / 256 / 256 % 256) as u8;
-    buffer[at + 3] = (u / 256 / 256 / 256 % 256) as u8;
-}
-
-// Two's complement in 32 bits. Coefficients and values that pass the tests are at most the span limit in size, which
-// `span-four-bytes` puts below 2^31.
-fn bits_of(z: i64) -> u32
-    requires { ⌜ natAbs z < 2 ^ 31 ⌝ }
-    ensures { λ r. ⌜ r ≡ bits z ⌝ }
-{
-    if z < 0 { (z + WORD) as u32 } else { z as u32 }
-}
-
-// Four bytes with a sign.
-fn put_i32(buffer: &mut [u8], at: usize, z: i64)
-    requires { ⌜ natAbs z < 2 ^ 31 ⌝ }
-    requires { ⌜ at + 4 ≤ length (now buffer) ⌝ }
-    ensures { λ r. ⌜ now (buffer .exit) ≡ sets (now (buffer .entry)) at (u32-bytes (bits z)) ⌝ }
-{
-    let u = bits_of(z);
-    put_u32(buffer, at, u);
-}
-
-// ---- records
-
-// A term.
-fn put_term(buffer: &mut [u8], at: usize, key: u16, coefficient: i64)
-    requires { ⌜ natAbs coefficient < 2 ^ 31 ⌝ }
-    requires { ⌜ at + 6 ≤ length (now buffer) ⌝ }
-    ensures { λ r. ⌜ now (buffer .exit)
-        ≡ sets (now (buffer .entry)) at (term-bytes (record { key = key; coefficient = coefficient })) ⌝ }
-{
-    put_u16(buffer, at, key);
-    put_i32(buffer, at + 2, coefficient);
-}
-
-// A model.
-fn put_model(buffer: &mut [u8], at: usize, m: Model)
-    requires { ⌜ Model-fits (held-model m) ⌝ }
-    requires { ⌜ at + length (model-bytes (held-model m)) ≤ length (now buffer) ⌝ }
-    ensures { λ r. ⌜ now (buffer .exit) ≡ sets (now (buffer .entry)) at (model-bytes (held-model m)) ⌝ }
-{
-    let count = m.count;
-    put_u32(buffer, at, m.radius as u32);
-    buffer[at + 4] = count as u8;
-    let mut place = at + HEAD_BYTES;
-    let mut i = 0;
-    while i < count {
-        let t = m.terms[i];
-        put_term(buffer, place, t.key, t.coefficient);
-        place += TERM_BYTES;
-        i += 1;
-    }
-}
-
-// The length of a model's record.
-fn model_size(m: Model) -> usize
-    requires { ⌜ Model-fits (held-model m) ⌝ }
-    ensures { λ r. ⌜ r ≡ length (model-bytes (held-model m)) ⌝ }
-{
-    HEAD_BYTES + TERM_BYTES * m.count
-}
-
-// The length of all models' records: the offset of the first step.
-fn models_size(b: Book) -> usize
-    requires { ⌜ Held-passes (held-book b) ⌝ }
-    ensures { λ r. ⌜ r ≡ length (models-bytes (held-book b)) ⌝ }
-{
-    let count = b.model_count;
-    let mut size = 0;
-    let mut k = 0;
-    while k < count {
-        let m = b.models[k];
-        size += model_size(m);
-        k += 1;
-    }
-    size
-}
-
-// All models, from the start on.
-fn put_models(buffer: &mut [u8], b: Book)
-    requires { ⌜ Held-passes (held-book b) ⌝ }
-    requires { ⌜ length (models-bytes (held-book b)) ≤ length (now buffer) ⌝ }
-    ensures { λ r. ⌜ now (buffer .exit) ≡ sets (now (buffer .entry)) 0 (models-bytes (held-book b)) ⌝ }
-{
-    let count = b.model_count;
-    let mut place = 0;
-    let mut k = 0;
-    while k < count {
-        let m = b.models[k];
-        put_model(buffer, place, m);
-        place += model_size(m);
-        k += 1;
-    }
-}
-
-// A step.
-fn put_step(buffer: &mut [u8], at: usize, s: Step)
-    requires { ⌜ natAbs (s .value) < 2 ^ 31 ⌝ }
-    requires { ⌜ at + 8 ≤ length (now buffer) ⌝ }
-    ensures { λ r. ⌜ now (buffer .exit) ≡ sets (now (buffer .entry)) at (step-bytes (held-step s)) ⌝ }
-{
-    buffer[at] = s.code;
-    buffer[at + 1] = s.a;
-    buffer[at + 2] = s.b;
-    buffer[at + 3] = s.v;
-    put_i32(buffer, at + 4, s.value);
-}
-
-// All steps.
-fn put_steps(buffer: &mut [u8], at: usize, b: Book)
-    requires { ⌜ Held-passes (held-book b) ⌝ }
-    requires { ⌜ at + 8 * b .«step_count» ≤ length (now buffer) ⌝ }
-    ensures { λ r. ⌜ now (buffer .exit)
-        ≡ sets (now (buffer .entry)) at (join (map step-bytes (held-book b .steps))) ⌝ }
-{
-    let count = b.step_count;
-    let mut place = at;
-    let mut k = 0;
-    while k < count {
-        let s = b.steps[k];
-        put_step(buffer, place, s);
-        place += STEP_BYTES;
-        k += 1;
-    }
-}
-
-// The trailer: n, d, the counts, the offset of the first step and the mark.
-fn put_trailer(buffer: &mut [u8], at: usize, b: Book, offset: usize)
-    requires { ⌜ Held-passes (held-book b) ⌝ }
-    requires { ⌜ offset ≡ length (models-bytes (held-book b)) ⌝ }
-    requires { ⌜ at + 8 ≤ length (now buffer) ⌝ }
-    ensures { λ r. ⌜ now (buffer .exit) ≡ sets (now (buffer .entry)) at (trailer-bytes (held-book b)) ⌝ }
-{
-    buffer[at] = b.n;
-    buffer[at + 1] = b.d;
-    buffer[at + 2] = b.model_count as u8;
-    buffer[at + 3] = b.step_count as u8;
-    put_u16(buffer, at + 4, offset as u16);
-    buffer[at + 6] = FIRST_MARK;
-    buffer[at + 7] = SECOND_MARK;
-}
 
 // The sheet of a book, its length answered; bytes beyond that length stay. A refused write answers the length 0, and
 // all bytes stay.
@@ -206,25 +13,25 @@ pub fn write(book: Book, buffer: &mut [u8]) -> Written
     ensures answers { λ r. ⌜ r ≡ write-answer (write (held-book book) (now (buffer .entry))) ⌝ }
     ensures leaves { λ r. ⌜ now (buffer .exit) ≡ written (held-book book) (now (buffer .entry)) .value .buffer ⌝ }
 {
-    let v = book::tested(book);
+    let v = booktest::tested(book);
     let Verdict::Accepted = v else {
         return Written {
             length: 0,
             verdict: v,
         };
     };
-    let offset = models_size(book);
-    let end = offset + STEP_BYTES * book.step_count;
-    let size = end + TRAILER_BYTES;
+    let offset = sections::models_size(book);
+    let end = offset + encode::STEP_BYTES * book.step_count;
+    let size = end + sections::TRAILER_BYTES;
     if buffer.len() < size {
         return Written {
             length: 0,
             verdict: Verdict::Refused(Refusal::ShortBuffer, 0),
         };
     }
-    put_models(buffer, book);
-    put_steps(buffer, offset, book);
-    put_trailer(buffer, end, book, offset);
+    sections::put_models(buffer, book);
+    sections::put_steps(buffer, offset, book);
+    sections::put_trailer(buffer, end, book, offset);
     Written {
         length: size,
         verdict: Verdict::Accepted,

@@ -6,7 +6,7 @@ use Rattle.records.proofs.kind_at.Statement.{statement}
 use Rattle.records.proofs.kind_at.Tie as tie
 use Rattle.records.proofs.kind_at.Reads as reads
 use Rattle.records.proofs.kind_at.Lts as lts
-use Rattle.records.proofs.first_step.Reads as first-step-reads
+use Rattle.places.proofs.first_step.Reads as first-step-reads
 
 returns : tie.Need-returns
 returns c = let a = c .before .before .args in sym (kind-none (a .s .now) (a .at) (omega arith))

@@ -1,15 +1,16 @@
 use mathlib.Core.Path.{_≡_, sym, _∙_, ap}
 use Prim.Native.Nat.{_-_, _≤_}
 use native.Mathlib.Omega.{arith}
-use Rattle.records.specs.Records.{bytes-at, place-after, walk}
+use Rattle.places.specs.Places.{bytes-at}
+use Rattle.records.specs.Records.{place-after, walk}
 use Rattle.records.specs.RecordsLaws.{walk-bytes, record-none, first-place, place-more}
 use borrow.Author.Needs.{needs}
 use Rattle.records.proofs.record.Statement.{statement}
 use Rattle.records.proofs.record.Tie as tie
 use Rattle.records.proofs.record.Reads as reads
 use Rattle.records.proofs.record.Lts as lts
-use Rattle.records.proofs.bytes_at.Reads as bytes-at-reads
-use Rattle.records.proofs.next_at.Reads as next-at-reads
+use Rattle.places.proofs.bytes_at.Reads as bytes-at-reads
+use Rattle.places.proofs.next_at.Reads as next-at-reads
 use Rattle.records.proofs.record_count.Reads as record-count-reads
 
 abbrev Inv-loop : tie.InvT-loop

@@ -11,7 +11,7 @@ use Rattle.book.specs.declared.Book.{Book}
 use Rattle.book.specs.Book.{held-book}
 use Rattle.book.specs.FailingLaws.{count-steps}
 use Rattle.book.specs.TestedLaws.{verdict-accepted}
-use Rattle.writer.specs.FittingLaws.{book-limits}
+use Rattle.sections.specs.FittingLaws.{book-limits}
 use Rattle.writer.specs.WriteLaws.{book-refused, too-short, long-enough}
 use Rattle.writer.proofs.write.Statement.{statement}
 use Rattle.writer.proofs.write.Tie as tie

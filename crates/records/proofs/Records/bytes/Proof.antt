@@ -38,15 +38,15 @@ use denote.Triple.Table.{entered, cited}
 use denote.Triple.Walked.{says, Stays, stay-none, walkOf, goes-none, Walks, ends-at, walked, walk-meets}
 use denote.Exit.{yes}
 use denote.Triple.Clauses.{ensured, lasts}
-use Rattle.records.specs.Records.{bytes-at}
+use Rattle.places.specs.Places.{bytes-at}
 use Rattle.records.specs.declared.Records.{Records}
 use Rattle.records.proofs.Apart.{D, L, Own, passed, Handed, apart}
 use Rattle.records.proofs.Records as T
 use Rattle.records.proofs.Records.Laws as T′
-use Rattle.records.proofs.bytes_at as step
-use Rattle.records.proofs.bytes_at.Symbol as step-def
-use Rattle.records.proofs.bytes_at.Symbol.{name as #records·bytes-at}
-use Rattle.records.proofs.bytes_at.Met as step-thm
+use Rattle.places.proofs.bytes_at as step
+use Rattle.places.proofs.bytes_at.Symbol as step-def
+use Rattle.places.proofs.bytes_at.Symbol.{name as #places·bytes-at}
+use Rattle.places.proofs.bytes_at.Met as step-thm
 use Rattle.records.proofs.Records.bytes.Key.{name as #records·bytes}
 use Rattle.records.proofs.Records.bytes as bytes
 use Rattle.records.proofs.Records.bytes.Statement as stated
@@ -108,7 +108,7 @@ module _ {M : Type 1} (𝓤 : URA M) (H : Heap 𝓤) (A : Atoms 𝓤) (W : Given
       move ! (1 ∷ []) $ frame ! $ nothing ! $ move ! (2 ∷ 0 ∷ []) $ fjoin ! $ frame ! $ done !
 
   module _ (C : Calls 𝓤 H) (Λ : Loops 𝓤 H) (fm : FmC 𝓤 H (W .laws) C)
-      (known : Triple 𝓤 (C #records·bytes-at) (StepAt 𝓤 H A mem run)) where
+      (known : Triple 𝓤 (C #places·bytes-at) (StepAt 𝓤 H A mem run)) where
     walk : Holds (hasTy (T′.mir (named 0)) mach) × WT mach
         → ent 𝓤 (onEntry 𝓤 H A bytes.signature (κ, tt) (q, tt) (d, tt) (mach ∷ [], tt))
         (WpFn 𝓤 H C Λ code.function (mach ∷ []) Post)
@@ -143,7 +143,7 @@ module _ {M : Type 1} (𝓤 : URA M) (H : Heap 𝓤) (A : Atoms 𝓤) (W : Given
 module _ {M : Type 1} (𝓤 : URA M) (H : Heap 𝓤) (A : Atoms 𝓤) (W : Given 𝓤 H A) (mem : Memory → SProp 𝓤)
     (run : Routine → Fun 𝓤) where
   bytes-walks : (C : Calls 𝓤 H) (Λ : Loops 𝓤 H) → FmC 𝓤 H (W .laws) C
-      → Triple 𝓤 (C #records·bytes-at) (StepAt 𝓤 H A mem run)
+      → Triple 𝓤 (C #places·bytes-at) (StepAt 𝓤 H A mem run)
       → Walks 𝓤 H A bytes.ended stayed (WpFn 𝓤 H C Λ code.function) (bytes.clauses 𝓤 H A mem run)
   bytes-walks C Λ fm known =
       walked 𝓤 H A bytes.ended stayed (bytes.clauses 𝓤 H A mem run) (WpFn 𝓤 H C Λ code.function)
@@ -155,7 +155,7 @@ module _ {M : Type 1} (𝓤 : URA M) (H : Heap 𝓤) (A : Atoms 𝓤) (W : Given
 
 bytes-meets : {M : Type 1} (𝓤 : URA M) (H : Heap 𝓤) (A : Atoms 𝓤) (W : Given 𝓤 H A) (mem : Memory → SProp 𝓤)
     (run : Routine → Fun 𝓤) (𝓣 : Tables 𝓤 H)
-    → Triple 𝓤 (𝓣 .C #records·bytes-at) (StepAt 𝓤 H A mem run)
+    → Triple 𝓤 (𝓣 .C #places·bytes-at) (StepAt 𝓤 H A mem run)
     → Meets 𝓤 H A bytes.signature (WpFn 𝓤 H (𝓣 .C) (𝓣 .Λ) code.function) (bytes.spec 𝓤 H A mem run)
 bytes-meets 𝓤 H A W mem run 𝓣 known =
     walk-meets 𝓤 H A bytes.ended stayed W (goes-none 𝓤 H A W 1 B yes (λ κs x f. refl), tt)
@@ -170,5 +170,5 @@ bytes-spec 𝓤 H 𝓜 𝓖 𝓡 =
     (tables 𝓤 H 𝓜 𝓡 code.env .C) (tables 𝓤 H 𝓜 𝓡 code.env .Λ) #records·bytes code.function
     (code.unfolded 𝓤 H 𝓜 𝓡)
     (bytes-meets 𝓤 H (𝓖 .A) (givenOf 𝓤 H 𝓜 𝓖) (𝓜 .mem) (𝓡 .run) (tablesOf 𝓤 H 𝓜 (tables 𝓤 H 𝓜 𝓡 code.env))
-    (cited 𝓤 H (StepAt 𝓤 H (𝓖 .A) (𝓜 .mem) (𝓡 .run)) 𝓜 𝓡 code.env #records·bytes-at step-def.routine
-    code.calls-records·bytes-at (step-thm.met 𝓤 H 𝓜 𝓖 𝓡)))
+    (cited 𝓤 H (StepAt 𝓤 H (𝓖 .A) (𝓜 .mem) (𝓡 .run)) 𝓜 𝓡 code.env #places·bytes-at step-def.routine
+    code.calls-places·bytes-at (step-thm.met 𝓤 H 𝓜 𝓖 𝓡)))

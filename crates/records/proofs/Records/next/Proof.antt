@@ -44,19 +44,19 @@ use denote.Triple.Spec.{Meets, tripleOf}
 use denote.Triple.Table.{entered, cited}
 use denote.Triple.Walked.{says, Stays, stay-ref, walkOf, goes-ref, Walks, ends-at, walked, walk-meets}
 use denote.Triple.Clauses.{ensured, lasts}
-use Rattle.records.specs.Records.{next-at, bytes-at}
+use Rattle.places.specs.Places.{next-at, bytes-at}
 use Rattle.records.specs.declared.Records.{Records}
 use Rattle.records.proofs.Apart.{D, L, fields, Own, passed, Handed, apart}
 use Rattle.records.proofs.Records as T
 use Rattle.records.proofs.Records.Laws as T′
-use Rattle.records.proofs.next_at as next-at-fn
-use Rattle.records.proofs.next_at.Symbol as next-at-def
-use Rattle.records.proofs.next_at.Symbol.{name as #records·next-at}
-use Rattle.records.proofs.next_at.Met as next-at-thm
-use Rattle.records.proofs.bytes_at as bytes-at-fn
-use Rattle.records.proofs.bytes_at.Symbol as bytes-at-def
-use Rattle.records.proofs.bytes_at.Symbol.{name as #records·bytes-at}
-use Rattle.records.proofs.bytes_at.Met as bytes-at-thm
+use Rattle.places.proofs.next_at as next-at-fn
+use Rattle.places.proofs.next_at.Symbol as next-at-def
+use Rattle.places.proofs.next_at.Symbol.{name as #places·next-at}
+use Rattle.places.proofs.next_at.Met as next-at-thm
+use Rattle.places.proofs.bytes_at as bytes-at-fn
+use Rattle.places.proofs.bytes_at.Symbol as bytes-at-def
+use Rattle.places.proofs.bytes_at.Symbol.{name as #places·bytes-at}
+use Rattle.places.proofs.bytes_at.Met as bytes-at-thm
 use Rattle.records.proofs.Records.next.Key.{name as #records·next}
 use Rattle.records.proofs.Records.next as next
 use Rattle.records.proofs.Records.next.Statement as stated
@@ -163,8 +163,8 @@ module _ {M : Type 1} (𝓤 : URA M) (H : Heap 𝓤) (A : Atoms 𝓤) (W : Given
       nothing ! $ move ! (1 ∷ 0 ∷ []) $ fjoin ! $ done !
 
   module _ (C : Calls 𝓤 H) (Λ : Loops 𝓤 H) (fm : FmC 𝓤 H (W .laws) C)
-      (known-next : Triple 𝓤 (C #records·next-at) (NextAt 𝓤 H A mem run))
-      (known-bytes : Triple 𝓤 (C #records·bytes-at) (BytesAt 𝓤 H A mem run)) where
+      (known-next : Triple 𝓤 (C #places·next-at) (NextAt 𝓤 H A mem run))
+      (known-bytes : Triple 𝓤 (C #places·bytes-at) (BytesAt 𝓤 H A mem run)) where
     -- what the struct's typing says of its fields
     typed : Is (B κ′) d ((T′.lowered d) ∷ []) → Holds (hasTy (T′.mir (named 1)) (T′.lowered d)) × WT (T′.lowered d)
     typed was = LL.lawful (D (α κ′)) (L (α κ′)) 𝓤 H A W .typed d _ was .0
@@ -248,7 +248,7 @@ module _ {M : Type 1} (𝓤 : URA M) (H : Heap 𝓤) (A : Atoms 𝓤) (W : Given
 module _ {M : Type 1} (𝓤 : URA M) (H : Heap 𝓤) (A : Atoms 𝓤) (W : Given 𝓤 H A) (mem : Memory → SProp 𝓤)
     (run : Routine → Fun 𝓤) where
   next-walks : (C : Calls 𝓤 H) (Λ : Loops 𝓤 H) → FmC 𝓤 H (W .laws) C
-      → Triple 𝓤 (C #records·next-at) (NextAt 𝓤 H A mem run) → Triple 𝓤 (C #records·bytes-at) (BytesAt 𝓤 H A mem run)
+      → Triple 𝓤 (C #places·next-at) (NextAt 𝓤 H A mem run) → Triple 𝓤 (C #places·bytes-at) (BytesAt 𝓤 H A mem run)
       → Walks 𝓤 H A next.ended stayed (WpFn 𝓤 H C Λ code.function) (next.clauses 𝓤 H A mem run)
   next-walks C Λ fm known-next known-bytes =
       walked 𝓤 H A next.ended stayed (next.clauses 𝓤 H A mem run) (WpFn 𝓤 H C Λ code.function)
@@ -259,8 +259,8 @@ module _ {M : Type 1} (𝓤 : URA M) (H : Heap 𝓤) (A : Atoms 𝓤) (W : Given
 
 next-meets : {M : Type 1} (𝓤 : URA M) (H : Heap 𝓤) (A : Atoms 𝓤) (W : Given 𝓤 H A) (mem : Memory → SProp 𝓤)
     (run : Routine → Fun 𝓤) (𝓣 : Tables 𝓤 H)
-    → Triple 𝓤 (𝓣 .C #records·next-at) (NextAt 𝓤 H A mem run)
-    → Triple 𝓤 (𝓣 .C #records·bytes-at) (BytesAt 𝓤 H A mem run)
+    → Triple 𝓤 (𝓣 .C #places·next-at) (NextAt 𝓤 H A mem run)
+    → Triple 𝓤 (𝓣 .C #places·bytes-at) (BytesAt 𝓤 H A mem run)
     → Meets 𝓤 H A next.signature (WpFn 𝓤 H (𝓣 .C) (𝓣 .Λ) code.function) (next.spec 𝓤 H A mem run)
 next-meets 𝓤 H A W mem run 𝓣 known-next known-bytes =
     walk-meets 𝓤 H A next.ended stayed W (goes-ref 𝓤 H A W 2 0 tt behind, tt) (next.clauses 𝓤 H A mem run)
@@ -274,7 +274,7 @@ next-spec 𝓤 H 𝓜 𝓖 𝓡 =
     (tables 𝓤 H 𝓜 𝓡 code.env .C) (tables 𝓤 H 𝓜 𝓡 code.env .Λ) #records·next code.function
     (code.unfolded 𝓤 H 𝓜 𝓡)
     (next-meets 𝓤 H (𝓖 .A) (givenOf 𝓤 H 𝓜 𝓖) (𝓜 .mem) (𝓡 .run) (tablesOf 𝓤 H 𝓜 (tables 𝓤 H 𝓜 𝓡 code.env))
-    (cited 𝓤 H (NextAt 𝓤 H (𝓖 .A) (𝓜 .mem) (𝓡 .run)) 𝓜 𝓡 code.env #records·next-at next-at-def.routine
-    code.calls-records·next-at (next-at-thm.met 𝓤 H 𝓜 𝓖 𝓡))
-    (cited 𝓤 H (BytesAt 𝓤 H (𝓖 .A) (𝓜 .mem) (𝓡 .run)) 𝓜 𝓡 code.env #records·bytes-at bytes-at-def.routine
-    code.calls-records·bytes-at (bytes-at-thm.met 𝓤 H 𝓜 𝓖 𝓡)))
+    (cited 𝓤 H (NextAt 𝓤 H (𝓖 .A) (𝓜 .mem) (𝓡 .run)) 𝓜 𝓡 code.env #places·next-at next-at-def.routine
+    code.calls-places·next-at (next-at-thm.met 𝓤 H 𝓜 𝓖 𝓡))
+    (cited 𝓤 H (BytesAt 𝓤 H (𝓖 .A) (𝓜 .mem) (𝓡 .run)) 𝓜 𝓡 code.env #places·bytes-at bytes-at-def.routine
+    code.calls-places·bytes-at (bytes-at-thm.met 𝓤 H 𝓜 𝓖 𝓡)))

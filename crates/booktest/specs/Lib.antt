@@ -1,0 +1,3 @@
+pub mod Unsound
+pub mod WalkLaws
+pub mod VerdictLaws

@@ -1,0 +1,4 @@
+-- Definitions.
+pub mod Places
+-- Their laws.
+pub mod PlacesLaws

@@ -1,0 +1,67 @@
+// The record at a place of a sheet: how long it is, its bytes without copying them, and where the next one stands.
+ghost use mathlib.Core.Path.{_≡_};
+ghost use Prim.Native.Nat.{_+_, _≤_, _<_};
+ghost use lib.ListN.{length};
+ghost use Rattle.places.specs.Places.{«first-step», «record-size», «length-at», «next-at», «bytes-at»};
+
+// Where the first step stands, by the trailer.
+pub fn first_step(s: &[u8]) -> usize
+    requires { ⌜ 8 ≤ length (now s) ⌝ }
+    ensures { λ r. ⌜ r ≡ first-step (now (s .entry)) ⌝ }
+{
+    let end = s.len() - 8;
+    reader::u16_at(s, end + 4) as usize
+}
+
+// How long the record at a place should be: a model's by its term count.
+fn size_at(s: &[u8], at: usize) -> usize
+    requires { ⌜ at + 8 < length (now s) ⌝ }
+    ensures { λ r. ⌜ r ≡ record-size (now (s .entry)) at ⌝ }
+{
+    let first = first_step(s);
+    if at < first {
+        let count = s[at + 4] as usize;
+        return 5 + 6 * count;
+    }
+    8
+}
+
+// How long it is: 0 where there is none.
+pub fn length_at(s: &[u8], at: usize) -> usize
+    ensures { λ r. ⌜ r ≡ length-at (now (s .entry)) at ⌝ }
+{
+    let length = s.len();
+    if length < 8 {
+        return 0;
+    }
+    let end = length - 8;
+    if end <= at {
+        return 0;
+    }
+    let left = end - at;
+    let size = size_at(s, at);
+    if left < size {
+        return left;
+    }
+    size
+}
+
+// Where the record behind it stands: the place itself where there is none.
+pub fn next_at(s: &[u8], at: usize) -> usize
+    ensures { λ r. ⌜ r ≡ next-at (now (s .entry)) at ⌝ }
+{
+    let length = length_at(s, at);
+    at + length
+}
+
+// Its bytes: empty where there is none.
+pub fn bytes_at(s: &[u8], at: usize) -> &[u8]
+    ensures { λ r. ⌜ now r ≡ bytes-at (now (s .entry)) at ⌝ }
+{
+    let length = length_at(s, at);
+    if length == 0 {
+        return &s[0..0];
+    }
+    let next = at + length;
+    &s[at..next]
+}
