@@ -20,10 +20,11 @@ use Rattle.held.specs.declared.Term.{Term}
 use Rattle.held.specs.declared.Model.{Model}
 use Rattle.held.specs.Held.{zero-term, view, pack-term, pad, pack, answer}
 use Rattle.held.specs.HeldLaws.{read, sound-vars, view-terms, view-is, view-pack, within-span, limits}
-use Rattle.addition.specs.Addition.{Packed, Operands}
+use Rattle.limits.specs.Limits.{Packed}
+use Rattle.limits.specs.LimitLaws.{pack-packed, answer-many}
+use Rattle.addition.specs.Addition.{Operands}
 use Rattle.addition.specs.SumTermsLaws.{sum-terms}
 use Rattle.addition.specs.MergeLaws.{Rising, Mergeable, whole-sum, Merged, all-stored}
-use Rattle.addition.specs.LimitLaws.{pack-packed, answer-many}
 
 -- all places of the array are there
 abbrev pub Whole : Model → Type 0

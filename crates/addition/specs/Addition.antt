@@ -1,15 +1,9 @@
 -- Sums of models in memory: what is asked of the operands.
 use mathlib.Core.Path.{_≡_}
-use Prim.Native.Nat.{_≤_}
 use lib.Dec.{T}
-use Rattle.calculus.specs.Model.{most-degree, most-terms, sound}
+use Rattle.calculus.specs.Model.{most-degree, sound}
 use Rattle.held.specs.declared.Model.{Model}
-use Rattle.held.specs.Held.{view, pack}
-
--- a struct as packing leaves it: at most 64 terms, zeros beyond the count
-pub record Packed (m : Model) : Type 0 where
-  pub few : m .count ≤ most-terms
-  pub packed : pack (view m) ≡ m
+use Rattle.held.specs.Held.{view}
 
 -- two sound models in the same variables
 pub record Operands (a b : Model) : Type 0 where

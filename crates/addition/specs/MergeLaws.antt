@@ -17,8 +17,8 @@ use Rattle.held.specs.declared.Model.{Model}
 use Rattle.held.specs.Held.{zero-term, view-term, pack-term, pad}
 use Rattle.held.specs.HeldLaws.{read, rest-more, rest-end, packed-more, pack-view-term}
 use Rattle.calculus.specs.MonomialKeyLaws.{fits-key, fits-below, less-monomials}
-use Rattle.addition.specs.declared.Next.{Next}
-use Rattle.addition.specs.Merge.{Takes, from-first, from-second, from-both}
+use Rattle.merge.specs.declared.Next.{Next}
+use Rattle.merge.specs.Merge.{Takes, from-first, from-second, from-both}
 use Rattle.addition.specs.SumTermsLaws.{sum-terms, unless-zero, zero-dropped, nonzero-kept, Above, rising-above}
 use Rattle.addition.specs.SumTermsLaws.{every-drop, rising-drop, first-term, second-term, joint-terms}
 

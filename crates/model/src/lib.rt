@@ -207,5 +207,5 @@ pub fn evaluate(m: Model, xs: [i64; 4]) -> Bounds
     let mut slots = [0u16; table::SLOTS];
     let mut keys = [0u64; table::PLACES];
     let mut sums = [0i64; table::PLACES];
-    substitute::evaluated(m, xs, &mut slots, &mut keys, &mut sums)
+    evaluate::evaluated(m, xs, &mut slots, &mut keys, &mut sums)
 }

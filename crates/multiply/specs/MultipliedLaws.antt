@@ -22,8 +22,8 @@ use Rattle.calculus.specs.SoundLaws.{sound-parts}
 use Rattle.held.specs.declared.Model.{Model}
 use Rattle.held.specs.Held.{view, pack, answer}
 use Rattle.held.specs.HeldLaws.{limits, view-pack}
-use Rattle.addition.specs.Addition.{Packed}
-use Rattle.addition.specs.LimitLaws.{answer-many, pack-packed}
+use Rattle.limits.specs.Limits.{Packed}
+use Rattle.limits.specs.LimitLaws.{answer-many, pack-packed}
 use Rattle.table.specs.Table.{terms, most-entries}
 use Rattle.collector.specs.declared.Gathered.{Gathered}
 use Rattle.collector.specs.Wide.{wide-terms}

@@ -155,7 +155,7 @@ fn multiplied_in(
         return held::refuse(Refusal::TooManyTerms, 0);
     }
     let e = radius(a, f.radius, b, g.radius, r.rounding, r.swept);
-    addition::limited(pack(f.n, e, r.count, &kept, &coefficients))
+    limits::limited(pack(f.n, e, r.count, &kept, &coefficients))
 }
 
 // The same in a table that is lent, whatever is in it. Only as many slots as the products ask are emptied.

@@ -1,6 +1,4 @@
 pub mod Substitute
-pub mod KeyExponentLaws
-pub mod PartLaws
 pub mod AnswerLaws
+pub mod TurnLaws
 pub mod HornerLaws
-pub mod EvaluationLaws

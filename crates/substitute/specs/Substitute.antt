@@ -1,36 +1,25 @@
--- Exponents in keys, and what a substitution and an evaluation ask.
+-- A turn of Horner's rule, and what it and a substitution ask.
 use mathlib.Core.Path.{_≡_}
-use mathlib.Core.List.{List}
-use Prim.Native.Nat.{ℕ, _-_, _*_, _^_, _≤_}
+use Prim.Native.Nat.{ℕ, _≤_}
 use lib.Dec.{T}
-use lib.IntN.{ℤ}
-use lib.ListN.{take}
-use Rattle.polynomial.specs.Polynomial.{exponent}
-use Rattle.calculus.specs.Monomial.{index-of}
-use Rattle.calculus.specs.Key.{key-width, key-exponents}
+use Rattle.calculus.specs.Model as C
 use Rattle.calculus.specs.Model.{most-degree, sound}
-use Rattle.calculus.specs.Tests.{all-in-unit}
+use Rattle.calculus.specs.Refusal as R
+use Rattle.calculus.specs.Refusal.{_then_}
+use Rattle.calculus.specs.Operations.{multiply, add}
 use Rattle.held.specs.declared.Model.{Model}
 use Rattle.held.specs.Held.{view}
+use Rattle.multiply.specs.Multiply.{Factors}
 
--- the exponent of variable i in a key
-unfoldable pub key-exponent : (i : ℕ) → ℕ → ℕ
-key-exponent i z = exponent (index-of i) (key-exponents key-width key-width z)
+-- h times g with order d, then q added
+unfoldable pub horner-turn : (d : ℕ) (h g q : C.Model) → R.Answer C.Model
+horner-turn d h g q = multiply d h g then (λ p. add p q)
 
--- the key with that exponent made 0
-unfoldable pub key-without : (i : ℕ) → ℕ → ℕ
-key-without i z = z - key-exponent i z * 16 ^ (key-width - i)
-
--- a variable whose exponent a key holds
-pub record Slot (i : ℕ) : Type 0 where
-  pub first : 1 ≤ i
-  pub last : i ≤ key-width
-
--- a sound model and one of its variables
-pub record In-variable (i : ℕ) (f : Model) : Type 0 where
-  pub model : T (sound most-degree (view f))
-  pub first : 1 ≤ i
-  pub last : i ≤ f .n
+-- two factors at order d, and what is added, sound for it and in the same variables
+pub record Turn (d : ℕ) (h g q : Model) : Type 0 where
+  pub factors : Factors d h g
+  pub next : T (sound d (view q))
+  pub vars : h .n ≡ q .n
 
 -- two models in the same variables, sound for order d, and one of the variables
 pub record Substitution (d i : ℕ) (f g : Model) : Type 0 where
@@ -40,8 +29,3 @@ pub record Substitution (d i : ℕ) (f g : Model) : Type 0 where
   pub vars : f .n ≡ g .n
   pub first : 1 ≤ i
   pub last : i ≤ f .n
-
--- a sound model, and a coordinate from -U to U for each of its variables
-pub record Evaluation (m : Model) (xs : List ℤ) : Type 0 where
-  pub model : T (sound most-degree (view m))
-  pub coordinates : T (all-in-unit (take (m .n) xs))

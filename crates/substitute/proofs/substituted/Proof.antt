@@ -1,15 +1,14 @@
 -- `substituted` is Horner's rule: what is left at each turn leads to the answer.
 use mathlib.Core.Path.{_≡_, refl, sym, _∙_}
-use Prim.Native.Nat.{_-_, _<_}
+use Prim.Native.Nat.{_<_}
 use native.Mathlib.Omega.{arith}
 use borrow.Author.Needs.{needs}
 use borrow.Author.Tests.{not-true, not-false}
 use lib.ListN.{length}
 use Rattle.held.specs.Held.{view, cause}
-use Rattle.substitute.specs.Substitute.{In-variable}
+use Rattle.parts.specs.Parts.{In-variable}
 use Rattle.substitute.specs.AnswerLaws.{sound-order}
-use Rattle.substitute.specs.HornerLaws.{Left, Product, outside, left-first, left-factors, product-refused}
-use Rattle.substitute.specs.HornerLaws.{product-accepted, product-operands, sum-refused, sum-accepted}
+use Rattle.substitute.specs.HornerLaws.{Left, outside, left-first, left-turn, turn-refused, turn-accepted}
 use Rattle.substitute.specs.HornerLaws.{left-packed, left-end}
 use Rattle.substitute.proofs.substituted.Statement.{statement}
 use Rattle.substitute.proofs.substituted.Tie as tie
@@ -65,18 +64,22 @@ loop-holds c =
       refl,
     )
 
--- ---- a turn: the product
+-- ---- a turn
 abbrev start : tie.At-loop Inv-loop μ-loop → tie.Start Inv-loop μ-loop
 start l = l .before .before .before .before .before .before .before
 
 sub-k : tie.Need-sub-k Inv-loop μ-loop
 sub-k c = omega arith
 
-multiplied-requires : tie.Need-multiplied-requires Inv-loop μ-loop
-multiplied-requires c κs =
-    let l = c .before .before .before .before in
+part-requires-2 : tie.Need-part-requires-2 Inv-loop μ-loop
+part-requires-2 c κs = in-variable (start (c .before))
+
+horner-turn-requires : tie.Need-horner-turn-requires Inv-loop μ-loop
+horner-turn-requires c κs =
+    let p = c .before .before .before in
+    let l = p .before .before in
     let t = start l .pre .1 in (
-      left-factors (start l .pre .0) (l .loop .inv .0),
+      left-turn (start l .pre .0) (l .loop .inv .0) (p .part2 .ensures),
       record {
         slots-room = omega (arith, l .loop .inv .1, t .slots-room);
         keys-room = omega (arith, l .loop .inv .2, t .keys-room);
@@ -84,22 +87,25 @@ multiplied-requires c κs =
       },
     )
 
-module _ (c : tie.After-multiplied Inv-loop μ-loop) where
+module _ (c : tie.After-horner-turn Inv-loop μ-loop) where
+  abbrev added : tie.After-part2 Inv-loop μ-loop
+  added = c .before .before .before .before
+
   abbrev turn : tie.At-loop Inv-loop μ-loop
-  turn = c .before .before .before .before .before
+  turn = added .before .before
 
   positive : 0 < turn .loop .k
-  positive = omega (arith, c .before .before .before .before .loop-test .taken)
+  positive = omega (arith, added .before .loop-test .taken)
 
   -- the table keeps its lengths
-  slots-long : length (c .multiplied .last .1 .1 .1 .0) ≡ length (start turn .args .slots .now)
-  slots-long = c .multiplied .kept .1 .1 .1 .0 ∙ turn .loop .inv .1
+  slots-long : length (c .horner-turn .last .1 .1 .1 .1 .0) ≡ length (start turn .args .slots .now)
+  slots-long = c .horner-turn .kept .1 .1 .1 .1 .0 ∙ turn .loop .inv .1
 
-  keys-long : length (c .multiplied .last .1 .1 .1 .1 .0) ≡ length (start turn .args .keys .now)
-  keys-long = c .multiplied .kept .1 .1 .1 .1 .0 ∙ turn .loop .inv .2
+  keys-long : length (c .horner-turn .last .1 .1 .1 .1 .1 .0) ≡ length (start turn .args .keys .now)
+  keys-long = c .horner-turn .kept .1 .1 .1 .1 .1 .0 ∙ turn .loop .inv .2
 
-  sums-long : length (c .multiplied .last .1 .1 .1 .1 .1 .0) ≡ length (start turn .args .sums .now)
-  sums-long = c .multiplied .kept .1 .1 .1 .1 .1 .0 ∙ turn .loop .inv .3
+  sums-long : length (c .horner-turn .last .1 .1 .1 .1 .1 .1 .0) ≡ length (start turn .args .sums .now)
+  sums-long = c .horner-turn .kept .1 .1 .1 .1 .1 .1 .0 ∙ turn .loop .inv .3
 
 enum-told : tie.Need-enum-told Inv-loop μ-loop
 enum-told c = search needs
@@ -108,7 +114,7 @@ enum-told-2 : tie.Need-enum-told-2 Inv-loop μ-loop
 enum-told-2 c = search needs
 
 -- it is refused
-abbrev refused : tie.After-enum-told2 Inv-loop μ-loop → tie.After-multiplied Inv-loop μ-loop
+abbrev refused : tie.After-enum-told2 Inv-loop μ-loop → tie.After-horner-turn Inv-loop μ-loop
 refused c = c .before .before .before .before .before .before .before
 
 same-length : tie.Need-same-length Inv-loop μ-loop
@@ -124,79 +130,42 @@ returns-2 : tie.Need-returns-2 Inv-loop μ-loop
 returns-2 c =
     let m = refused c in
     let l = turn m in
-    product-refused (start l .pre .0) (l .loop .inv .0) (positive m) (m .multiplied .ensures) (c .enum-told2 .given .1)
-
--- ---- a turn: the sum
-module _ (c : tie.After-enum-told Inv-loop μ-loop) where
-  abbrev made : tie.After-multiplied Inv-loop μ-loop
-  made = c .before .before .before .before .before .before .before
-
-  abbrev begun : tie.Start Inv-loop μ-loop
-  begun = start (turn made)
-
-  product : Product (begun .args .d) (begun .args .i) (begun .args .f) (begun .args .g)
-      (turn made .loop .k - 1) (made .multiplied .result .model)
-  product = product-accepted (begun .pre .0) (turn made .loop .inv .0) (positive made) (made .multiplied .ensures)
-      (c .enum-told .given .1)
-
-part-requires-2 : tie.Need-part-requires-2 Inv-loop μ-loop
-part-requires-2 c κs = in-variable (begun c)
-
-added-requires : tie.Need-added-requires Inv-loop μ-loop
-added-requires c κs = product-operands (begun (c .before) .pre .0) (product (c .before)) (c .part2 .ensures)
-
-enum-told-3 : tie.Need-enum-told-3 Inv-loop μ-loop
-enum-told-3 c = search needs
-
-enum-told-4 : tie.Need-enum-told-4 Inv-loop μ-loop
-enum-told-4 c = search needs
-
--- it is refused
-same-length-4 : tie.Need-same-length-4 Inv-loop μ-loop
-same-length-4 c = slots-long (made (c .before .before .before .before))
-
-same-length-5 : tie.Need-same-length-5 Inv-loop μ-loop
-same-length-5 c = keys-long (made (c .before .before .before .before))
-
-same-length-6 : tie.Need-same-length-6 Inv-loop μ-loop
-same-length-6 c = sums-long (made (c .before .before .before .before))
-
-returns-3 : tie.Need-returns-3 Inv-loop μ-loop
-returns-3 c =
-    let a = c .before .before in
-    let e = a .before .before in
-    sum-refused (begun e .pre .0) (product e) (a .before .part2 .ensures) (a .added .ensures) (c .enum-told4 .given .1)
+    turn-refused (start l .pre .0) (l .loop .inv .0) (added m .part2 .ensures) (positive m) (m .horner-turn .ensures)
+    (c .enum-told2 .given .1)
 
 -- it is accepted
+abbrev accepted : tie.After-h Inv-loop μ-loop → tie.After-horner-turn Inv-loop μ-loop
+accepted c = c .before .before .before .before .before .before .before .before
+
 loop-less : tie.Need-loop-less Inv-loop μ-loop
-loop-less c = omega (arith, positive (made (c .before .before .before .before .before)))
+loop-less c = omega (arith, positive (accepted c))
 
 loop-again : tie.Need-loop-again Inv-loop μ-loop
 loop-again c =
-    let a = c .before .before .before in
-    let e = a .before .before in (
-      sum-accepted (begun e .pre .0) (product e) (a .before .part2 .ensures) (a .added .ensures)
-          (c .before .enum-told3 .given .1),
-      slots-long (made e),
-      keys-long (made e),
-      sums-long (made e),
+    let m = accepted c in
+    let l = turn m in (
+      turn-accepted (start l .pre .0) (l .loop .inv .0) (added m .part2 .ensures) (positive m)
+          (m .horner-turn .ensures) (c .before .enum-told .given .1),
+      slots-long m,
+      keys-long m,
+      sums-long m,
     )
 
 -- ---- after the loop
 widened-requires : tie.Need-widened-requires Inv-loop μ-loop
 widened-requires c κs = left-packed (start (c .before) .pre .0) (c .before .loop .inv .0)
 
-same-length-7 : tie.Need-same-length-7 Inv-loop μ-loop
-same-length-7 c = c .before .before .loop .inv .1
+same-length-4 : tie.Need-same-length-4 Inv-loop μ-loop
+same-length-4 c = c .before .before .loop .inv .1
 
-same-length-8 : tie.Need-same-length-8 Inv-loop μ-loop
-same-length-8 c = c .before .before .loop .inv .2
+same-length-5 : tie.Need-same-length-5 Inv-loop μ-loop
+same-length-5 c = c .before .before .loop .inv .2
 
-same-length-9 : tie.Need-same-length-9 Inv-loop μ-loop
-same-length-9 c = c .before .before .loop .inv .3
+same-length-6 : tie.Need-same-length-6 Inv-loop μ-loop
+same-length-6 c = c .before .before .loop .inv .3
 
-returns-4 : tie.Need-returns-4 Inv-loop μ-loop
-returns-4 c =
+returns-3 : tie.Need-returns-3 Inv-loop μ-loop
+returns-3 c =
     let l = c .before .before in
     left-end (start l .pre .0) (l .loop .inv .0) (c .before .loop-test .left) (c .widened .ensures)
 
@@ -213,25 +182,18 @@ substituted-spec =
     part-requires
     loop-holds
     sub-k
-    multiplied-requires
+    part-requires-2
+    horner-turn-requires
     enum-told
     enum-told-2
     same-length
     same-length-2
     same-length-3
     returns-2
-    part-requires-2
-    added-requires
-    enum-told-3
-    enum-told-4
-    same-length-4
-    same-length-5
-    same-length-6
-    returns-3
     loop-less
     loop-again
     widened-requires
-    same-length-7
-    same-length-8
-    same-length-9
-    returns-4)
+    same-length-4
+    same-length-5
+    same-length-6
+    returns-3)

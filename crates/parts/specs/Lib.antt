@@ -1,0 +1,4 @@
+pub mod Exponents
+pub mod Parts
+pub mod KeyExponentLaws
+pub mod PartLaws
