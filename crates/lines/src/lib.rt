@@ -1,10 +1,7 @@
 // The program's lines, put into a lent buffer one by one.
-ghost use mathlib.Core.Path.{_≡_};
 ghost use mathlib.Core.List.{map};
-ghost use Prim.Native.Nat.{_<_};
 ghost use lib.Dec.{T};
-ghost use lib.ListN.{getD};
-ghost use Rattle.calculus.specs.Key.{«key-width», «key-exponents», «monomial-of»};
+ghost use Rattle.calculus.specs.Key.{«monomial-of»};
 ghost use Rattle.calculus.specs.Model.{«most-degree», sound};
 ghost use Rattle.held.specs.Held.{view};
 ghost use Rattle.format.specs.Bytes.{join};
@@ -16,23 +13,6 @@ use held::Model;
 // Every function below that is lent a buffer puts its bytes where that has room for them and answers the place behind
 // them, also where that is past the buffer's end.
 
-// The exponent of variable i + 1 in a key, where that of variable 1 stands in the highest four bits.
-fn exponent(key: u16, i: u8) -> u16
-    requires { ⌜ i < key-width ⌝ }
-    ensures { λ r. ⌜ r ≡ getD (key-exponents key-width key-width key) i 0 ⌝ }
-{
-    if i == 0 {
-        return key / 4096;
-    }
-    if i == 1 {
-        return key % 4096 / 256;
-    }
-    if i == 2 {
-        return key % 256 / 16;
-    }
-    key % 16
-}
-
 // The n exponents of a key.
 fn put_exponents(out: &mut [u8], at: usize, n: u8, key: u16) -> usize
     requires { ⌜ Key-in n key ⌝ }
@@ -42,8 +22,9 @@ fn put_exponents(out: &mut [u8], at: usize, n: u8, key: u16) -> usize
     let mut next = at;
     let mut i = 0;
     while i < n {
-        next = decimal::put_natural(out, next, exponent(key, i) as u64);
-        i += 1;
+        let variable = i + 1;
+        next = decimal::put_natural(out, next, parts::exponent_of(key, variable) as u64);
+        i = variable;
     }
     next
 }

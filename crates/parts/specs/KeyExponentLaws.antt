@@ -1,5 +1,5 @@
 -- One exponent of a key: it does not depend on the number of variables, and it can be taken out of the key.
-use mathlib.Core.Path.{_≡_, refl, _∙_, ap}
+use mathlib.Core.Path.{_≡_, refl, sym, _∙_, ap}
 use mathlib.Core.List.{List, [], _∷_}
 use Prim.Native.Nat.{ℕ, zero, suc, _+_, _-_, _*_, _%_, _^_, _≤_, _<_}
 use native.Mathlib.Omega.{arith}
@@ -33,20 +33,6 @@ module _ (base : ℕ) where
       let i : suc w - suc (suc j) ≡ w - suc j = omega arith in
       rw i (omega (arith, encode-without w j k (omega arith) (omega arith)))
 
--- ---- as the places of a list: that of variable i + 1 is place i
-exponent-place : (j : ℕ) (k : List ℕ) → exponent j k ≡ getD k j 0
-unfolding exponent
-exponent-place j [] = refl
-exponent-place zero (e ∷ k) = refl
-exponent-place (suc j) (e ∷ k) = exponent-place j k
-
-pub key-exponent-place : (i z : ℕ) → key-exponent (i + 1) z ≡ getD (key-exponents key-width key-width z) i 0
-unfolding key-exponent
-key-exponent-place i z =
-    let e : index-of (i + 1) ≡ i = omega (arith, index-suc (i + 1) (omega arith)) in
-    ap (λ j. exponent j (key-exponents key-width key-width z)) e
-    ∙ exponent-place i (key-exponents key-width key-width z)
-
 -- ---- the key of a monomial in n variables
 module _ (n i z : ℕ) (l : n ≤ key-width) (first : 1 ≤ i) (last : i ≤ n) (f : T (key-fits key-width n z)) where
   -- its exponents are those of the key
@@ -67,3 +53,18 @@ module _ (n i z : ℕ) (l : n ≤ key-width) (first : 1 ≤ i) (last : i ≤ n) 
         key-monomial n z l (fits-below n z f),
         ap (λ e. e * 16 ^ (key-width - i)) monomial-exponent,
       )
+
+-- ---- as the places of a list: that of variable i + 1 is place i
+exponent-place : (j : ℕ) (k : List ℕ) → exponent j k ≡ getD k j 0
+unfolding exponent
+exponent-place j [] = refl
+exponent-place zero (e ∷ k) = refl
+exponent-place (suc j) (e ∷ k) = exponent-place j k
+
+pub monomial-place : (n i z : ℕ) → n ≤ key-width → i < n → T (key-fits key-width n z)
+    → key-exponent (i + 1) z ≡ getD (monomial-of n z) i 0
+monomial-place n i z l h f =
+    let e : index-of (i + 1) ≡ i = omega (arith, index-suc (i + 1) (omega arith)) in
+    sym (monomial-exponent n (i + 1) z l (omega arith) (omega arith) f)
+    ∙ ap (λ j. exponent j (monomial-of n z)) e
+    ∙ exponent-place i (monomial-of n z)

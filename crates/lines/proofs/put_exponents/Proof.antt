@@ -6,9 +6,9 @@ use borrow.Author.Needs.{needs}
 use lib.ListN.{length, getD}
 use Rattle.calculus.specs.Key.{monomial-of}
 use Rattle.calculus.specs.MonomialKeyLaws.{monomial-length}
+use Rattle.parts.specs.KeyExponentLaws.{monomial-place}
 use Rattle.decimal.specs.Put.{natural}
 use Rattle.decimal.specs.PutLaws.{put-as, put-length}
-use Rattle.lines.specs.ExponentLaws.{exponent-at}
 use Rattle.lines.specs.LineLaws.{Listed, listed-none, listed-room, listed-more, listed-all}
 use Rattle.lines.proofs.put_exponents.Statement.{statement}
 use Rattle.lines.proofs.put_exponents.Tie as tie
@@ -30,32 +30,35 @@ within : (c : tie.In-loop Inv-loop μ-loop)
 within c = omega (arith, many (c .before .before .before))
 
 -- the next one
-next-is : (c : tie.After-exponent Inv-loop μ-loop)
-    → c .exponent .result
+next-is : (c : tie.After-exponent-of Inv-loop μ-loop)
+    → c .exponent-of .result
     ≡ getD (monomial-of (c .before .before .before .before .before .args .n)
     (c .before .before .before .before .before .args .key)) (c .before .before .before .loop .i) 0
 next-is c =
     let l = c .before .before .before in
     let s = l .before .before in
-    c .exponent .ensures
-    ∙ exponent-at (s .args .n) (l .loop .i) (s .args .key) (omega arith) (s .pre .0 .width) (s .pre .0 .fits)
+    c .exponent-of .ensures
+    ∙ monomial-place (s .args .n) (l .loop .i) (s .args .key) (s .pre .0 .width) (omega arith) (s .pre .0 .fits)
 
 loop-holds : tie.Need-loop-holds Inv-loop μ-loop
 loop-holds c = listed-none natural _
 
-exponent-requires : tie.Need-exponent-requires Inv-loop μ-loop
-exponent-requires c κs = omega (arith, c .before .before .before .before .pre)
+add-variable : tie.Need-add-variable Inv-loop μ-loop
+add-variable c = search needs
+
+exponent-of-requires : tie.Need-exponent-of-requires Inv-loop μ-loop
+exponent-of-requires c κs = record {
+  first = omega arith;
+  last = omega (arith, c .before .before .before .before .pre);
+}
 
 cast-put-natural : tie.Need-cast-put-natural Inv-loop μ-loop
-cast-put-natural c = omega (arith, c .exponent .ok)
+cast-put-natural c = omega (arith, c .exponent-of .ok)
 
 put-natural-requires : tie.Need-put-natural-requires Inv-loop μ-loop
 put-natural-requires c κs = rw (next-is c)
     (listed-room natural _ (c .before .before .before .loop .inv) 0 (within (c .before .before))
     (c .before .before .before .before .before .pre .1))
-
-add-i : tie.Need-add-i Inv-loop μ-loop
-add-i c = search needs
 
 loop-less : tie.Need-loop-less Inv-loop μ-loop
 loop-less c = search needs
@@ -81,10 +84,10 @@ put-exponents-spec =
     Inv-loop
     μ-loop
     loop-holds
-    exponent-requires
+    add-variable
+    exponent-of-requires
     cast-put-natural
     put-natural-requires
-    add-i
     loop-less
     loop-again
     same-length
