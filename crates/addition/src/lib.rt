@@ -50,5 +50,5 @@ pub fn subtracted(a: Model, b: Model) -> Answer
     requires { ⌜ Operands a b ⌝ }
     ensures { λ r. ⌜ r ≡ answer (at-place 0 (subtract (view a) (view b))) ⌝ }
 {
-    added(a, held::negated(b))
+    added(a, unary::negated(b))
 }

@@ -11,6 +11,8 @@ use Rattle.held.specs.declared.Model.{Model}
 use Rattle.held.specs.declared.Verdict.{Verdict}
 use Rattle.held.specs.declared.Verdict.the-variants.{Accepted, Refused}
 use Rattle.held.specs.Arrays.{first-places, padded}
+-- the verdict of a result
+unfoldable pub use Rattle.held.specs.Held.{verdict}
 use Rattle.held.specs.Held.{zero-term, places, pad, refusal}
 use Rattle.format.specs.Held.{Held-term, Held-model, Held-step, Held-book, zero-book, held-tested}
 use Rattle.book.specs.declared.Step.{Step}
@@ -74,12 +76,7 @@ stored-book h = record {
 }
 
 -- ---- answers
--- the verdict of a result
-unfoldable pub verdict : {A : Type 0} → Result A → Verdict
-verdict (done a) = Accepted
-verdict (stopped r i) = Refused (refusal r) i
-
--- that of a book's tests 3, 5 and 6
+-- the verdict of a book's tests 3, 5 and 6
 unfoldable pub book-verdict : Book → Verdict
 book-verdict b = verdict (held-tested (held-book b) (done (held-book b)))
 

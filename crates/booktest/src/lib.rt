@@ -20,7 +20,7 @@ pub fn model_sound(n: u8, d: u8, m: Model) -> bool
     if m.n != n {
         return false;
     }
-    held::sound(m, d)
+    soundness::sound(m, d)
 }
 
 // The number of the first model that fails test 5, or the count.

@@ -107,6 +107,11 @@ unfoldable pub verdict-place : Verdict → ℕ
 verdict-place Accepted = 0
 verdict-place (Refused r i) = i
 
+-- the verdict of a result
+unfoldable pub verdict : {A : Type 0} → Result A → Verdict
+verdict (done a) = Accepted
+verdict (stopped r i) = Refused (refusal r) i
+
 -- a model, or the zero model in one variable beside the refusal
 unfoldable pub answer : Result C.Model → Answer
 answer (done m) = record { model = pack m; verdict = Accepted }

@@ -3,6 +3,4 @@ pub mod ArrayLaws
 pub mod Held
 pub mod HeldLaws
 pub mod MachineLaws
-pub mod SoundPassLaws
-pub mod SweepLaws
 pub mod AnswerLaws

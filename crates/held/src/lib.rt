@@ -1,16 +1,13 @@
-// Models held in memory: their types, their soundness, and the operations that are linear in the terms.
+// Models held in memory: their types, the answers of a refused call, and the models of constants and variables.
 ghost use mathlib.Core.Path.{_≡_};
-ghost use mathlib.Core.Bool.{not, _&&_};
 ghost use Prim.Native.Nat.{_-_, _^_, _≤_};
-ghost use lib.Dec.{T, eqb, leb};
-ghost use Rattle.calculus.specs.Key.{«key-width», «key-fits»};
-ghost use Rattle.calculus.specs.Model.{«zero-model», «most-degree», sound};
+ghost use Rattle.calculus.specs.Key.{«key-width»};
+ghost use Rattle.calculus.specs.Model.{«zero-model»};
 ghost use Rattle.calculus.specs.Refusal.{stopped, number};
 ghost use Rattle.calculus.specs.Tests.{«vars-sound»};
-ghost use Rattle.calculus.specs.Operations.{constant, variable, negate, sweep};
+ghost use Rattle.calculus.specs.Operations.{constant, variable};
 ghost use Rattle.calculus.specs.Calls.{«call-constant», «call-variable»};
-ghost use Rattle.held.specs.Held.{view, pack, «one-term», «term-sound», cause, answer, bounds};
-ghost use Rattle.calculus.specs.Key.{«key-degree»};
+ghost use Rattle.held.specs.Held.{pack, «one-term», cause, answer, bounds};
 
 // The places of a model's terms.
 pub const MOST_TERMS: usize = 64;
@@ -204,77 +201,6 @@ pub fn vars_sound(n: u8) -> bool
     1 <= n && n <= 4
 }
 
-// Whether the exponents of variables above n are 0.
-fn key_fits(n: u8, key: u16) -> bool
-    requires { ⌜ 1 ≤ n ⌝ }
-    ensures { λ r. ⌜ r ≡ key-fits key-width n key ⌝ }
-{
-    if n == 1 {
-        return key % 4096 == 0;
-    }
-    if n == 2 {
-        return key % 256 == 0;
-    }
-    if n == 3 {
-        return key % 16 == 0;
-    }
-    true
-}
-
-// The total degree.
-fn degree(key: u16) -> u16
-    ensures { λ r. ⌜ r ≡ key-degree key ⌝ }
-{
-    let low = key % 4096;
-    let lower = low % 256;
-    key / 4096 + low / 256 + lower / 16 + lower % 16
-}
-
-// Whether a term may stand in a model where keys before it are below `least`.
-pub fn term_sound(n: u8, d: u8, least: u32, key: u16, coefficient: i64) -> bool
-    requires { ⌜ 1 ≤ n ⌝ }
-    ensures { λ r. ⌜ r ≡ term-sound n d least key coefficient ⌝ }
-{
-    if coefficient == 0 {
-        return false;
-    }
-    if (key as u32) < least {
-        return false;
-    }
-    if key_fits(n, key) {
-        degree(key) <= d as u16
-    } else {
-        false
-    }
-}
-
-// Whether a struct holds a model by the rules, with degrees up to d. The span is summed without wrapping.
-pub fn sound(m: Model, d: u8) -> bool
-    ensures { λ r. ⌜ r ≡ sound d (view m) ⌝ }
-{
-    let n = m.n;
-    let count = m.count;
-    if !vars_sound(n) {
-        return false;
-    }
-    if MOST_TERMS < count {
-        return false;
-    }
-    let mut span = m.radius;
-    let mut least: u32 = 0;
-    let mut i = 0;
-    while i < count {
-        let t = m.terms[i];
-        if !term_sound(n, d, least, t.key, t.coefficient) {
-            return false;
-        }
-        span = fixed::capped_sum(span, fixed::magnitude(t.coefficient));
-        least = t.key as u32 + 1;
-        i += 1;
-    }
-    fixed::within_span(span)
-}
-
 // A model without terms, in n variables.
 pub fn without_terms(n: u8) -> Model
     ensures { λ r. ⌜ r ≡ pack (zero-model n) ⌝ }
@@ -376,70 +302,5 @@ impl Model {
             model: variable_of(n, i),
             verdict: Verdict::Accepted,
         }
-    }
-}
-
-// Whether a term is swept: not the constant one, and not above the threshold.
-fn is_small(threshold: u64, key: u16, size: u64) -> bool
-    ensures { λ r. ⌜ r ≡ (not (eqb key 0) && leb size threshold) ⌝ }
-{
-    if key == 0 {
-        return false;
-    }
-    size <= threshold
-}
-
-// All signs turned.
-pub fn negated(m: Model) -> Model
-    requires { ⌜ T (sound most-degree (view m)) ⌝ }
-    ensures { λ r. ⌜ r ≡ pack (negate (view m)) ⌝ }
-{
-    let count = m.count;
-    let mut turned = [Term::ZERO; MOST_TERMS];
-    let mut i = 0;
-    while i < count {
-        let t = m.terms[i];
-        let old = t.coefficient;
-        let new = fixed::negated(old);
-        turned[i] = Term {
-            key: t.key,
-            coefficient: new,
-        };
-        i += 1;
-    }
-    Model {
-        n: m.n,
-        count: count,
-        radius: m.radius,
-        terms: turned,
-    }
-}
-
-// Terms other than the constant one with coefficients up to the threshold dropped, their size added to the radius.
-pub fn swept(m: Model, threshold: u64) -> Model
-    requires { ⌜ T (sound most-degree (view m)) ⌝ }
-    ensures { λ r. ⌜ r ≡ pack (sweep threshold (view m)) ⌝ }
-{
-    let total = m.count;
-    let mut out = [Term::ZERO; MOST_TERMS];
-    let mut count = 0;
-    let mut radius = m.radius;
-    let mut i = 0;
-    while i < total {
-        let t = m.terms[i];
-        let size = fixed::magnitude(t.coefficient);
-        i += 1;
-        if is_small(threshold, t.key, size) {
-            radius += size;
-        } else {
-            out[count] = t;
-            count += 1;
-        }
-    }
-    Model {
-        n: m.n,
-        count: count,
-        radius: radius,
-        terms: out,
     }
 }

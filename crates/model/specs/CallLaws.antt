@@ -1,44 +1,60 @@
--- What the tests of a call say of the structs and numbers that it is handed.
-use mathlib.Core.Path.{_≡_, refl, sym, subst}
-use mathlib.Core.Bool.{true, false}
-use Prim.Native.Nat.{ℕ, _≤_, _<_}
-use borrow.Author.Tests.{eq-eqb, ne-eqb, le-leb, lt-leb}
-use lib.Dec.{T, eqb, leb, leb→le}
-use Rattle.calculus.specs.Model.{most-degree, between}
-use Rattle.calculus.specs.Tests.{order-sound, variable-sound}
-use Rattle.calculus.specs.TestLaws.{and-right}
-use Rattle.held.specs.declared.Model.{Model}
-use Rattle.held.specs.Held.{view}
+-- Each call is its tests, followed by its operation.
+use mathlib.Core.Path.{_≡_, sym, _∙_, ap}
+use mathlib.Core.List.{List}
+use Prim.Native.Nat.{ℕ}
+use lib.IntN.{ℤ, natAbs}
+use lib.ListN.{take}
+use Rattle.calculus.specs.Model.{Model, most-degree, sound}
+use Rattle.calculus.specs.Refusal.{done, at-place, require-at, _followed-by_}
+use Rattle.calculus.specs.Operations as Op
+use Rattle.calculus.specs.Tests.{order-sound}
+use Rattle.calculus.specs.Calls.{require-two, call-negate, call-sweep, call-range, call-integral, call-evaluate}
+use Rattle.calculus.specs.Calls.{call-add, call-subtract, call-multiply, call-substitute}
+use Rattle.admission.specs.Admission.{single-model, sweeping, at-point, two-models, ordered, substituting}
+use Rattle.admission.specs.AdmissionLaws.{at-followed, two-followed}
 
--- the variables of two models
-pub same-vars : (a b : Model) → a .n ≡ b .n → eqb (view a .vars) (view b .vars) ≡ true
-unfolding view
-same-vars a b e = eq-eqb (a .n) (b .n) e
+-- ---- of one model
+module _ (f : Model) where
+  pub negate-is : call-negate f ≡ (single-model f followed-by (λ u. done (Op.negate f)))
+  unfolding call-negate single-model _followed-by_
+  negate-is = sym (at-followed 0 _ _ _ _)
 
-pub other-vars : (a b : Model) → (a .n ≡ b .n → ⊥) → eqb (view a .vars) (view b .vars) ≡ false
-unfolding view
-other-vars a b e = ne-eqb (a .n) (b .n) e
+  pub range-is : call-range f ≡ (single-model f followed-by (λ u. done (Op.range f)))
+  unfolding call-range single-model _followed-by_
+  range-is = sym (at-followed 0 _ _ _ _)
 
--- an order is at most 15
-pub order-limit : (d : ℕ) → order-sound d ≡ true → d ≤ most-degree
-unfolding order-sound between
-order-limit d h = leb→le d most-degree (and-right (leb 1 d) _ (subst T (sym h) tt))
+  pub integral-is : call-integral f ≡ (single-model f followed-by (λ u. done (Op.integral f)))
+  unfolding call-integral single-model _followed-by_
+  integral-is = sym (at-followed 0 _ _ _ _)
 
--- a variable is 1 to n
-module _ (m : Model) (i : ℕ) where
-  pub variable-low : i < 1 → variable-sound (view m .vars) i ≡ false
-  unfolding variable-sound between
-  variable-low h = rw (lt-leb 1 i h)
+  pub sweep-is : (t : ℤ) → call-sweep t f ≡ (sweeping t f followed-by (λ u. done (Op.sweep (natAbs t) f)))
+  unfolding call-sweep sweeping _followed-by_
+  sweep-is t = sym (at-followed 0 _ _ _ _ ∙ ap (require-at 0 (sound most-degree f) _) (at-followed 0 _ _ _ _))
 
-  pub variable-high : 1 ≤ i → m .n < i → variable-sound (view m .vars) i ≡ false
-  unfolding variable-sound between view
-  variable-high h k = rw (le-leb 1 i h, lt-leb i (m .n) k)
+  pub evaluate-is : (Xs : List ℤ)
+      → call-evaluate Xs f
+      ≡ (at-point Xs f followed-by (λ u. at-place 0 (Op.evaluate (take (f .vars) Xs) f)))
+  unfolding call-evaluate at-point _followed-by_
+  evaluate-is Xs = sym (at-followed 0 _ _ _ _ ∙ ap (require-at 0 (sound most-degree f) _)
+      (at-followed 0 _ _ _ _ ∙ ap (require-at 0 _ _) (at-followed 0 _ _ _ _)))
 
-  pub variable-within : 1 ≤ i → i ≤ m .n → variable-sound (view m .vars) i ≡ true
-  unfolding variable-sound between view
-  variable-within h k = rw (le-leb 1 i h, le-leb i (m .n) k)
+-- ---- of two
+module _ (f g : Model) where
+  pub add-is : call-add f g ≡ (two-models most-degree f g followed-by (λ u. at-place 0 (Op.add f g)))
+  unfolding call-add two-models _followed-by_
+  add-is = sym (two-followed most-degree f g _ _)
 
--- the variables of the model that a struct holds
-pub vars-view : (m : Model) → view m .vars ≡ m .n
-unfolding view
-vars-view m = refl
+  pub subtract-is : call-subtract f g ≡ (two-models most-degree f g followed-by (λ u. at-place 0 (Op.subtract f g)))
+  unfolding call-subtract two-models _followed-by_
+  subtract-is = sym (two-followed most-degree f g _ _)
+
+  pub multiply-is : (d : ℕ)
+      → call-multiply d f g ≡ (ordered d f g followed-by (λ u. at-place 0 (Op.multiply d f g)))
+  unfolding call-multiply ordered _followed-by_
+  multiply-is d = sym (at-followed 0 _ _ _ _ ∙ ap (require-at 0 (order-sound d) _) (two-followed d f g _ _))
+
+  pub substitute-is : (d i : ℕ)
+      → call-substitute d i f g ≡ (substituting d i f g followed-by (λ u. at-place 0 (Op.substitute d i f g)))
+  unfolding call-substitute substituting _followed-by_
+  substitute-is d i = sym (at-followed 0 _ _ _ _ ∙ ap (require-at 0 (order-sound d) _)
+      (two-followed d f g _ _ ∙ ap (require-two d f g) (at-followed 0 _ _ _ _)))

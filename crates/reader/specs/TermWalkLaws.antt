@@ -18,7 +18,7 @@ use Rattle.held.specs.Arrays.{padded}
 use Rattle.held.specs.Held.{zero-term, pad, view, term-sound}
 use Rattle.held.specs.ArrayLaws.{take-more, padded-more, length-padded-least}
 use Rattle.held.specs.HeldLaws.{map-++}
-use Rattle.held.specs.SoundPassLaws.{Passed, passed-first, passed-turn, passed-not, passed-end, many-not}
+use Rattle.soundness.specs.SoundPassLaws.{Passed, passed-first, passed-turn, passed-not, passed-end, many-not}
 use Rattle.format.specs.Bytes.{byte, u32}
 use Rattle.format.specs.Held.{Held-term, Held-model, view-model}
 use Rattle.format.specs.Format.{read-term, read-terms, read-model, model-length}

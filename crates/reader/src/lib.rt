@@ -212,7 +212,7 @@ fn walk_models(s: &[u8], n: u8, d: u8, count: usize) -> Walked
         let mut i = 0;
         'terms: while i < total {
             let t = term_at(s, place);
-            if !held::term_sound(n, d, least, t.key, t.coefficient) {
+            if !soundness::term_sound(n, d, least, t.key, t.coefficient) {
                 break 'models;
             }
             terms[i] = t;

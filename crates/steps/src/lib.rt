@@ -65,11 +65,11 @@ pub fn step_answer(
         0 => accepted(cleared(input)),
         1 => accepted(held::constant_of(n, s.value)),
         2 => accepted(held::variable_of(n, s.v)),
-        3 => accepted(held::negated(f)),
+        3 => accepted(unary::negated(f)),
         4 => addition::added(f, g),
         5 => addition::subtracted(f, g),
         6 => multiply::multiplied(d, f, g, slots, keys, sums),
         7 => substitute::substituted(d, s.v, f, g, slots, keys, sums),
-        _ => accepted(held::swept(f, fixed::magnitude(s.value))),
+        _ => accepted(unary::swept(f, fixed::magnitude(s.value))),
     }
 }

@@ -1,4 +1,4 @@
--- `model_sound` compares n, then leaves the rules to `held::sound`.
+-- `model_sound` compares n, then leaves the rules to `soundness::sound`.
 use native.Mathlib.Omega.{arith}
 use borrow.Author.Needs.{needs}
 use borrow.Author.Tests.{eq-eqb, ne-eqb}

@@ -5,7 +5,7 @@ use mathlib.Core.Path.{_≡_}
 use mir.Facts.{toZ-ofZ}
 use mir.Syntax.{w64}
 use mir.Val.{toZ, ofZ}
-use Rattle.model.specs.CallLaws.{vars-view}
+use Rattle.admission.specs.TestLaws.{vars-view}
 use Rattle.dispatch.specs.Calls.{model-call}
 use Rattle.dispatch.proofs.model_call.Statement.{statement}
 use Rattle.dispatch.proofs.model_call.Tie as tie

@@ -1,46 +1,54 @@
--- `integral` tests the model, then takes its integral.
-use mathlib.Core.Path.{_≡_, sym, _∙_}
-use mathlib.Core.Bool.{true, false}
+-- `integral` makes the tests of one model, then takes its integral.
+use mathlib.Core.Path.{_≡_, sym, _∙_, ap}
 use borrow.Author.Needs.{needs}
-use borrow.Author.Tests.{not-true, not-false}
-use Rattle.calculus.specs.Model.{most-degree, sound}
-use Rattle.calculus.specs.Refusal.{require-at}
-use Rattle.calculus.specs.Calls.{call-integral}
-use Rattle.held.specs.Held.{view, cause}
+use Rattle.held.specs.Held.{view, verdict, bounds}
+use Rattle.held.specs.declared.Verdict.the-variants.{Accepted}
+use Rattle.admission.specs.Admission.{single-model}
+use Rattle.admission.specs.AdmissionLaws.{single-passed, goes-on, is-refused}
+use Rattle.model.specs.CallLaws.{integral-is}
 use Rattle.model.proofs.integral.Statement.{statement}
 use Rattle.model.proofs.integral.Tie as tie
 
-fails : (c : tie.Then1) → sound most-degree (view (c .before .before .args .m)) ≡ false
-unfolding most-degree
-fails c = sym (c .before .sound .ensures) ∙ not-true _ (c .if1 .taken)
+-- the tests have passed
+module _ (c : tie.After-enum-told) where
+  abbrev start : tie.Start
+  start = c .before .before .before
 
-holds : (c : tie.Else1) → sound most-degree (view (c .before .before .args .m)) ≡ true
-unfolding most-degree
-holds c = sym (c .before .sound .ensures) ∙ not-false _ (c .if1 .left)
+  passed : verdict (single-model (view (start .args .m))) ≡ Accepted
+  passed = sym (c .before .before .single-model .ensures) ∙ c .enum-told .given .1
 
-sound-requires : tie.Need-sound-requires
-sound-requires c κs = search needs
+single-model-requires : tie.Need-single-model-requires
+single-model-requires c κs = search needs
+
+enum-told : tie.Need-enum-told
+enum-told c = search needs
+
+integral-of-requires : tie.Need-integral-of-requires
+integral-of-requires c κs = single-passed _ (passed c)
+
+enum-known-v : tie.Need-enum-known-v
+enum-known-v c = search needs
 
 refuse-bounds-requires : tie.Need-refuse-bounds-requires
 refuse-bounds-requires c κs = search needs
 
 returns : tie.Need-returns
-unfolding require-at call-integral cause
-returns c = rw (c .refuse-bounds .ensures, fails (c .before))
-
-integral-of-requires : tie.Need-integral-of-requires
-integral-of-requires c κs = rw (holds c) tt
+returns c = c .integral-of .ensures ∙ ap bounds (sym (integral-is _ ∙ goes-on _ _ (passed (c .before))))
 
 returns-2 : tie.Need-returns-2
-unfolding require-at call-integral
-returns-2 c = rw (c .integral-of .ensures, holds (c .before))
+returns-2 c =
+    let k = c .before .before in
+    let e = sym (k .before .before .single-model .ensures) ∙ k .v .given .1 in
+    c .refuse-bounds .ensures ∙ ap bounds (sym (integral-is _ ∙ is-refused _ _ _ _ e))
 
 pub integral-spec : {M : Type 1} → statement M
 integral-spec =
     tie.close
     (tie.spec
-    sound-requires
+    single-model-requires
+    enum-told
+    integral-of-requires
+    enum-known-v
     refuse-bounds-requires
     returns
-    integral-of-requires
     returns-2)

@@ -1,46 +1,47 @@
--- `negate` tests the model, then turns its signs.
-use mathlib.Core.Path.{_≡_, sym, _∙_}
-use mathlib.Core.Bool.{true, false}
+-- `negate` makes the tests of one model, then turns its signs.
+use mathlib.Core.Path.{_≡_, sym, _∙_, ap}
 use borrow.Author.Needs.{needs}
-use borrow.Author.Tests.{not-true, not-false}
-use Rattle.calculus.specs.Model.{most-degree, sound}
-use Rattle.calculus.specs.Refusal.{require-at}
-use Rattle.calculus.specs.Calls.{call-negate}
-use Rattle.held.specs.Held.{view, cause, answer}
+use Rattle.held.specs.Held.{view, verdict, answer}
+use Rattle.held.specs.declared.Verdict.the-variants.{Accepted}
+use Rattle.admission.specs.Admission.{single-model}
+use Rattle.admission.specs.AdmissionLaws.{single-passed, goes-on, is-refused}
+use Rattle.model.specs.CallLaws.{negate-is}
 use Rattle.model.proofs.negate.Statement.{statement}
 use Rattle.model.proofs.negate.Tie as tie
 
-fails : (c : tie.Then1) → sound most-degree (view (c .before .before .args .m)) ≡ false
-unfolding most-degree
-fails c = sym (c .before .sound .ensures) ∙ not-true _ (c .if1 .taken)
+-- the tests have passed
+module _ (c : tie.After-enum-told) where
+  abbrev start : tie.Start
+  start = c .before .before .before
 
-holds : (c : tie.Else1) → sound most-degree (view (c .before .before .args .m)) ≡ true
-unfolding most-degree
-holds c = sym (c .before .sound .ensures) ∙ not-false _ (c .if1 .left)
+  passed : verdict (single-model (view (start .args .m))) ≡ Accepted
+  passed = sym (c .before .before .single-model .ensures) ∙ c .enum-told .given .1
 
-sound-requires : tie.Need-sound-requires
-sound-requires c κs = search needs
+single-model-requires : tie.Need-single-model-requires
+single-model-requires c κs = search needs
+
+enum-told : tie.Need-enum-told
+enum-told c = search needs
+
+negated-requires : tie.Need-negated-requires
+negated-requires c κs = single-passed _ (passed c)
+
+enum-known-v : tie.Need-enum-known-v
+enum-known-v c = search needs
 
 refuse-requires : tie.Need-refuse-requires
 refuse-requires c κs = search needs
 
 returns : tie.Need-returns
-unfolding require-at call-negate cause
-returns c = rw (c .refuse .ensures, fails (c .before))
-
-negated-requires : tie.Need-negated-requires
-negated-requires c κs = rw (holds c) tt
+unfolding answer
+returns c = rw (c .negated .ensures, negate-is (view (start (c .before) .args .m)) ∙ goes-on _ _ (passed (c .before)))
 
 returns-2 : tie.Need-returns-2
-unfolding require-at call-negate answer
-returns-2 c = rw (c .negated .ensures, holds (c .before))
+returns-2 c =
+    let k = c .before .before in
+    let e = sym (k .before .before .single-model .ensures) ∙ k .v .given .1 in
+    c .refuse .ensures ∙ ap answer (sym (negate-is _ ∙ is-refused _ _ _ _ e))
 
 pub negate-spec : {M : Type 1} → statement M
 negate-spec =
-    tie.close
-    (tie.spec
-    sound-requires
-    refuse-requires
-    returns
-    negated-requires
-    returns-2)
+    tie.close (tie.spec single-model-requires enum-told negated-requires enum-known-v refuse-requires returns returns-2)

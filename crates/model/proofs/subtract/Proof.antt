@@ -1,99 +1,59 @@
--- `subtract` tests the two models, then subtracts the second.
-use mathlib.Core.Path.{_≡_, sym, _∙_}
-use mathlib.Core.Bool.{true, false}
+-- `subtract` makes the tests of two models, then subtracts the second.
+use mathlib.Core.Path.{_≡_, sym, _∙_, ap}
 use borrow.Author.Needs.{needs}
-use borrow.Author.Tests.{not-true, not-false}
-use Rattle.calculus.specs.Model.{most-degree, sound}
-use Rattle.calculus.specs.Refusal.{require-at}
-use Rattle.calculus.specs.Calls.{require-two, call-subtract}
-use Rattle.held.specs.Held.{view, cause}
-use Rattle.model.specs.CallLaws.{same-vars, other-vars}
+use Rattle.calculus.specs.Model.{most-degree}
+use Rattle.held.specs.Held.{view, verdict, answer}
+use Rattle.held.specs.declared.Verdict.the-variants.{Accepted}
+use Rattle.admission.specs.Admission.{two-models}
+use Rattle.admission.specs.AdmissionLaws.{two-passed, goes-on, is-refused}
+use Rattle.model.specs.CallLaws.{subtract-is}
 use Rattle.model.proofs.subtract.Statement.{statement}
 use Rattle.model.proofs.subtract.Tie as tie
 
-first-fails : (c : tie.Then1) → sound most-degree (view (c .before .before .args .a)) ≡ false
-unfolding most-degree
-first-fails c = sym (c .before .sound .ensures) ∙ not-true _ (c .if1 .taken)
+-- the tests have passed
+module _ (c : tie.After-enum-told) where
+  abbrev start : tie.Start
+  start = c .before .before .before
 
-first-holds : (c : tie.Else1) → sound most-degree (view (c .before .before .args .a)) ≡ true
-unfolding most-degree
-first-holds c = sym (c .before .sound .ensures) ∙ not-false _ (c .if1 .left)
+  passed : verdict (two-models most-degree (view (start .args .a)) (view (start .args .b))) ≡ Accepted
+  unfolding most-degree
+  passed = sym (c .before .before .two-models .ensures) ∙ c .enum-told .given .1
 
-second-fails : (c : tie.Then2) → sound most-degree (view (c .before .before .before .before .args .b)) ≡ false
-unfolding most-degree
-second-fails c = sym (c .before .sound2 .ensures) ∙ not-true _ (c .if2 .taken)
+two-models-requires : tie.Need-two-models-requires
+two-models-requires c κs = search needs
 
-second-holds : (c : tie.Else2) → sound most-degree (view (c .before .before .before .before .args .b)) ≡ true
-unfolding most-degree
-second-holds c = sym (c .before .sound2 .ensures) ∙ not-false _ (c .if2 .left)
+enum-told : tie.Need-enum-told
+enum-told c = search needs
 
-sound-requires : tie.Need-sound-requires
-sound-requires c κs = search needs
+subtracted-requires : tie.Need-subtracted-requires
+unfolding view
+subtracted-requires c κs =
+    let p = two-passed _ _ _ (passed c) in record { first = p .first; second = p .second; vars = p .vars }
+
+enum-known-v : tie.Need-enum-known-v
+enum-known-v c = search needs
 
 refuse-requires : tie.Need-refuse-requires
 refuse-requires c κs = search needs
 
 returns : tie.Need-returns
-unfolding require-at require-two call-subtract cause
-returns c = rw (c .refuse .ensures, first-fails (c .before))
-
-sound-requires-2 : tie.Need-sound-requires-2
-sound-requires-2 c κs = search needs
-
-refuse-requires-2 : tie.Need-refuse-requires-2
-refuse-requires-2 c κs = search needs
+returns c = c .subtracted .ensures ∙ ap answer (sym (subtract-is _ _ ∙ goes-on _ _ (passed (c .before))))
 
 returns-2 : tie.Need-returns-2
-unfolding require-at require-two call-subtract cause
-returns-2 c = rw (c .refuse2 .ensures, first-holds (c .before .before .before), second-fails (c .before))
-
-refuse-requires-3 : tie.Need-refuse-requires-3
-refuse-requires-3 c κs = search needs
-
-returns-3 : tie.Need-returns-3
-unfolding require-at require-two call-subtract cause
-returns-3 c =
-    let e = c .before .before .before .before in
-    let s = e .before .before .before .before in
-    rw (
-      c .refuse3 .ensures,
-      first-holds (e .before .before),
-      second-holds e,
-      other-vars (s .args .a) (s .args .b) (c .before .if3 .taken),
-    )
-
-subtracted-requires : tie.Need-subtracted-requires
-subtracted-requires c κs =
-    let e = c .before .before .before in
-    record {
-      first = rw (first-holds (e .before .before)) tt;
-      second = rw (second-holds e) tt;
-      vars = c .if3 .left;
-    }
-
-returns-4 : tie.Need-returns-4
-unfolding require-at require-two call-subtract
-returns-4 c =
-    let e = c .before .before .before .before in
-    let s = e .before .before .before .before in
-    rw (
-      c .subtracted .ensures,
-      first-holds (e .before .before),
-      second-holds e,
-      same-vars (s .args .a) (s .args .b) (c .before .if3 .left),
-    )
+unfolding most-degree
+returns-2 c =
+    let k = c .before .before in
+    let e = sym (k .before .before .two-models .ensures) ∙ k .v .given .1 in
+    c .refuse .ensures ∙ ap answer (sym (subtract-is _ _ ∙ is-refused _ _ _ _ e))
 
 pub subtract-spec : {M : Type 1} → statement M
 subtract-spec =
     tie.close
     (tie.spec
-    sound-requires
+    two-models-requires
+    enum-told
+    subtracted-requires
+    enum-known-v
     refuse-requires
     returns
-    sound-requires-2
-    refuse-requires-2
-    returns-2
-    refuse-requires-3
-    returns-3
-    subtracted-requires
-    returns-4)
+    returns-2)

@@ -1,80 +1,75 @@
--- `sweep` tests the model and the threshold, then drops the small terms.
+-- `sweep` makes the tests of the model and of the threshold, then drops the small terms.
 use mathlib.Core.Path.{_≡_, sym, _∙_, ap}
-use mathlib.Core.Bool.{true, false}
 use borrow.Author.Needs.{needs}
-use borrow.Author.Tests.{not-true, not-false}
 use mir.Facts.{toZ-ofZ}
-use Rattle.calculus.specs.Model.{most-degree, sound}
-use Rattle.calculus.specs.Refusal.{require-at}
-use Rattle.calculus.specs.Tests.{threshold-sound}
-use Rattle.calculus.specs.Calls.{call-sweep}
-use Rattle.held.specs.Held.{view, cause, answer}
+use Rattle.held.specs.Held.{view, verdict, answer}
+use Rattle.held.specs.declared.Verdict.the-variants.{Accepted}
+use Rattle.admission.specs.Admission.{sweeping}
+use Rattle.admission.specs.AdmissionLaws.{sweeping-passed, goes-on, is-refused}
+use Rattle.model.specs.CallLaws.{sweep-is}
 use Rattle.model.proofs.sweep.Statement.{statement}
 use Rattle.model.proofs.sweep.Tie as tie
 
-fails : (c : tie.Then1) → sound most-degree (view (c .before .before .args .m)) ≡ false
-unfolding most-degree
-fails c = sym (c .before .sound .ensures) ∙ not-true _ (c .if1 .taken)
+-- the verdict is of the threshold itself
+told : (c : tie.After-sweeping)
+    → c .sweeping .result ≡ verdict (sweeping (c .before .args .t) (view (c .before .args .m)))
+told c =
+    let s = c .before in
+    c .sweeping .ensures ∙ ap (λ z. verdict (sweeping z (view (s .args .m)))) (toZ-ofZ (s .fits .t))
 
-holds : (c : tie.Else1) → sound most-degree (view (c .before .before .args .m)) ≡ true
-unfolding most-degree
-holds c = sym (c .before .sound .ensures) ∙ not-false _ (c .if1 .left)
+-- the tests have passed
+module _ (c : tie.After-enum-told) where
+  abbrev start : tie.Start
+  start = c .before .before .before
 
-within : (c : tie.After-threshold-within-limits)
-    → c .threshold-within-limits .result ≡ threshold-sound (c .before .before .before .args .t)
-unfolding threshold-sound
-within c = c .threshold-within-limits .ensures ∙ ap threshold-sound (toZ-ofZ (c .before .before .before .fits .t))
+  passed : verdict (sweeping (start .args .t) (view (start .args .m))) ≡ Accepted
+  passed = sym (told (c .before .before)) ∙ c .enum-told .given .1
 
-sound-requires : tie.Need-sound-requires
-sound-requires c κs = search needs
+sweeping-requires : tie.Need-sweeping-requires
+sweeping-requires c κs = search needs
 
-refuse-requires : tie.Need-refuse-requires
-refuse-requires c κs = search needs
-
-returns : tie.Need-returns
-unfolding require-at call-sweep cause
-returns c = rw (c .refuse .ensures, fails (c .before))
-
-threshold-within-limits-requires : tie.Need-threshold-within-limits-requires
-threshold-within-limits-requires c κs = search needs
-
-refuse-requires-2 : tie.Need-refuse-requires-2
-refuse-requires-2 c κs = search needs
-
-returns-2 : tie.Need-returns-2
-unfolding require-at call-sweep cause
-returns-2 c =
-    let t = c .before in
-    rw (c .refuse2 .ensures, holds (t .before .before), sym (within (t .before)) ∙ not-true _ (t .if2 .taken))
+enum-told : tie.Need-enum-told
+enum-told c = search needs
 
 magnitude-requires : tie.Need-magnitude-requires
 magnitude-requires c κs = search needs
 
 swept-requires : tie.Need-swept-requires
-swept-requires c κs = rw (holds (c .before .before .before)) tt
+swept-requires c κs = sweeping-passed _ _ (passed (c .before))
 
-returns-3 : tie.Need-returns-3
-unfolding require-at call-sweep answer
-returns-3 c =
-    let d = c .before .before in
+enum-known-v : tie.Need-enum-known-v
+enum-known-v c = search needs
+
+refuse-requires : tie.Need-refuse-requires
+refuse-requires c κs = search needs
+
+returns : tie.Need-returns
+unfolding answer
+returns c =
+    let e = c .before .before in
+    let s = start e in
     rw (
       c .swept .ensures,
       c .before .magnitude .ensures,
-      toZ-ofZ (d .before .before .before .before .fits .t),
-      holds (d .before .before),
-      sym (within (d .before)) ∙ not-false _ (d .if2 .left),
+      toZ-ofZ (s .fits .t),
+      sweep-is (view (s .args .m)) (s .args .t) ∙ goes-on _ _ (passed e),
     )
+
+returns-2 : tie.Need-returns-2
+returns-2 c =
+    let k = c .before .before in
+    let e = sym (told (k .before .before)) ∙ k .v .given .1 in
+    c .refuse .ensures ∙ ap answer (sym (sweep-is _ _ ∙ is-refused _ _ _ _ e))
 
 pub sweep-spec : {M : Type 1} → statement M
 sweep-spec =
     tie.close
     (tie.spec
-    sound-requires
-    refuse-requires
-    returns
-    threshold-within-limits-requires
-    refuse-requires-2
-    returns-2
+    sweeping-requires
+    enum-told
     magnitude-requires
     swept-requires
-    returns-3)
+    enum-known-v
+    refuse-requires
+    returns
+    returns-2)
