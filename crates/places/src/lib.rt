@@ -10,7 +10,7 @@ pub fn first_step(s: &[u8]) -> usize
     ensures { λ r. ⌜ r ≡ first-step (now (s .entry)) ⌝ }
 {
     let end = s.len() - 8;
-    reader::u16_at(s, end + 4) as usize
+    decode::u16_at(s, end + 4) as usize
 }
 
 // How long the record at a place should be: a model's by its term count.

@@ -26,10 +26,11 @@ use Rattle.book.specs.Book.{no-model, no-step, stored-model, stored-step, store
 use Rattle.book.specs.CodeLaws.{step-by-code}
 use Rattle.book.specs.Failing.{first-failing}
 use Rattle.book.specs.FailingLaws.{failing-stops, failing-none}
-use Rattle.reader.specs.declared.Trailer.{Trailer}
-use Rattle.reader.specs.declared.Walked.{Walked}
-use Rattle.reader.specs.declared.Stepped.{Stepped}
-use Rattle.reader.specs.Walk.{stored-trailer, held-trailer, record-sound, Walk, walk, walked, stepped}
+use Rattle.decode.specs.declared.Trailer.{Trailer}
+use Rattle.decode.specs.Trailer.{stored-trailer, held-trailer}
+use Rattle.walks.specs.declared.ModelsRead.{ModelsRead}
+use Rattle.walks.specs.declared.StepsRead.{StepsRead}
+use Rattle.walks.specs.Walk.{record-sound, Walk, walk, models-read, steps-read}
 
 -- ---- test 5 by the walk
 -- the test of a record that has the book's n
@@ -181,17 +182,17 @@ module _ (s : List ℕ) (t : Trailer) where
     by-models r i = to-rest
         ∙ ap (λ r. r followed-by (λ l. require-each 0 (held-step-sound book) steps bad-step (done (with-models l)))) i
 
-    module _ (w : Walked) (is : w ≡ walked (t .n) (t .d) (t .models) (take (t .offset) s)) where
+    module _ (w : ModelsRead) (is : w ≡ models-read (t .n) (t .d) (t .models) (take (t .offset) s)) where
       place-is : w .place ≡ length (gone .passed)
-      unfolding walked
+      unfolding models-read
       place-is = ap (λ x. x .place) is
 
       end-is : w .end ≡ t .offset - length (gone .left)
-      unfolding walked
+      unfolding models-read
       end-is = ap (λ x. x .end) is ∙ ap (λ l. l - length (gone .left)) before
 
       models-are : w .models ≡ padded no-model most-models (map stored-model (gone .passed))
-      unfolding walked
+      unfolding models-read
       models-are = ap (λ x. x .models) is
 
       -- a model is faulty
@@ -209,8 +210,8 @@ module _ (s : List ℕ) (t : Trailer) where
         bytes-left g = by-models _ (far .over (omega (arith, all-passed)) (omega (arith, end-is)))
             ∙ ap (stopped bad-model) all-passed
 
-        module _ (g : t .offset ≤ w .end) (v : Stepped)
-            (on : v ≡ stepped (t .n) (t .models) (t .steps) (drop (t .offset) s)) where
+        module _ (g : t .offset ≤ w .end) (v : StepsRead)
+            (on : v ≡ steps-read (t .n) (t .models) (t .steps) (drop (t .offset) s)) where
           test-6 : held-step-sound book ≡ fields-sound (t .n) (t .models)
           test-6 = fun-ext (λ i. fun-ext (λ x. step-by-code (t .n) (t .d) (t .models) (t .steps) i x))
 
@@ -224,7 +225,7 @@ module _ (s : List ℕ) (t : Trailer) where
           fault = first-failing 0 (fields-sound (t .n) (t .models)) steps
 
           fault-is : v .place ≡ fault
-          unfolding stepped fault
+          unfolding steps-read fault
           fault-is = ap (λ x. x .place) on
 
           -- a step is faulty
@@ -243,7 +244,7 @@ module _ (s : List ℕ) (t : Trailer) where
               (omega (arith, fault-is, length-read-steps (t .steps) (drop (t .offset) s)))
 
           steps-are : t .steps ≤ v .place → v .steps ≡ padded no-step most-steps (map stored-step steps)
-          unfolding stepped fault
+          unfolding steps-read fault
           steps-are f = ap (λ x. x .steps) on
               ∙ ap (λ x. padded no-step most-steps (map stored-step x)) (take-all fault steps
               (omega (arith, fault-is, length-read-steps (t .steps) (drop (t .offset) s))))

@@ -5,7 +5,7 @@ use Rattle.places.proofs.first_step.Statement.{statement}
 use Rattle.places.proofs.first_step.Tie as tie
 use Rattle.places.proofs.first_step.Reads as reads
 use Rattle.places.proofs.first_step.Lts as lts
-use Rattle.reader.proofs.u16_at.Reads as u16-at-reads
+use Rattle.decode.proofs.u16_at.Reads as u16-at-reads
 
 sub-end : tie.Need-sub-end
 sub-end c = search needs

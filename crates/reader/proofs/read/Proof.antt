@@ -13,7 +13,7 @@ use Rattle.calculus.specs.Book.{limits-sound}
 use Rattle.held.specs.Held.{cause}
 use Rattle.format.specs.Format.{shortest, longest}
 use Rattle.book.specs.Book.{read-answer}
-use Rattle.reader.specs.declared.Trailer.{Trailer}
+use Rattle.decode.specs.declared.Trailer.{Trailer}
 use Rattle.reader.specs.ReadLaws.{length-range, length-fault, mark-fault, marked-read, limits-fault, offset-fault}
 use Rattle.reader.proofs.read.Statement.{statement}
 use Rattle.reader.proofs.read.Tie as tie

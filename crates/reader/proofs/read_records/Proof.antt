@@ -9,7 +9,7 @@ use lib.Seq.{length-take-le}
 use Rattle.held.specs.Held.{cause}
 use Rattle.format.specs.HeldLaws.{In-limits, in-limits}
 use Rattle.book.specs.Book.{read-answer}
-use Rattle.reader.specs.declared.Trailer.{Trailer}
+use Rattle.decode.specs.declared.Trailer.{Trailer}
 use Rattle.reader.specs.ReadLaws.{model-fault, bytes-left, step-fault, whole-answer}
 use Rattle.reader.proofs.read_records.Statement.{statement}
 use Rattle.reader.proofs.read_records.Tie as tie

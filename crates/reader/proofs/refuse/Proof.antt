@@ -1,18 +1,43 @@
 -- `refuse` answers a book of zeros beside the refusal.
-use Rattle.held.specs.Held.{refusal}
+use mathlib.Core.Path.{_∙_, ap}
+use borrow.Author.Needs.{needs}
 use Rattle.held.specs.HeldLaws.{refusal-cause}
-use Rattle.held.specs.Arrays.{padded}
-use Rattle.calculus.specs.Model.{most-terms}
-use Rattle.calculus.specs.Book.{most-models, most-steps}
 use Rattle.format.specs.Held.{zero-book}
-use Rattle.book.specs.Book.{stored-book}
-use Rattle.book.specs.Book.{read-answer}
+use Rattle.book.specs.Book.{stored-book, read-answer}
+use Rattle.walks.specs.ModelWalkLaws.{no-models-read}
+use Rattle.walks.specs.StepWalkLaws.{no-steps-read}
 use Rattle.reader.proofs.refuse.Statement.{statement}
 use Rattle.reader.proofs.refuse.Tie as tie
 
+slice-aggregate-walk-models : tie.Need-slice-aggregate-walk-models
+slice-aggregate-walk-models c = search needs
+
+walk-models-requires : tie.Need-walk-models-requires
+walk-models-requires c κs = search needs
+
+slice-aggregate-walk-steps : tie.Need-slice-aggregate-walk-steps
+slice-aggregate-walk-steps c = search needs
+
+walk-steps-requires : tie.Need-walk-steps-requires
+walk-steps-requires c κs = search needs
+
 returns : tie.Need-returns
-unfolding read-answer stored-book zero-book padded most-terms most-models most-steps
-returns c = rw (refusal-cause (c .args .refusal))
+unfolding read-answer stored-book zero-book
+returns c =
+    let v = c .before .before in
+    let w = v .before .before in
+    rw (
+      refusal-cause (w .before .before .args .refusal),
+      ap (λ x. x .models) (w .walk-models .ensures) ∙ no-models-read 1 0 _,
+      ap (λ x. x .steps) (v .walk-steps .ensures) ∙ no-steps-read 1 0 _,
+    )
 
 pub refuse-spec : {M : Type 1} → statement M
-refuse-spec = tie.close (tie.spec returns)
+refuse-spec =
+    tie.close
+    (tie.spec
+    slice-aggregate-walk-models
+    walk-models-requires
+    slice-aggregate-walk-steps
+    walk-steps-requires
+    returns)

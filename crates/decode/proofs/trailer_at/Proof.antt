@@ -2,11 +2,11 @@
 use lib.Seq.{drop-drop}
 use Rattle.format.specs.Format.{read-trailer}
 use Rattle.format.specs.ReadLoopLaws.{byte-at}
-use Rattle.reader.specs.Walk.{stored-trailer}
-use Rattle.reader.specs.BytesAtLaws.{byte-here}
+use Rattle.decode.specs.Trailer.{stored-trailer}
+use Rattle.decode.specs.BytesAtLaws.{byte-here}
 use borrow.Author.Needs.{needs}
-use Rattle.reader.proofs.trailer_at.Statement.{statement}
-use Rattle.reader.proofs.trailer_at.Tie as tie
+use Rattle.decode.proofs.trailer_at.Statement.{statement}
+use Rattle.decode.proofs.trailer_at.Tie as tie
 
 byte-at-requires : tie.Need-byte-at-requires
 byte-at-requires c κs = search needs

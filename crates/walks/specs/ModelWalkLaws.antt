@@ -20,9 +20,9 @@ use Rattle.format.specs.Held.{Held-model, view-model}
 use Rattle.format.specs.Format.{read-model, model-length}
 use Rattle.format.specs.ReadLoopLaws.{byte-at, model-at-least, and-false}
 use Rattle.book.specs.Book.{no-model, stored-model}
-use Rattle.reader.specs.declared.Walked.{Walked}
-use Rattle.reader.specs.Walk.{record-sound, walk, walked}
-use Rattle.reader.specs.TermWalkLaws.{view-stored, model-at, many-terms}
+use Rattle.walks.specs.declared.ModelsRead.{ModelsRead}
+use Rattle.walks.specs.Walk.{record-sound, walk, models-read}
+use Rattle.walks.specs.TermWalkLaws.{view-stored, model-at, many-terms}
 
 -- ---- the record at a place
 module _ (n d at : ℕ) (s : List ℕ) where
@@ -79,6 +79,11 @@ walk-end : (n d : ℕ) (before : List Held-model) (s : List ℕ)
 unfolding walk
 walk-end n d before s = refl
 
+-- a walk over no records finds zeros in all places
+pub no-models-read : (n d : ℕ) (s : List ℕ) → models-read n d 0 s .models ≡ padded no-model most-models []
+unfolding models-read walk
+no-models-read n d s = refl
+
 -- ---- before model k
 pub record Models-so-far (s : List ℕ) (n d count : ℕ) (models : List Model) (at k : ℕ) : Type 0 where
   pub before : List Held-model
@@ -101,37 +106,37 @@ models-first s n d count = record {
 
 module _ (s : List ℕ) (n d count : ℕ) (models : List Model) (at k : ℕ) (h : Models-so-far s n d count models at k) where
   -- what the code answers when it leaves the loop
-  abbrev answer : Walked
+  abbrev answer : ModelsRead
   answer = record { place = k; end = at; models = models }
 
   finish : walk n d (h .before) (count - k) (drop at s) ≡ record { passed = h .before; left = drop at s }
-      → answer ≡ walked n d count s
-  unfolding walked
+      → answer ≡ models-read n d count s
+  unfolding models-read
   finish f =
       let e : length s - (length s - at) ≡ at = omega (arith, h .within) in
       rw (← h .rest, f, length-drop at s, e, h .number, ← h .stored)
 
-  stop : record-sound n d (drop at s) ≡ false → answer ≡ walked n d count s
+  stop : record-sound n d (drop at s) ≡ false → answer ≡ models-read n d count s
   stop f = finish (walk-stop n d (h .before) (count - k) (drop at s) f)
 
   -- at the first fault: fewer bytes than a record has at least,
-  pub models-no-head : length s - at < 5 → answer ≡ walked n d count s
+  pub models-no-head : length s - at < 5 → answer ≡ models-read n d count s
   models-no-head l = stop (no-head n d at s l)
 
   -- or than this one has,
   pub models-no-terms : (total : ℕ) → total ≡ byte (at + 4) s → length s - at < 5 + 6 * total
-      → answer ≡ walked n d count s
+      → answer ≡ models-read n d count s
   models-no-terms total e l = stop (no-terms n d at s total e l)
 
   -- or too many terms,
-  pub models-many : (total : ℕ) → total ≡ byte (at + 4) s → 64 < total → answer ≡ walked n d count s
+  pub models-many : (total : ℕ) → total ≡ byte (at + 4) s → 64 < total → answer ≡ models-read n d count s
   models-many total e l = stop (unsound n d at s (many-terms s n d at (omega arith)))
 
   -- or a model that breaks another rule
-  pub models-unsound : sound d (view (model-at n at s)) ≡ false → answer ≡ walked n d count s
+  pub models-unsound : sound d (view (model-at n at s)) ≡ false → answer ≡ models-read n d count s
   models-unsound f = stop (unsound n d at s f)
 
-  pub models-end : count ≤ k → answer ≡ walked n d count s
+  pub models-end : count ≤ k → answer ≡ models-read n d count s
   models-end l =
       let e : count - k ≡ 0 = omega arith in
       finish (ap (λ c. walk n d (h .before) c (drop at s)) e ∙ walk-end n d (h .before) (drop at s))

@@ -1,9 +1,9 @@
 -- `u16_at` is the number of two bytes.
 use native.Mathlib.Omega.{arith}
-use Rattle.reader.specs.BytesAtLaws.{u16-here}
+use Rattle.decode.specs.BytesAtLaws.{u16-here}
 use borrow.Author.Needs.{needs}
-use Rattle.reader.proofs.u16_at.Statement.{statement}
-use Rattle.reader.proofs.u16_at.Tie as tie
+use Rattle.decode.proofs.u16_at.Statement.{statement}
+use Rattle.decode.proofs.u16_at.Tie as tie
 
 byte-at-requires : tie.Need-byte-at-requires
 byte-at-requires c κs = search needs

@@ -3,8 +3,8 @@ use mathlib.Core.Path.{_∙_, ap}
 use Rattle.fixed.specs.MachineLaws.{answered}
 use Rattle.format.specs.Bytes.{signed}
 use borrow.Author.Needs.{needs}
-use Rattle.reader.proofs.signed_at.Statement.{statement}
-use Rattle.reader.proofs.signed_at.Tie as tie
+use Rattle.decode.proofs.signed_at.Statement.{statement}
+use Rattle.decode.proofs.signed_at.Tie as tie
 
 u32-at-requires : tie.Need-u32-at-requires
 u32-at-requires c κs = search needs

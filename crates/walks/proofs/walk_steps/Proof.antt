@@ -4,9 +4,9 @@ use Prim.Native.Nat.{_-_}
 use borrow.Author.Needs.{needs}
 use borrow.Author.Tests.{not-true, not-false}
 use Rattle.calculus.specs.Book.{most-steps}
-use Rattle.reader.specs.StepWalkLaws.{Steps-so-far, steps-first, steps-turn, steps-bad, steps-end}
-use Rattle.reader.proofs.walk_steps.Statement.{statement}
-use Rattle.reader.proofs.walk_steps.Tie as tie
+use Rattle.walks.specs.StepWalkLaws.{Steps-so-far, steps-first, steps-turn, steps-bad, steps-end}
+use Rattle.walks.proofs.walk_steps.Statement.{statement}
+use Rattle.walks.proofs.walk_steps.Tie as tie
 
 abbrev Inv-steps : tie.InvT-steps
 Inv-steps s offset n models count steps₀ at₀ k₀ steps at k = Steps-so-far s offset n models count steps at k

@@ -3,8 +3,8 @@ use borrow.Author.Tests.{eq-eqb, ne-eqb}
 use Rattle.format.specs.Format.{read-trailer}
 use Rattle.format.specs.ReadLoopLaws.{byte-at}
 use borrow.Author.Needs.{needs}
-use Rattle.reader.proofs.marked_at.Statement.{statement}
-use Rattle.reader.proofs.marked_at.Tie as tie
+use Rattle.decode.proofs.marked_at.Statement.{statement}
+use Rattle.decode.proofs.marked_at.Tie as tie
 
 add-byte-at : tie.Need-add-byte-at
 add-byte-at c = search needs

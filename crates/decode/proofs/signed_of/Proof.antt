@@ -12,8 +12,8 @@ use Rattle.algebra.specs.Integer.{Is, is, is-add, is-neg, is-nat, is-eq}
 use Rattle.fixed.specs.MachineLaws.{fits-range}
 use Rattle.format.specs.Bytes.{signed}
 use borrow.Author.Needs.{needs}
-use Rattle.reader.proofs.signed_of.Statement.{statement}
-use Rattle.reader.proofs.signed_of.Tie as tie
+use Rattle.decode.proofs.signed_of.Statement.{statement}
+use Rattle.decode.proofs.signed_of.Tie as tie
 
 -- what is taken off
 below : (u : ℕ) → Is (pos u -ℤ pos (2 ^ 32)) (u + 0) (0 + 2 ^ 32)

@@ -21,8 +21,8 @@ use Rattle.book.specs.declared.Step.{Step}
 use Rattle.book.specs.Book.{no-step, held-step, stored-step}
 use Rattle.book.specs.BookLaws.{held-stored-step}
 use Rattle.book.specs.Failing.{first-failing}
-use Rattle.reader.specs.declared.Stepped.{Stepped}
-use Rattle.reader.specs.Walk.{stepped}
+use Rattle.walks.specs.declared.StepsRead.{StepsRead}
+use Rattle.walks.specs.Walk.{steps-read}
 
 -- ---- the first fault, by the one at hand
 module _ {A : Type 0} (ok : ℕ → A → Bool) (l : List A) (x : A) (i : ℕ) where
@@ -43,6 +43,11 @@ module _ {A : Type 0} (ok : ℕ → A → Bool) (l : List A) (x : A) (i : ℕ) w
   fault-none : length l ≤ i → first-failing i ok (drop i l) ≡ i
   unfolding first-failing
   fault-none h = ap (first-failing i ok) (drop-of-length-le l {i = i} h)
+
+-- a walk over no steps finds zeros in all places
+pub no-steps-read : (n m : ℕ) (s : List ℕ) → steps-read n m 0 s .steps ≡ padded no-step most-steps []
+unfolding steps-read read-steps first-failing
+no-steps-read n m s = refl
 
 -- ---- before step k
 pub record Steps-so-far (s : List ℕ) (offset n m count : ℕ) (steps : List Step) (at k : ℕ) : Type 0 where
@@ -65,17 +70,17 @@ steps-first s offset n m count = record {
 module _ (s : List ℕ) (offset n m count : ℕ) (steps : List Step) (at k : ℕ)
     (h : Steps-so-far s offset n m count steps at k) where
   -- what the code answers when it leaves the loop
-  abbrev answer : Stepped
+  abbrev answer : StepsRead
   answer = record { place = k; steps = steps }
 
   abbrev all : List Held-step
   all = read-steps count (drop offset s)
 
-  finish : first-failing k (fields-sound n m) (drop k all) ≡ k → answer ≡ stepped n m count (drop offset s)
-  unfolding stepped
+  finish : first-failing k (fields-sound n m) (drop k all) ≡ k → answer ≡ steps-read n m count (drop offset s)
+  unfolding steps-read
   finish f = rw (h .rest ∙ f, ← h .stored)
 
-  pub steps-end : count ≤ k → answer ≡ stepped n m count (drop offset s)
+  pub steps-end : count ≤ k → answer ≡ steps-read n m count (drop offset s)
   steps-end l = finish (fault-none (fields-sound n m) all some-step k
       (omega (arith, length-read-steps count (drop offset s))))
     where
@@ -96,7 +101,7 @@ module _ (s : List ℕ) (offset n m count : ℕ) (steps : List Step) (at k : ℕ
     tested : (b : Bool) → fields-sound n m k (held-step step) ≡ b → fields-sound n m k (getD all k read) ≡ b
     tested b t = ap (fields-sound n m k) (here ∙ sym (held-stored-step read) ∙ ap held-step (sym e)) ∙ t
 
-    pub steps-bad : fields-sound n m k (held-step step) ≡ false → answer ≡ stepped n m count (drop offset s)
+    pub steps-bad : fields-sound n m k (held-step step) ≡ false → answer ≡ steps-read n m count (drop offset s)
     steps-bad t = finish (fault-here (fields-sound n m) all read k inside (tested false t))
 
     pub steps-turn : count ≤ 64 → fields-sound n m k (held-step step) ≡ true

@@ -1,13 +1,13 @@
 -- `step_at` is the struct of the step at a place.
 use Rattle.format.specs.ReadLoopLaws.{byte-at}
-use Rattle.reader.specs.BytesAtLaws.{byte-here}
+use Rattle.decode.specs.BytesAtLaws.{byte-here}
 use lib.Seq.{drop-drop}
 use Rattle.fixed.specs.MachineLaws.{answered}
 use Rattle.format.specs.Format.{read-step}
 use Rattle.book.specs.Book.{stored-step}
 use borrow.Author.Needs.{needs}
-use Rattle.reader.proofs.step_at.Statement.{statement}
-use Rattle.reader.proofs.step_at.Tie as tie
+use Rattle.decode.proofs.step_at.Statement.{statement}
+use Rattle.decode.proofs.step_at.Tie as tie
 
 byte-at-requires : tie.Need-byte-at-requires
 byte-at-requires c κs = search needs

@@ -16,12 +16,12 @@ use Rattle.calculus.specs.Book.{most-models}
 use Rattle.held.specs.declared.Term.{Term}
 use Rattle.held.specs.Held.{view, term-sound}
 use Rattle.format.specs.Bytes.{byte}
-use Rattle.reader.specs.TermWalkLaws.{Terms-so-far, terms-first, terms-turn, terms-bad, terms-end}
-use Rattle.reader.specs.TermWalkLaws.{model-at, terms-stored, terms-behind}
-use Rattle.reader.specs.ModelWalkLaws.{Models-so-far, models-first, models-turn, models-end}
-use Rattle.reader.specs.ModelWalkLaws.{models-no-head, models-no-terms, models-many, models-unsound}
-use Rattle.reader.proofs.walk_models.Statement.{statement}
-use Rattle.reader.proofs.walk_models.Tie as tie
+use Rattle.walks.specs.TermWalkLaws.{Terms-so-far, terms-first, terms-turn, terms-bad, terms-end}
+use Rattle.walks.specs.TermWalkLaws.{model-at, terms-stored, terms-behind}
+use Rattle.walks.specs.ModelWalkLaws.{Models-so-far, models-first, models-turn, models-end}
+use Rattle.walks.specs.ModelWalkLaws.{models-no-head, models-no-terms, models-many, models-unsound}
+use Rattle.walks.proofs.walk_models.Statement.{statement}
+use Rattle.walks.proofs.walk_models.Tie as tie
 
 abbrev Inv-terms : tie.InvT-terms
 Inv-terms s n d count models at k left total radius terms₀ span₀ least₀ place₀ i₀ terms span least place i =

@@ -6,8 +6,8 @@ use Rattle.format.specs.Bytes.{u32, signed}
 use Rattle.format.specs.Format.{read-term}
 use Rattle.book.specs.Book.{stored-term}
 use borrow.Author.Needs.{needs}
-use Rattle.reader.proofs.term_at.Statement.{statement}
-use Rattle.reader.proofs.term_at.Tie as tie
+use Rattle.decode.proofs.term_at.Statement.{statement}
+use Rattle.decode.proofs.term_at.Tie as tie
 
 u16-at-requires : tie.Need-u16-at-requires
 u16-at-requires c κs = search needs

@@ -1,4 +1,4 @@
--- Walking forward through a sheet: the trailer, the models and the steps, up to the first fault.
+-- Walking forward through a sheet: the models and the steps, up to the first fault.
 use mathlib.Core.Bool.{Bool, true, false, _&&_}
 use mathlib.Core.List.{List, [], _∷_, _++_, map}
 use Prim.Native.Nat.{ℕ, zero, suc, _-_}
@@ -8,37 +8,12 @@ use Rattle.calculus.specs.Model.{sound}
 use Rattle.calculus.specs.Book.{most-models, most-steps}
 use Rattle.held.specs.Arrays.{padded}
 use Rattle.format.specs.Held.{Held-model, Held-step, view-model}
-use Rattle.format.specs.Format as F
 use Rattle.format.specs.Format.{read-model, model-length, read-steps}
 use Rattle.format.specs.Fields.{fields-sound}
 use Rattle.book.specs.Book.{no-model, no-step, stored-model, stored-step}
 use Rattle.book.specs.Failing.{first-failing}
-use Rattle.reader.specs.declared.Trailer.{Trailer}
-use Rattle.reader.specs.declared.Walked.{Walked}
-use Rattle.reader.specs.declared.Stepped.{Stepped}
-
--- ---- the trailer
--- the struct of what a trailer says
-unfoldable pub stored-trailer : F.Trailer → Trailer
-stored-trailer t = record {
-  n = t .n;
-  d = t .d;
-  models = t .models;
-  steps = t .steps;
-  offset = t .offset;
-  marked = t .marked;
-}
-
--- and back
-unfoldable pub held-trailer : Trailer → F.Trailer
-held-trailer t = record {
-  n = t .n;
-  d = t .d;
-  models = t .models;
-  steps = t .steps;
-  offset = t .offset;
-  marked = t .marked;
-}
+use Rattle.walks.specs.declared.ModelsRead.{ModelsRead}
+use Rattle.walks.specs.declared.StepsRead.{StepsRead}
 
 -- ---- models
 -- the record at the head fits, and its model keeps the rules
@@ -59,8 +34,8 @@ walk n d before (suc c) s = elim (record-sound n d s) [
 ]
 
 -- the struct of a walk over s
-unfoldable pub walked : (n d c : ℕ) → List ℕ → Walked
-walked n d c s =
+unfoldable pub models-read : (n d c : ℕ) → List ℕ → ModelsRead
+models-read n d c s =
     let w : Walk = walk n d [] c s in
     record {
       place = length (w .passed);
@@ -70,8 +45,8 @@ walked n d c s =
 
 -- ---- steps
 -- the struct of a walk over c steps
-unfoldable pub stepped : (n models c : ℕ) → List ℕ → Stepped
-stepped n m c s =
+unfoldable pub steps-read : (n models c : ℕ) → List ℕ → StepsRead
+steps-read n m c s =
     let steps : List Held-step = read-steps c s in
     let fault : ℕ = first-failing 0 (fields-sound n m) steps in
     record {
