@@ -12,8 +12,9 @@ use Rattle.calculus.specs.Terms.{Terms, term, every, select, map-coefficients, 
 use Rattle.calculus.specs.TermsLaws.{on-monomials, every-head, every-tail}
 use Rattle.table.specs.Table.{accumulated}
 use Rattle.table.specs.AccumulatedLaws.{every-accumulated}
-use Rattle.collector.specs.Collector.{accumulated-all, inserted, sorted-into}
-use Rattle.collector.specs.SortLaws.{every-sorted}
+use Rattle.insertion.specs.Insertion.{inserted, sorted-into}
+use Rattle.insertion.specs.SortLaws.{every-sorted}
+use Rattle.collector.specs.Collector.{accumulated-all}
 
 -- one of two lists of terms, as tests that agree would have it
 either : Bool → Terms → Terms → Terms

@@ -1,19 +1,18 @@
 -- What the functions of this crate ask, and what they promise.
 use mathlib.Core.Path.{_≡_}
-use mathlib.Core.List.{List, [], _∷_}
+use mathlib.Core.List.{List}
 use Prim.Native.Nat.{ℕ, _+_, _*_, _^_, _<_, _≤_}
 use lib.Dec.{T}
 use lib.IntN.{ℤ, natAbs}
 use lib.ListN.{length, getD}
-use Rattle.polynomial.specs.Polynomial.{Term}
 use Rattle.calculus.specs.Terms.{Terms, every, size, drop-zeros}
 use Rattle.calculus.specs.Model.{Model, most-terms, most-degree, fits}
 use Rattle.calculus.specs.Operations.{products, kept}
-use Rattle.table.specs.Table.{terms, entries, home-slots, most-entries, Table}
-use Rattle.collector.specs.declared.Gathered.{Gathered}
-use Rattle.collector.specs.Wide.{wide-terms}
-use Rattle.collector.specs.Collector.{accumulated-all, wide-kept, wide-rounding, wide-swept}
-use Rattle.collector.specs.Collector.{sorted-into, counted, answer}
+use Rattle.index.specs.Index.{home-slots}
+use Rattle.table.specs.Table.{terms, entries, most-entries, Table}
+use Rattle.gathering.specs.declared.Gathered.{Gathered}
+use Rattle.gathering.specs.Wide.{wide-terms}
+use Rattle.collector.specs.Collector.{accumulated-all, answer}
 
 -- ---- sums by key
 -- a table with room for the products of one term with count others
@@ -55,29 +54,6 @@ pub record Collected (homes : ℕ) (old : Terms) (most : ℕ) (q : Terms) (slots
   pub table : Table homes slots keys sums n
   pub few : n ≤ most
   pub sum : entries n keys sums ≡ accumulated-all old q
-
--- ---- what is kept
--- one sum is kept or swept
-pub record Put (d : ℕ) (t : Term ℤ) (old : Terms) (n : ℕ) (keys : List ℕ) (coefficients : List ℤ) (r : Gathered)
-    : Type 0 where
-  pub kept : terms (r .count) keys coefficients ≡ sorted-into old (wide-kept d (t ∷ []))
-  pub one : r .count ≤ n + 1
-  pub rounding : r .rounding ≡ wide-rounding d (t ∷ [])
-  pub swept : r .swept ≡ wide-swept d (t ∷ [])
-
--- entries, and places for one more than the most terms
-pub record Gather-ready (keys : List ℕ) (sums : List ℤ) (n : ℕ) (kept : List ℕ) (coefficients : List ℤ) : Type 0 where
-  pub keys-long : n < length keys
-  pub sums-long : n < length sums
-  pub kept-room : most-terms < length kept
-  pub coefficients-room : most-terms < length coefficients
-  pub small : size (entries n keys sums) < 2 ^ 63
-
--- the sums zs are gathered
-pub record Gathering (d : ℕ) (zs : Terms) (kept : List ℕ) (coefficients : List ℤ) (r : Gathered) : Type 0 where
-  pub answered : r ≡ counted (length (wide-kept d zs)) (wide-rounding d zs) (wide-swept d zs)
-  pub terms : length (wide-kept d zs) ≤ most-terms
-      → terms (r .count) kept coefficients ≡ sorted-into [] (wide-kept d zs)
 
 -- ---- the product
 -- two models in at most eight variables, held by the wide keys of their terms, whose products fit when summed

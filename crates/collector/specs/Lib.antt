@@ -1,14 +1,8 @@
-pub mod Wide
 pub mod Collector
 pub mod Contracts
-pub mod WideLaws
-pub mod SortLaws
 pub mod ProductsLaws
 pub mod AccumulatedAllLaws
 pub mod ChangeLaws
 pub mod OccurrenceLaws
 pub mod AnswerLaws
 pub mod FactorLaws
-pub mod PutLaws
-pub mod GatherLaws
-pub mod TurnLaws

@@ -1,17 +1,5 @@
--- Products of models in memory: what is asked of the factors, and the size of the smaller table.
-use mathlib.Core.Path.{_≡_}
-use Prim.Native.Nat.{ℕ, _≤_}
-use lib.Dec.{T}
-use Rattle.calculus.specs.Model.{most-degree, sound}
-use Rattle.held.specs.declared.Model.{Model}
-use Rattle.held.specs.Held.{view}
-
--- two models that are sound at order d, in the same variables
-pub record Factors (d : ℕ) (f g : Model) : Type 0 where
-  pub order : d ≤ most-degree
-  pub first : T (sound d (view f))
-  pub second : T (sound d (view g))
-  pub vars : f .n ≡ g .n
+-- The size of the smaller table for a product.
+use Prim.Native.Nat.{ℕ}
 
 -- for how many products the smaller table has room
 abbrev pub few-products : ℕ

@@ -20,7 +20,7 @@ use Rattle.held.specs.declared.Answer.{Answer}
 use Rattle.held.specs.Held.{view, pack, answer}
 use Rattle.held.specs.HeldLaws.{vars-range}
 use Rattle.addition.specs.Addition.{Operands}
-use Rattle.multiply.specs.Multiply.{Factors}
+use Rattle.product.specs.Factors.{Factors}
 use Rattle.substitute.specs.Substitute.{Substitution}
 use Rattle.substitute.specs.AnswerLaws.{sound-order}
 use Rattle.format.specs.Held.{Held-step, Form, forms, step-of, view-step}

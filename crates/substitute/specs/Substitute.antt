@@ -9,7 +9,7 @@ use Rattle.calculus.specs.Refusal.{_then_}
 use Rattle.calculus.specs.Operations.{multiply, add}
 use Rattle.held.specs.declared.Model.{Model}
 use Rattle.held.specs.Held.{view}
-use Rattle.multiply.specs.Multiply.{Factors}
+use Rattle.product.specs.Factors.{Factors}
 
 -- h times g with order d, then q added
 unfoldable pub horner-turn : (d : ℕ) (h g q : C.Model) → R.Answer C.Model

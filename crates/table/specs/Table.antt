@@ -2,7 +2,7 @@
 use mathlib.Core.Path.{_≡_}
 use mathlib.Core.Bool.{true, false}
 use mathlib.Core.List.{List, [], _∷_}
-use Prim.Native.Nat.{ℕ, zero, suc, _+_, _*_, _/_, _%_, _^_, _<_, _≤_}
+use Prim.Native.Nat.{ℕ, zero, suc, _+_, _^_, _<_, _≤_}
 use lib.Dec.{T}
 use lib.IntN.{ℤ, pos, natAbs, _+ℤ_}
 use lib.ListN.{length, getD, drop}
@@ -10,6 +10,7 @@ use Rattle.polynomial.specs.Polynomial.{Term}
 use Rattle.calculus.specs.Monomial.{same}
 use Rattle.calculus.specs.Terms.{Terms, term, size}
 use Rattle.calculus.specs.CanonicalLaws.{distinct}
+use Rattle.index.specs.Index.{home-slots, home-slot}
 
 -- ---- entries
 -- a coefficient at a key: a term in one variable
@@ -40,39 +41,9 @@ accumulated t (s ∷ p) = elim (same (t .exponents) (s .exponents)) [
 ]
 
 -- ---- slots
--- the most slots that a search can begin at
-abbrev pub home-slots : ℕ
-home-slots = 16384
-
 -- the most entries that a table can have
 abbrev pub most-entries : ℕ
 most-entries = 4096
-
--- where the search for a key begins, of so many slots
-unfoldable pub home-slot : (homes key : ℕ) → ℕ
-home-slot homes key = (key % 2 ^ 32 * 1132569001 + key / 2 ^ 32 * 2571668233) % 2 ^ 32 * homes / 2 ^ 32
-
--- no slot from the key's home slot to before h leads to the key
-abbrev pub Passed : (homes : ℕ) (slots keys : List ℕ) (key h : ℕ) → Type 0
-Passed homes slots keys key h = (s : ℕ) → home-slot homes key ≤ s → s < h → getD keys (getD slots s 0) 0 ≡ key → ⊥
-
--- a search ends: it comes to an empty slot, which leads to place 0, where the key is put before
-pub record Searchable (homes : ℕ) (slots keys : List ℕ) (key : ℕ) : Type 0 where
-  pub some : 0 < homes
-  pub not-many : homes ≤ home-slots
-  pub top : ℕ
-  pub top-in : top < length slots
-  pub start : home-slot homes key ≤ top
-  pub empty : getD slots top 0 ≡ 0
-  pub inside : (s : ℕ) → getD slots s 0 < length keys
-  pub first : getD keys 0 0 ≡ key
-
--- the first slot from the key's home slot on that leads to the key
-pub record Found (homes : ℕ) (slots keys : List ℕ) (key h : ℕ) : Type 0 where
-  pub start : home-slot homes key ≤ h
-  pub inside : h < length slots
-  pub others : Passed homes slots keys key h
-  pub there : getD keys (getD slots h 0) 0 ≡ key
 
 -- a search that begins at slot b comes to entry i, past full slots only
 pub record Reached (slots : List ℕ) (b i : ℕ) : Type 0 where

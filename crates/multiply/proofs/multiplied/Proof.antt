@@ -4,13 +4,13 @@ use Prim.Native.Nat.{ℕ, _+_, _*_, _≤_}
 use native.Mathlib.Omega.{arith}
 use borrow.Author.Needs.{needs}
 use lib.ListN.{length, take, length-take}
-use Rattle.multiply.specs.MultipliedLaws.{products-few}
+use Rattle.multiply.specs.TableLaws.{products-few}
 use Rattle.multiply.proofs.multiplied.Statement.{statement}
 use Rattle.multiply.proofs.multiplied.Tie as tie
 use Rattle.multiply.proofs.multiplied.Reads as reads
 use Rattle.multiply.proofs.multiplied.Lts as lts
-use Rattle.collector.proofs.clear.Reads as clear-reads
-use Rattle.multiply.proofs.multiplied_in.Reads as multiplied-in-reads
+use Rattle.index.proofs.clear.Reads as clear-reads
+use Rattle.product.proofs.multiplied_in.Reads as multiplied-in-reads
 
 abbrev start : tie.After-struct-known2 → tie.Start
 start c = c .before .before .before .before

@@ -2,12 +2,12 @@
 use borrow.Author.Needs.{needs}
 use lib.Dec.{lit≤}
 use Rattle.table.specs.Table.{most-entries}
-use Rattle.multiply.specs.MultipliedLaws.{zeros-empty, products-few}
+use Rattle.multiply.specs.TableLaws.{zeros-empty, products-few}
 use Rattle.multiply.proofs.multiplied_large.Statement.{statement}
 use Rattle.multiply.proofs.multiplied_large.Tie as tie
 use Rattle.multiply.proofs.multiplied_large.Reads as reads
 use Rattle.multiply.proofs.multiplied_large.Lts as lts
-use Rattle.multiply.proofs.multiplied_in.Reads as multiplied-in-reads
+use Rattle.product.proofs.multiplied_in.Reads as multiplied-in-reads
 
 slice-aggregate-multiplied-in : tie.Need-slice-aggregate-multiplied-in
 slice-aggregate-multiplied-in c = search needs

@@ -2,12 +2,12 @@
 use borrow.Author.Needs.{needs}
 use lib.Dec.{lit≤}
 use Rattle.multiply.specs.Multiply.{few-products}
-use Rattle.multiply.specs.MultipliedLaws.{zeros-empty}
+use Rattle.multiply.specs.TableLaws.{zeros-empty}
 use Rattle.multiply.proofs.multiplied_small.Statement.{statement}
 use Rattle.multiply.proofs.multiplied_small.Tie as tie
 use Rattle.multiply.proofs.multiplied_small.Reads as reads
 use Rattle.multiply.proofs.multiplied_small.Lts as lts
-use Rattle.multiply.proofs.multiplied_in.Reads as multiplied-in-reads
+use Rattle.product.proofs.multiplied_in.Reads as multiplied-in-reads
 
 slice-aggregate-multiplied-in : tie.Need-slice-aggregate-multiplied-in
 slice-aggregate-multiplied-in c = search needs

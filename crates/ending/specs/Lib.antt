@@ -1,0 +1,3 @@
+pub mod Ending
+pub mod ErrorLaws
+pub mod EndingLaws
