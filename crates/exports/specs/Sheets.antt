@@ -4,8 +4,8 @@ use mathlib.Core.List.{List, [], _∷_}
 use Prim.Native.Nat.{ℕ}
 use lib.IntN.{ℤ}
 use Rattle.held.specs.Held.{verdict-number, verdict-place}
-use Rattle.sheet.specs.declared.Ends.{Ends}
-use Rattle.sheet.specs.declared.Summary.{Summary}
+use Rattle.summary.specs.declared.Ends.{Ends}
+use Rattle.summary.specs.declared.Summary.{Summary}
 use Rattle.handing.specs.Models.{over, stored-keys, stored-coefficients, stored-numbers}
 
 -- the ends of the range and of the integral, over what the slice holds

@@ -7,7 +7,7 @@ ghost use lib.ListN.{length};
 ghost use Rattle.format.specs.Format.{«run-sheet»};
 ghost use Rattle.format.specs.Lines.{printed};
 ghost use Rattle.records.specs.Records.{«record-bytes»};
-ghost use Rattle.sheet.specs.Sheet.{«run-answer»};
+ghost use Rattle.summary.specs.Summary.{«run-answer»};
 ghost use Rattle.text.specs.Text.{laid};
 ghost use Rattle.handing.specs.Models.{«model-room»};
 ghost use Rattle.exports.specs.Sheets.{«four-ends», «run-state», «stored-summary», «called-run»};

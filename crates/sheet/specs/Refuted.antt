@@ -32,8 +32,9 @@ use Rattle.format.specs.Computing.{reads}
 use Rattle.format.specs.Samples.{hex, sheet-forms}
 use Rattle.format.specs.SheetClaim.{Sheet-claim}
 use Rattle.book.specs.Book.{stored-model}
-use Rattle.sheet.specs.declared.Summary.{Summary}
-use Rattle.sheet.specs.Sheet.{stored-ends, ends-of, summary-of, refused-summary, run-answer, Encloses}
+use Rattle.summary.specs.declared.Summary.{Summary}
+use Rattle.summary.specs.Summary.{stored-ends, ends-of, summary-of, refused-summary, run-answer}
+use Rattle.sheet.specs.Sheet.{Encloses}
 
 -- ---- programs and the clauses of the contract
 -- what a program answers to each sheet

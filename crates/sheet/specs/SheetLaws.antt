@@ -1,24 +1,24 @@
 -- From the exact answer of a run to what it encloses, and from the answers of the tests to that of a run.
 use mathlib.Core.Path.{_≡_, refl, sym, _∙_, ap, subst}
-use mathlib.Core.List.{List}
+use mathlib.Core.List.{List, []}
 use Prim.Native.Nat.{ℕ, _≤_}
 use native.Mathlib.Omega.{arith}
 use lib.Dec.{T, eqb}
+use Rattle.calculus.specs.Model as C
 use Rattle.calculus.specs.Model.{most-degree, sound, zero-model}
-use Rattle.calculus.specs.Operations.{zero-ends}
-use Rattle.calculus.specs.Refusal as R
-use Rattle.calculus.specs.Refusal.{Result, done, stopped, _followed-by_, number, returned}
+use Rattle.calculus.specs.Refusal.{Result, done, stopped, _followed-by_}
 use Rattle.calculus.specs.TestLaws.{and-right}
 use Rattle.calculus.specs.Book as B
-use Rattle.calculus.specs.Book.{model-sound, run-sound, returned-summary}
+use Rattle.calculus.specs.Book.{run-steps, last, summary, model-sound, run-sound}
 use Rattle.calculus.specs.BookSoundLaws.{result-sound}
 use Rattle.calculus.specs.Claim.{Claim}
 use Rattle.calculus.specs.ClaimProof.{claim-sound}
+use Rattle.held.specs.declared.Model.{Model}
 use Rattle.held.specs.declared.Refusal.{Refusal}
 use Rattle.held.specs.declared.Verdict.the-variants.{Accepted, Refused}
-use Rattle.held.specs.Arrays.{first-places, padded}
-use Rattle.held.specs.Held.{view, pack, verdict-number, verdict-place}
-use Rattle.held.specs.HeldLaws.{view-pack-sound, refusal-cause, cause-refusal}
+use Rattle.held.specs.declared.Answer.{Answer}
+use Rattle.held.specs.Held.{view, pack, answer}
+use Rattle.held.specs.HeldLaws.{view-pack-sound, refusal-cause}
 use Rattle.format.specs.Held.{Held-book, view-book, Held-passes}
 use Rattle.format.specs.HeldLaws.{Held-done, held-tested-done, view-passes}
 use Rattle.format.specs.Format.{read, run-sheet}
@@ -30,10 +30,13 @@ use Rattle.book.specs.declared.Book.{Book}
 use Rattle.book.specs.Book.{held-book, read-answer, book-verdict}
 use Rattle.book.specs.BookLaws.{held-stored}
 use Rattle.book.specs.TestedLaws.{verdict-hands-on, verdict-refused}
-use Rattle.sheet.specs.declared.Summary.{Summary}
-use Rattle.sheet.specs.Sheet.{stored-ends, ends-of, refused-summary, run-answer, run-held, summary-of}
-use Rattle.sheet.specs.Sheet.{Encloses, Encloses-book}
-use Rattle.sheet.specs.RunLaws.{in-limits-of}
+use Rattle.summary.specs.declared.Summary.{Summary}
+use Rattle.summary.specs.Summary.{refused-summary, run-answer, summary-of}
+use Rattle.summary.specs.SummaryLaws.{summary-back}
+use Rattle.sheet.specs.Sheet.{run-held, Encloses, Encloses-book}
+use Rattle.substitute.specs.AnswerLaws.{sound-order}
+use Rattle.running.specs.Running.{last-result}
+use Rattle.running.specs.RunLaws.{in-limits-of}
 
 -- ---- an accepted answer is that of a run that is done
 record Answers (a : Result B.Summary) (r : Summary) : Type 0 where
@@ -46,23 +49,72 @@ unfolding run-answer refused-summary
 answers (done s) r e v = record { result = s; is-done = refl; is-packed = e }
 answers (stopped q i) r e v = let z : _≡_ {A = ℕ} 0 1 = cc in absurd (omega arith)
 
--- the struct holds what was packed, if that was sound
-pub summary-back : (s : B.Summary) → view (pack (s .model)) ≡ s .model → summary-of (run-answer (done s)) ≡ s
-unfolding summary-of run-answer stored-ends ends-of
-summary-back s e = ap (λ m. record { model = m; range = s .range; integral = s .integral }) e
-
 -- the result of a held book that passes is sound
 module _ (h : Held-book) (p : Held-passes h) (s : B.Summary) (e : run-sound (view-book h) ≡ done s) where
   order : h .d ≤ most-degree
   unfolding most-degree
   order = in-limits-of p .d-high
 
+  passed : T (sound (h .d) (s .model))
+  unfolding model-sound view-book
+  passed = and-right (eqb (s .model .vars) (h .n)) _ (result-sound (view-book h) (view-passes h p) s e)
+
+  model-back : view (pack (s .model)) ≡ s .model
+  model-back = view-pack-sound (h .d) (s .model) order passed
+
   result-back : summary-of (run-answer (done s)) ≡ s
-  result-back = summary-back s (view-pack-sound (h .d) (s .model) order passed)
+  result-back = summary-back s model-back
+
+-- ---- the steps lead to a result, and the result to the answer
+-- what is summarized: a sound model, and its summary is the answer of the run
+pub record Summed (h : Held-book) (m : Model) : Type 0 where
+  pub is-sound : T (sound most-degree (view m))
+  pub is-packed : pack (view m) ≡ m
+  pub answers-run : run-answer (done (summary (view m))) ≡ run-answer (run-sound (view-book h))
+
+-- the run goes on with the last result
+run-from-last : (b : B.Book) → run-sound b ≡ (last-result b followed-by (λ m. done (summary m)))
+unfolding run-sound last-result _followed-by_
+run-from-last b = go (run-steps b [] (b .steps))
+  where
+    go : (a : Result (List C.Model))
+        → (a followed-by (λ l. done (summary (last (zero-model (b .vars)) l))))
+        ≡ ((a followed-by (λ l. done (last (zero-model (b .vars)) l))) followed-by (λ m. done (summary m)))
+    go (done l) = refl
+    go (stopped x i) = refl
+
+module _ (h : Held-book) {r : Answer} (e : r ≡ answer (last-result (view-book h))) where
+  -- the run, where this is the last result
+  from : (a : Result C.Model) → last-result (view-book h) ≡ a
+      → run-sound (view-book h) ≡ (a followed-by (λ m. done (summary m)))
+  from a q = run-from-last (view-book h) ∙ ap (λ a. a followed-by (λ m. done (summary m))) q
+
+  pub summed : Held-passes h → r .verdict ≡ Accepted → Summed h (r .model)
+  unfolding answer _followed-by_ summary
+  summed p v = go (last-result (view-book h)) refl e
     where
-      passed : T (sound (h .d) (s .model))
-      passed = unfold model-sound view-book in
-          and-right (eqb (s .model .vars) (h .n)) _ (result-sound (view-book h) (view-passes h p) s e)
+      go : (a : Result C.Model) → last-result (view-book h) ≡ a → r ≡ answer a → Summed h (r .model)
+      go (done m) q k =
+          let ran = from (done m) q in
+          let packed : r .model ≡ pack m = ap (λ r. r .model) k in
+          let back : view (r .model) ≡ m = ap view packed ∙ model-back h p (summary m) ran in
+          record {
+            is-sound = subst (λ m. T (sound most-degree m)) (sym back)
+                (sound-order (h .d) m (order h p (summary m) ran) (passed h p (summary m) ran));
+            is-packed = ap pack back ∙ sym packed;
+            answers-run = ap (λ m. run-answer (done (summary m))) back ∙ sym (ap run-answer ran);
+          }
+      go (stopped x i) q k = let z : _≡_ {A = ℕ} 0 1 = cc in absurd (omega arith)
+
+  pub step-stopped : {x : Refusal} {y : ℕ} → r .verdict ≡ Refused x y
+      → refused-summary (r .verdict) ≡ run-answer (run-sound (view-book h))
+  unfolding answer run-answer _followed-by_
+  step-stopped v = go (last-result (view-book h)) refl e
+    where
+      go : (a : Result C.Model) → last-result (view-book h) ≡ a → r ≡ answer a
+          → refused-summary (r .verdict) ≡ run-answer (run-sound (view-book h))
+      go (done m) q k = let z : _≡_ {A = ℕ} 0 1 = cc in absurd (omega arith)
+      go (stopped x i) q k = ap (λ r. refused-summary (r .verdict)) k ∙ sym (ap run-answer (from (stopped x i) q))
 
 -- ---- what is answered exactly is enclosed
 -- THEOREM: of a sheet
@@ -135,21 +187,3 @@ pub tested-refused : (b : Book) (x : Refusal) (y : ℕ) → book-verdict b ≡ R
 unfolding run-held run-answer
 tested-refused b x y e = ap (λ q. refused-summary (Refused q y)) (sym (refusal-cause x))
     ∙ sym (ap run-answer (verdict-refused b x y e (run-sound (view-book (held-book b)))))
-
--- ---- document 01's number and place of an answer are those that a run hands back
-pub answer-number : (a : Result B.Summary) → verdict-number (run-answer a .verdict) ≡ returned-summary a .number
-unfolding run-answer refused-summary verdict-number returned-summary returned
-answer-number (done s) = refl
-answer-number (stopped r i) = ap number (cause-refusal r)
-
-pub answer-place : (a : Result B.Summary) → verdict-place (run-answer a .verdict) ≡ returned-summary a .place
-unfolding run-answer refused-summary verdict-place returned-summary returned
-answer-place (done s) = refl
-answer-place (stopped r i) = refl
-
--- a refused run answers what document 01 names for it: the zero model in one variable and ends 0
-pub refused-value : (q : R.Refusal) (i : ℕ)
-    → summary-of (run-answer (stopped q i)) ≡ returned-summary (stopped q i) .value
-unfolding run-answer refused-summary summary-of ends-of returned-summary returned view pack first-places padded
-    zero-model zero-ends
-refused-value q i = refl

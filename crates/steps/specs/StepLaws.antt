@@ -6,18 +6,14 @@ use Prim.Native.Nat.{ℕ, zero, suc, _≤_}
 use native.Mathlib.Omega.{arith}
 use lib.Dec.{T, eqb}
 use lib.ListN.{getD, getElem?}
-use Rattle.calculus.specs.Key.{key-width}
 use Rattle.calculus.specs.Model as C
 use Rattle.calculus.specs.Model.{most-degree, sound}
-use Rattle.calculus.specs.Refusal as R
-use Rattle.calculus.specs.Refusal.{accepted, at-place}
+use Rattle.calculus.specs.Refusal.{accepted}
 use Rattle.calculus.specs.Tests.{variable-sound}
 use Rattle.calculus.specs.BookLaws.{between-low, between-high}
 use Rattle.calculus.specs.Book.{Step, Book, model-of, run-step}
 use Rattle.held.specs.declared.Model.{Model}
-use Rattle.held.specs.declared.Verdict.the-variants.{Accepted}
-use Rattle.held.specs.declared.Answer.{Answer}
-use Rattle.held.specs.Held.{view, pack, answer}
+use Rattle.held.specs.Held.{view}
 use Rattle.held.specs.HeldLaws.{vars-range}
 use Rattle.addition.specs.Addition.{Operands}
 use Rattle.product.specs.Factors.{Factors}
@@ -25,21 +21,19 @@ use Rattle.substitute.specs.Substitute.{Substitution}
 use Rattle.substitute.specs.AnswerLaws.{sound-order}
 use Rattle.format.specs.Held.{Held-step, Form, forms, step-of, view-step}
 use Rattle.format.specs.Fields.{v-sound}
-use Rattle.steps.specs.Steps.{step-answers, step-answer, Step-ready}
+use Rattle.direct.specs.Direct.{step-answers, step-answer, Direct-ready}
+use Rattle.steps.specs.Steps.{Step-ready}
 
 -- ---- what the operations ask
 module _ {n d : ℕ} {s : Held-step} {m f g : Model} (r : Step-ready n d s m f g) where
-  pub input-sound : s .code ≡ 0 → T (sound most-degree (view m))
+  input-sound : s .code ≡ 0 → T (sound most-degree (view m))
   input-sound e = sound-order d (view m) (r .order) (r .input e)
-
-  pub width : n ≤ key-width
-  width = vars-range n (r .vars) .1
 
   in-range : T (variable-sound n (s .v)) → (1 ≤ s .v) × (s .v ≤ n)
   unfolding variable-sound
   in-range t = (between-low 1 n (s .v) t, between-high 1 n (s .v) t)
 
-  pub of-variable : s .code ≡ 2 → (1 ≤ s .v) × (s .v ≤ n)
+  of-variable : s .code ≡ 2 → (1 ≤ s .v) × (s .v ≤ n)
   unfolding v-sound
   of-variable e = in-range (subst (λ c. T (v-sound n c (s .v))) e (r .variable))
 
@@ -47,12 +41,9 @@ module _ {n d : ℕ} {s : Held-step} {m f g : Model} (r : Step-ready n d s m f g
   unfolding v-sound
   into-variable e = in-range (subst (λ c. T (v-sound n c (s .v))) e (r .variable))
 
-  pub first-sound : T (sound most-degree (view f))
-  first-sound = sound-order d (view f) (r .order) (r .first)
-
-  pub operands : Operands f g
+  operands : Operands f g
   operands = record {
-    first = first-sound;
+    first = sound-order d (view f) (r .order) (r .first);
     second = sound-order d (view g) (r .order) (r .second);
     vars = r .first-vars ∙ sym (r .second-vars);
   }
@@ -73,6 +64,18 @@ module _ {n d : ℕ} {s : Held-step} {m f g : Model} (r : Step-ready n d s m f g
     vars = r .first-vars ∙ sym (r .second-vars);
     first = into-variable e .0;
     last = subst (λ i. s .v ≤ i) (sym (r .first-vars)) (into-variable e .1);
+  }
+
+  -- what a step asks that needs no table
+  pub direct-ready : (s .code ≡ 6 → ⊥) → (s .code ≡ 7 → ⊥) → Direct-ready n s m f g
+  direct-ready p q = record {
+    width = vars-range n (r .vars) .1;
+    code = r .code;
+    no-product = p;
+    no-substitution = q;
+    input = input-sound;
+    variable = of-variable;
+    operands = operands;
   }
 
 -- ---- what a step gives
@@ -117,27 +120,3 @@ module _ (b : Book) (r : ℕ → C.Model) (s : Held-step) (t : Step) where
   unfolding view-step step-answer
   step-is e m h = other-model (b .vars) (b .order) s m (model-of b (s .a)) (r (s .a)) (r (s .b)) (r (s .a)) (s .code) h
       ∙ by-code (s .code) e
-
--- ---- what the operations answer
-module _ {n d : ℕ} {s : Held-step} {m f g : Model} (p : Step-ready n d s m f g) where
-  -- what the step gives
-  abbrev given : R.Answer C.Model
-  given = step-answer n d s (view m) (view f) (view g)
-
-  -- by its code
-  pub gives : (c : ℕ) → s .code ≡ c
-      → given ≡ getD (step-answers n d s (view m) (view f) (view g)) c (accepted (view f))
-  unfolding step-answer
-  gives c e = ap (λ c. getD (step-answers n d s (view m) (view f) (view g)) c (accepted (view f))) e
-
-  -- an operation that cannot be refused
-  pub accepted-is : {r : Answer} {h : Model} (k : C.Model) → r ≡ record { model = h; verdict = Accepted } → h ≡ pack k
-      → given ≡ accepted k → r ≡ answer (at-place 0 given)
-  unfolding answer at-place
-  accepted-is k e q h =
-      e ∙ ap (λ h. record { model = h; verdict = Accepted }) q ∙ sym (ap (λ a. answer (at-place 0 a)) h)
-
-  -- one that can
-  pub answered-is : {r : Answer} (a : R.Answer C.Model) → r ≡ answer (at-place 0 a) → given ≡ a
-      → r ≡ answer (at-place 0 given)
-  answered-is a e h = e ∙ sym (ap (λ a. answer (at-place 0 a)) h)

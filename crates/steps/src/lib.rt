@@ -1,46 +1,25 @@
 // One step of a book: the operation that its code names, on the model or the results that its fields name.
 ghost use mathlib.Core.Path.{_≡_};
-ghost use lib.Dec.{T};
-ghost use Rattle.calculus.specs.Model.{«most-degree», sound};
+ghost use Prim.Native.Nat.{min};
 ghost use Rattle.calculus.specs.Refusal.{«at-place»};
-ghost use Rattle.held.specs.Held.{view, pack, answer};
+ghost use Rattle.held.specs.Held.{view, answer};
 ghost use Rattle.collector.specs.Contracts.{«Lent-table»};
 ghost use Rattle.book.specs.Book.{«held-step»};
-ghost use Rattle.steps.specs.Steps.{«step-answer», «Step-ready»};
+ghost use Rattle.direct.specs.Direct.{«step-answer»};
+ghost use Rattle.steps.specs.Steps.{«Step-ready»};
 use book::Step;
 use held::Answer;
 use held::Model;
-use held::Term;
-use held::Verdict;
 
-// A model that is not refused.
-fn accepted(m: Model) -> Answer
-    ensures { λ r. ⌜ r ≡ record { model = m; verdict = Verdict.Accepted } ⌝ }
+// Where a book has model a. A number beyond the places is that of the last: only a step that is no input has one.
+pub fn model_place(a: u8) -> usize
+    ensures { λ r. ⌜ r ≡ min a 15 ⌝ }
 {
-    Answer {
-        model: m,
-        verdict: Verdict::Accepted,
-    }
-}
-
-// The same model, with zeros beyond the count.
-fn cleared(m: Model) -> Model
-    requires { ⌜ T (sound most-degree (view m)) ⌝ }
-    ensures { λ r. ⌜ r ≡ pack (view m) ⌝ }
-{
-    let count = m.count;
-    let mut terms = [Term::ZERO; held::MOST_TERMS];
-    let mut i = 0;
-    while i < count {
-        let t = m.terms[i];
-        terms[i] = t;
-        i += 1;
-    }
-    Model {
-        n: m.n,
-        count: count,
-        radius: m.radius,
-        terms: terms,
+    let place = a as usize;
+    if place < book::MOST_MODELS {
+        place
+    } else {
+        book::MOST_MODELS - 1
     }
 }
 
@@ -62,14 +41,8 @@ pub fn step_answer(
 {
     let code = s.code;
     match code {
-        0 => accepted(cleared(input)),
-        1 => accepted(held::constant_of(n, s.value)),
-        2 => accepted(held::variable_of(n, s.v)),
-        3 => accepted(unary::negated(f)),
-        4 => addition::added(f, g),
-        5 => addition::subtracted(f, g),
         6 => multiply::multiplied(d, f, g, slots, keys, sums),
         7 => substitute::substituted(d, s.v, f, g, slots, keys, sums),
-        _ => accepted(unary::swept(f, fixed::magnitude(s.value))),
+        _ => direct::direct_answer(n, s, input, f, g),
     }
 }

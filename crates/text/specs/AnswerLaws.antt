@@ -13,9 +13,9 @@ use Rattle.held.specs.Held.{view, pack, refusal, cause}
 use Rattle.held.specs.HeldLaws.{view-pack-sound, cause-refusal}
 use Rattle.format.specs.Format.{run-sheet}
 use Rattle.format.specs.Lines.{refusal-line, lines, printed}
-use Rattle.sheet.specs.declared.Summary.{Summary}
-use Rattle.sheet.specs.Sheet.{refused-summary, run-answer, summary-of}
-use Rattle.sheet.specs.SheetLaws.{summary-back}
+use Rattle.summary.specs.declared.Summary.{Summary}
+use Rattle.summary.specs.Summary.{refused-summary, run-answer, summary-of}
+use Rattle.summary.specs.SummaryLaws.{summary-back}
 use Rattle.lines.specs.LineLaws.{refused-line}
 use Rattle.text.specs.RunLaws.{printed-run, accepted-run}
 

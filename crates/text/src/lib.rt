@@ -8,7 +8,7 @@ ghost use Rattle.held.specs.Held.{view};
 ghost use Rattle.format.specs.Lines.{lines, printed};
 ghost use Rattle.decimal.specs.Put.{Put, Room};
 ghost use Rattle.text.specs.Text.{laid};
-ghost use Rattle.sheet.specs.Sheet.{«summary-of»};
+ghost use Rattle.summary.specs.Summary.{«summary-of»};
 use held::Verdict;
 use held::number;
 use sheet::Summary;

@@ -2,7 +2,7 @@
 use mathlib.Core.Path.{sym, _∙_, ap}
 use borrow.Author.Needs.{needs}
 use Rattle.book.specs.TestedLaws.{verdict-accepted}
-use Rattle.sheet.specs.Sheet.{refused-summary, run-answer}
+use Rattle.summary.specs.Summary.{refused-summary, run-answer}
 use Rattle.sheet.specs.SheetLaws.{exact-encloses-book, tested-accepted, tested-refused}
 use Rattle.sheet.proofs.run_book.Statement.{statement}
 use Rattle.sheet.proofs.run_book.Tie as tie

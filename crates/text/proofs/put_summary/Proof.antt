@@ -9,7 +9,7 @@ use Rattle.calculus.specs.Book.{Summary}
 use Rattle.held.specs.Held.{view}
 use Rattle.format.specs.Bytes.{join}
 use Rattle.format.specs.Lines.{text, term-line, ends-line, radius-line}
-use Rattle.sheet.specs.Sheet.{ends-of, summary-of}
+use Rattle.summary.specs.Summary.{ends-of, summary-of}
 use Rattle.decimal.specs.Put.{Put, Room}
 use Rattle.decimal.specs.PutLaws.{_then-put_, put-as, room-before, room-behind}
 use Rattle.lines.specs.Parts.{ends}
