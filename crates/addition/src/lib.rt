@@ -17,7 +17,7 @@ pub fn added(a: Model, b: Model) -> Answer
 {
     let c = a.count;
     let d = b.count;
-    let mut terms = [Term::ZERO; 64];
+    let mut terms = [Term::ZERO; held::MOST_TERMS];
     let mut count = 0;
     let mut i = 0;
     let mut j = 0;
@@ -29,7 +29,7 @@ pub fn added(a: Model, b: Model) -> Answer
         i = next.i;
         j = next.j;
         if t.coefficient != 0 {
-            if 64 <= count {
+            if held::MOST_TERMS <= count {
                 return held::refuse(Refusal::TooManyTerms, 0);
             }
             terms[count] = t;

@@ -11,14 +11,11 @@ use held::Model;
 use held::Refusal;
 use held::Verdict;
 
-// The largest degree: what binds the models of a call that takes no order.
-pub const MOST_DEGREE: u8 = 15;
-
 // The test of a call of one model. 5.
 pub fn single_model(m: Model) -> Verdict
     ensures { λ r. ⌜ r ≡ verdict (single-model (view m)) ⌝ }
 {
-    if !soundness::sound(m, MOST_DEGREE) {
+    if !soundness::sound(m, held::MOST_DEGREE) {
         return Verdict::Refused(Refusal::BadModel, 0);
     }
     Verdict::Accepted
@@ -28,7 +25,7 @@ pub fn single_model(m: Model) -> Verdict
 pub fn sweeping(m: Model, t: i64) -> Verdict
     ensures { λ r. ⌜ r ≡ verdict (sweeping t (view m)) ⌝ }
 {
-    if !soundness::sound(m, MOST_DEGREE) {
+    if !soundness::sound(m, held::MOST_DEGREE) {
         return Verdict::Refused(Refusal::BadModel, 0);
     }
     if !fixed::threshold_within_limits(t) {
@@ -60,7 +57,7 @@ fn order_sound(d: u8) -> bool
     if d < 1 {
         return false;
     }
-    d <= MOST_DEGREE
+    d <= held::MOST_DEGREE
 }
 
 // The tests of a product with order d. 3, 5 at place 0 or 1, 10.
@@ -126,7 +123,7 @@ fn used_within(n: u8, xs: [i64; 4]) -> bool
 pub fn at_point(m: Model, xs: [i64; 4]) -> Verdict
     ensures { λ r. ⌜ r ≡ verdict (at-point xs (view m)) ⌝ }
 {
-    if !soundness::sound(m, MOST_DEGREE) {
+    if !soundness::sound(m, held::MOST_DEGREE) {
         return Verdict::Refused(Refusal::BadModel, 0);
     }
     if !unused_zero(m.n, xs) {

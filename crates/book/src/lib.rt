@@ -15,9 +15,6 @@ pub const MOST_MODELS: usize = 16;
 // The places of its steps.
 pub const MOST_STEPS: usize = 64;
 
-// The largest order d.
-const MOST_ORDER: u8 = 15;
-
 // The codes of steps: 0 to this.
 const LAST_CODE: u8 = 8;
 
@@ -90,7 +87,7 @@ pub fn limits_sound(n: u8, d: u8, models: usize, steps: usize) -> bool
     if !held::vars_sound(n) {
         return false;
     }
-    if !from_one(MOST_ORDER, d) {
+    if !from_one(held::MOST_DEGREE, d) {
         return false;
     }
     if MOST_MODELS < models {

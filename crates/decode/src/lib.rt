@@ -9,27 +9,6 @@ ghost use Rattle.decode.specs.Trailer.{«stored-trailer»};
 use book::Step;
 use held::Term;
 
-// The bytes of the trailer.
-pub const TRAILER_BYTES: usize = 8;
-
-// Of a step.
-pub const STEP_BYTES: usize = 8;
-
-// Of a term: key and coefficient.
-pub const TERM_BYTES: usize = 6;
-
-// Of a model before its terms: radius and term count.
-pub const MODEL_BYTES: usize = 5;
-
-// Where the term count stands in a model.
-pub const COUNT_AT: usize = 4;
-
-// The mark: the last byte but one.
-const MARK_FIRST: u8 = 0x4D;
-
-// And the last.
-const MARK_LAST: u8 = 0x4B;
-
 // The least number of 32 bits that stands for a negative one.
 const SIGN_BIT: u32 = 1 << 31;
 
@@ -129,10 +108,10 @@ fn marked_at(s: &[u8], at: usize) -> bool
     requires { ⌜ at + 8 ≤ length (now s) ⌝ }
     ensures { λ r. ⌜ r ≡ read-trailer (drop at (now (s .entry))) .marked ⌝ }
 {
-    if byte_at(s, at + 6) != MARK_FIRST {
+    if byte_at(s, at + 6) != format::FIRST_MARK {
         return false;
     }
-    byte_at(s, at + 7) == MARK_LAST
+    byte_at(s, at + 7) == format::SECOND_MARK
 }
 
 // A trailer.

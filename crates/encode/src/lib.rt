@@ -11,15 +11,6 @@ ghost use Rattle.encode.specs.Fitting.{Model-fits};
 use book::Step;
 use held::Model;
 
-// The bytes of a model's radius and count.
-const HEAD_BYTES: usize = 5;
-
-// Those of a term.
-const TERM_BYTES: usize = 6;
-
-// Those of a step.
-pub const STEP_BYTES: usize = 8;
-
 // What two's complement adds to a negative number.
 const WORD: i64 = 1 << 32;
 
@@ -86,12 +77,12 @@ pub fn put_model(buffer: &mut [u8], at: usize, m: Model)
     let count = m.count;
     put_u32(buffer, at, m.radius as u32);
     buffer[at + 4] = count as u8;
-    let mut place = at + HEAD_BYTES;
+    let mut place = at + format::MODEL_BYTES;
     let mut i = 0;
     while i < count {
         let t = m.terms[i];
         put_term(buffer, place, t.key, t.coefficient);
-        place += TERM_BYTES;
+        place += format::TERM_BYTES;
         i += 1;
     }
 }
@@ -101,7 +92,7 @@ pub fn model_size(m: Model) -> usize
     requires { ⌜ Model-fits (held-model m) ⌝ }
     ensures { λ r. ⌜ r ≡ length (model-bytes (held-model m)) ⌝ }
 {
-    HEAD_BYTES + TERM_BYTES * m.count
+    format::MODEL_BYTES + format::TERM_BYTES * m.count
 }
 
 // A step.

@@ -10,9 +10,6 @@ use held::Bounds;
 use held::Model;
 use held::Verdict;
 
-// The highest order, which takes all degrees of a model.
-const HIGHEST_ORDER: u8 = 15;
-
 // The range of what is left of m after the coordinates are put in for its variables, one after the other.
 pub fn evaluated(
     m: Model,
@@ -31,7 +28,7 @@ pub fn evaluated(
     while i <= n {
         let x = xs[(i - 1) as usize];
         let a = substitute::substituted(
-            HIGHEST_ORDER,
+            held::MOST_DEGREE,
             i,
             left,
             held::constant_of(n, x),

@@ -1,6 +1,5 @@
 // Sheets: run to a model with its range and its integral, run to the program's lines, taken apart record by record.
 ghost use mathlib.Core.Path.{_≡_};
-ghost use mathlib.Core.Bool.{_&&_};
 ghost use Prim.Native.Nat.{_≤_};
 ghost use lib.Dec.{leb};
 ghost use lib.ListN.{length};

@@ -44,7 +44,8 @@ part-shorter l i h p =
     let g = length-append (getD l i []) (join (drop (suc i) l)) in
     omega arith
 
-getD-any : (l : List (List ℕ)) (i : ℕ) (d c : List ℕ) → i < length l → getD l i d ≡ getD l i c
+-- within a list the default does not matter
+pub getD-any : {A : Type 0} (l : List A) (i : ℕ) (d c : A) → i < length l → getD l i d ≡ getD l i c
 getD-any [] i d c h = absurd (omega arith)
 getD-any (x ∷ l) zero d c h = refl
 getD-any (x ∷ l) (suc i) d c h = getD-any l i d c (omega arith)

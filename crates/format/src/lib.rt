@@ -1,0 +1,23 @@
+// The bytes of a sheet, for the code that reads and writes it. The definitions beside it (specs/) are what that code is
+// proved against.
+
+// The bytes of a model before its terms: radius and term count.
+pub const MODEL_BYTES: usize = 5;
+
+// Where the term count stands among them.
+pub const COUNT_AT: usize = 4;
+
+// The bytes of a term: key and coefficient.
+pub const TERM_BYTES: usize = 6;
+
+// Of a step.
+pub const STEP_BYTES: usize = 8;
+
+// Of the trailer.
+pub const TRAILER_BYTES: usize = 8;
+
+// The mark: the last byte but one.
+pub const FIRST_MARK: u8 = 0x4D;
+
+// And the last.
+pub const SECOND_MARK: u8 = 0x4B;

@@ -12,6 +12,9 @@ ghost use Rattle.held.specs.Held.{pack, «one-term», cause, answer, bou
 // The places of a model's terms.
 pub const MOST_TERMS: usize = 64;
 
+// The largest degree of a term, and the largest order.
+pub const MOST_DEGREE: u8 = 15;
+
 // One term: four exponents of four bits each, that of variable 1 in the highest bits, and a coefficient in units of
 // 1/U.
 pub struct Term {

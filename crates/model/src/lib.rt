@@ -67,7 +67,7 @@ pub fn integral(m: Model) -> Bounds
 pub fn add(a: Model, b: Model) -> Answer
     ensures { λ r. ⌜ r ≡ answer (call-add (view a) (view b)) ⌝ }
 {
-    let v = admission::two_models(admission::MOST_DEGREE, a, b);
+    let v = admission::two_models(held::MOST_DEGREE, a, b);
     match v {
         Verdict::Accepted => addition::added(a, b),
         Verdict::Refused(refusal, place) => held::refuse(refusal, place),
@@ -78,7 +78,7 @@ pub fn add(a: Model, b: Model) -> Answer
 pub fn subtract(a: Model, b: Model) -> Answer
     ensures { λ r. ⌜ r ≡ answer (call-subtract (view a) (view b)) ⌝ }
 {
-    let v = admission::two_models(admission::MOST_DEGREE, a, b);
+    let v = admission::two_models(held::MOST_DEGREE, a, b);
     match v {
         Verdict::Accepted => addition::subtracted(a, b),
         Verdict::Refused(refusal, place) => held::refuse(refusal, place),

@@ -8,7 +8,7 @@ use lib.ListN.{length, getD}
 use Rattle.polynomial.specs.Polynomial.{exponent, without}
 use Rattle.calculus.specs.Monomial.{index-of}
 use Rattle.calculus.specs.MonomialLaws.{index-suc}
-use Rattle.calculus.specs.Key.{encode, decode, key-width, key-exponents, key, key-fits, monomial-of}
+use Rattle.calculus.specs.Key.{encode, decode, key-width, key, key-fits, monomial-of}
 use Rattle.calculus.specs.MonomialKeyLaws.{key-monomial, monomial-digits, monomial-length, fits-below}
 use Rattle.parts.specs.Exponents.{key-exponent, key-without}
 

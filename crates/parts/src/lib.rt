@@ -71,7 +71,7 @@ pub fn part(f: Model, i: u8, k: u16) -> Model
     ensures { λ r. ⌜ r ≡ pack (part i k (view f)) ⌝ }
 {
     let total = f.count;
-    let mut out = [Term::ZERO; 64];
+    let mut out = [Term::ZERO; held::MOST_TERMS];
     let mut count = 0;
     let mut j = 0;
     while j < total {

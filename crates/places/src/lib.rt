@@ -9,7 +9,7 @@ pub fn first_step(s: &[u8]) -> usize
     requires { ⌜ 8 ≤ length (now s) ⌝ }
     ensures { λ r. ⌜ r ≡ first-step (now (s .entry)) ⌝ }
 {
-    let end = s.len() - 8;
+    let end = s.len() - format::TRAILER_BYTES;
     decode::u16_at(s, end + 4) as usize
 }
 
@@ -20,10 +20,10 @@ fn size_at(s: &[u8], at: usize) -> usize
 {
     let first = first_step(s);
     if at < first {
-        let count = s[at + 4] as usize;
-        return 5 + 6 * count;
+        let count = s[at + format::COUNT_AT] as usize;
+        return format::MODEL_BYTES + format::TERM_BYTES * count;
     }
-    8
+    format::STEP_BYTES
 }
 
 // How long it is: 0 where there is none.
@@ -31,10 +31,10 @@ pub fn length_at(s: &[u8], at: usize) -> usize
     ensures { λ r. ⌜ r ≡ length-at (now (s .entry)) at ⌝ }
 {
     let length = s.len();
-    if length < 8 {
+    if length < format::TRAILER_BYTES {
         return 0;
     }
-    let end = length - 8;
+    let end = length - format::TRAILER_BYTES;
     if end <= at {
         return 0;
     }

@@ -103,7 +103,7 @@ pub fn read(sheet: &[u8]) -> Read
     if !length_sound(length) {
         return refuse(Refusal::BadLength, 0);
     }
-    let t = decode::trailer_at(sheet, length - decode::TRAILER_BYTES);
+    let t = decode::trailer_at(sheet, length - format::TRAILER_BYTES);
     let steps = t.steps as usize;
     let offset = t.offset as usize;
     let marked = t.marked;
@@ -114,7 +114,7 @@ pub fn read(sheet: &[u8]) -> Read
     if !within {
         return refuse(Refusal::BadLimits, 0);
     }
-    let end = offset + decode::STEP_BYTES * steps + decode::TRAILER_BYTES;
+    let end = offset + format::STEP_BYTES * steps + format::TRAILER_BYTES;
     if end != length {
         return refuse(Refusal::BadOffset, 0);
     }

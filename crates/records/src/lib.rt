@@ -37,10 +37,10 @@ pub fn kind_at(s: &[u8], at: usize) -> Kind
     ensures { λ r. ⌜ r ≡ kind-at (now (s .entry)) at ⌝ }
 {
     let length = s.len();
-    if length < 8 {
+    if length < format::TRAILER_BYTES {
         return Kind::End;
     }
-    let trailer = length - 8;
+    let trailer = length - format::TRAILER_BYTES;
     if trailer <= at {
         return Kind::End;
     }
@@ -73,7 +73,7 @@ pub fn record_count(sheet: &[u8]) -> usize
     let verdict = answer.verdict;
     match verdict {
         Verdict::Accepted => {
-            let end = sheet.len() - 8;
+            let end = sheet.len() - format::TRAILER_BYTES;
             let models = sheet[end + 2] as usize;
             let steps = sheet[end + 3] as usize;
             models + steps

@@ -1,27 +1,20 @@
 -- The arrays of a book in memory, place by place: its steps and its models are those of the held book.
-use mathlib.Core.Path.{_≡_, refl, sym, _∙_, ap}
-use mathlib.Core.List.{List, [], _∷_, map}
-use Prim.Native.Nat.{ℕ, zero, suc, _<_, _≤_, min}
+use mathlib.Core.Path.{_≡_, sym, _∙_, ap}
+use mathlib.Core.List.{List, map}
+use Prim.Native.Nat.{ℕ, _<_, _≤_, min}
 use native.Mathlib.Omega.{arith}
 use lib.ListN.{length, getD, length-map, List·getD-map}
 use Rattle.calculus.specs.Book.{model-of}
 use Rattle.held.specs.declared.Model.{Model}
 use Rattle.held.specs.Held.{view}
 use Rattle.format.specs.Held.{view-model, view-book, Held-passes}
+use Rattle.format.specs.PlaceLaws.{getD-any}
 use Rattle.book.specs.declared.Book.{Book}
 use Rattle.book.specs.Book.{no-model, no-step, held-model, held-step, held-book}
 use Rattle.book.specs.BookLaws.{view-held-model}
 use Rattle.book.specs.FailingLaws.{held-at, count-models, count-steps}
 use Rattle.running.specs.RunLaws.{in-limits-of, Step-at}
 
--- ---- any list
--- within a list the default does not matter
-pub getD-within : {A : Type 0} (l : List A) (i : ℕ) (x y : A) → i < length l → getD l i x ≡ getD l i y
-getD-within [] i x y h = absurd (omega arith)
-getD-within (z ∷ l) zero x y h = refl
-getD-within (z ∷ l) (suc i) x y h = getD-within l i x y (omega arith)
-
--- ---- a book
 module _ (b : Book) (p : Held-passes (held-book b)) where
   pub few-steps : b .«step_count» ≤ 64
   few-steps = omega (arith, count-steps b, in-limits-of p .steps-high)
@@ -38,7 +31,7 @@ module _ (b : Book) (p : Held-passes (held-book b)) where
   unfolding held-book
   step-here w i l = record {
     within = omega (arith, count-steps b);
-    is-step = getD-within (held-book b .steps) i _ (held-step no-step) (omega (arith, count-steps b))
+    is-step = getD-any (held-book b .steps) i _ (held-step no-step) (omega (arith, count-steps b))
         ∙ held-at no-step held-step (b .«step_count») (b .steps) (omega (arith, few-steps)) i no-step l;
   }
 
@@ -52,7 +45,7 @@ module _ (b : Book) (p : Held-passes (held-book b)) where
       ∙ sym (view-held-model (getD (b .models) a x))
       ∙ ap view-model (sym at)
       ∙ sym (List·getD-map view-model (held-book b .models) a (held-model x))
-      ∙ getD-within (map view-model (held-book b .models)) a _ _
+      ∙ getD-any (map view-model (held-book b .models)) a _ _
       (omega (arith, length-map (held-book b .models) view-model))
     where
       at : getD (held-book b .models) a (held-model x) ≡ held-model (getD (b .models) a x)

@@ -10,15 +10,6 @@ ghost use Rattle.format.specs.Held.{Held-passes};
 ghost use Rattle.book.specs.Book.{«held-book»};
 use book::Book;
 
-// The bytes of the trailer.
-pub const TRAILER_BYTES: usize = 8;
-
-// The last byte of a sheet but one.
-const FIRST_MARK: u8 = 0x4D;
-
-// And the last.
-const SECOND_MARK: u8 = 0x4B;
-
 // The length of all models' records: the offset of the first step.
 pub fn models_size(b: Book) -> usize
     requires { ⌜ Held-passes (held-book b) ⌝ }
@@ -65,7 +56,7 @@ pub fn put_steps(buffer: &mut [u8], at: usize, b: Book)
     while k < count {
         let s = b.steps[k];
         encode::put_step(buffer, place, s);
-        place += encode::STEP_BYTES;
+        place += format::STEP_BYTES;
         k += 1;
     }
 }
@@ -82,6 +73,6 @@ pub fn put_trailer(buffer: &mut [u8], at: usize, b: Book, offset: usize)
     buffer[at + 2] = b.model_count as u8;
     buffer[at + 3] = b.step_count as u8;
     encode::put_u16(buffer, at + 4, offset as u16);
-    buffer[at + 6] = FIRST_MARK;
-    buffer[at + 7] = SECOND_MARK;
+    buffer[at + 6] = format::FIRST_MARK;
+    buffer[at + 7] = format::SECOND_MARK;
 }

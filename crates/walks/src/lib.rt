@@ -31,11 +31,11 @@ pub fn walk_models(s: &[u8], n: u8, d: u8, count: usize) -> ModelsRead
     let mut k = 0;
     'models: while k < count {
         let left = s.len() - at;
-        if left < decode::MODEL_BYTES {
+        if left < format::MODEL_BYTES {
             break 'models;
         }
-        let total = decode::byte_at(s, at + decode::COUNT_AT) as usize;
-        if left < decode::MODEL_BYTES + decode::TERM_BYTES * total {
+        let total = decode::byte_at(s, at + format::COUNT_AT) as usize;
+        if left < format::MODEL_BYTES + format::TERM_BYTES * total {
             break 'models;
         }
         if held::MOST_TERMS < total {
@@ -45,7 +45,7 @@ pub fn walk_models(s: &[u8], n: u8, d: u8, count: usize) -> ModelsRead
         let mut terms = [Term::ZERO; held::MOST_TERMS];
         let mut span = radius;
         let mut least: u32 = 0;
-        let mut place = at + decode::MODEL_BYTES;
+        let mut place = at + format::MODEL_BYTES;
         let mut i = 0;
         'terms: while i < total {
             let t = decode::term_at(s, place);
@@ -55,7 +55,7 @@ pub fn walk_models(s: &[u8], n: u8, d: u8, count: usize) -> ModelsRead
             terms[i] = t;
             span = fixed::capped_sum(span, fixed::magnitude(t.coefficient));
             least = t.key as u32 + 1;
-            place += decode::TERM_BYTES;
+            place += format::TERM_BYTES;
             i += 1;
         }
         if !fixed::within_span(span) {
@@ -91,7 +91,7 @@ pub fn walk_steps(s: &[u8], offset: usize, n: u8, models: usize, count: usize) -
             break 'steps;
         }
         steps[k] = step;
-        at += decode::STEP_BYTES;
+        at += format::STEP_BYTES;
         k += 1;
     }
     StepsRead {

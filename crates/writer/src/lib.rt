@@ -21,8 +21,8 @@ pub fn write(book: Book, buffer: &mut [u8]) -> Written
         };
     };
     let offset = sections::models_size(book);
-    let end = offset + encode::STEP_BYTES * book.step_count;
-    let size = end + sections::TRAILER_BYTES;
+    let end = offset + format::STEP_BYTES * book.step_count;
+    let size = end + format::TRAILER_BYTES;
     if buffer.len() < size {
         return Written {
             length: 0,
