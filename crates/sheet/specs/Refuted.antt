@@ -4,9 +4,9 @@ use mathlib.Core.Path.{_≡_, refl, sym, _∙_, ap, subst}
 use mathlib.Core.Bool.{Bool, true, _&&_}
 use mathlib.Core.List.{List, [], _∷_, _++_}
 use mathlib.Core.Option.{some}
-use Prim.Native.Nat.{ℕ, suc}
+use Prim.Native.Nat.{ℕ, suc, _≤_}
 use native.Mathlib.Omega.{arith}
-use lib.Dec.{T, eqb, ltb}
+use lib.Dec.{T, ltb, le→leb}
 use lib.IntN.{natAbs}
 use lib.ListN.{length, getElem?}
 use Rattle.fixed.specs.Fixed.{span-limit}
@@ -34,7 +34,7 @@ use Rattle.format.specs.SheetClaim.{Sheet-claim}
 use Rattle.book.specs.Book.{stored-model}
 use Rattle.summary.specs.declared.Summary.{Summary}
 use Rattle.summary.specs.Summary.{stored-ends, ends-of, summary-of, refused-summary, run-answer}
-use Rattle.sheet.specs.Sheet.{Encloses}
+use Rattle.sheet.specs.Sheet.{Exact, Encloses}
 
 -- ---- programs and the clauses of the contract
 -- what a program answers to each sheet
@@ -47,8 +47,8 @@ are-bytes [] = true
 are-bytes (b ∷ l) = ltb b 256 && are-bytes l
 
 -- the clause `exact`
-abbrev pub Exact : Program → Type 0
-Exact W = (sheet : List ℕ) → T (are-bytes sheet) → W sheet ≡ run-answer (run-sheet sheet)
+abbrev pub Exact-program : Program → Type 0
+Exact-program W = (sheet : List ℕ) → T (are-bytes sheet) → Exact sheet (W sheet)
 
 -- the clause `encloses`
 abbrev pub Enclosing : Program → Type 0
@@ -94,16 +94,16 @@ unfolding
 answers = tt
 
 -- ---- the radius always widened to the limit
--- every accepted result has the largest span
+-- every accepted result has the largest span, or a larger one
 abbrev pub Widening : Program → Type 0
-Widening W = (sheet : List ℕ) → W sheet .verdict ≡ Accepted → span (view (W sheet .model)) ≡ span-limit
+Widening W = (sheet : List ℕ) → W sheet .verdict ≡ Accepted → span-limit ≤ span (view (W sheet .model))
 
-pub widening-refuted : (W : Program) → Widening W → Exact W → ⊥
+pub widening-refuted : (W : Program) → Widening W → Exact-program W → ⊥
 unfolding answers
 widening-refuted W w e =
     let a = e nothing tt in
-    let k = sym (ap (λ r. span (view (r .model))) a) ∙ w nothing (ap (λ r. r .verdict) a) in
-    subst T (ap (λ i. eqb i 0) k) tt
+    le→leb span-limit 0
+    (subst (λ r. span-limit ≤ span (view (r .model))) a (w nothing (ap (λ r. r .verdict) a)))
 
 -- ---- operands passed through after the first step
 -- a step with operands gives the first of them
@@ -135,7 +135,7 @@ unfoldable pub passes : Unit {0}
 unfolding answers pass-step pass-steps passing
 passes = tt
 
-pub passing-not-exact : Exact passing → ⊥
+pub passing-not-exact : Exact-program passing → ⊥
 unfolding passes
 passing-not-exact e = let k : _≡_ {A = ℕ} 1 2 = ap (λ r. natAbs (r .range .low)) (e twice tt) in omega arith
 
@@ -152,19 +152,22 @@ unfolding passes Encloses doubled passed-through
 passing-not-enclosing c = passing-refuted (claim-of twice _ _ refl (c twice tt refl))
 
 -- ---- always the zero model
+-- at least for sheets in one variable that pass the tests
 abbrev pub Zero : Program → Type 0
-Zero W = (sheet : List ℕ) → W sheet .model ≡ pack (zero-model 1)
+Zero W = (sheet : List ℕ) (h : Held-book) → read sheet ≡ done h → view-book h .vars ≡ 1
+    → W sheet .model ≡ pack (zero-model 1)
 
-pub zero-not-exact : (W : Program) → Zero W → Exact W → ⊥
+pub zero-not-exact : (W : Program) → Zero W → Exact-program W → ⊥
 unfolding answers
 zero-not-exact W z e =
-    let k : _≡_ {A = ℕ} 1 0 = sym (ap (λ r. r .model .count) (e one tt)) ∙ ap (λ m. m .count) (z one) in
+    let k : _≡_ {A = ℕ} 1 0 = sym (ap (λ r. r .model .count) (e one tt)) ∙ ap (λ m. m .count) (z one _ refl refl) in
     omega arith
 
 pub zero-not-enclosing : (W : Program) → Zero W → Accepting W → Enclosing W → ⊥
 unfolding answers Encloses one-step
 zero-not-enclosing W z a c = radius-refutes _ _
-    (subst (λ m. Claim one-step (record { model = view m; range = r .range; integral = r .integral })) (z one)
+    (subst (λ m. Claim one-step (record { model = view m; range = r .range; integral = r .integral }))
+    (z one _ refl refl)
     (claim-of one _ r refl (c one tt (a one _ refl))))
   where
     r : B.Summary
@@ -176,7 +179,7 @@ abbrev pub Handing-back : Program → Type 0
 Handing-back W = (sheet : List ℕ) (h : Held-book) (m : Held-model) → read sheet ≡ done h
     → getElem? (h .models) 0 ≡ some m → W sheet .model ≡ stored-model m
 
-pub handing-back-not-exact : (W : Program) → Handing-back W → Exact W → ⊥
+pub handing-back-not-exact : (W : Program) → Handing-back W → Exact-program W → ⊥
 unfolding answers stored-model
 handing-back-not-exact W w e =
     let k : _≡_ {A = ℕ} 1 0 =
@@ -218,7 +221,7 @@ abbrev pub Says-eight : Program → Type 0
 Says-eight W = (sheet : List ℕ) (s : B.Summary) → run-sheet sheet ≡ done s → length (s .model .terms) ≡ 0
     → verdict-number (W sheet .verdict) ≡ 8
 
-pub eight-refuted : (W : Program) → Says-eight W → Exact W → ⊥
+pub eight-refuted : (W : Program) → Says-eight W → Exact-program W → ⊥
 unfolding answers
 eight-refuted W w e =
     let k : _≡_ {A = ℕ} 0 8 = sym (ap (λ r. verdict-number (r .verdict)) (e nothing tt)) ∙ w nothing _ refl refl in
@@ -230,7 +233,7 @@ abbrev pub Says-step : ℕ → Program → Type 0
 Says-step k W = (sheet : List ℕ) (q : R.Refusal) (i : ℕ) → run-sheet sheet ≡ stopped q i
     → verdict-place (W sheet .verdict) ≡ k
 
-pub step-refuted : (k : ℕ) (W : Program) → Says-step k W → Exact W → ⊥
+pub step-refuted : (k : ℕ) (W : Program) → Says-step k W → Exact-program W → ⊥
 unfolding answers
 step-refuted k W w e =
     let two : 2 ≡ k = sym (ap (λ r. verdict-place (r .verdict)) (e over tt)) ∙ w over _ _ refl in
@@ -242,7 +245,7 @@ abbrev pub Counts-from-one : Program → Type 0
 Counts-from-one W = (sheet : List ℕ) (q : R.Refusal) (i : ℕ) → run-sheet sheet ≡ stopped q i
     → verdict-place (W sheet .verdict) ≡ suc i
 
-pub counted-refuted : (W : Program) → Counts-from-one W → Exact W → ⊥
+pub counted-refuted : (W : Program) → Counts-from-one W → Exact-program W → ⊥
 unfolding answers
 counted-refuted W w e =
     let k : _≡_ {A = ℕ} 2 3 = sym (ap (λ r. verdict-place (r .verdict)) (e over tt)) ∙ w over _ _ refl in
@@ -252,6 +255,6 @@ counted-refuted W w e =
 abbrev pub Refusing : Program → Type 0
 Refusing W = (sheet : List ℕ) → W sheet .verdict ≡ Accepted → ⊥
 
-pub refusing-refuted : (W : Program) → Refusing W → Exact W → ⊥
+pub refusing-refuted : (W : Program) → Refusing W → Exact-program W → ⊥
 unfolding answers
 refusing-refuted W w e = w one (ap (λ r. r .verdict) (e one tt))

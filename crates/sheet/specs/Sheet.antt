@@ -1,4 +1,4 @@
--- The run of a book in memory, and what is claimed of the answer of a run.
+-- The run of a book in memory, and what is promised of the answer of a run.
 use mathlib.Core.Path.{_≡_}
 use mathlib.Core.List.{List}
 use Prim.Native.Nat.{ℕ}
@@ -8,16 +8,25 @@ use Rattle.calculus.specs.Book.{run-sound}
 use Rattle.calculus.specs.Claim.{Claim}
 use Rattle.held.specs.declared.Verdict.the-variants.{Accepted}
 use Rattle.format.specs.Held.{Held-book, view-book, held-tested}
+use Rattle.format.specs.Format.{run-sheet}
 use Rattle.format.specs.SheetClaim.{Sheet-claim}
 use Rattle.summary.specs.declared.Summary.{Summary}
-use Rattle.summary.specs.Summary.{summary-of}
+use Rattle.summary.specs.Summary.{run-answer, summary-of}
 
 -- ---- the run
 -- the run of a book in memory: tests 3, 5 and 6, then the steps
 unfoldable pub run-held : Held-book → Result B.Summary
 run-held h = held-tested h (run-sound (view-book h))
 
--- ---- what is claimed of an answer
+-- ---- what is promised of an answer
+-- demand 2 of a sheet: the whole answer is that of the run
+abbrev pub Exact : List ℕ → Summary → Type 0
+Exact sheet r = r ≡ run-answer (run-sheet sheet)
+
+-- and of a book in memory
+abbrev pub Exact-book : Held-book → Summary → Type 0
+Exact-book h r = r ≡ run-answer (run-held h)
+
 -- demand 3 of a sheet: if it is accepted, then the claim holds of what is answered
 unfoldable pub Encloses : List ℕ → Summary → Type 0
 Encloses sheet r = r .verdict ≡ Accepted → Sheet-claim sheet (summary-of r)

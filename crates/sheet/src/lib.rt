@@ -2,10 +2,9 @@
 ghost use mathlib.Core.Path.{_≡_};
 ghost use Rattle.calculus.specs.Book.{«run-sound»};
 ghost use Rattle.format.specs.Held.{«view-book», «Held-passes»};
-ghost use Rattle.format.specs.Format.{«run-sheet»};
 ghost use Rattle.book.specs.Book.{«held-book»};
 ghost use Rattle.summary.specs.Summary.{«run-answer»};
-ghost use Rattle.sheet.specs.Sheet.{Encloses, «Encloses-book», «run-held»};
+ghost use Rattle.sheet.specs.Sheet.{Exact, «Exact-book», Encloses, «Encloses-book»};
 pub use book::Book;
 pub use book::Step;
 pub use held::Model;
@@ -32,7 +31,7 @@ fn run_passed(b: Book) -> Summary
 // all that is answered. `encloses` says of an accepted sheet, for all functions within its models: the exact outcome
 // lies within the result's radius and inside its range, and the exact integral inside the integral's ends.
 pub fn run(sheet: &[u8]) -> Summary
-    ensures exact { λ r. ⌜ r ≡ run-answer (run-sheet (now (sheet .entry))) ⌝ }
+    ensures exact { λ r. ⌜ Exact (now (sheet .entry)) r ⌝ }
     ensures encloses { λ r. ⌜ Encloses (now (sheet .entry)) r ⌝ }
 {
     let answer = reader::read(sheet);
@@ -45,7 +44,7 @@ pub fn run(sheet: &[u8]) -> Summary
 
 // The run of a book, whatever its fields hold: tests 3, 5 and 6, then as a sheet.
 pub fn run_book(b: Book) -> Summary
-    ensures exact { λ r. ⌜ r ≡ run-answer (run-held (held-book b)) ⌝ }
+    ensures exact { λ r. ⌜ Exact-book (held-book b) r ⌝ }
     ensures encloses { λ r. ⌜ Encloses-book (held-book b) r ⌝ }
 {
     let v = booktest::tested(b);
