@@ -1,4 +1,5 @@
-// What a step answers besides an operation's own answer: a model that is not refused, and a refusal at a step.
+// What a step answers besides an operation's own answer: a model that is not refused, an input with zeros beyond its
+// count, and a refusal at a step.
 ghost use mathlib.Core.Path.{_≡_};
 ghost use lib.Dec.{T};
 ghost use Rattle.calculus.specs.Model.{«most-degree», sound};

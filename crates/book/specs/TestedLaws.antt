@@ -62,11 +62,6 @@ verdict-accepted b e = go (held-tested (held-book b) (done (held-book b))) refl 
     go (done v) p k = held-tested-done (held-book b) (done (held-book b)) v p .passes
     go (stopped q i) p k = let z : _≡_ {A = ℕ} 0 1 = cc in absurd (omega arith)
 
--- and one that passes is accepted
-pub passes-verdict : (b : Book) → Held-passes (held-book b) → book-verdict b ≡ Accepted
-unfolding book-verdict
-passes-verdict b p = verdict-done _ (held-book b) (held-tested-passes (held-book b) (done (held-book b)) p)
-
 -- so that what is asked for after the tests is what they hand on
 pub verdict-hands-on : (b : Book) → book-verdict b ≡ Accepted → {A : Type 0} (r : Result A)
     → held-tested (held-book b) r ≡ r

@@ -1,7 +1,7 @@
 -- The canonical form: a strictly rising list of nonzero terms is determined by its coefficient at each monomial,
 -- collecting gives that list, and sums over terms do not depend on the order in which they stand.
 use mathlib.Core.Path.{_≡_, refl, sym, _∙_, ap, ap₂, subst}
-use mathlib.Core.Bool.{Bool, true, false, not, _&&_}
+use mathlib.Core.Bool.{Bool, true, false, not}
 use mathlib.Core.List.{List, [], _∷_, _++_}
 use Prim.Native.Nat.{ℕ}
 use lib.Dec.{T, T-not, not-T}
@@ -11,7 +11,8 @@ use Rattle.algebra.specs.RingLaws.{+-cancel}
 use Rattle.algebra.specs.IntegerRing.{ℤR}
 use Rattle.polynomial.specs.Polynomial.{Term}
 use Rattle.calculus.specs.Monomial.{same, less}
-use Rattle.calculus.specs.Terms.{Terms, term, every, select, sum-over, map-coefficients, rising-from, rising}
+use Rattle.calculus.specs.Terms.{Terms, term, select, sum-over, map-coefficients, rising-from, rising}
+use Rattle.calculus.specs.Terms.{absent, distinct}
 use Rattle.calculus.specs.Terms.{is-nonzero, nonzero, drop-zeros, insert, collect}
 use Rattle.calculus.specs.TestLaws.{and-left, and-right, both}
 use Rattle.calculus.specs.TermsLaws.{by-select, by-insert, every-head, every-tail, every-nil, every-cons}
@@ -89,15 +90,6 @@ module _ (k : List ℕ) where
       go false h = refl
 
 -- ---- monomials that do not stand, and that stand once
--- no term has the monomial k
-unfoldable pub absent : List ℕ → Terms → Bool
-absent k = every (λ j c. not (same k j))
-
--- each monomial stands once
-unfoldable pub distinct : Terms → Bool
-distinct [] = true
-distinct (t ∷ p) = absent (t .exponents) p && distinct p
-
 pub absent-zero : (k : List ℕ) (p : Terms) → T (absent k p) → coefficient-at p k ≡ pos 0
 unfolding absent
 absent-zero k [] h = coefficient-nil k

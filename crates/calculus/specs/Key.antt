@@ -1,7 +1,7 @@
 -- Keys: the exponents of a monomial as the digits of one number, that of variable 1 the highest.
 use mathlib.Core.Bool.{Bool, true, false, _&&_}
 use mathlib.Core.List.{List, [], _∷_}
-use Prim.Native.Nat.{ℕ, zero, suc, _+_, _-_, _*_, _/_, _%_, _^_}
+use Prim.Native.Nat.{ℕ, zero, suc, _+_, _-_, _*_, _/_, _%_, _^_, _<_}
 use lib.Dec.{eqb, ltb}
 use Rattle.calculus.specs.Monomial.{degree}
 
@@ -55,3 +55,8 @@ key-degree z = degree (key-exponents key-width key-width z)
 -- the wide key of a monomial in up to eight variables
 abbrev pub wide-key : List ℕ → ℕ
 wide-key = encode 256 8
+
+-- every exponent is below the base
+abbrev pub Below : ℕ → List ℕ → Type 0
+Below base [] = Unit {0}
+Below base (e ∷ k) = (e < base) × Below base k

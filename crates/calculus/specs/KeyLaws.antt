@@ -12,13 +12,8 @@ use Rattle.algebra.specs.Lexicographic.{same, less}
 use Rattle.algebra.specs.LexicographicLaws.{same-ok, same-refl, less-cons, less-total}
 use Rattle.polynomial.specs.Polynomial.{add-exponents}
 use Rattle.calculus.specs.Monomial.{degree}
-use Rattle.calculus.specs.Key.{encode, decode, fits-digits}
+use Rattle.calculus.specs.Key.{encode, decode, fits-digits, Below}
 use Rattle.calculus.specs.TestLaws.{and-left, and-right, both, same-tests}
-
--- every exponent is below the base
-abbrev pub Below : ℕ → List ℕ → Type 0
-Below base [] = Unit {0}
-Below base (e ∷ k) = (e < base) × Below base k
 
 -- so it is where the total degree is
 pub below-degree : (base : ℕ) (k : List ℕ) → degree k < base → Below base k

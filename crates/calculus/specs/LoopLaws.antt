@@ -16,7 +16,7 @@ use Rattle.calculus.specs.Terms.{Terms, term, every, select}
 use Rattle.calculus.specs.TestLaws.{and-left, and-right, both}
 use Rattle.calculus.specs.TermsLaws.{every-head, every-tail, every-nil, every-cons, every-++}
 use Rattle.calculus.specs.CanonicalLaws.{at-monomial, at-additive, coefficient-at, coefficient-cons, share}
-use Rattle.calculus.specs.CanonicalLaws.{absent, distinct}
+use Rattle.calculus.specs.Terms.{absent, distinct}
 
 -- ---- the products so far
 -- one more term of the second factor

@@ -13,7 +13,8 @@ use Rattle.calculus.specs.MonomialLaws.{length-zeros, length-single, deg
 use Rattle.calculus.specs.Operations.{is-constant}
 use Rattle.calculus.specs.Key.{encode, decode, fits-digits, key-width, key, key-exponents, key-fits}
 use Rattle.calculus.specs.Key.{monomial-of, key-degree}
-use Rattle.calculus.specs.KeyLaws.{Below, below-degree, encode-less, encode-same, encode-fits}
+use Rattle.calculus.specs.Key.{Below}
+use Rattle.calculus.specs.KeyLaws.{below-degree, encode-less, encode-same, encode-fits}
 use Rattle.calculus.specs.KeyLaws.{decode-encode, encode-decode, decode-length, decode-below}
 use Rattle.calculus.specs.Model.{fits}
 use Rattle.calculus.specs.TestLaws.{and-left, and-right, both, same-tests}

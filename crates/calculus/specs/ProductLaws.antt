@@ -19,7 +19,8 @@ use Rattle.calculus.specs.Operations.{kept}
 use Rattle.calculus.specs.TermsLaws.{rising-select, rising-map-coefficients, rising-collect, nonzero-drop-zeros}
 use Rattle.calculus.specs.SumLaws.{if-ℤ, Addition, ℕ-addition, if-so, if-so-nothing, sum-select}
 use Rattle.calculus.specs.CanonicalLaws.{coefficient-at, Same-coefficients, coefficient-++, coefficient-collect}
-use Rattle.calculus.specs.CanonicalLaws.{coefficient-drop-zeros, distinct, rising-distinct, distinct-select}
+use Rattle.calculus.specs.Terms.{distinct}
+use Rattle.calculus.specs.CanonicalLaws.{coefficient-drop-zeros, rising-distinct, distinct-select}
 use Rattle.calculus.specs.CanonicalLaws.{coefficient-select, coefficient-map, canonical-unique, canonical-rising}
 use Rattle.calculus.specs.CanonicalLaws.{canonical-coefficients, sum-same}
 

@@ -8,6 +8,7 @@ use borrow.Author.Tests.{ne-eqb}
 use lib.Dec.{T, eqb, leb, eqb→eq, leb→le, le→leb, lit≤}
 use lib.IntN.{ℤ, pos, negsuc, negℤ, natAbs}
 use lib.ListN.{length, length-map}
+use Rattle.algebra.specs.Integer.{natAbs-neg}
 use Rattle.polynomial.specs.Polynomial.{exponent, without}
 use Rattle.fixed.specs.Fixed.{U, span-limit}
 use Rattle.fixed.specs.FixedLaws.{U-pos, U-within}
@@ -212,11 +213,6 @@ module _ (n d : ℕ) where
       turned (pos zero) h = h
       turned (pos (suc n)) h = unfold is-nonzero in (unfold is-nonzero in h)
       turned (negsuc n) h = unfold is-nonzero in h
-
-  natAbs-neg : (c : ℤ) → natAbs (negℤ c) ≡ natAbs c
-  natAbs-neg (pos zero) = refl
-  natAbs-neg (pos (suc k)) = refl
-  natAbs-neg (negsuc k) = refl
 
   size-negated : (p : Terms) → size (map-coefficients negℤ p) ≡ size p
   unfolding size

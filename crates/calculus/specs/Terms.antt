@@ -87,3 +87,13 @@ insert t (s ∷ p) = elim (same (t .exponents) (s .exponents)) [
 unfoldable pub collect : Terms → Terms
 collect [] = []
 collect (t ∷ p) = insert t (collect p)
+
+-- ---- monomials that do not stand, and that stand once
+-- no term has the monomial k
+unfoldable pub absent : List ℕ → Terms → Bool
+absent k = every (λ j c. not (same k j))
+
+-- each monomial stands once
+unfoldable pub distinct : Terms → Bool
+distinct [] = true
+distinct (t ∷ p) = absent (t .exponents) p && distinct p

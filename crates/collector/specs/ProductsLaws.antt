@@ -11,7 +11,6 @@ use Rattle.polynomial.specs.Polynomial.{Term, times, product}
 use Rattle.calculus.specs.Terms.{Terms, sum-over, size}
 use Rattle.calculus.specs.SumLaws.{ℕ-addition, sum-++}
 
--- ---- sizes
 size-append : (p q : Terms) → size (p ++ q) ≡ size p + size q
 unfolding size
 size-append p q = sum-++ ℕ-addition (λ k c. natAbs c) p q

@@ -1,7 +1,7 @@
 -- Laws of bytes in a lent buffer: puts behind one another, room for them, and a number by its sign.
 use mathlib.Core.Path.{_≡_, refl, sym, _∙_, ap}
 use mathlib.Core.List.{List, [], _∷_, _++_}
-use Prim.Native.Nat.{ℕ, suc, _+_, _≤_, _<_}
+use Prim.Native.Nat.{ℕ, _+_, _≤_, _<_}
 use native.Mathlib.Numerals.{add-one}
 use native.Mathlib.Omega.{arith}
 use lib.IntN.{ℤ, pos, negsuc, natAbs}
@@ -9,12 +9,8 @@ use lib.ListN.{length, take, set, getD, length-append}
 use lib.Seq.{sets, length-sets, set-out, take-suc}
 use lib.Signed.{mag}
 use Rattle.format.specs.Lines.{text, decimal, signed-decimal}
+use Rattle.format.specs.WriteLoopLaws.{sets-more}
 use Rattle.decimal.specs.Put.{Put, Room, natural, integer}
-
--- ---- stores behind one another
-sets-more : (a b l : List ℕ) (i j : ℕ) → j ≡ i + length a → sets (sets l i a) j b ≡ sets l i (a ++ b)
-sets-more [] b l i j e = let f : j ≡ i = omega arith in rw f
-sets-more (x ∷ a) b l i j e = sets-more a b (set l i x) (suc i) j (omega arith)
 
 -- ---- puts
 pub put-nothing : {l : List ℕ} {at : ℕ} → Put l at [] l at

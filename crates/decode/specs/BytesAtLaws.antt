@@ -1,4 +1,4 @@
--- Numbers and records at a place of the sheet, by the bytes from there on.
+-- Numbers at a place of a sheet, by the bytes from there on.
 use mathlib.Core.Path.{_≡_, _∙_, ap, ap₂}
 use mathlib.Core.List.{List}
 use Prim.Native.Nat.{ℕ, _+_, _*_}

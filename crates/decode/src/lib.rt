@@ -12,9 +12,6 @@ use held::Term;
 // The least number of 32 bits that stands for a negative one.
 const SIGN_BIT: u32 = 1 << 31;
 
-// How far it stands above that.
-const BEYOND_BITS: i64 = 1 << 32;
-
 // What a trailer says: n, d, the counts, the offset of the first step, and whether the mark stands.
 pub struct Trailer {
     pub n: u8,
@@ -64,7 +61,7 @@ fn signed_of(bits: u32) -> i64
     if bits < SIGN_BIT {
         bits as i64
     } else {
-        bits as i64 - BEYOND_BITS
+        bits as i64 - format::WORD
     }
 }
 

@@ -11,9 +11,6 @@ ghost use Rattle.encode.specs.Fitting.{Model-fits};
 use book::Step;
 use held::Model;
 
-// What two's complement adds to a negative number.
-const WORD: i64 = 1 << 32;
-
 // ---- numbers, little-endian; the rest of the buffer stays
 
 // Two bytes.
@@ -42,7 +39,11 @@ fn bits_of(z: i64) -> u32
     requires { ⌜ natAbs z < 2 ^ 31 ⌝ }
     ensures { λ r. ⌜ r ≡ bits z ⌝ }
 {
-    if z < 0 { (z + WORD) as u32 } else { z as u32 }
+    if z < 0 {
+        (z + format::WORD) as u32
+    } else {
+        z as u32
+    }
 }
 
 // Four bytes with a sign.
@@ -76,7 +77,7 @@ pub fn put_model(buffer: &mut [u8], at: usize, m: Model)
 {
     let count = m.count;
     put_u32(buffer, at, m.radius as u32);
-    buffer[at + 4] = count as u8;
+    buffer[at + format::COUNT_AT] = count as u8;
     let mut place = at + format::MODEL_BYTES;
     let mut i = 0;
     while i < count {

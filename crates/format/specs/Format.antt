@@ -8,7 +8,7 @@ use lib.ListN.{length, take, drop, getElem?}
 use Rattle.calculus.specs.Model.{between}
 use Rattle.calculus.specs.Refusal.{bad-length, bad-mark, bad-limits, bad-offset, bad-model, bad-step, short-buffer}
 use Rattle.calculus.specs.Refusal.{Result, done, stopped, require-at, require-each, _followed-by_, Returned, returned}
-use Rattle.calculus.specs.Book.{Book, limits-sound, Summary, run-sound, returned-summary}
+use Rattle.calculus.specs.Book.{Book, limits-sound, Summary, run-sound}
 use Rattle.format.specs.Bytes.{byte, join, u16, u32, u16-bytes, u32-bytes, signed, bits}
 use Rattle.format.specs.Held.{Held-term, Held-model, Held-step, Held-book, zero-book, view-book, outline}
 use Rattle.format.specs.Held.{held-model-sound, held-step-sound, held-tested}
@@ -111,10 +111,6 @@ returned-book s = returned zero-book (read s)
 -- the run of a sheet: the read makes all tests
 unfoldable pub run-sheet : List ℕ → Result Summary
 run-sheet s = read s followed-by (λ h. run-sound (view-book h))
-
--- what a run hands back: with a refusal the zero model with n = 1 and ends 0
-unfoldable pub returned-run : List ℕ → Returned Summary
-returned-run s = returned-summary (run-sheet s)
 
 -- ---- stepping through a sheet
 -- the bytes of c models

@@ -1,6 +1,12 @@
 // The bytes of a sheet, for the code that reads and writes it. The definitions beside it (specs/) are what that code is
 // proved against.
 
+// The length of the smallest sheet: one step and the trailer.
+pub const SHORTEST: usize = 16;
+
+// And of the largest: 16 models of 64 terms, 64 steps and the trailer.
+pub const LONGEST: usize = 6744;
+
 // The bytes of a model before its terms: radius and term count.
 pub const MODEL_BYTES: usize = 5;
 
@@ -15,6 +21,9 @@ pub const STEP_BYTES: usize = 8;
 
 // Of the trailer.
 pub const TRAILER_BYTES: usize = 8;
+
+// What two's complement of 32 bits adds to a negative number.
+pub const WORD: i64 = 1 << 32;
 
 // The mark: the last byte but one.
 pub const FIRST_MARK: u8 = 0x4D;

@@ -15,7 +15,8 @@ use Rattle.polynomial.specs.Polynomial as P
 use Rattle.fixed.specs.Fixed.{U, span-limit}
 use Rattle.calculus.specs.Monomial.{degree}
 use Rattle.calculus.specs.Key.{key-width, key, key-fits, monomial-of}
-use Rattle.calculus.specs.KeyLaws.{Below, below-degree}
+use Rattle.calculus.specs.Key.{Below}
+use Rattle.calculus.specs.KeyLaws.{below-degree}
 use Rattle.calculus.specs.Terms.{Terms, term, every, select, sum-over, sum-ℕ, sum-ℤ, size, is-nonzero, drop-zeros}
 use Rattle.calculus.specs.Operations.{constant, variable}
 use Rattle.calculus.specs.TermsLaws.{every-head, every-tail, by-select}

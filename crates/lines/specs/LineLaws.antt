@@ -18,12 +18,13 @@ use Rattle.held.specs.declared.Model.{Model}
 use Rattle.held.specs.Held.{zero-term, view-term, view}
 use Rattle.held.specs.ArrayLaws.{take-more}
 use Rattle.held.specs.HeldLaws.{map-++, term-at, view-terms}
+use Rattle.format.specs.BytesLaws.{join-++}
 use Rattle.format.specs.Bytes.{join}
 use Rattle.format.specs.Lines.{text, decimal, signed-decimal, line, term-line, ends-line, radius-line, refusal-line}
 use Rattle.format.specs.Lines.{lines}
 use Rattle.decimal.specs.Put.{Put, Room, natural, integer}
 use Rattle.decimal.specs.PutLaws.{put-nothing, _then-put_, put-as}
-use Rattle.lines.specs.Parts.{ends}
+use Rattle.lines.specs.Pieces.{ends}
 
 -- ---- lines
 abbrev pub line-end : List ℕ
@@ -88,11 +89,6 @@ term-of m i w h = ap (λ p. getD p i (term-at (m .n) 0 [])) (view-terms m w)
     ∙ ap (view-term (m .n)) (getD-take (m .count) (m .terms) i zero-term h)
 
 -- ---- a loop that puts a piece for each element
-join-++ : (k l : List (List ℕ)) → join (k ++ l) ≡ join k ++ join l
-unfolding join
-join-++ [] l = refl
-join-++ (x ∷ k) l = ap (λ r. x ++ r) (join-++ k l) ∙ sym (append-assoc x (join k) (join l))
-
 module _ {A : Type 0} (f : A → List ℕ) (l : List A) where
   joined : (i : ℕ) → join (map f l) ≡ join (map f (take i l)) ++ join (map f (drop i l))
   joined i = ap (λ k. join (map f k)) (sym (take-append-drop i l)) ∙ ap join (map-++ f (take i l) (drop i l))

@@ -7,11 +7,11 @@ ghost use Rattle.held.specs.Held.{view};
 ghost use Rattle.format.specs.Bytes.{join};
 ghost use Rattle.format.specs.Lines.{«term-line», «ends-line», «radius-line», «refusal-line»};
 ghost use Rattle.decimal.specs.Put.{Put, Room, natural};
-ghost use Rattle.lines.specs.Parts.{ends, «Key-in», «key-line»};
+ghost use Rattle.lines.specs.Pieces.{ends, «Key-in», «key-line»};
 use held::Model;
 
-// Every function below that is lent a buffer puts its bytes where that has room for them and answers the place behind
-// them, also where that is past the buffer's end.
+// Every function below puts its bytes where the buffer has room for them and answers the place behind them, also where
+// that is past the buffer's end.
 
 // The n exponents of a key.
 fn put_exponents(out: &mut [u8], at: usize, n: u8, key: u16) -> usize

@@ -1,2 +1,2 @@
 pub mod Multiply
-pub mod TableLaws
+pub mod MultiplyLaws

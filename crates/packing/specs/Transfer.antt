@@ -8,7 +8,7 @@ use Rattle.polynomial.specs.Polynomial as P
 use Rattle.polynomial.specs.Polynomial.{exponent}
 use Rattle.fixed.specs.Fixed.{span-limit}
 use Rattle.calculus.specs.Key.{decode, key-width, key, key-exponents, wide-key}
-use Rattle.calculus.specs.KeyLaws.{Below}
+use Rattle.calculus.specs.Key.{Below}
 use Rattle.calculus.specs.Terms.{Terms, size}
 use Rattle.calculus.specs.Model.{most-terms, span}
 use Rattle.held.specs.declared.Term.{Term}

@@ -10,7 +10,8 @@ use lib.ListN.{length, getD, set, length-set, length-map}
 use Rattle.polynomial.specs.Polynomial.{exponent}
 use Rattle.calculus.specs.Monomial.{degree}
 use Rattle.calculus.specs.Key.{key-width}
-use Rattle.calculus.specs.KeyLaws.{Below, below-degree}
+use Rattle.calculus.specs.Key.{Below}
+use Rattle.calculus.specs.KeyLaws.{below-degree}
 use Rattle.calculus.specs.Terms.{Terms, term, every, sum-over, size, map-monomials}
 use Rattle.calculus.specs.TermsLaws.{every-head, every-tail}
 use Rattle.calculus.specs.Model.{most-terms, most-degree, fits}

@@ -9,7 +9,8 @@ use lib.ListN.{length, length-append}
 use Rattle.calculus.specs.Monomial.{zeros}
 use Rattle.calculus.specs.MonomialLaws.{length-zeros}
 use Rattle.calculus.specs.Key.{encode, decode, key-width, key, key-exponents, key-fits, monomial-of, wide-key}
-use Rattle.calculus.specs.KeyLaws.{Below, decode-encode, decode-length}
+use Rattle.calculus.specs.Key.{Below}
+use Rattle.calculus.specs.KeyLaws.{decode-encode, decode-length}
 use Rattle.calculus.specs.MonomialKeyLaws.{key-monomial, monomial-below}
 use Rattle.packing.specs.Transfer.{widened, wide-exponents, narrowed}
 

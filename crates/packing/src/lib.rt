@@ -1,6 +1,6 @@
 // The terms of a model go into arrays by their wide keys, and come back from there.
 ghost use mathlib.Core.Path.{_≡_};
-ghost use Rattle.calculus.specs.KeyLaws.{Below};
+ghost use Rattle.calculus.specs.Key.{Below};
 ghost use Rattle.table.specs.Table.{terms};
 ghost use Rattle.packing.specs.Transfer.{widened, «Unpack-ready», Unpacked};
 ghost use Rattle.packing.specs.Transfer.{«wide-exponents», narrowed, «Pack-ready», packed};

@@ -10,7 +10,7 @@ use libc::STDIN_FILENO;
 use libc::STDOUT_FILENO;
 
 // One byte more than the longest sheet has, so that a longer input shows as too long.
-const MOST_INPUT: usize = 6745;
+const MOST_INPUT: usize = format::LONGEST + 1;
 
 // How many bytes came in before the input ended or the buffer was full.
 enum Input {

@@ -1,4 +1,4 @@
--- Tests 3 to 6 of a sheet by what the walks answer: one law for each way out.
+-- Tests 1 to 6 of a sheet, 5 and 6 by what the walks answer: one law for each way out.
 use mathlib.Core.Path.{_≡_, refl, sym, _∙_, ap, subst, fun-ext}
 use mathlib.Core.Bool.{Bool, true, false, _&&_}
 use mathlib.Core.List.{List, [], _∷_, _++_, map}

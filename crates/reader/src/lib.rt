@@ -17,12 +17,6 @@ use decode::Trailer;
 use held::Refusal;
 use held::Verdict;
 
-// The bytes of the smallest sheet: one step and the trailer.
-const SHORTEST: usize = 16;
-
-// And of the largest: 16 models of 64 terms, 64 steps and the trailer.
-const LONGEST: usize = 6744;
-
 // The answer of a refused read: with a book of zeros. Walks over no records give its arrays: a literal of all their
 // places would be compiled again for every refusal, which took most of the compiler's time.
 fn refuse(refusal: Refusal, place: usize) -> Read
@@ -49,10 +43,10 @@ fn refuse(refusal: Refusal, place: usize) -> Read
 fn length_sound(length: usize) -> bool
     ensures { λ r. ⌜ r ≡ between shortest longest length ⌝ }
 {
-    if length < SHORTEST {
+    if length < format::SHORTEST {
         return false;
     }
-    length <= LONGEST
+    length <= format::LONGEST
 }
 
 // Tests 5 and 6, and the book, for a sheet that passes the others.

@@ -14,8 +14,9 @@ use Rattle.polynomial.specs.Polynomial.{Term}
 use Rattle.calculus.specs.Terms.{Terms, term, every, sum-over, size}
 use Rattle.calculus.specs.TestLaws.{and-left, and-right}
 use Rattle.calculus.specs.TermsLaws.{on-monomials, every-head, every-tail, every-nil, every-cons}
-use Rattle.calculus.specs.CanonicalLaws.{coefficient-at, Same-coefficients, coefficient-cons, coefficient-++, absent}
-use Rattle.calculus.specs.CanonicalLaws.{distinct}
+use Rattle.calculus.specs.Terms.{absent}
+use Rattle.calculus.specs.CanonicalLaws.{coefficient-at, Same-coefficients, coefficient-cons, coefficient-++}
+use Rattle.calculus.specs.Terms.{distinct}
 use Rattle.calculus.specs.LoopLaws.{add-at, distinct-add-at, coefficient-add-at, distinct-snoc}
 use Rattle.table.specs.Table.{none, accumulated}
 

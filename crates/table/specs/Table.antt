@@ -9,7 +9,7 @@ use lib.ListN.{length, getD, drop}
 use Rattle.polynomial.specs.Polynomial.{Term}
 use Rattle.calculus.specs.Monomial.{same}
 use Rattle.calculus.specs.Terms.{Terms, term, size}
-use Rattle.calculus.specs.CanonicalLaws.{distinct}
+use Rattle.calculus.specs.Terms.{distinct}
 use Rattle.index.specs.Index.{home-slots, home-slot}
 
 -- ---- entries

@@ -9,7 +9,7 @@ use mir.Val.{toZ, ofZ}
 use Rattle.format.specs.Lines.{text}
 use Rattle.decimal.specs.Put.{Put, Room, integer}
 use Rattle.decimal.specs.PutLaws.{_then-put_, put-as, room-before, room-behind}
-use Rattle.lines.specs.Parts.{ends}
+use Rattle.lines.specs.Pieces.{ends}
 use Rattle.lines.specs.LineLaws.{line-end, ends-pieces}
 use Rattle.lines.proofs.put_ends.Statement.{statement}
 use Rattle.lines.proofs.put_ends.Tie as tie

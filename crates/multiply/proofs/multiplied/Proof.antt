@@ -4,7 +4,7 @@ use Prim.Native.Nat.{ℕ, _+_, _*_, _≤_}
 use native.Mathlib.Omega.{arith}
 use borrow.Author.Needs.{needs}
 use lib.ListN.{length, take, length-take}
-use Rattle.multiply.specs.TableLaws.{products-few}
+use Rattle.multiply.specs.MultiplyLaws.{products-few}
 use Rattle.multiply.proofs.multiplied.Statement.{statement}
 use Rattle.multiply.proofs.multiplied.Tie as tie
 use Rattle.multiply.proofs.multiplied.Reads as reads

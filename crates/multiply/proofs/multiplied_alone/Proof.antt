@@ -1,6 +1,6 @@
 -- `multiplied_alone` has the product made in a table large enough.
 use borrow.Author.Needs.{needs}
-use Rattle.multiply.specs.TableLaws.{products-few}
+use Rattle.multiply.specs.MultiplyLaws.{products-few}
 use Rattle.multiply.proofs.multiplied_alone.Statement.{statement}
 use Rattle.multiply.proofs.multiplied_alone.Tie as tie
 use Rattle.multiply.proofs.multiplied_alone.Reads as reads

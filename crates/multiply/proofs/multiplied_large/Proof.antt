@@ -2,7 +2,7 @@
 use borrow.Author.Needs.{needs}
 use lib.Dec.{lit≤}
 use Rattle.table.specs.Table.{most-entries}
-use Rattle.multiply.specs.TableLaws.{zeros-empty, products-few}
+use Rattle.multiply.specs.MultiplyLaws.{zeros-empty, products-few}
 use Rattle.multiply.proofs.multiplied_large.Statement.{statement}
 use Rattle.multiply.proofs.multiplied_large.Tie as tie
 use Rattle.multiply.proofs.multiplied_large.Reads as reads

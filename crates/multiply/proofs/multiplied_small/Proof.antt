@@ -2,7 +2,7 @@
 use borrow.Author.Needs.{needs}
 use lib.Dec.{lit≤}
 use Rattle.multiply.specs.Multiply.{few-products}
-use Rattle.multiply.specs.TableLaws.{zeros-empty}
+use Rattle.multiply.specs.MultiplyLaws.{zeros-empty}
 use Rattle.multiply.proofs.multiplied_small.Statement.{statement}
 use Rattle.multiply.proofs.multiplied_small.Tie as tie
 use Rattle.multiply.proofs.multiplied_small.Reads as reads

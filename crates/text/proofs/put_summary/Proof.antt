@@ -12,7 +12,7 @@ use Rattle.format.specs.Lines.{text, term-line, ends-line, radius-line}
 use Rattle.summary.specs.Summary.{ends-of, summary-of}
 use Rattle.decimal.specs.Put.{Put, Room}
 use Rattle.decimal.specs.PutLaws.{_then-put_, put-as, room-before, room-behind}
-use Rattle.lines.specs.Parts.{ends}
+use Rattle.lines.specs.Pieces.{ends}
 use Rattle.lines.specs.LineLaws.{lines-pieces, ends-back}
 use Rattle.text.proofs.put_summary.Statement.{statement}
 use Rattle.text.proofs.put_summary.Tie as tie
