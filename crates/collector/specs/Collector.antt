@@ -15,6 +15,6 @@ accumulated-all p [] = p
 accumulated-all p (t ∷ q) = accumulated-all (accumulated t p) q
 
 -- what is answered for the product of two models at order d
-unfoldable pub answer : (d : ℕ) (f g : Model) → Gathered
-answer d f g =
+unfoldable pub gathered-product : (d : ℕ) (f g : Model) → Gathered
+gathered-product d f g =
     counted (length (drop-zeros (kept d (products f g)))) (rounding d (products f g)) (swept d (products f g))

@@ -12,7 +12,7 @@ use Rattle.index.specs.Index.{home-slots}
 use Rattle.table.specs.Table.{terms, entries, most-entries, Table}
 use Rattle.gathering.specs.declared.Gathered.{Gathered}
 use Rattle.gathering.specs.Wide.{wide-terms}
-use Rattle.collector.specs.Collector.{accumulated-all, answer}
+use Rattle.collector.specs.Collector.{accumulated-all, gathered-product}
 
 -- ---- sums by key
 -- a table with room for the products of one term with count others
@@ -57,7 +57,7 @@ pub record Collected (homes : ℕ) (old : Terms) (most : ℕ) (q : Terms) (slots
 
 -- ---- the product
 -- two models in at most eight variables, held by the wide keys of their terms, whose products fit when summed
-pub record Factors (ka : List ℕ) (ca : List ℤ) (na : ℕ) (kb : List ℕ) (cb : List ℤ) (nb : ℕ) : Type 0 where
+pub record Held-factors (ka : List ℕ) (ca : List ℤ) (na : ℕ) (kb : List ℕ) (cb : List ℤ) (nb : ℕ) : Type 0 where
   pub vars : ℕ
   pub first : Model
   pub second : Model
@@ -96,6 +96,6 @@ pub record Lent-terms (kept : List ℕ) (coefficients : List ℤ) : Type 0 where
 
 -- the answer of a product of f and g at order d; unless there are too many, its terms stand by their wide keys
 pub record Answered (d : ℕ) (f g : Model) (kept-keys : List ℕ) (coefficients : List ℤ) (r : Gathered) : Type 0 where
-  pub answered : r ≡ answer d f g
+  pub answered : r ≡ gathered-product d f g
   pub terms : length (drop-zeros (kept d (products f g))) ≤ most-terms
       → terms (r .count) kept-keys coefficients ≡ wide-terms (drop-zeros (kept d (products f g)))

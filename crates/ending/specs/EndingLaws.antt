@@ -26,7 +26,7 @@ use Rattle.gathering.specs.declared.Gathered.{Gathered}
 use Rattle.gathering.specs.Wide.{wide-terms}
 use Rattle.gathering.specs.Kept.{counted}
 use Rattle.gathering.specs.GatherLaws.{counted-few, counted-many}
-use Rattle.collector.specs.Collector.{answer as answer-of}
+use Rattle.collector.specs.Collector.{gathered-product}
 use Rattle.packing.specs.Transfer.{Pack-ready, packed}
 use Rattle.packing.specs.TransferLaws.{packed-wide, pack-ready}
 use Rattle.ending.specs.Ending.{Product}
@@ -107,7 +107,7 @@ module _ {n a e1 b e2 : ℕ} {r : Gathered} {keys : List ℕ} {coefficients : Li
   above = swept d (products f g)
 
   answered : r ≡ counted count rounded above
-  unfolding answer-of
+  unfolding gathered-product
   answered = w .answered .answered
 
   -- more than 64 terms

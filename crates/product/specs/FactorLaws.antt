@@ -53,7 +53,7 @@ module _ (d : ℕ) (f g : Model) (h : Factors d f g) where
   module _ {ka kb : List ℕ} {ca cb : List ℤ} {a b : ℕ} (uf : Unpacked f ka ca a) (ug : Unpacked g kb cb b)
       (lka : most-terms ≤ length ka) (lca : most-terms ≤ length ca)
       (lkb : most-terms ≤ length kb) (lcb : most-terms ≤ length cb) where
-    pub factors : Contracts.Factors ka ca (f .count) kb cb (g .count)
+    pub factors : Contracts.Held-factors ka ca (f .count) kb cb (g .count)
     unfolding span
     factors =
         let lf = limits d f (h .first) in
@@ -80,7 +80,7 @@ module _ (d : ℕ) (f g : Model) (h : Factors d f g) where
 
     -- the collector's answer for them
     pub factors-answer : {keys : List ℕ} {coefficients : List ℤ} {r : Gathered}
-        → ((w : Contracts.Factors ka ca (f .count) kb cb (g .count))
+        → ((w : Contracts.Held-factors ka ca (f .count) kb cb (g .count))
         → Contracts.Answered d (w .first) (w .second) keys coefficients r)
         → Contracts.Answered d (view f) (view g) keys coefficients r
     unfolding factors
@@ -88,7 +88,7 @@ module _ (d : ℕ) (f g : Model) (h : Factors d f g) where
 
     -- where the product ends
     module _ {keys : List ℕ} {coefficients : List ℤ} {r : Gathered}
-        (p : (w : Contracts.Factors ka ca (f .count) kb cb (g .count))
+        (p : (w : Contracts.Held-factors ka ca (f .count) kb cb (g .count))
         → Contracts.Answered d (w .first) (w .second) keys coefficients r)
         (lk : most-terms ≤ length keys) (lc : most-terms ≤ length coefficients) where
       pub end-ready : Product (f .n) a (f .radius) b (g .radius) r keys coefficients

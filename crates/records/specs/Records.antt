@@ -64,8 +64,8 @@ place-after s zero = start s
 place-after s (suc i) = next-at s (place-after s i)
 
 -- the bytes that the i-th asking hands out, counted from 0
-unfoldable pub walk : List ℕ → (i : ℕ) → List ℕ
-walk s i = bytes-at s (place-after s i)
+unfoldable pub asked : List ℕ → (i : ℕ) → List ℕ
+asked s i = bytes-at s (place-after s i)
 
 -- no record is empty, so empty bytes say that there is none
 unfoldable pub if-any : List ℕ → Option (List ℕ)

@@ -21,7 +21,7 @@ use Rattle.records.specs.declared.Records.{Records}
 use Rattle.places.specs.Places.{first-step, record-size, length-at, next-at, bytes-at}
 use Rattle.places.specs.PlacesLaws.{size-step, size-some}
 use Rattle.records.specs.Records.{start-of, start}
-use Rattle.records.specs.Records.{opening, advanced, at-hand, stepped, place-after, walk, if-any, bytes-of}
+use Rattle.records.specs.Records.{opening, advanced, at-hand, stepped, place-after, asked, if-any, bytes-of}
 use Rattle.records.specs.Records.{record-bytes}
 use Rattle.records.specs.Records.{kind-at, kind-of}
 use Rattle.records.specs.declared.Kind.the-variants.{Model, Step, End}
@@ -170,8 +170,8 @@ module _ (s : List ℕ) (h : Held-book) (y : All-bytes s) (e : read s ≡ done h
   unfolding if-any
   handed-beyond k = ap if-any (bytes-beyond k) ∙ sym (element-out (records s) (length (records s) + k) (omega arith))
 
-  handed-accepted : (i : ℕ) → if-any (walk s i) ≡ handed-out s i
-  unfolding walk handed-out
+  handed-accepted : (i : ℕ) → if-any (asked s i) ≡ handed-out s i
+  unfolding asked handed-out
   handed-accepted i = ap (λ p. if-any (bytes-at s p)) (place-walked i) ∙ go (order i (length (records s)))
       ∙ ap (λ l. getElem? l i) (sym (value-accepted s (record { book = h; is-read = e })))
     where
@@ -226,13 +226,13 @@ module _ (s : List ℕ) (h : Held-book) (y : All-bytes s) (e : read s ≡ done h
   kind-walked i = ap (kind-at s) (place-walked i) ∙ kind-here i
 
   -- THEOREM: the records handed out are those of the book, in order; with the trailer they are the whole sheet
-  pub walk-book : (i : ℕ) → if-any (walk s i) ≡ getElem? (book-records h) i
+  pub asked-book : (i : ℕ) → if-any (asked s i) ≡ getElem? (book-records h) i
   unfolding handed-out
-  walk-book i = handed-accepted i
+  asked-book i = handed-accepted i
       ∙ ap (λ l. getElem? l i) (value-accepted s (record { book = h; is-read = e }) ∙ records-are s h y e)
 
-  pub walk-whole : join (book-records h) ++ trailer-of s ≡ s
-  walk-whole = ap (λ l. join l ++ trailer-of s) (sym (records-are s h y e)) ∙ records-joined s h y e
+  pub asked-whole : join (book-records h) ++ trailer-of s ≡ s
+  asked-whole = ap (λ l. join l ++ trailer-of s) (sym (records-are s h y e)) ∙ records-joined s h y e
 
 -- ---- of a sheet that is refused
 module _ (s : List ℕ) (x : Refusal) (p : ℕ) (e : read s ≡ stopped x p) where
@@ -254,28 +254,28 @@ module _ (s : List ℕ) (x : Refusal) (p : ℕ) (e : read s ≡ stopped x p) whe
   bytes-end = ap (λ n. take n (drop (length s) s)) (none-left s (length s) (omega arith))
 
   -- THEOREM: none is ever handed out
-  pub walk-refused : (i : ℕ) → walk s i ≡ []
-  unfolding walk
-  walk-refused i = ap (bytes-at s) (place-end i) ∙ bytes-end
+  pub asked-refused : (i : ℕ) → asked s i ≡ []
+  unfolding asked
+  asked-refused i = ap (bytes-at s) (place-end i) ∙ bytes-end
 
-  handed-refused : (i : ℕ) → if-any (walk s i) ≡ handed-out s i
+  handed-refused : (i : ℕ) → if-any (asked s i) ≡ handed-out s i
   unfolding if-any handed-out returned-records opened returned _followed-by_
-  handed-refused i = ap if-any (walk-refused i)
+  handed-refused i = ap if-any (asked-refused i)
       ∙ sym (ap (λ r. getElem? (returned [] (r followed-by (λ h. done (records s))) .value) i) e)
 
 -- ---- THEOREM: whatever the bytes, asking again and again hands out what opening a sheet hands out
 module _ (s : List ℕ) (y : All-bytes s) (i : ℕ) where
-  by-read : (r : Result Held-book) → read s ≡ r → if-any (walk s i) ≡ handed-out s i
+  by-read : (r : Result Held-book) → read s ≡ r → if-any (asked s i) ≡ handed-out s i
   by-read (done h) e = handed-accepted s h y e i
   by-read (stopped x p) e = handed-refused s x p e i
 
-  pub walk-hands-out : if-any (walk s i) ≡ handed-out s i
-  walk-hands-out = by-read (read s) refl
+  pub asked-hands-out : if-any (asked s i) ≡ handed-out s i
+  asked-hands-out = by-read (read s) refl
 
   -- the bytes are those of what is handed out, empty where that is none
-  pub walk-bytes : walk s i ≡ record-bytes s i
+  pub asked-bytes : asked s i ≡ record-bytes s i
   unfolding record-bytes
-  walk-bytes = sym (bytes-if-any (walk s i)) ∙ ap bytes-of walk-hands-out
+  asked-bytes = sym (bytes-if-any (asked s i)) ∙ ap bytes-of asked-hands-out
 
 -- from the number of records on none
 pub record-none : (s : List ℕ) (i : ℕ) → length (returned-records s .value) ≤ i → record-bytes s i ≡ []
@@ -313,8 +313,8 @@ stepped-at s (suc i) = stepped-on s (place-after (now s) i) _ (stepped-at s i)
 
 pub stepping-hands-out : (s : RefT (List ℕ)) → All-bytes (now s) → (i : ℕ)
     → if-any (at-hand (stepped i (opening s .records))) ≡ handed-out (now s) i
-unfolding walk
-stepping-hands-out s y i = ap (λ r. if-any (at-hand r)) (stepped-at s i) ∙ walk-hands-out (now s) y i
+unfolding asked
+stepping-hands-out s y i = ap (λ r. if-any (at-hand r)) (stepped-at s i) ∙ asked-hands-out (now s) y i
 
 -- the kind of record that the struct has at hand after i steps
 pub stepping-kind : (s : RefT (List ℕ)) (h : Held-book) → All-bytes (now s) → read (now s) ≡ done h → (i : ℕ)

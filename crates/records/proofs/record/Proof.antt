@@ -2,8 +2,8 @@ use mathlib.Core.Path.{_≡_, sym, _∙_, ap}
 use Prim.Native.Nat.{_-_, _≤_}
 use native.Mathlib.Omega.{arith}
 use Rattle.places.specs.Places.{bytes-at}
-use Rattle.records.specs.Records.{place-after, walk}
-use Rattle.records.specs.RecordsLaws.{walk-bytes, record-none, first-place, place-more}
+use Rattle.records.specs.Records.{place-after, asked}
+use Rattle.records.specs.RecordsLaws.{asked-bytes, record-none, first-place, place-more}
 use borrow.Author.Needs.{needs}
 use Rattle.records.proofs.record.Statement.{statement}
 use Rattle.records.proofs.record.Tie as tie
@@ -63,15 +63,15 @@ bytes-at-requires : tie.Need-bytes-at-requires Inv-loop μ-loop
 bytes-at-requires c κs = search needs
 
 returns-2 : tie.Need-returns-2 Inv-loop μ-loop
-unfolding walk
+unfolding asked
 returns-2 c =
     let a = c .before .before .before .before .before .before .args in
     let s = a .sheet .now in
     let l = c .before .before .loop in
     let known = c .before .before .before .before .before .shared-slice-known .given in
     let e : l .k ≡ a .i = omega (arith, c .before .loop-test .left, l .inv .1) in
-    c .bytes-at .ensures ∙ ap (bytes-at s) (l .inv .0) ∙ ap (walk s) e
-    ∙ walk-bytes s (record { below = λ i. known i .fits }) (a .i)
+    c .bytes-at .ensures ∙ ap (bytes-at s) (l .inv .0) ∙ ap (asked s) e
+    ∙ asked-bytes s (record { below = λ i. known i .fits }) (a .i)
 
 pub record-spec : {M : Type 1} → statement M
 record-spec =
