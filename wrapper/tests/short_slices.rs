@@ -1,0 +1,202 @@
+//! A slice that is one place too short is answered with MISUSED, and nothing is changed; with just enough room the call
+//! is answered.
+
+use hechroung::raw::{self, Handed, HandedBook, MISUSED};
+
+/// The constant 1 / U, in one variable.
+const SHEET: [u8; 16] = [1, 0, 0, 0, 1, 0, 0, 0, 1, 1, 0, 1, 0, 0, 0x4D, 0x4B];
+
+/// What slices hold before a call, so that a change would show.
+const MARK: u8 = 0xA5;
+
+/// Slices of a run's answer, of these lengths.
+struct Room {
+    keys: Vec<u16>,
+    coefficients: Vec<i64>,
+    numbers: Vec<u64>,
+    ends: Vec<i64>,
+}
+
+impl Room {
+    fn new([keys, coefficients, numbers, ends]: [usize; 4]) -> Room {
+        Room {
+            keys: vec![MARK.into(); keys],
+            coefficients: vec![MARK.into(); coefficients],
+            numbers: vec![MARK.into(); numbers],
+            ends: vec![MARK.into(); ends],
+        }
+    }
+
+    fn unchanged(&self) -> bool {
+        self.keys.iter().all(|k| *k == MARK.into())
+            && self.coefficients.iter().all(|c| *c == MARK.into())
+            && self.numbers.iter().all(|x| *x == MARK.into())
+            && self.ends.iter().all(|e| *e == MARK.into())
+    }
+
+    fn run(&mut self) -> u8 {
+        raw::run(
+            &SHEET,
+            &mut self.keys,
+            &mut self.coefficients,
+            &mut self.numbers,
+            &mut self.ends,
+        )
+    }
+}
+
+#[test]
+fn a_run_needs_64_keys_64_coefficients_4_numbers_and_4_ends() {
+    const ENOUGH: [usize; 4] = [64, 64, 4, 4];
+    for short in 0..4 {
+        let mut lengths = ENOUGH;
+        lengths[short] -= 1;
+        let mut room = Room::new(lengths);
+        assert_eq!(room.run(), MISUSED, "slice {short}");
+        assert!(room.unchanged(), "slice {short}");
+    }
+    let mut room = Room::new(ENOUGH);
+    assert_eq!(room.run(), 0);
+    assert_eq!(
+        (room.numbers[1], room.numbers[2], room.coefficients[0]),
+        (1, 1, 1)
+    );
+    assert_eq!(room.ends, [1, 1, 2, 2]);
+}
+
+#[test]
+fn a_rewrite_needs_2_numbers() {
+    let mut buffer = [MARK; 16];
+    let mut numbers = [u64::from(MARK)];
+    assert_eq!(raw::rewrite(&SHEET, &mut buffer, &mut numbers), MISUSED);
+    assert_eq!((buffer, numbers), ([MARK; 16], [u64::from(MARK)]));
+    let mut numbers = [u64::from(MARK); 2];
+    assert_eq!(raw::rewrite(&SHEET, &mut buffer, &mut numbers), 0);
+    assert_eq!((buffer, numbers), (SHEET, [0, 16]));
+}
+
+#[test]
+fn a_write_needs_every_model_every_step_and_2_numbers() {
+    // one model without terms, and one step that takes it
+    let (ns, counts, radii) = ([1u8], [0usize], [0u64]);
+    let (keys, coefficients) = ([0u16; 64], [0i64; 64]);
+    let (fields, values) = ([0u8; 4], [0i64]);
+    let whole = HandedBook {
+        n: 1,
+        d: 1,
+        model_count: 1,
+        step_count: 1,
+        ns: &ns,
+        counts: &counts,
+        radii: &radii,
+        keys: &keys,
+        coefficients: &coefficients,
+        fields: &fields,
+        values: &values,
+    };
+    let short = [
+        HandedBook { ns: &[], ..whole },
+        HandedBook {
+            counts: &[],
+            ..whole
+        },
+        HandedBook {
+            radii: &[],
+            ..whole
+        },
+        HandedBook {
+            keys: &keys[1..],
+            ..whole
+        },
+        HandedBook {
+            coefficients: &coefficients[1..],
+            ..whole
+        },
+        HandedBook {
+            fields: &fields[1..],
+            ..whole
+        },
+        HandedBook {
+            values: &[],
+            ..whole
+        },
+    ];
+    for (k, book) in short.into_iter().enumerate() {
+        let mut buffer = [MARK; 21];
+        let mut numbers = [u64::from(MARK); 2];
+        assert_eq!(
+            raw::write(book, &mut buffer, &mut numbers),
+            MISUSED,
+            "slice {k}"
+        );
+        assert_eq!(
+            (buffer, numbers),
+            ([MARK; 21], [u64::from(MARK); 2]),
+            "slice {k}"
+        );
+    }
+    let mut buffer = [MARK; 21];
+    let mut numbers = [u64::from(MARK)];
+    assert_eq!(raw::write(whole, &mut buffer, &mut numbers), MISUSED);
+    assert_eq!((buffer, numbers), ([MARK; 21], [u64::from(MARK)]));
+    let mut numbers = [u64::from(MARK); 2];
+    assert_eq!(raw::write(whole, &mut buffer, &mut numbers), 0);
+    assert_eq!(numbers, [0, 21]);
+    assert_eq!(buffer[..5], [0; 5]);
+}
+
+#[test]
+fn a_call_needs_its_places_and_room() {
+    let (keys, coefficients) = ([0u16; 2], [1i64; 2]);
+    let model = Handed {
+        n: 1,
+        count: 2,
+        radius: 0,
+        keys: &keys,
+        coefficients: &coefficients,
+    };
+    let short = [
+        Handed {
+            keys: &keys[1..],
+            ..model
+        },
+        Handed {
+            coefficients: &coefficients[1..],
+            ..model
+        },
+    ];
+    for f in short {
+        let mut room = Room::new([64, 64, 4, 2]);
+        let called = raw::call(
+            3,
+            1,
+            0,
+            0,
+            f,
+            Handed::NONE,
+            &mut room.keys,
+            &mut room.coefficients,
+            &mut room.numbers,
+        );
+        assert_eq!(called, MISUSED);
+        assert_eq!(raw::ends(1, f, [0; 4], &mut room.ends), MISUSED);
+        assert!(room.unchanged());
+    }
+    for code in [0, 9, 255] {
+        let mut room = Room::new([64, 64, 4, 2]);
+        let none = Handed::NONE;
+        let called = raw::call(
+            code,
+            1,
+            0,
+            0,
+            model,
+            none,
+            &mut room.keys,
+            &mut room.coefficients,
+            &mut room.numbers,
+        );
+        assert_eq!(called, MISUSED, "code {code}");
+        assert!(room.unchanged());
+    }
+}
