@@ -182,6 +182,27 @@ fn a_call_needs_its_places_and_room() {
         assert_eq!(raw::ends(1, f, [0; 4], &mut room.ends), MISUSED);
         assert!(room.unchanged());
     }
+    for short in 0..3 {
+        let mut lengths = [64, 64, 4, 2];
+        lengths[short] -= 1;
+        let mut room = Room::new(lengths);
+        let called = raw::call(
+            3,
+            1,
+            0,
+            0,
+            Handed::NONE,
+            Handed::NONE,
+            &mut room.keys,
+            &mut room.coefficients,
+            &mut room.numbers,
+        );
+        assert_eq!(called, MISUSED, "slice {short}");
+        assert!(room.unchanged(), "slice {short}");
+    }
+    let mut one = [i64::from(MARK)];
+    assert_eq!(raw::ends(1, Handed::NONE, [0; 4], &mut one), MISUSED);
+    assert_eq!(one, [i64::from(MARK)]);
     for code in [0, 9, 255] {
         let mut room = Room::new([64, 64, 4, 2]);
         let none = Handed::NONE;
