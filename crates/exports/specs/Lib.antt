@@ -1,4 +1,4 @@
-pub mod Books
-pub mod BooksLaws
-pub mod Sheets
-pub mod SheetsLaws
+pub mod WriteCalls
+pub mod WriteCallsLaws
+pub mod SheetCalls
+pub mod SheetCallsLaws

@@ -4,15 +4,15 @@ ghost use Prim.Native.Nat.{_≤_};
 ghost use lib.Dec.{leb};
 ghost use lib.ListN.{length};
 ghost use Rattle.format.specs.Format.{read};
-ghost use Rattle.book.specs.Book.{«held-book», «read-answer»};
-ghost use Rattle.handbook.specs.Books.{«step-places», «handed-steps», «model-places», «handed-models»};
-ghost use Rattle.handbook.specs.Books.{«handed-book»};
-ghost use Rattle.exports.specs.Books.{«book-fits», «written-state», «stored-written»};
-ghost use Rattle.exports.specs.Books.{«write-state», «called-write», «called-rewrite»};
+ghost use Rattle.sheet_book.specs.BookStruct.{«held-book», «read-answer»};
+ghost use Rattle.c_books.specs.HandedBooks.{«step-places», «handed-steps», «model-places», «handed-models»};
+ghost use Rattle.c_books.specs.HandedBooks.{«handed-book»};
+ghost use Rattle.exports.specs.WriteCalls.{«book-fits», «written-state», «stored-written»};
+ghost use Rattle.exports.specs.WriteCalls.{«write-state», «called-write», «called-rewrite»};
 use super::MISUSED;
-use book::Book;
-use book::Written;
-use held::Verdict;
+use model_types::Verdict;
+use sheet_book::Book;
+use sheet_book::Written;
 
 // The numbers of a write's answer: the refusal's place and the length.
 const NUMBERS: usize = 2;
@@ -27,10 +27,10 @@ fn book_fits(
 ) -> bool
     ensures { λ r. ⌜ r ≡ book-fits «model_count» models «step_count» steps numbers ⌝ }
 {
-    if models < handing::least(model_count, book::MOST_MODELS) {
+    if models < c_models::least(model_count, sheet_book::MOST_MODELS) {
         return false;
     }
-    if steps < handing::least(step_count, book::MOST_STEPS) {
+    if steps < c_models::least(step_count, sheet_book::MOST_STEPS) {
         return false;
     }
     NUMBERS <= numbers
@@ -42,9 +42,9 @@ fn store_written(w: Written, numbers: &mut [u64]) -> u8
     ensures { λ r. ⌜ written-state r (now (numbers .exit)) ≡ stored-written w (now (numbers .entry)) ⌝ }
 {
     let v = w.verdict;
-    numbers[0] = handing::verdict_place(v) as u64;
+    numbers[0] = c_models::verdict_place(v) as u64;
     numbers[1] = w.length as u64;
-    handing::verdict_number(v)
+    c_models::verdict_number(v)
 }
 
 // A book is written as a sheet into the buffer: the refusal's number, 0 without one, or MISUSED. The refusal's place
@@ -77,14 +77,14 @@ pub extern "C" fn hechroung_write(
         (handed-steps (now (fields .entry)) (now (values .entry)))))
         (now (buffer .entry)) (now (numbers .entry)) ⌝ }
 {
-    let models = handbook::model_places(
+    let models = c_books::model_places(
         ns.len(),
         counts.len(),
         radii.len(),
         keys.len(),
         coefficients.len(),
     );
-    let steps = handbook::step_places(fields.len(), values.len());
+    let steps = c_books::step_places(fields.len(), values.len());
     if !book_fits(modelcount, models, stepcount, steps, numbers.len()) {
         return MISUSED;
     }
@@ -93,10 +93,10 @@ pub extern "C" fn hechroung_write(
         d: d,
         model_count: modelcount,
         step_count: stepcount,
-        models: handbook::handed_models(ns, counts, radii, keys, coefficients),
-        steps: handbook::handed_steps(fields, values),
+        models: c_books::handed_models(ns, counts, radii, keys, coefficients),
+        steps: c_books::handed_steps(fields, values),
     };
-    let w = writer::write(b, buffer);
+    let w = sheet_writer::write(b, buffer);
     store_written(w, numbers)
 }
 
@@ -111,7 +111,7 @@ pub extern "C" fn hechroung_rewrite(sheet: &[u8], buffer: &mut [u8], numbers: &m
     if numbers.len() < NUMBERS {
         return MISUSED;
     }
-    let answer = reader::read(sheet);
+    let answer = sheet_reader::read(sheet);
     let v = answer.verdict;
     let Verdict::Accepted = v else {
         let none = Written {
@@ -121,6 +121,6 @@ pub extern "C" fn hechroung_rewrite(sheet: &[u8], buffer: &mut [u8], numbers: &m
         return store_written(none, numbers);
     };
     let b = answer.book;
-    let w = writer::write(b, buffer);
+    let w = sheet_writer::write(b, buffer);
     store_written(w, numbers)
 }

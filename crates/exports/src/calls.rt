@@ -2,10 +2,10 @@
 ghost use mathlib.Core.Path.{_≡_};
 ghost use mathlib.Core.List.{[], _∷_};
 ghost use lib.ListN.{length};
-ghost use Rattle.held.specs.Held.{view};
-ghost use Rattle.handing.specs.Models.{handed, «model-room»};
-ghost use Rattle.dispatch.specs.Calls.{«model-call», «ends-call», «call-fits», «ends-call-fits»};
-ghost use Rattle.dispatch.specs.Calls.{«called-state», called, «ends-state», «called-ends»};
+ghost use Rattle.model_types.specs.ModelStruct.{view};
+ghost use Rattle.c_models.specs.HandedModels.{handed, «model-room»};
+ghost use Rattle.c_calls.specs.CallCodes.{«model-call», «ends-call», «call-fits», «ends-call-fits»};
+ghost use Rattle.c_calls.specs.CallCodes.{«called-state», called, «ends-state», «called-ends»};
 use super::MISUSED;
 
 // A call that answers with a model: the refusal's number, 0 without one, or MISUSED. The answer's 64 keys and
@@ -40,10 +40,10 @@ pub extern "C" fn hechroung_call(
         (view (handed n2 count2 radius2 (now (keys2 .entry)) (now (coefficients2 .entry)))))
         (now (keys .entry)) (now (coefficients .entry)) (now (numbers .entry)) ⌝ }
 {
-    let room = handing::model_room(keys.len(), coefficients.len(), numbers.len());
+    let room = c_models::model_room(keys.len(), coefficients.len(), numbers.len());
     let long1 = keys1.len();
     let long2 = keys2.len();
-    if !dispatch::call_fits(
+    if !c_calls::call_fits(
         code,
         count1,
         long1,
@@ -55,10 +55,10 @@ pub extern "C" fn hechroung_call(
     ) {
         return MISUSED;
     }
-    let f = handing::handed(n1, count1, radius1, keys1, coefficients1);
-    let g = handing::handed(n2, count2, radius2, keys2, coefficients2);
-    let a = dispatch::model_call(code, d, i, value, f, g);
-    dispatch::store_answer(a, keys, coefficients, numbers)
+    let f = c_models::handed(n1, count1, radius1, keys1, coefficients1);
+    let g = c_models::handed(n2, count2, radius2, keys2, coefficients2);
+    let a = c_calls::model_call(code, d, i, value, f, g);
+    c_calls::store_answer(a, keys, coefficients, numbers)
 }
 
 // A call that answers with two ends: the refusal's number, 0 without one, or MISUSED. The ends go into the slice. The
@@ -86,10 +86,10 @@ pub extern "C" fn hechroung_ends(
         (now (ends .entry)) ⌝ }
 {
     let long = keys.len();
-    if !dispatch::ends_call_fits(code, count, long, coefficients.len(), ends.len()) {
+    if !c_calls::ends_call_fits(code, count, long, coefficients.len(), ends.len()) {
         return MISUSED;
     }
-    let f = handing::handed(n, count, radius, keys, coefficients);
-    let b = dispatch::ends_call(code, [x1, x2, x3, x4], f);
-    dispatch::store_ends(b, ends)
+    let f = c_models::handed(n, count, radius, keys, coefficients);
+    let b = c_calls::ends_call(code, [x1, x2, x3, x4], f);
+    c_calls::store_ends(b, ends)
 }

@@ -5,11 +5,11 @@ ghost use lib.Dec.{leb};
 ghost use lib.ListN.{length};
 ghost use Rattle.format.specs.Format.{«run-sheet»};
 ghost use Rattle.format.specs.Lines.{printed};
-ghost use Rattle.records.specs.Records.{«record-bytes»};
-ghost use Rattle.summary.specs.Summary.{«run-answer»};
+ghost use Rattle.sheet_records.specs.Records.{«record-bytes»};
+ghost use Rattle.sheet_summary.specs.Summary.{«run-answer»};
 ghost use Rattle.text.specs.Text.{laid};
-ghost use Rattle.handing.specs.Models.{«model-room»};
-ghost use Rattle.exports.specs.Sheets.{«four-ends», «run-state», «stored-summary», «called-run»};
+ghost use Rattle.c_models.specs.HandedModels.{«model-room»};
+ghost use Rattle.exports.specs.SheetCalls.{«four-ends», «run-state», «stored-summary», «called-run»};
 use super::MISUSED;
 use sheet::Ends;
 use sheet::Summary;
@@ -50,10 +50,10 @@ fn store_summary(
     let v = s.verdict;
     let range = s.range;
     let integral = s.integral;
-    handing::store_terms(m, keys, coefficients);
-    handing::store_numbers(handing::verdict_place(v), m, numbers);
+    c_models::store_terms(m, keys, coefficients);
+    c_models::store_numbers(c_models::verdict_place(v), m, numbers);
     store_ends(range, integral, ends);
-    handing::verdict_number(v)
+    c_models::verdict_number(v)
 }
 
 // A sheet is run: the refusal's number, 0 without one, or MISUSED. The result's 64 keys and coefficients go into two
@@ -73,7 +73,7 @@ pub extern "C" fn hechroung_run(
         (run-answer (run-sheet (now (sheet .entry))))
         (now (keys .entry)) (now (coefficients .entry)) (now (numbers .entry)) (now (ends .entry)) ⌝ }
 {
-    if !handing::model_room(keys.len(), coefficients.len(), numbers.len()) {
+    if !c_models::model_room(keys.len(), coefficients.len(), numbers.len()) {
         return MISUSED;
     }
     if ends.len() < ENDS {
@@ -96,7 +96,7 @@ pub extern "C" fn hechroung_print(sheet: &[u8], lines: &mut [u8]) -> usize
 fn copy(bytes: &[u8], out: &mut [u8])
     ensures { λ r. ⌜ now (out .exit) ≡ laid (now (bytes .entry)) (now (out .entry)) ⌝ }
 {
-    let places = handing::least(bytes.len(), out.len());
+    let places = c_models::least(bytes.len(), out.len());
     let mut i = 0;
     while i < places {
         out[i] = bytes[i];
@@ -111,7 +111,7 @@ pub extern "C" fn hechroung_record(sheet: &[u8], i: usize, bytes: &mut [u8]) -> 
     ensures { λ r. ⌜ (r ≡ length (record-bytes (now (sheet .entry)) i))
         × (now (bytes .exit) ≡ laid (record-bytes (now (sheet .entry)) i) (now (bytes .entry))) ⌝ }
 {
-    let found = records::record(sheet, i);
+    let found = sheet_records::record(sheet, i);
     copy(found, bytes);
     found.len()
 }

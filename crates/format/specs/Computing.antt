@@ -3,7 +3,7 @@ use Rattle.calculus.specs.Key as K
 use Rattle.calculus.specs.Refusal as R
 use Rattle.calculus.specs.Computing as C
 use Rattle.format.specs.Bytes as B
-use Rattle.format.specs.Held as H
+use Rattle.format.specs.HeldBook as H
 use Rattle.format.specs.Format as F
 use Rattle.format.specs.Lines as L
 

@@ -7,7 +7,7 @@ use lib.IntN.{pos, negsuc}
 use lib.ListN.{replicate, length}
 use Rattle.calculus.specs.Refusal.{done}
 use Rattle.format.specs.Bytes.{join}
-use Rattle.format.specs.Held.{Held-model, Held-book}
+use Rattle.format.specs.HeldBook.{Held-model, Held-book}
 use Rattle.format.specs.Format.{longest, returned-book, opened, written}
 use Rattle.format.specs.Samples.{hex, sheet-forms}
 use Rattle.format.specs.Computing.{reads, writes}

@@ -4,7 +4,7 @@ use Prim.Native.Nat.{ℕ}
 use lib.Dec.{eqb, leb, ltb}
 use lib.IntN.{ℤ, natAbs}
 use Rattle.calculus.specs.Tests.{constant-sound, variable-sound, threshold-sound}
-use Rattle.format.specs.Held.{Held-step}
+use Rattle.format.specs.HeldBook.{Held-step}
 
 -- a: a model number (0), an earlier step (3 to 8), or 0
 unfoldable pub limit-a : (models i code : ℕ) → ℕ

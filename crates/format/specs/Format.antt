@@ -10,8 +10,8 @@ use Rattle.calculus.specs.Refusal.{bad-length, bad-mark, bad-limits, bad-offset
 use Rattle.calculus.specs.Refusal.{Result, done, stopped, require-at, require-each, _followed-by_, Returned, returned}
 use Rattle.calculus.specs.Book.{Book, limits-sound, Summary, run-sound}
 use Rattle.format.specs.Bytes.{byte, join, u16, u32, u16-bytes, u32-bytes, signed, bits}
-use Rattle.format.specs.Held.{Held-term, Held-model, Held-step, Held-book, zero-book, view-book, outline}
-use Rattle.format.specs.Held.{held-model-sound, held-step-sound, held-tested}
+use Rattle.format.specs.HeldBook.{Held-term, Held-model, Held-step, Held-book, zero-book, view-book, outline}
+use Rattle.format.specs.HeldBook.{held-model-sound, held-step-sound, held-tested}
 
 -- ---- models: radius (4 bytes), term count (1), then per term the key (2) and the coefficient (4)
 -- the term at the head

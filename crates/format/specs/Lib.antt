@@ -1,6 +1,6 @@
 -- Definitions, in order of reading.
 pub mod Bytes
-pub mod Held
+pub mod HeldBook
 pub mod Fields
 pub mod Format
 pub mod Lines
@@ -10,7 +10,7 @@ pub mod Edges
 pub mod Computing
 -- Laws: numbers in bytes, and what the tests of a held book promise.
 pub mod BytesLaws
-pub mod HeldLaws
+pub mod HeldBookLaws
 pub mod StepFieldLaws
 pub mod SmallLaws
 -- What is written is read again, what is read is written again; both are bytes.

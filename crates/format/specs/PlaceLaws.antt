@@ -10,7 +10,7 @@ use lib.Seq.{drop-append-add, drop-cons, getD-append-add}
 use Rattle.calculus.specs.Refusal.{done}
 use Rattle.format.specs.Bytes.{All-bytes, join}
 use Rattle.format.specs.BytesLaws.{join-++}
-use Rattle.format.specs.Held.{Held-model, Held-step, Held-book}
+use Rattle.format.specs.HeldBook.{Held-model, Held-step, Held-book}
 use Rattle.format.specs.Format.{model-length, trailer-of, read-trailer, read, records}
 use Rattle.format.specs.Format.{model-bytes, step-bytes, models-bytes}
 use Rattle.format.specs.ReadBackLaws.{length-model, length-step, length-trailer, model-length-back}

@@ -19,15 +19,15 @@ use Rattle.calculus.specs.TestLaws.{and-left, and-right, both}
 use Rattle.calculus.specs.Refusal.{all-from}
 use Rattle.calculus.specs.RefusalLaws.{require-at-passed, require-each-passed, Passed, passed-at}
 use Rattle.format.specs.Bytes.{join, u32, u16-bytes, u32-bytes, signed, bits}
-use Rattle.format.specs.Held.{Held-term, Held-model, Held-step, Held-book, view-term, outline, outline-of}
-use Rattle.format.specs.Held.{held-model-sound, held-step-sound, Held-passes}
+use Rattle.format.specs.HeldBook.{Held-term, Held-model, Held-step, Held-book, view-term, outline, outline-of}
+use Rattle.format.specs.HeldBook.{held-model-sound, held-step-sound, Held-passes}
 use Rattle.format.specs.Format.{read-term, read-terms, read-model, model-length, read-models}
 use Rattle.format.specs.Format.{read-step, read-steps}
 use Rattle.format.specs.Format.{Trailer, trailer-of, read-trailer, shortest, longest, read-records, read}
 use Rattle.format.specs.Format.{term-bytes, model-bytes, step-bytes, models-bytes, trailer-bytes, sheet-bytes}
 use Rattle.format.specs.Format.{write}
 use Rattle.format.specs.BytesLaws.{read-u16, read-u32, signed-bits, bits-below}
-use Rattle.format.specs.HeldLaws.{In-limits, in-limits, Held-done, held-tested-done}
+use Rattle.format.specs.HeldBookLaws.{In-limits, in-limits, Held-done, held-tested-done}
 use Rattle.format.specs.SmallLaws.{Model-facts, model-facts, Term-facts, term-facts, Step-facts, step-facts}
 
 -- ---- lengths

@@ -8,7 +8,7 @@ use lib.ListN.{getD, drop}
 use lib.Seq.{getD-drop}
 use Rattle.calculus.specs.Refusal.{Refusal, Result, stopped, require-at}
 use Rattle.format.specs.Bytes.{byte, u32}
-use Rattle.format.specs.Held.{Held-term, Held-step}
+use Rattle.format.specs.HeldBook.{Held-term, Held-step}
 use Rattle.format.specs.Format.{read-term, read-terms, model-length}
 use Rattle.format.specs.Format.{read-step, read-steps}
 use Rattle.format.specs.BytesLaws.{drop-more}

@@ -6,7 +6,7 @@ use lib.ListN.{length, take, drop, length-append, length-map}
 use lib.Seq.{drop-at, take-at}
 use Rattle.calculus.specs.Refusal.{done, _followed-by_}
 use Rattle.format.specs.Bytes.{All-bytes, join}
-use Rattle.format.specs.Held.{Held-model, Held-step, Held-book, Held-passes}
+use Rattle.format.specs.HeldBook.{Held-model, Held-step, Held-book, Held-passes}
 use Rattle.format.specs.Format.{model-length, trailer-of, read}
 use Rattle.format.specs.Format.{model-records, step-records, records, opened}
 use Rattle.format.specs.Format.{model-bytes, step-bytes, models-bytes, trailer-bytes, sheet-bytes}

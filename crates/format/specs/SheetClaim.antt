@@ -5,7 +5,7 @@ use Prim.Native.Nat.{ℕ}
 use Rattle.calculus.specs.Refusal.{done}
 use Rattle.calculus.specs.Book.{Summary}
 use Rattle.calculus.specs.Claim.{Claim}
-use Rattle.format.specs.Held.{Held-book, view-book}
+use Rattle.format.specs.HeldBook.{Held-book, view-book}
 use Rattle.format.specs.Format.{read}
 
 -- an accepted sheet has a book, of which the claim holds

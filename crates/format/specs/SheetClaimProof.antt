@@ -5,9 +5,9 @@ use Prim.Native.Nat.{ℕ}
 use Rattle.calculus.specs.Refusal.{Result, done, stopped, _followed-by_}
 use Rattle.calculus.specs.Book.{Summary, run, run-sound}
 use Rattle.calculus.specs.ClaimProof.{claim-sound}
-use Rattle.format.specs.Held.{Held-book, view-book}
+use Rattle.format.specs.HeldBook.{Held-book, view-book}
 use Rattle.format.specs.Format.{read, run-sheet}
-use Rattle.format.specs.HeldLaws.{view-passes, view-run}
+use Rattle.format.specs.HeldBookLaws.{view-passes, view-run}
 use Rattle.format.specs.WriteBackLaws.{Came, came, read-passes}
 use Rattle.format.specs.SheetClaim.{Sheet-claim}
 

@@ -18,8 +18,8 @@ use Rattle.calculus.specs.TestLaws.{and-left, and-right}
 use Rattle.calculus.specs.MonomialKeyLaws.{fits-below, fits-key}
 use Rattle.calculus.specs.SoundLaws.{Sound, sound-parts}
 use Rattle.calculus.specs.BookLaws.{between-high}
-use Rattle.format.specs.Held.{Held-term, Held-model, Held-step, view-term, view-model}
-use Rattle.format.specs.Held.{held-model-sound, held-step-sound}
+use Rattle.format.specs.HeldBook.{Held-term, Held-model, Held-step, view-term, view-model}
+use Rattle.format.specs.HeldBook.{held-model-sound, held-step-sound}
 use Rattle.format.specs.Fields.{limit-a, limit-b, v-sound, value-sound}
 use Rattle.format.specs.StepFieldLaws.{Fields, fields-of}
 

@@ -12,7 +12,7 @@ use Rattle.calculus.specs.Tests.{constant-sound, variable-sound, threshold-soun
 use Rattle.calculus.specs.Book.{Step, input, constant, variable, negate, add, subtract, multiply, substitute, sweep}
 use Rattle.calculus.specs.Book.{Book, step-sound}
 use Rattle.calculus.specs.TestLaws.{and-left, and-right, both, same-tests}
-use Rattle.format.specs.Held.{Held-step, Form, form, forms, step-of, view-step, held-step-sound}
+use Rattle.format.specs.HeldBook.{Held-step, Form, form, forms, step-of, view-step, held-step-sound}
 use Rattle.format.specs.Fields.{limit-a, limit-b, v-sound, value-sound, fields-sound}
 
 -- ---- the two tests agree, code by code

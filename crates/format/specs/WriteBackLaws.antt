@@ -16,8 +16,8 @@ use Rattle.calculus.specs.Refusal.{all-from}
 use Rattle.calculus.specs.RefusalLaws.{require-at-passed, Passed, passed-at, passed-each}
 use Rattle.calculus.specs.BookLaws.{between-low}
 use Rattle.format.specs.Bytes.{byte, All-bytes, join, u16, u32, u16-bytes, u32-bytes}
-use Rattle.format.specs.Held.{Held-term, Held-model, Held-step, Held-book, outline, outline-of}
-use Rattle.format.specs.Held.{held-model-sound, held-step-sound, Held-passes}
+use Rattle.format.specs.HeldBook.{Held-term, Held-model, Held-step, Held-book, outline, outline-of}
+use Rattle.format.specs.HeldBook.{held-model-sound, held-step-sound, Held-passes}
 use Rattle.format.specs.Format.{read-term, read-terms, read-model, model-length, read-models}
 use Rattle.format.specs.Format.{read-step, read-steps}
 use Rattle.format.specs.Format.{Trailer, trailer-of, read-trailer, shortest, longest, read-records, read}
@@ -25,7 +25,7 @@ use Rattle.format.specs.Format.{term-bytes, model-bytes, step-bytes, mod
 use Rattle.format.specs.Format.{write}
 use Rattle.format.specs.BytesLaws.{bytes-drop, bytes-take, drop-more, u32-below, bits-signed, four}
 use Rattle.format.specs.BytesLaws.{write-u16, write-u32}
-use Rattle.format.specs.HeldLaws.{held-tested-passes}
+use Rattle.format.specs.HeldBookLaws.{held-tested-passes}
 
 -- ---- terms
 term-forth : (s : List ℕ) → All-bytes s → 6 ≤ length s → term-bytes (read-term s) ++ drop 6 s ≡ s

@@ -10,8 +10,8 @@ use Rattle.calculus.specs.Book.{Book}
 use Rattle.calculus.specs.TestLaws.{and-left, and-right}
 use Rattle.calculus.specs.Refusal.{all-from}
 use Rattle.format.specs.Bytes.{byte, All-bytes, join, u16-bytes, u32-bytes}
-use Rattle.format.specs.Held.{Held-term, Held-model, Held-step, Held-book, outline-of}
-use Rattle.format.specs.Held.{held-model-sound, held-step-sound, Held-passes}
+use Rattle.format.specs.HeldBook.{Held-term, Held-model, Held-step, Held-book, outline-of}
+use Rattle.format.specs.HeldBook.{held-model-sound, held-step-sound, Held-passes}
 use Rattle.format.specs.Format.{term-bytes, model-bytes, step-bytes, models-bytes, trailer-bytes, sheet-bytes}
 use Rattle.format.specs.Format.{write}
 use Rattle.format.specs.SmallLaws.{model-facts, Step-facts, step-facts}

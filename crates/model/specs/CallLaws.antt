@@ -10,8 +10,8 @@ use Rattle.calculus.specs.Operations as Op
 use Rattle.calculus.specs.Tests.{order-sound}
 use Rattle.calculus.specs.Calls.{require-two, call-negate, call-sweep, call-range, call-integral, call-evaluate}
 use Rattle.calculus.specs.Calls.{call-add, call-subtract, call-multiply, call-substitute}
-use Rattle.admission.specs.Admission.{single-model, sweeping, at-point, two-models, ordered, substituting}
-use Rattle.admission.specs.AdmissionLaws.{at-followed, two-followed}
+use Rattle.model_call_tests.specs.Admission.{single-model, sweeping, at-point, two-models, ordered, substituting}
+use Rattle.model_call_tests.specs.AdmissionLaws.{at-followed, two-followed}
 
 -- ---- of one model
 module _ (f : Model) where

@@ -1,1 +1,3 @@
 pub mod CallLaws
+pub mod Operations
+pub mod OperationLaws

@@ -5,25 +5,40 @@
 ghost use mathlib.Core.Path.{_≡_};
 ghost use Rattle.calculus.specs.Calls.{call-negate, call-add, call-subtract, call-multiply, call-substitute};
 ghost use Rattle.calculus.specs.Calls.{call-sweep, call-range, call-integral, call-evaluate};
-ghost use Rattle.held.specs.Held.{view, answer, bounds};
-pub use held::Answer;
-pub use held::Bounds;
-pub use held::Model;
-pub use held::Refusal;
-pub use held::Term;
-pub use held::Verdict;
+ghost use Rattle.model_types.specs.ModelStruct.{view, answer, bounds};
+pub use model_types::Answer;
+pub use model_types::Bounds;
+pub use model_types::Model;
+pub use model_types::Refusal;
+pub use model_types::Term;
+pub use model_types::Verdict;
+
+// ---- for callers whose operands are known to be sound: the tests, the operations, and how long a lent table must be
+pub use model_addition::added;
+pub use model_addition::subtracted;
+pub use model_bounds::integral_of;
+pub use model_bounds::range_of;
+pub use model_multiplication::multiplied;
+pub use model_powers::exponent_of;
+pub use model_soundness::sound;
+pub use model_soundness::term_sound;
+pub use model_substitution::substituted;
+pub use model_unary::negated;
+pub use model_unary::swept;
+pub use product_table::PLACES;
+pub use product_table::SLOTS;
 
 // All signs turned. 5.
 pub fn negate(m: Model) -> Answer
     ensures { λ r. ⌜ r ≡ answer (call-negate (view m)) ⌝ }
 {
-    let v = admission::single_model(m);
+    let v = model_call_tests::single_model(m);
     match v {
         Verdict::Accepted => Answer {
-            model: unary::negated(m),
+            model: model_unary::negated(m),
             verdict: Verdict::Accepted,
         },
-        Verdict::Refused(refusal, place) => held::refuse(refusal, place),
+        Verdict::Refused(refusal, place) => model_types::refuse(refusal, place),
     }
 }
 
@@ -31,13 +46,13 @@ pub fn negate(m: Model) -> Answer
 pub fn sweep(m: Model, t: i64) -> Answer
     ensures { λ r. ⌜ r ≡ answer (call-sweep t (view m)) ⌝ }
 {
-    let v = admission::sweeping(m, t);
+    let v = model_call_tests::sweeping(m, t);
     match v {
         Verdict::Accepted => Answer {
-            model: unary::swept(m, fixed::magnitude(t)),
+            model: model_unary::swept(m, fixed::magnitude(t)),
             verdict: Verdict::Accepted,
         },
-        Verdict::Refused(refusal, place) => held::refuse(refusal, place),
+        Verdict::Refused(refusal, place) => model_types::refuse(refusal, place),
     }
 }
 
@@ -45,10 +60,10 @@ pub fn sweep(m: Model, t: i64) -> Answer
 pub fn range(m: Model) -> Bounds
     ensures { λ r. ⌜ r ≡ bounds (call-range (view m)) ⌝ }
 {
-    let v = admission::single_model(m);
+    let v = model_call_tests::single_model(m);
     match v {
-        Verdict::Accepted => bounds::range_of(m),
-        Verdict::Refused(refusal, place) => held::refuse_bounds(refusal, place),
+        Verdict::Accepted => model_bounds::range_of(m),
+        Verdict::Refused(refusal, place) => model_types::refuse_bounds(refusal, place),
     }
 }
 
@@ -56,10 +71,10 @@ pub fn range(m: Model) -> Bounds
 pub fn integral(m: Model) -> Bounds
     ensures { λ r. ⌜ r ≡ bounds (call-integral (view m)) ⌝ }
 {
-    let v = admission::single_model(m);
+    let v = model_call_tests::single_model(m);
     match v {
-        Verdict::Accepted => bounds::integral_of(m),
-        Verdict::Refused(refusal, place) => held::refuse_bounds(refusal, place),
+        Verdict::Accepted => model_bounds::integral_of(m),
+        Verdict::Refused(refusal, place) => model_types::refuse_bounds(refusal, place),
     }
 }
 
@@ -67,10 +82,10 @@ pub fn integral(m: Model) -> Bounds
 pub fn add(a: Model, b: Model) -> Answer
     ensures { λ r. ⌜ r ≡ answer (call-add (view a) (view b)) ⌝ }
 {
-    let v = admission::two_models(held::MOST_DEGREE, a, b);
+    let v = model_call_tests::two_models(model_types::MOST_DEGREE, a, b);
     match v {
-        Verdict::Accepted => addition::added(a, b),
-        Verdict::Refused(refusal, place) => held::refuse(refusal, place),
+        Verdict::Accepted => model_addition::added(a, b),
+        Verdict::Refused(refusal, place) => model_types::refuse(refusal, place),
     }
 }
 
@@ -78,10 +93,10 @@ pub fn add(a: Model, b: Model) -> Answer
 pub fn subtract(a: Model, b: Model) -> Answer
     ensures { λ r. ⌜ r ≡ answer (call-subtract (view a) (view b)) ⌝ }
 {
-    let v = admission::two_models(held::MOST_DEGREE, a, b);
+    let v = model_call_tests::two_models(model_types::MOST_DEGREE, a, b);
     match v {
-        Verdict::Accepted => addition::subtracted(a, b),
-        Verdict::Refused(refusal, place) => held::refuse(refusal, place),
+        Verdict::Accepted => model_addition::subtracted(a, b),
+        Verdict::Refused(refusal, place) => model_types::refuse(refusal, place),
     }
 }
 
@@ -89,10 +104,10 @@ pub fn subtract(a: Model, b: Model) -> Answer
 pub fn multiply(d: u8, a: Model, b: Model) -> Answer
     ensures { λ r. ⌜ r ≡ answer (call-multiply d (view a) (view b)) ⌝ }
 {
-    let v = admission::ordered(d, a, b);
+    let v = model_call_tests::ordered(d, a, b);
     match v {
-        Verdict::Accepted => multiply::multiplied_alone(d, a, b),
-        Verdict::Refused(refusal, place) => held::refuse(refusal, place),
+        Verdict::Accepted => model_multiplication::multiplied_alone(d, a, b),
+        Verdict::Refused(refusal, place) => model_types::refuse(refusal, place),
     }
 }
 
@@ -101,15 +116,15 @@ pub fn multiply(d: u8, a: Model, b: Model) -> Answer
 pub fn substitute(d: u8, i: u8, f: Model, g: Model) -> Answer
     ensures { λ r. ⌜ r ≡ answer (call-substitute d i (view f) (view g)) ⌝ }
 {
-    let v = admission::substituting(d, i, f, g);
+    let v = model_call_tests::substituting(d, i, f, g);
     match v {
         Verdict::Accepted => {
-            let mut slots = [0u16; table::SLOTS];
-            let mut keys = [0u64; table::PLACES];
-            let mut sums = [0i64; table::PLACES];
-            substitute::substituted(d, i, f, g, &mut slots, &mut keys, &mut sums)
+            let mut slots = [0u16; product_table::SLOTS];
+            let mut keys = [0u64; product_table::PLACES];
+            let mut sums = [0i64; product_table::PLACES];
+            model_substitution::substituted(d, i, f, g, &mut slots, &mut keys, &mut sums)
         }
-        Verdict::Refused(refusal, place) => held::refuse(refusal, place),
+        Verdict::Refused(refusal, place) => model_types::refuse(refusal, place),
     }
 }
 
@@ -118,14 +133,14 @@ pub fn substitute(d: u8, i: u8, f: Model, g: Model) -> Answer
 pub fn evaluate(m: Model, xs: [i64; 4]) -> Bounds
     ensures { λ r. ⌜ r ≡ bounds (call-evaluate xs (view m)) ⌝ }
 {
-    let v = admission::at_point(m, xs);
+    let v = model_call_tests::at_point(m, xs);
     match v {
         Verdict::Accepted => {
-            let mut slots = [0u16; table::SLOTS];
-            let mut keys = [0u64; table::PLACES];
-            let mut sums = [0i64; table::PLACES];
-            evaluate::evaluated(m, xs, &mut slots, &mut keys, &mut sums)
+            let mut slots = [0u16; product_table::SLOTS];
+            let mut keys = [0u64; product_table::PLACES];
+            let mut sums = [0i64; product_table::PLACES];
+            model_evaluation::evaluated(m, xs, &mut slots, &mut keys, &mut sums)
         }
-        Verdict::Refused(refusal, place) => held::refuse_bounds(refusal, place),
+        Verdict::Refused(refusal, place) => model_types::refuse_bounds(refusal, place),
     }
 }

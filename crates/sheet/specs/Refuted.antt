@@ -23,17 +23,18 @@ use Rattle.calculus.specs.Outcome.{step-polynomial, polynomials-after, outcome-
 use Rattle.calculus.specs.Claim.{Given, Claim}
 use Rattle.calculus.specs.ClaimFacts.{own, own-within, own-polynomial, own-polynomial-within, one-step, radius-refutes}
 use Rattle.calculus.specs.ClaimFacts.{doubled, passed-through, passing-refuted}
-use Rattle.held.specs.declared.Verdict.the-variants.{Accepted}
-use Rattle.held.specs.Arrays.{first-places, padded}
-use Rattle.held.specs.Held.{view-term, view, pack-term, pack, refusal, cause, verdict-number, verdict-place}
-use Rattle.format.specs.Held.{Held-model, Held-book, view-book}
+use Rattle.model_types.specs.declared.Verdict.the-variants.{Accepted}
+use Rattle.model_types.specs.Arrays.{first-places, padded}
+use Rattle.model_types.specs.ModelStruct.{view-term, view, pack-term, pack, refusal, cause, verdict-number}
+use Rattle.model_types.specs.ModelStruct.{verdict-place}
+use Rattle.format.specs.HeldBook.{Held-model, Held-book, view-book}
 use Rattle.format.specs.Format.{read, run-sheet}
 use Rattle.format.specs.Computing.{reads}
 use Rattle.format.specs.Samples.{hex, sheet-forms}
 use Rattle.format.specs.SheetClaim.{Sheet-claim}
-use Rattle.book.specs.Book.{stored-model}
-use Rattle.summary.specs.declared.Summary.{Summary}
-use Rattle.summary.specs.Summary.{stored-ends, ends-of, summary-of, refused-summary, run-answer}
+use Rattle.sheet_book.specs.BookStruct.{stored-model}
+use Rattle.sheet_summary.specs.declared.Summary.{Summary}
+use Rattle.sheet_summary.specs.Summary.{stored-ends, ends-of, summary-of, refused-summary, run-answer}
 use Rattle.sheet.specs.Sheet.{Exact, Encloses}
 
 -- ---- programs and the clauses of the contract

@@ -6,12 +6,12 @@ use Rattle.calculus.specs.Refusal.{Result}
 use Rattle.calculus.specs.Book as B
 use Rattle.calculus.specs.Book.{run-sound}
 use Rattle.calculus.specs.Claim.{Claim}
-use Rattle.held.specs.declared.Verdict.the-variants.{Accepted}
-use Rattle.format.specs.Held.{Held-book, view-book, held-tested}
+use Rattle.model_types.specs.declared.Verdict.the-variants.{Accepted}
+use Rattle.format.specs.HeldBook.{Held-book, view-book, held-tested}
 use Rattle.format.specs.Format.{run-sheet}
 use Rattle.format.specs.SheetClaim.{Sheet-claim}
-use Rattle.summary.specs.declared.Summary.{Summary}
-use Rattle.summary.specs.Summary.{run-answer, summary-of}
+use Rattle.sheet_summary.specs.declared.Summary.{Summary}
+use Rattle.sheet_summary.specs.Summary.{run-answer, summary-of}
 
 -- ---- the run
 -- the run of a book in memory: tests 3, 5 and 6, then the steps

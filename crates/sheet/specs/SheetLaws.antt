@@ -13,30 +13,30 @@ use Rattle.calculus.specs.Book.{run-steps, last, summary, model-sound, run-soun
 use Rattle.calculus.specs.BookSoundLaws.{result-sound}
 use Rattle.calculus.specs.Claim.{Claim}
 use Rattle.calculus.specs.ClaimProof.{claim-sound}
-use Rattle.held.specs.declared.Model.{Model}
-use Rattle.held.specs.declared.Refusal.{Refusal}
-use Rattle.held.specs.declared.Verdict.the-variants.{Accepted, Refused}
-use Rattle.held.specs.declared.Answer.{Answer}
-use Rattle.held.specs.Held.{view, pack, answer}
-use Rattle.held.specs.HeldLaws.{view-pack-sound, refusal-cause}
-use Rattle.format.specs.Held.{Held-book, view-book, Held-passes}
-use Rattle.format.specs.HeldLaws.{Held-done, held-tested-done, view-passes}
+use Rattle.model_types.specs.declared.Model.{Model}
+use Rattle.model_types.specs.declared.Refusal.{Refusal}
+use Rattle.model_types.specs.declared.Verdict.the-variants.{Accepted, Refused}
+use Rattle.model_types.specs.declared.Answer.{Answer}
+use Rattle.model_types.specs.ModelStruct.{view, pack, answer}
+use Rattle.model_types.specs.ModelStructLaws.{view-pack-sound, refusal-cause}
+use Rattle.format.specs.HeldBook.{Held-book, view-book, Held-passes}
+use Rattle.format.specs.HeldBookLaws.{Held-done, held-tested-done, view-passes}
 use Rattle.format.specs.Format.{read, run-sheet}
 use Rattle.format.specs.WriteBackLaws.{Came, came, read-passes}
 use Rattle.format.specs.SheetClaim.{Sheet-claim}
 use Rattle.format.specs.SheetClaimProof.{sheet-claim}
-use Rattle.book.specs.declared.Read.{Read}
-use Rattle.book.specs.declared.Book.{Book}
-use Rattle.book.specs.Book.{held-book, read-answer, book-verdict}
-use Rattle.book.specs.BookLaws.{held-stored}
-use Rattle.book.specs.TestedLaws.{verdict-hands-on, verdict-refused}
-use Rattle.summary.specs.declared.Summary.{Summary}
-use Rattle.summary.specs.Summary.{refused-summary, run-answer, summary-of}
-use Rattle.summary.specs.SummaryLaws.{summary-back}
+use Rattle.sheet_book.specs.declared.Read.{Read}
+use Rattle.sheet_book.specs.declared.Book.{Book}
+use Rattle.sheet_book.specs.BookStruct.{held-book, read-answer, book-verdict}
+use Rattle.sheet_book.specs.BookStructLaws.{held-stored}
+use Rattle.sheet_book.specs.TestedLaws.{verdict-hands-on, verdict-refused}
+use Rattle.sheet_summary.specs.declared.Summary.{Summary}
+use Rattle.sheet_summary.specs.Summary.{refused-summary, run-answer, summary-of}
+use Rattle.sheet_summary.specs.SummaryLaws.{summary-back}
 use Rattle.sheet.specs.Sheet.{run-held, Encloses, Encloses-book}
-use Rattle.substitute.specs.AnswerLaws.{sound-order}
-use Rattle.running.specs.Running.{last-result}
-use Rattle.running.specs.RunLaws.{in-limits-of}
+use Rattle.model.specs.OperationLaws.{sound-order}
+use Rattle.sheet_running.specs.Running.{last-result}
+use Rattle.sheet_running.specs.RunLaws.{in-limits-of}
 
 -- ---- an accepted answer is that of a run that is done
 record Answers (a : Result B.Summary) (r : Summary) : Type 0 where

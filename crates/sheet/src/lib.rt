@@ -1,30 +1,30 @@
 // The run of a sheet or a book: its steps in order, then the last result with its range and its integral.
 ghost use mathlib.Core.Path.{_≡_};
 ghost use Rattle.calculus.specs.Book.{«run-sound»};
-ghost use Rattle.format.specs.Held.{«view-book», «Held-passes»};
-ghost use Rattle.book.specs.Book.{«held-book»};
-ghost use Rattle.summary.specs.Summary.{«run-answer»};
+ghost use Rattle.format.specs.HeldBook.{«view-book», «Held-passes»};
+ghost use Rattle.sheet_book.specs.BookStruct.{«held-book»};
+ghost use Rattle.sheet_summary.specs.Summary.{«run-answer»};
 ghost use Rattle.sheet.specs.Sheet.{Exact, «Exact-book», Encloses, «Encloses-book»};
-pub use book::Book;
-pub use book::Step;
-pub use held::Model;
-pub use held::Refusal;
-pub use held::Term;
-pub use held::Verdict;
-pub use summary::Ends;
-pub use summary::Summary;
+pub use model_types::Model;
+pub use model_types::Refusal;
+pub use model_types::Term;
+pub use model_types::Verdict;
+pub use sheet_book::Book;
+pub use sheet_book::Step;
+pub use sheet_summary::Ends;
+pub use sheet_summary::Summary;
 
 // The run of a book that passed the tests: its last result with range and integral, or the refusal of a step.
 fn run_passed(b: Book) -> Summary
     requires { ⌜ Held-passes (held-book b) ⌝ }
     ensures { λ r. ⌜ r ≡ run-answer (run-sound (view-book (held-book b))) ⌝ }
 {
-    let answer = running::last_result(b);
+    let answer = sheet_running::last_result(b);
     let v = answer.verdict;
     let Verdict::Accepted = v else {
-        return summary::refused(v);
+        return sheet_summary::refused(v);
     };
-    summary::summarized(answer.model)
+    sheet_summary::summarized(answer.model)
 }
 
 // The run of a sheet, whatever its bytes are: tests 1 to 6, then its steps, which 7, 8 or 9 can end. `exact` settles
@@ -34,10 +34,10 @@ pub fn run(sheet: &[u8]) -> Summary
     ensures exact { λ r. ⌜ Exact (now (sheet .entry)) r ⌝ }
     ensures encloses { λ r. ⌜ Encloses (now (sheet .entry)) r ⌝ }
 {
-    let answer = reader::read(sheet);
+    let answer = sheet_reader::read(sheet);
     let v = answer.verdict;
     let Verdict::Accepted = v else {
-        return summary::refused(v);
+        return sheet_summary::refused(v);
     };
     run_passed(answer.book)
 }
@@ -47,9 +47,9 @@ pub fn run_book(b: Book) -> Summary
     ensures exact { λ r. ⌜ Exact-book (held-book b) r ⌝ }
     ensures encloses { λ r. ⌜ Encloses-book (held-book b) r ⌝ }
 {
-    let v = booktest::tested(b);
+    let v = sheet_book_tests::tested(b);
     let Verdict::Accepted = v else {
-        return summary::refused(v);
+        return sheet_summary::refused(v);
     };
     run_passed(b)
 }

@@ -26,21 +26,21 @@ use Rattle.calculus.specs.Operations.{Ends, range, integral, integral-sum, cons
 use Rattle.calculus.specs.Book.{Summary, summary}
 use Rattle.calculus.specs.TestLaws.{and-left, and-right}
 use Rattle.calculus.specs.SoundLaws.{sound-parts}
-use Rattle.held.specs.HeldLaws.{vars-range, sound-vars}
-use Rattle.bounds.specs.Bounds.{rule}
-use Rattle.bounds.specs.BoundsLaws.{range-within, integral-within, volume-le}
+use Rattle.model_types.specs.ModelStructLaws.{vars-range, sound-vars}
+use Rattle.model.specs.Operations.{rule}
+use Rattle.model.specs.OperationLaws.{range-within, integral-within, volume-le}
 use Rattle.format.specs.Bytes.{join}
 use Rattle.format.specs.Format.{run-sheet}
 use Rattle.format.specs.Lines.{text, decimal, signed-decimal, term-line, ends-line, radius-line, refusal-line}
 use Rattle.format.specs.Lines.{lines, printed}
 use Rattle.format.specs.LinesLaws.{decimal-digit, decimal-more}
-use Rattle.decimal.specs.Put.{natural, integer}
-use Rattle.lines.specs.LineLaws.{line-end, radius-pieces, refusal-pieces, ends-pieces, term-pieces, lines-pieces}
-use Rattle.lines.specs.LineLaws.{refused-line}
+use Rattle.text_decimal.specs.Put.{natural, integer}
+use Rattle.text_lines.specs.LineLaws.{line-end, radius-pieces, refusal-pieces, ends-pieces, term-pieces, lines-pieces}
+use Rattle.text_lines.specs.LineLaws.{refused-line}
 use Rattle.text.specs.Text.{laid, most-text}
 use Rattle.text.specs.TextLaws.{laid-whole}
-use Rattle.text.specs.PlaceLaws.{near-sheet, near-place}
-use Rattle.text.specs.RunLaws.{printed-run, accepted-run}
+use Rattle.text.specs.RefusalPlaceLaws.{near-sheet, near-place}
+use Rattle.text.specs.PrintedRunLaws.{printed-run, accepted-run}
 
 natAbs-sub : (z : ℤ) (n : ℕ) → natAbs (z -ℤ pos n) ≤ natAbs z + n
 natAbs-sub z n = omega (arith, natAbs-add z (negℤ (pos n)), natAbs-neg (pos n))

@@ -1,6 +1,6 @@
 pub mod Text
 pub mod TextLaws
-pub mod PlaceLaws
-pub mod RunLaws
+pub mod RefusalPlaceLaws
+pub mod PrintedRunLaws
 pub mod LengthLaws
-pub mod AnswerLaws
+pub mod PrintedLaws

@@ -5,7 +5,7 @@ use Prim.Native.Nat.{ℕ, suc, _≤_}
 use native.Mathlib.Omega.{arith}
 use lib.ListN.{length, take, drop, set}
 use lib.Seq.{sets, set-out, take-all, take-nil}
-use Rattle.decimal.specs.Put.{Put}
+use Rattle.text_decimal.specs.Put.{Put}
 use Rattle.text.specs.Text.{laid}
 
 -- beyond the end none is kept

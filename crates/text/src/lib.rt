@@ -4,13 +4,13 @@ ghost use lib.Dec.{T};
 ghost use lib.ListN.{length};
 ghost use Rattle.calculus.specs.Model.{«most-degree», sound};
 ghost use Rattle.calculus.specs.Refusal.{done};
-ghost use Rattle.held.specs.Held.{view};
+ghost use Rattle.model_types.specs.ModelStruct.{view};
 ghost use Rattle.format.specs.Lines.{lines, printed};
-ghost use Rattle.decimal.specs.Put.{Put, Room};
+ghost use Rattle.text_decimal.specs.Put.{Put, Room};
 ghost use Rattle.text.specs.Text.{laid};
-ghost use Rattle.summary.specs.Summary.{«summary-of»};
-use held::Verdict;
-use held::number;
+ghost use Rattle.sheet_summary.specs.Summary.{«summary-of»};
+use model_types::Verdict;
+use model_types::number;
 use sheet::Summary;
 use sheet::run;
 
@@ -25,10 +25,10 @@ fn put_summary(out: &mut [u8], summary: Summary) -> usize
     let m = summary.model;
     let range = summary.range;
     let integral = summary.integral;
-    let radius = lines::put_radius(out, m.radius);
-    let terms = lines::put_terms(out, radius, m);
-    let next = lines::put_ends(out, terms, b"range", range.low, range.high);
-    lines::put_ends(out, next, b"integral", integral.low, integral.high)
+    let radius = text_lines::put_radius(out, m.radius);
+    let terms = text_lines::put_terms(out, radius, m);
+    let next = text_lines::put_ends(out, terms, b"range", range.low, range.high);
+    text_lines::put_ends(out, next, b"integral", integral.low, integral.high)
 }
 
 // Runs a sheet and writes its lines from the start of the buffer, as much of them as it has room for; the rest of the
@@ -43,5 +43,5 @@ pub fn print(sheet: &[u8], out: &mut [u8]) -> usize
     let Verdict::Refused(refusal, place) = verdict else {
         return put_summary(out, summary);
     };
-    lines::put_refusal(out, number(refusal), place)
+    text_lines::put_refusal(out, number(refusal), place)
 }

@@ -2,10 +2,10 @@
 use mathlib.Core.Path.{_≡_, sym, _∙_, ap}
 use borrow.Author.Needs.{needs}
 use Rattle.calculus.specs.Model.{most-degree}
-use Rattle.held.specs.Held.{view, verdict, answer}
-use Rattle.held.specs.declared.Verdict.the-variants.{Accepted}
-use Rattle.admission.specs.Admission.{two-models}
-use Rattle.admission.specs.AdmissionLaws.{two-passed, goes-on, is-refused}
+use Rattle.model_types.specs.ModelStruct.{view, verdict, answer}
+use Rattle.model_types.specs.declared.Verdict.the-variants.{Accepted}
+use Rattle.model_call_tests.specs.Admission.{two-models}
+use Rattle.model_call_tests.specs.AdmissionLaws.{two-passed, goes-on, is-refused}
 use Rattle.model.specs.CallLaws.{add-is}
 use Rattle.model.proofs.add.Statement.{statement}
 use Rattle.model.proofs.add.Tie as tie

@@ -1,10 +1,10 @@
 -- `evaluate` makes the tests of the model and the coordinates, then evaluates.
 use mathlib.Core.Path.{_≡_, sym, _∙_, ap}
 use borrow.Author.Needs.{needs}
-use Rattle.held.specs.Held.{view, verdict, bounds}
-use Rattle.held.specs.declared.Verdict.the-variants.{Accepted}
-use Rattle.admission.specs.Admission.{at-point}
-use Rattle.admission.specs.AdmissionLaws.{point-passed, goes-on, is-refused}
+use Rattle.model_types.specs.ModelStruct.{view, verdict, bounds}
+use Rattle.model_types.specs.declared.Verdict.the-variants.{Accepted}
+use Rattle.model_call_tests.specs.Admission.{at-point}
+use Rattle.model_call_tests.specs.AdmissionLaws.{point-passed, goes-on, is-refused}
 use Rattle.model.specs.CallLaws.{evaluate-is}
 use Rattle.model.proofs.evaluate.Statement.{statement}
 use Rattle.model.proofs.evaluate.Tie as tie

@@ -1,10 +1,10 @@
 -- `multiply` makes the tests of the order and of two models, then multiplies them.
 use mathlib.Core.Path.{_≡_, sym, _∙_, ap}
 use borrow.Author.Needs.{needs}
-use Rattle.held.specs.Held.{view, verdict, answer}
-use Rattle.held.specs.declared.Verdict.the-variants.{Accepted}
-use Rattle.admission.specs.Admission.{ordered}
-use Rattle.admission.specs.AdmissionLaws.{ordered-passed, goes-on, is-refused}
+use Rattle.model_types.specs.ModelStruct.{view, verdict, answer}
+use Rattle.model_types.specs.declared.Verdict.the-variants.{Accepted}
+use Rattle.model_call_tests.specs.Admission.{ordered}
+use Rattle.model_call_tests.specs.AdmissionLaws.{ordered-passed, goes-on, is-refused}
 use Rattle.model.specs.CallLaws.{multiply-is}
 use Rattle.model.proofs.multiply.Statement.{statement}
 use Rattle.model.proofs.multiply.Tie as tie

@@ -1,10 +1,10 @@
 -- `negate` makes the tests of one model, then turns its signs.
 use mathlib.Core.Path.{_≡_, sym, _∙_, ap}
 use borrow.Author.Needs.{needs}
-use Rattle.held.specs.Held.{view, verdict, answer}
-use Rattle.held.specs.declared.Verdict.the-variants.{Accepted}
-use Rattle.admission.specs.Admission.{single-model}
-use Rattle.admission.specs.AdmissionLaws.{single-passed, goes-on, is-refused}
+use Rattle.model_types.specs.ModelStruct.{view, verdict, answer}
+use Rattle.model_types.specs.declared.Verdict.the-variants.{Accepted}
+use Rattle.model_call_tests.specs.Admission.{single-model}
+use Rattle.model_call_tests.specs.AdmissionLaws.{single-passed, goes-on, is-refused}
 use Rattle.model.specs.CallLaws.{negate-is}
 use Rattle.model.proofs.negate.Statement.{statement}
 use Rattle.model.proofs.negate.Tie as tie

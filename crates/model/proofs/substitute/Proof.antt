@@ -1,10 +1,10 @@
 -- `substitute` makes the tests of the order, the models and the variable, then substitutes.
 use mathlib.Core.Path.{_≡_, sym, _∙_, ap}
 use borrow.Author.Needs.{needs}
-use Rattle.held.specs.Held.{view, verdict, answer}
-use Rattle.held.specs.declared.Verdict.the-variants.{Accepted}
-use Rattle.admission.specs.Admission.{substituting}
-use Rattle.admission.specs.AdmissionLaws.{substituting-passed, goes-on, is-refused}
+use Rattle.model_types.specs.ModelStruct.{view, verdict, answer}
+use Rattle.model_types.specs.declared.Verdict.the-variants.{Accepted}
+use Rattle.model_call_tests.specs.Admission.{substituting}
+use Rattle.model_call_tests.specs.AdmissionLaws.{substituting-passed, goes-on, is-refused}
 use Rattle.model.specs.CallLaws.{substitute-is}
 use Rattle.model.proofs.substitute.Statement.{statement}
 use Rattle.model.proofs.substitute.Tie as tie

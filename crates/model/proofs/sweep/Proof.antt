@@ -2,10 +2,10 @@
 use mathlib.Core.Path.{_≡_, sym, _∙_, ap}
 use borrow.Author.Needs.{needs}
 use mir.Facts.{toZ-ofZ}
-use Rattle.held.specs.Held.{view, verdict, answer}
-use Rattle.held.specs.declared.Verdict.the-variants.{Accepted}
-use Rattle.admission.specs.Admission.{sweeping}
-use Rattle.admission.specs.AdmissionLaws.{sweeping-passed, goes-on, is-refused}
+use Rattle.model_types.specs.ModelStruct.{view, verdict, answer}
+use Rattle.model_types.specs.declared.Verdict.the-variants.{Accepted}
+use Rattle.model_call_tests.specs.Admission.{sweeping}
+use Rattle.model_call_tests.specs.AdmissionLaws.{sweeping-passed, goes-on, is-refused}
 use Rattle.model.specs.CallLaws.{sweep-is}
 use Rattle.model.proofs.sweep.Statement.{statement}
 use Rattle.model.proofs.sweep.Tie as tie

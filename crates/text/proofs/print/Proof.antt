@@ -4,11 +4,11 @@ use native.Mathlib.Omega.{arith}
 use borrow.Author.Needs.{needs}
 use Rattle.calculus.specs.Refusal.{number}
 use Rattle.format.specs.Lines.{refusal-line, printed}
-use Rattle.decimal.specs.Put.{Room}
-use Rattle.decimal.specs.PutLaws.{put-as}
+use Rattle.text_decimal.specs.Put.{Room}
+use Rattle.text_decimal.specs.PutLaws.{put-as}
 use Rattle.text.specs.Text.{most-text}
 use Rattle.text.specs.TextLaws.{put-laid}
-use Rattle.text.specs.AnswerLaws.{Accepts, accepts, refuses}
+use Rattle.text.specs.PrintedLaws.{Accepts, accepts, refuses}
 use Rattle.text.specs.LengthLaws.{text-length}
 use Rattle.text.proofs.print.Statement.{statement}
 use Rattle.text.proofs.print.Tie as tie

@@ -6,14 +6,14 @@ use borrow.Author.Needs.{needs}
 use mir.Syntax.{w64}
 use mir.Val.{toZ, ofZ}
 use Rattle.calculus.specs.Book.{Summary}
-use Rattle.held.specs.Held.{view}
+use Rattle.model_types.specs.ModelStruct.{view}
 use Rattle.format.specs.Bytes.{join}
 use Rattle.format.specs.Lines.{text, term-line, ends-line, radius-line}
-use Rattle.summary.specs.Summary.{ends-of, summary-of}
-use Rattle.decimal.specs.Put.{Put, Room}
-use Rattle.decimal.specs.PutLaws.{_then-put_, put-as, room-before, room-behind}
-use Rattle.lines.specs.Pieces.{ends}
-use Rattle.lines.specs.LineLaws.{lines-pieces, ends-back}
+use Rattle.sheet_summary.specs.Summary.{ends-of, summary-of}
+use Rattle.text_decimal.specs.Put.{Put, Room}
+use Rattle.text_decimal.specs.PutLaws.{_then-put_, put-as, room-before, room-behind}
+use Rattle.text_lines.specs.LineParts.{ends}
+use Rattle.text_lines.specs.LineLaws.{lines-pieces, ends-back}
 use Rattle.text.proofs.put_summary.Statement.{statement}
 use Rattle.text.proofs.put_summary.Tie as tie
 

@@ -3,7 +3,7 @@ use mathlib.Core.Path.{sym}
 use borrow.Author.Needs.{needs}
 use borrow.Author.Tests.{le-leb, lt-leb}
 use Rattle.calculus.specs.Book.{most-models, most-steps}
-use Rattle.exports.specs.Books.{book-fits}
+use Rattle.exports.specs.WriteCalls.{book-fits}
 use Rattle.exports.proofs.books.book_fits.Statement.{statement}
 use Rattle.exports.proofs.books.book_fits.Tie as tie
 

@@ -2,8 +2,8 @@
 use mathlib.Core.Path.{sym, _∙_, ap}
 use borrow.Author.Needs.{needs}
 use borrow.Author.Tests.{le-leb, lt-leb}
-use Rattle.exports.specs.Books.{Written-numbers, written-state, answered-write, write-book}
-use Rattle.exports.specs.Books.{rewritten, called-rewrite}
+use Rattle.exports.specs.WriteCalls.{Written-numbers, written-state, answered-write, write-book}
+use Rattle.exports.specs.WriteCalls.{rewritten, called-rewrite}
 use Rattle.exports.proofs.books.hechroung_rewrite.Statement.{statement}
 use Rattle.exports.proofs.books.hechroung_rewrite.Tie as tie
 

@@ -2,10 +2,10 @@
 use mathlib.Core.Path.{sym, _∙_, ap}
 use borrow.Author.Needs.{needs}
 use borrow.Author.Tests.{not-true, not-false}
-use Rattle.exports.specs.Books.{Written-numbers, written-state, answered-write, write-book}
-use Rattle.handbook.specs.Books.{handed-book}
-use Rattle.exports.specs.Books.{called-write}
-use Rattle.exports.specs.BooksLaws.{fits-numbers}
+use Rattle.exports.specs.WriteCalls.{Written-numbers, written-state, answered-write, write-book}
+use Rattle.c_books.specs.HandedBooks.{handed-book}
+use Rattle.exports.specs.WriteCalls.{called-write}
+use Rattle.exports.specs.WriteCallsLaws.{fits-numbers}
 use Rattle.exports.proofs.books.hechroung_write.Statement.{statement}
 use Rattle.exports.proofs.books.hechroung_write.Tie as tie
 

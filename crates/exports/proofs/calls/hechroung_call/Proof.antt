@@ -5,8 +5,8 @@ use mir.Syntax.{w64}
 use mir.Val.{toZ, ofZ}
 use borrow.Author.Needs.{needs}
 use borrow.Author.Tests.{not-true, not-false}
-use Rattle.dispatch.specs.Calls.{called}
-use Rattle.dispatch.specs.CallsLaws.{fits-room}
+use Rattle.c_calls.specs.CallCodes.{called}
+use Rattle.c_calls.specs.CallCodesLaws.{fits-room}
 use Rattle.exports.proofs.calls.hechroung_call.Statement.{statement}
 use Rattle.exports.proofs.calls.hechroung_call.Tie as tie
 

@@ -5,8 +5,8 @@ use mir.Syntax.{w64}
 use mir.Val.{toZ, ofZ}
 use borrow.Author.Needs.{needs}
 use borrow.Author.Tests.{not-true, not-false}
-use Rattle.dispatch.specs.Calls.{called-ends}
-use Rattle.dispatch.specs.CallsLaws.{fits-ends}
+use Rattle.c_calls.specs.CallCodes.{called-ends}
+use Rattle.c_calls.specs.CallCodesLaws.{fits-ends}
 use Rattle.exports.proofs.calls.hechroung_ends.Statement.{statement}
 use Rattle.exports.proofs.calls.hechroung_ends.Tie as tie
 

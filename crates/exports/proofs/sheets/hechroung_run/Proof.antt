@@ -2,8 +2,8 @@
 use mathlib.Core.Path.{sym, _∙_}
 use borrow.Author.Needs.{needs}
 use borrow.Author.Tests.{le-leb, lt-leb, not-true, not-false}
-use Rattle.handing.specs.ModelsLaws.{room}
-use Rattle.exports.specs.Sheets.{called-run}
+use Rattle.c_models.specs.HandedModelsLaws.{room}
+use Rattle.exports.specs.SheetCalls.{called-run}
 use Rattle.exports.proofs.sheets.hechroung_run.Statement.{statement}
 use Rattle.exports.proofs.sheets.hechroung_run.Tie as tie
 

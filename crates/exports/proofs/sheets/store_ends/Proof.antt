@@ -6,8 +6,8 @@ use mir.Facts.{toZ-ofZ}
 use mir.Syntax.{w64}
 use mir.Val.{toZ, ofZ}
 use borrow.Author.Needs.{needs}
-use Rattle.exports.specs.Sheets.{four-ends}
-use Rattle.handing.specs.ModelsLaws.{over-four}
+use Rattle.exports.specs.SheetCalls.{four-ends}
+use Rattle.c_models.specs.HandedModelsLaws.{over-four}
 use Rattle.exports.proofs.sheets.store_ends.Statement.{statement}
 use Rattle.exports.proofs.sheets.store_ends.Tie as tie
 

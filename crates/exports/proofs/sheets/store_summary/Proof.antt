@@ -1,6 +1,6 @@
 -- `store_summary` stores the model, the numbers and the ends.
 use borrow.Author.Needs.{needs}
-use Rattle.exports.specs.Sheets.{stored-summary}
+use Rattle.exports.specs.SheetCalls.{stored-summary}
 use Rattle.exports.proofs.sheets.store_summary.Statement.{statement}
 use Rattle.exports.proofs.sheets.store_summary.Tie as tie
 

@@ -1,4 +1,0 @@
-pub mod Admission
-pub mod AdmissionLaws
-pub mod CoordinateLaws
-pub mod TestLaws

@@ -1,0 +1,2 @@
+pub mod HandedBooks
+pub mod HandedBooksLaws

@@ -1,0 +1,86 @@
+-- The single calls on models that are handed over: the call that a code names, and what the slices hold at the end.
+use mathlib.Core.Bool.{Bool, true, false, _&&_, cond}
+use mathlib.Core.List.{List, [], _∷_}
+use Prim.Native.Nat.{ℕ}
+use lib.Dec.{eqb, leb}
+use lib.IntN.{ℤ}
+use Rattle.calculus.specs.Model as C
+use Rattle.calculus.specs.Refusal.{Result}
+use Rattle.calculus.specs.Operations.{Ends}
+use Rattle.calculus.specs.Calls.{call-constant, call-variable, call-negate, call-add, call-subtract, call-multiply}
+use Rattle.calculus.specs.Calls.{call-substitute, call-sweep, call-range, call-integral, call-evaluate}
+use Rattle.model_types.specs.declared.Answer.{Answer}
+use Rattle.model_types.specs.declared.Bounds.{Bounds}
+use Rattle.model_types.specs.ModelStruct.{answer, bounds, verdict-number, verdict-place}
+use Rattle.c_models.specs.HandedModels.{lent, over, stored-keys, stored-coefficients, stored-numbers}
+
+-- ---- the calls by their codes
+-- the call that a code names, 1 to 8 as for a sheet's steps; constant and variable take the n of the first model
+unfoldable pub model-call : (code d i : ℕ) (v : ℤ) (f g : C.Model) → Result C.Model
+model-call code d i v f g =
+    cond (eqb code 1) (call-constant (f .vars) v)
+    (cond (eqb code 2) (call-variable (f .vars) i)
+    (cond (eqb code 3) (call-negate f)
+    (cond (eqb code 4) (call-add f g)
+    (cond (eqb code 5) (call-subtract f g)
+    (cond (eqb code 6) (call-multiply d f g)
+    (cond (eqb code 7) (call-substitute d i f g)
+    (call-sweep v f)))))))
+
+-- the call with two ends that a code names: 1 range, 2 integral, 3 evaluate
+unfoldable pub ends-call : (code : ℕ) → List ℤ → C.Model → Result Ends
+ends-call code xs f =
+    cond (eqb code 1) (call-range f)
+    (cond (eqb code 2) (call-integral f)
+    (call-evaluate xs f))
+
+-- ---- a call that answers with a model
+-- the number that it returns, and its slices
+pub record Called : Type 0 where
+  pub number : ℕ
+  pub keys : List ℕ
+  pub coefficients : List ℤ
+  pub numbers : List ℕ
+
+-- these, put together
+unfoldable pub called-state : (number : ℕ) → List ℕ → List ℤ → List ℕ → Called
+called-state number ks cs ns = record { number = number; keys = ks; coefficients = cs; numbers = ns }
+
+-- an answer, over what the slices hold
+unfoldable pub stored-answer : Answer → List ℕ → List ℤ → List ℕ → Called
+stored-answer a ks cs ns =
+    called-state (verdict-number (a .verdict)) (stored-keys (a .model) ks) (stored-coefficients (a .model) cs)
+    (stored-numbers (verdict-place (a .verdict)) (a .model) ns)
+
+-- whether the code is known and the slices are long enough
+unfoldable pub call-fits : (code count₁ keys₁ coefficients₁ count₂ keys₂ coefficients₂ : ℕ) (room : Bool) → Bool
+call-fits code c₁ k₁ z₁ c₂ k₂ z₂ room = leb 1 code && leb code 8 && lent c₁ k₁ z₁ && lent c₂ k₂ z₂ && room
+
+-- a call that fits is answered, any other returns 255 and changes nothing
+unfoldable pub called : (fits : Bool) → Result C.Model → List ℕ → List ℤ → List ℕ → Called
+called true a ks cs ns = stored-answer (answer a) ks cs ns
+called false a ks cs ns = called-state 255 ks cs ns
+
+-- ---- a call that answers with two ends
+-- the number that it returns, and its slice
+pub record Called-ends : Type 0 where
+  pub number : ℕ
+  pub ends : List ℤ
+
+-- these, put together
+unfoldable pub ends-state : (number : ℕ) → List ℤ → Called-ends
+ends-state number es = record { number = number; ends = es }
+
+-- two ends, over what the slice holds
+unfoldable pub stored-bounds : Bounds → List ℤ → Called-ends
+stored-bounds b es = ends-state (verdict-number (b .verdict)) (over (b .low ∷ b .high ∷ []) es)
+
+-- whether the code is known and the slices are long enough
+unfoldable pub ends-call-fits : (code count keys coefficients ends : ℕ) → Bool
+ends-call-fits code count keys coefficients ends =
+    leb 1 code && leb code 3 && lent count keys coefficients && leb 2 ends
+
+-- a call that fits is answered, any other returns 255 and changes nothing
+unfoldable pub called-ends : (fits : Bool) → Result Ends → List ℤ → Called-ends
+called-ends true a es = stored-bounds (bounds a) es
+called-ends false a es = ends-state 255 es

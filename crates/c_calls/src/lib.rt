@@ -1,0 +1,135 @@
+// The single call that a code names, on models that are handed over, and its answer stored into slices.
+ghost use mathlib.Core.Path.{_≡_};
+ghost use Prim.Native.Nat.{_≤_};
+ghost use lib.ListN.{length};
+ghost use Rattle.model_types.specs.ModelStruct.{view, answer, bounds};
+ghost use Rattle.c_calls.specs.CallCodes.{«model-call», «ends-call», «call-fits», «ends-call-fits»};
+ghost use Rattle.c_calls.specs.CallCodes.{«called-state», «stored-answer», «ends-state», «stored-bounds»};
+use model::Answer;
+use model::Bounds;
+use model::Model;
+
+// The ends of an answer.
+const ENDS: usize = 2;
+
+// The last code of a call that answers with a model, and of one that answers with two ends.
+const SWEEP: u8 = 8;
+
+const EVALUATE: u8 = 3;
+
+// The call that a code names: 1 constant, 2 variable, 3 negate, 4 add, 5 subtract, 6 multiply, 7 substitute, any other
+// sweep. The constructors take the n of the first model.
+pub fn model_call(code: u8, d: u8, i: u8, value: i64, f: Model, g: Model) -> Answer
+    ensures { λ r. ⌜ r ≡ answer (model-call code d i value (view f) (view g)) ⌝ }
+{
+    if code == 1 {
+        return Model::constant(f.n, value);
+    }
+    if code == 2 {
+        return Model::variable(f.n, i);
+    }
+    if code == 3 {
+        return model::negate(f);
+    }
+    if code == 4 {
+        return model::add(f, g);
+    }
+    if code == 5 {
+        return model::subtract(f, g);
+    }
+    if code == 6 {
+        return model::multiply(d, f, g);
+    }
+    if code == 7 {
+        return model::substitute(d, i, f, g);
+    }
+    model::sweep(f, value)
+}
+
+// The call that a code names: 1 range, 2 integral, any other evaluate.
+pub fn ends_call(code: u8, xs: [i64; 4], f: Model) -> Bounds
+    ensures { λ r. ⌜ r ≡ bounds (ends-call code xs (view f)) ⌝ }
+{
+    if code == 1 {
+        return model::range(f);
+    }
+    if code == 2 {
+        return model::integral(f);
+    }
+    model::evaluate(f, xs)
+}
+
+// An answer goes into the slices; its number.
+pub fn store_answer(
+    a: Answer,
+    keys: &mut [u16],
+    coefficients: &mut [i64],
+    numbers: &mut [u64],
+) -> u8
+    requires { ⌜ (64 ≤ length (now keys)) × (64 ≤ length (now coefficients)) × (4 ≤ length (now numbers)) ⌝ }
+    ensures { λ r. ⌜ called-state r (now (keys .exit)) (now (coefficients .exit)) (now (numbers .exit))
+        ≡ stored-answer a (now (keys .entry)) (now (coefficients .entry)) (now (numbers .entry)) ⌝ }
+{
+    let m = a.model;
+    let v = a.verdict;
+    c_models::store_terms(m, keys, coefficients);
+    c_models::store_numbers(c_models::verdict_place(v), m, numbers);
+    c_models::verdict_number(v)
+}
+
+// Whether a call that answers with a model is one: its code is known and its slices are long enough.
+pub fn call_fits(
+    code: u8,
+    count1: usize,
+    keys1: usize,
+    coefficients1: usize,
+    count2: usize,
+    keys2: usize,
+    coefficients2: usize,
+    room: bool,
+) -> bool
+    ensures { λ r. ⌜ r ≡ call-fits code count1 keys1 coefficients1 count2 keys2 coefficients2 room ⌝ }
+{
+    if code < 1 {
+        return false;
+    }
+    if SWEEP < code {
+        return false;
+    }
+    if !c_models::lent(count1, keys1, coefficients1) {
+        return false;
+    }
+    if !c_models::lent(count2, keys2, coefficients2) {
+        return false;
+    }
+    room
+}
+
+// Whether a call that answers with two ends is one.
+pub fn ends_call_fits(code: u8, count: usize, keys: usize, coefficients: usize, ends: usize) -> bool
+    ensures { λ r. ⌜ r ≡ ends-call-fits code count keys coefficients ends ⌝ }
+{
+    if code < 1 {
+        return false;
+    }
+    if EVALUATE < code {
+        return false;
+    }
+    if !c_models::lent(count, keys, coefficients) {
+        return false;
+    }
+    ENDS <= ends
+}
+
+// Two ends go into a slice; the number of the refusal.
+pub fn store_ends(b: Bounds, ends: &mut [i64]) -> u8
+    requires { ⌜ 2 ≤ length (now ends) ⌝ }
+    ensures { λ r. ⌜ ends-state r (now (ends .exit)) ≡ stored-bounds b (now (ends .entry)) ⌝ }
+{
+    let low = b.low;
+    let high = b.high;
+    ends[0] = low;
+    ends[1] = high;
+    let v = b.verdict;
+    c_models::verdict_number(v)
+}

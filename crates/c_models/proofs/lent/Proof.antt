@@ -1,0 +1,22 @@
+-- `lent` compares each length with the places that are named.
+use mathlib.Core.Path.{sym}
+use borrow.Author.Needs.{needs}
+use borrow.Author.Tests.{le-leb, lt-leb}
+use Rattle.calculus.specs.Model.{most-terms}
+use Rattle.c_models.specs.HandedModels.{lent}
+use Rattle.c_models.proofs.lent.Statement.{statement}
+use Rattle.c_models.proofs.lent.Tie as tie
+
+least-requires : tie.Need-least-requires
+least-requires c κs = search needs
+
+returns : tie.Need-returns
+unfolding lent most-terms
+returns c = rw (sym (c .before .least .ensures), lt-leb _ _ (c .if1 .taken))
+
+returns-2 : tie.Need-returns-2
+unfolding lent most-terms
+returns-2 c = rw (sym (c .before .least .ensures), le-leb _ _ (c .if1 .left))
+
+pub lent-spec : {M : Type 1} → statement M
+lent-spec = tie.close (tie.spec least-requires returns returns-2)

@@ -1,0 +1,103 @@
+-- One more term of two slices, and one more place of a slice overwritten.
+use mathlib.Core.Path.{_≡_, refl, sym, _∙_, ap, subst}
+use mathlib.Core.Bool.{true, _&&_}
+use mathlib.Core.List.{List, [], _∷_, _++_, map, append-assoc}
+use Prim.Native.Nat.{ℕ, zero, suc, _+_, _≤_, _<_, min}
+use native.Mathlib.Numerals.{add-one}
+use native.Mathlib.Omega.{arith}
+use lib.Dec.{T, leb, leb→le}
+use lib.IntN.{ℤ, pos}
+use lib.ListN.{length, take, drop, getD, set, length-append, length-map}
+use lib.Seq.{set-at, drop-cons, length-take-le}
+use Rattle.calculus.specs.Model.{most-terms}
+use Rattle.calculus.specs.TestLaws.{and-left, and-right}
+use Rattle.model_types.specs.declared.Term.{Term}
+use Rattle.model_types.specs.ModelStruct.{zero-term, pad}
+use Rattle.model_types.specs.ModelStructLaws.{pad-more, take-more, map-++}
+use Rattle.c_models.specs.HandedModels.{terms-of, over, model-room}
+
+-- ---- terms of two slices
+terms-more : (i : ℕ) (ks : List ℕ) (cs : List ℤ) → i < length ks → i < length cs
+    → terms-of (suc i) ks cs ≡ terms-of i ks cs ++ (record { key = getD ks i 0; coefficient = getD cs i (pos 0) } ∷ [])
+unfolding terms-of
+terms-more i [] cs h l = absurd (omega arith)
+terms-more i (k ∷ ks) [] h l = absurd (omega arith)
+terms-more zero (k ∷ ks) (c ∷ cs) h l = refl
+terms-more (suc i) (k ∷ ks) (c ∷ cs) h l =
+    ap (λ (r : List Term). record { key = k; coefficient = c } ∷ r) (terms-more i ks cs (omega arith) (omega arith))
+
+length-terms : (i : ℕ) (ks : List ℕ) (cs : List ℤ) → i ≤ length ks → i ≤ length cs → length (terms-of i ks cs) ≡ i
+unfolding terms-of
+length-terms zero ks cs h l = refl
+length-terms (suc i) [] cs h l = absurd (omega arith)
+length-terms (suc i) (k ∷ ks) [] h l = absurd (omega arith)
+length-terms (suc i) (k ∷ ks) (c ∷ cs) h l = ap suc (length-terms i ks cs (omega arith) (omega arith))
+
+-- a turn of the loop that builds a model
+pub handed-more : (i : ℕ) (ks : List ℕ) (cs : List ℤ) → i < length ks → i < length cs → i < most-terms
+    → set (pad (terms-of i ks cs)) i (record { key = getD ks i 0; coefficient = getD cs i (pos 0) })
+    ≡ pad (terms-of (i + 1) ks cs)
+handed-more i ks cs h l m =
+    pad-more (terms-of i ks cs) i _ (length-terms i ks cs (omega arith) (omega arith)) m
+    ∙ rw (add-one, terms-more i ks cs h l)
+
+-- its end: no more terms than both slices have
+pub terms-end : (i n : ℕ) (ks : List ℕ) (cs : List ℤ) → i ≡ min n (min (length ks) (length cs))
+    → terms-of i ks cs ≡ terms-of n ks cs
+unfolding terms-of
+terms-end zero zero ks cs e = refl
+terms-end (suc i) zero ks cs e = absurd (omega arith)
+terms-end zero (suc n) [] cs e = refl
+terms-end (suc i) (suc n) [] cs e = absurd (omega arith)
+terms-end zero (suc n) (k ∷ ks) [] e = refl
+terms-end (suc i) (suc n) (k ∷ ks) [] e = absurd (omega arith)
+terms-end zero (suc n) (k ∷ ks) (c ∷ cs) e = absurd (omega arith)
+terms-end (suc i) (suc n) (k ∷ ks) (c ∷ cs) e =
+    ap (λ (r : List Term). record { key = k; coefficient = c } ∷ r) (terms-end i n ks cs (omega arith))
+
+-- ---- a slice overwritten
+module _ {A : Type 0} (d : A) where
+  -- a store behind what was overwritten
+  pub over-more : (l k : List A) (i : ℕ) (x : A) → length l ≡ i → i < length k
+      → set (over l k) i x ≡ over (l ++ (x ∷ [])) k
+  unfolding over
+  over-more l k i x e h =
+      let n : length (l ++ (x ∷ [])) ≡ suc i = length-append l (x ∷ []) ∙ omega arith in
+      rw (e, n, drop-cons k i d h, set-at l (getD k i d) (drop (suc i) k) x i e, append-assoc)
+
+  -- a turn of the loop that stores terms
+  pub stored-more : (f : Term → A) (ts : List Term) (k : List A) (i : ℕ) → i < length ts → i < length k
+      → set (over (map f (take i ts)) k) i (f (getD ts i zero-term)) ≡ over (map f (take (i + 1) ts)) k
+  stored-more f ts k i h l =
+      over-more (map f (take i ts)) k i _ (length-map (take i ts) f ∙ length-take-le i ts (omega arith)) l
+      ∙ ap (λ r. over r k) (sym (ap (map f) (take-more ts i zero-term h) ∙ map-++ f (take i ts) _))
+
+-- two stores
+pub over-two : {A : Type 0} (l : List A) (a b : A) → 2 ≤ length l → set (set l 0 a) 1 b ≡ over (a ∷ b ∷ []) l
+unfolding over
+over-two [] a b h = absurd (omega arith)
+over-two (y ∷ []) a b h = absurd (omega arith)
+over-two (y ∷ z ∷ l) a b h = refl
+
+-- four stores
+pub over-four : {A : Type 0} (l : List A) (a b c e : A) → 4 ≤ length l
+    → set (set (set (set l 0 a) 1 b) 2 c) 3 e ≡ over (a ∷ b ∷ c ∷ e ∷ []) l
+unfolding over
+over-four [] a b c e h = absurd (omega arith)
+over-four (w ∷ []) a b c e h = absurd (omega arith)
+over-four (w ∷ x ∷ []) a b c e h = absurd (omega arith)
+over-four (w ∷ x ∷ y ∷ []) a b c e h = absurd (omega arith)
+over-four (w ∷ x ∷ y ∷ z ∷ l) a b c e h = refl
+
+-- ---- room for an answer
+pub room-parts : (k z n : ℕ) → T (model-room k z n) → (64 ≤ k) × (64 ≤ z) × (4 ≤ n)
+unfolding model-room most-terms
+room-parts k z n r =
+    let l = and-left (leb 64 k && leb 64 z) (leb 4 n) r in (
+      leb→le 64 k (and-left (leb 64 k) (leb 64 z) l),
+      leb→le 64 z (and-right (leb 64 k) (leb 64 z) l),
+      leb→le 4 n (and-right (leb 64 k && leb 64 z) (leb 4 n) r),
+    )
+
+pub room : (k z n : ℕ) → model-room k z n ≡ true → (64 ≤ k) × (64 ≤ z) × (4 ≤ n)
+room k z n h = room-parts k z n (subst T (sym h) tt)

@@ -1,0 +1,2 @@
+pub mod HandedModels
+pub mod HandedModelsLaws

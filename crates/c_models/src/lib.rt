@@ -1,0 +1,120 @@
+// Models that are handed over as numbers and slices, and models stored into slices. A model is its n, its count and its
+// radius, and slices of keys and of coefficients, which may be longer than its count.
+ghost use mathlib.Core.Path.{_≡_};
+ghost use Prim.Native.Nat.{_≤_, min};
+ghost use lib.ListN.{length};
+ghost use Rattle.model_types.specs.ModelStruct.{«verdict-number», «verdict-place»};
+ghost use Rattle.c_models.specs.HandedModels.{handed, lent, «model-room»};
+ghost use Rattle.c_models.specs.HandedModels.{«stored-keys», «stored-coefficients», «stored-numbers»};
+use model_types::Model;
+use model_types::Term;
+use model_types::Verdict;
+
+// The numbers of a model's answer: the refusal's place, n, the count, the radius.
+const NUMBERS: usize = 4;
+
+// The lesser of two.
+pub fn least(a: usize, b: usize) -> usize
+    ensures { λ r. ⌜ r ≡ min a b ⌝ }
+{
+    if a < b {
+        return a;
+    }
+    b
+}
+
+// Whether slices of these lengths have every place that a count names. A count above 64 names 64 places.
+pub fn lent(count: usize, keys: usize, coefficients: usize) -> bool
+    ensures { λ r. ⌜ r ≡ lent count keys coefficients ⌝ }
+{
+    let named = least(count, model_types::MOST_TERMS);
+    if keys < named {
+        return false;
+    }
+    named <= coefficients
+}
+
+// The model that is handed over. Its places are the first 64 of the slices, and zeros where these end before.
+pub fn handed(n: u8, count: usize, radius: u64, keys: &[u16], coefficients: &[i64]) -> Model
+    ensures { λ r. ⌜ r ≡ handed n count radius (now (keys .entry)) (now (coefficients .entry)) ⌝ }
+{
+    let both = least(keys.len(), coefficients.len());
+    let places = least(model_types::MOST_TERMS, both);
+    let mut out = [Term::ZERO; model_types::MOST_TERMS];
+    let mut i = 0;
+    while i < places {
+        let k = keys[i];
+        let c = coefficients[i];
+        out[i] = Term {
+            key: k,
+            coefficient: c,
+        };
+        i += 1;
+    }
+    Model {
+        n: n,
+        count: count,
+        radius: radius,
+        terms: out,
+    }
+}
+
+// Document 01's number of a verdict, 0 without a refusal.
+pub fn verdict_number(verdict: Verdict) -> u8
+    ensures { λ r. ⌜ r ≡ verdict-number verdict ⌝ }
+{
+    match verdict {
+        Verdict::Accepted => 0,
+        Verdict::Refused(refusal, place) => model_types::number(refusal),
+    }
+}
+
+// And its place.
+pub fn verdict_place(verdict: Verdict) -> usize
+    ensures { λ r. ⌜ r ≡ verdict-place verdict ⌝ }
+{
+    match verdict {
+        Verdict::Accepted => 0,
+        Verdict::Refused(refusal, place) => place,
+    }
+}
+
+// All 64 places of a model's terms go into two slices.
+pub fn store_terms(m: Model, keys: &mut [u16], coefficients: &mut [i64])
+    requires { ⌜ (64 ≤ length (now keys)) × (64 ≤ length (now coefficients)) ⌝ }
+    ensures { λ r. ⌜ (now (keys .exit) ≡ stored-keys m (now (keys .entry)))
+        × (now (coefficients .exit) ≡ stored-coefficients m (now (coefficients .entry))) ⌝ }
+{
+    let mut i = 0;
+    while i < model_types::MOST_TERMS {
+        let t = m.terms[i];
+        let c = t.coefficient;
+        keys[i] = t.key;
+        coefficients[i] = c;
+        i += 1;
+    }
+}
+
+// The numbers of an answer.
+pub fn store_numbers(place: usize, m: Model, numbers: &mut [u64])
+    requires { ⌜ 4 ≤ length (now numbers) ⌝ }
+    ensures { λ r. ⌜ now (numbers .exit) ≡ stored-numbers place m (now (numbers .entry)) ⌝ }
+{
+    numbers[0] = place as u64;
+    numbers[1] = m.n as u64;
+    numbers[2] = m.count as u64;
+    numbers[3] = m.radius;
+}
+
+// Whether slices of these lengths have room for a model's answer.
+pub fn model_room(keys: usize, coefficients: usize, numbers: usize) -> bool
+    ensures { λ r. ⌜ r ≡ model-room keys coefficients numbers ⌝ }
+{
+    if keys < model_types::MOST_TERMS {
+        return false;
+    }
+    if coefficients < model_types::MOST_TERMS {
+        return false;
+    }
+    NUMBERS <= numbers
+}

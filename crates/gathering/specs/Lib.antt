@@ -1,6 +1,0 @@
-pub mod Wide
-pub mod Kept
-pub mod Contracts
-pub mod WideLaws
-pub mod PutLaws
-pub mod GatherLaws

@@ -1,0 +1,4 @@
+pub mod Admission
+pub mod AdmissionLaws
+pub mod CoordinateLaws
+pub mod CallStructLaws

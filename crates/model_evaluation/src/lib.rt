@@ -1,0 +1,51 @@
+// The value of a model at a point: its coordinates put in for the variables, then the range of what is left.
+ghost use mathlib.Core.Path.{_≡_};
+ghost use lib.ListN.{take};
+ghost use Rattle.calculus.specs.Refusal.{«at-place»};
+ghost use Rattle.calculus.specs.Operations.{evaluate};
+ghost use Rattle.model_types.specs.ModelStruct.{view, bounds};
+ghost use Rattle.product_collector.specs.CollectorContracts.{«Lent-table»};
+ghost use Rattle.model_evaluation.specs.Evaluate.{Evaluation};
+use model_types::Bounds;
+use model_types::Model;
+use model_types::Verdict;
+
+// The range of what is left of m after the coordinates are put in for its variables, one after the other.
+pub fn evaluated(
+    m: Model,
+    xs: [i64; 4],
+    slots: &mut [u16],
+    keys: &mut [u64],
+    sums: &mut [i64],
+) -> Bounds
+    requires { ⌜ Evaluation m xs ⌝ }
+    requires { ⌜ Lent-table (now slots) (now keys) (now sums) ⌝ }
+    ensures { λ r. ⌜ r ≡ bounds (at-place 0 (evaluate (take (m .n) xs) (view m))) ⌝ }
+{
+    let n = m.n;
+    let mut left = m;
+    let mut i = 1;
+    while i <= n {
+        let x = xs[(i - 1) as usize];
+        let a = model_substitution::substituted(
+            model_types::MOST_DEGREE,
+            i,
+            left,
+            model_types::constant_of(n, x),
+            slots,
+            keys,
+            sums,
+        );
+        let v = a.verdict;
+        let Verdict::Accepted = v else {
+            return Bounds {
+                low: 0,
+                high: 0,
+                verdict: v,
+            };
+        };
+        left = a.model;
+        i += 1;
+    }
+    model_bounds::range_of(left)
+}

@@ -1,0 +1,77 @@
+// The product of two models, in a table that is lent or in one of its own.
+ghost use mathlib.Core.Path.{_≡_};
+ghost use Prim.Native.Nat.{_*_, _≤_};
+ghost use Rattle.calculus.specs.Refusal.{«at-place»};
+ghost use Rattle.calculus.specs.Operations.{multiply};
+ghost use Rattle.model_types.specs.ModelStruct.{view, answer};
+ghost use Rattle.product_collector.specs.CollectorContracts.{«Lent-table»};
+ghost use Rattle.model_product.specs.Factors.{Factors};
+ghost use Rattle.model_multiplication.specs.Multiply.{«few-products»};
+use model_types::Answer;
+use model_types::Model;
+
+// For how many products the smaller table has room.
+const FEW_PRODUCTS: usize = 256;
+
+// f times g at order d, in a table that is lent, whatever is in it. Only as many slots as the products ask are emptied.
+pub fn multiplied(
+    d: u8,
+    f: Model,
+    g: Model,
+    slots: &mut [u16],
+    keys: &mut [u64],
+    sums: &mut [i64],
+) -> Answer
+    requires { ⌜ Factors d f g ⌝ }
+    requires { ⌜ Lent-table (now slots) (now keys) (now sums) ⌝ }
+    ensures { λ r. ⌜ r ≡ answer (at-place 0 (multiply d (view f) (view g))) ⌝ }
+{
+    let products = f.count * g.count;
+    let used = product_table::SLOTS_EACH * products + 1;
+    let part = &mut slots[..used];
+    product_slots::clear(part);
+    model_product::multiplied_in(d, f, g, part, keys, sums, products)
+}
+
+// The same in a table of its own, for few products: to fill the largest table with zeros takes longer than they do.
+fn multiplied_small(d: u8, f: Model, g: Model) -> Answer
+    requires { ⌜ Factors d f g ⌝ }
+    requires { ⌜ f .count * g .count ≤ few-products ⌝ }
+    ensures { λ r. ⌜ r ≡ answer (at-place 0 (multiply d (view f) (view g))) ⌝ }
+{
+    let mut slots = [0u16; product_table::SLOTS_EACH * FEW_PRODUCTS + 1];
+    let mut keys = [0u64; FEW_PRODUCTS + 1];
+    let mut sums = [0i64; FEW_PRODUCTS + 1];
+    model_product::multiplied_in(d, f, g, &mut slots, &mut keys, &mut sums, FEW_PRODUCTS)
+}
+
+// And for any number of products.
+fn multiplied_large(d: u8, f: Model, g: Model) -> Answer
+    requires { ⌜ Factors d f g ⌝ }
+    ensures { λ r. ⌜ r ≡ answer (at-place 0 (multiply d (view f) (view g))) ⌝ }
+{
+    let mut slots = [0u16; product_table::SLOTS];
+    let mut keys = [0u64; product_table::PLACES];
+    let mut sums = [0i64; product_table::PLACES];
+    model_product::multiplied_in(
+        d,
+        f,
+        g,
+        &mut slots,
+        &mut keys,
+        &mut sums,
+        product_table::ENTRIES,
+    )
+}
+
+// f times g at order d, without a table that is lent.
+pub fn multiplied_alone(d: u8, f: Model, g: Model) -> Answer
+    requires { ⌜ Factors d f g ⌝ }
+    ensures { λ r. ⌜ r ≡ answer (at-place 0 (multiply d (view f) (view g))) ⌝ }
+{
+    let products = f.count * g.count;
+    if products <= FEW_PRODUCTS {
+        return multiplied_small(d, f, g);
+    }
+    multiplied_large(d, f, g)
+}

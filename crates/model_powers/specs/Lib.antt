@@ -1,0 +1,4 @@
+pub mod Exponents
+pub mod Powers
+pub mod KeyExponentLaws
+pub mod PowersLaws

@@ -1,0 +1,94 @@
+// A model by the powers of one of its variables: exponents in keys, the largest one, and what multiplies each power.
+ghost use mathlib.Core.Path.{_≡_};
+ghost use Prim.Native.Nat.{max};
+ghost use Rattle.calculus.specs.Operations.{«largest-exponent», part};
+ghost use Rattle.model_types.specs.ModelStruct.{view, pack};
+ghost use Rattle.model_powers.specs.Exponents.{«key-exponent», «key-without», Slot};
+ghost use Rattle.model_powers.specs.Powers.{«In-variable»};
+use model_types::Model;
+use model_types::Term;
+
+// The exponent of variable i in a key, where that of variable 1 stands in the highest four bits.
+pub fn exponent_of(key: u16, i: u8) -> u16
+    requires { ⌜ Slot i ⌝ }
+    ensures { λ r. ⌜ r ≡ key-exponent i key ⌝ }
+{
+    if i == 1 {
+        return key / 4096;
+    }
+    if i == 2 {
+        return key % 4096 / 256;
+    }
+    if i == 3 {
+        return key % 256 / 16;
+    }
+    key % 16
+}
+
+// The key with the exponent of variable i made 0.
+pub fn without(key: u16, i: u8) -> u16
+    requires { ⌜ Slot i ⌝ }
+    ensures { λ r. ⌜ r ≡ key-without i key ⌝ }
+{
+    if i == 1 {
+        return key % 4096;
+    }
+    if i == 2 {
+        return key / 4096 * 4096 + key % 256;
+    }
+    if i == 3 {
+        return key / 256 * 256 + key % 16;
+    }
+    key / 16 * 16
+}
+
+// The larger of two.
+fn larger(a: u16, b: u16) -> u16
+    ensures { λ r. ⌜ r ≡ max a b ⌝ }
+{
+    if a < b { b } else { a }
+}
+
+// The largest exponent of variable i.
+pub fn largest_exponent(f: Model, i: u8) -> u16
+    requires { ⌜ In-variable i f ⌝ }
+    ensures { λ r. ⌜ r ≡ largest-exponent i (view f .terms) ⌝ }
+{
+    let count = f.count;
+    let mut largest = 0;
+    let mut j = 0;
+    while j < count {
+        let t = f.terms[j];
+        largest = larger(largest, exponent_of(t.key, i));
+        j += 1;
+    }
+    largest
+}
+
+// What multiplies the k-th power of variable i, radius 0.
+pub fn part(f: Model, i: u8, k: u16) -> Model
+    requires { ⌜ In-variable i f ⌝ }
+    ensures { λ r. ⌜ r ≡ pack (part i k (view f)) ⌝ }
+{
+    let total = f.count;
+    let mut out = [Term::ZERO; model_types::MOST_TERMS];
+    let mut count = 0;
+    let mut j = 0;
+    while j < total {
+        let t = f.terms[j];
+        j += 1;
+        if exponent_of(t.key, i) == k {
+            out[count] = Term {
+                key: without(t.key, i),
+                coefficient: t.coefficient,
+            };
+            count += 1;
+        }
+    }
+    Model {
+        n: f.n,
+        count: count,
+        radius: 0,
+        terms: out,
+    }
+}

@@ -1,0 +1,167 @@
+-- `sound` is the test of all rules: terms that pass leave the rest to decide, and the span is known as far as the cap.
+use mathlib.Core.Path.{_≡_, sym, _∙_, ap}
+use mathlib.Core.Bool.{true}
+use Prim.Native.Nat.{_≤_, _<_, _+_, _-_}
+use native.Mathlib.Omega.{arith}
+use borrow.Author.Needs.{needs}
+use borrow.Author.Tests.{not-true, not-false}
+use lib.IntN.{natAbs}
+use lib.ListN.{length, getD, length-map}
+use mir.Facts.{toZ-ofZ}
+use mir.Syntax.{w64}
+use mir.Val.{toZ, ofZ}
+use Rattle.fixed.specs.Fixed.{capped}
+use Rattle.calculus.specs.Model.{most-terms}
+use Rattle.calculus.specs.Tests.{vars-sound}
+use Rattle.model_types.specs.declared.Term.{Term}
+use Rattle.model_types.specs.declared.Model.{Model}
+use Rattle.model_types.specs.ModelStruct.{zero-term, term-sound}
+use Rattle.model_types.specs.ModelStructLaws.{vars-range}
+use Rattle.model_soundness.specs.SoundPassLaws.{Passed, passed-first, passed-end, passed-turn, passed-not}
+use Rattle.model_soundness.specs.SoundPassLaws.{vars-not}
+use Rattle.model_soundness.specs.SoundPassLaws.{many-not}
+use Rattle.model_soundness.proofs.sound.Statement.{statement}
+use Rattle.model_soundness.proofs.sound.Tie as tie
+
+abbrev Inv-loop : tie.InvT-loop
+Inv-loop d m n count span₀ least₀ i₀ span least i =
+    Passed d m span least i
+
+abbrev μ-loop : tie.MeasureT-loop
+μ-loop d m n count span₀ least₀ i₀ span least i = count - i
+
+whole : (c : tie.Start Inv-loop μ-loop) → length (c .args .t1 .terms) ≡ 64
+whole c = simp length-map at (c .good .0 .1 .1 .1 .1 .1 .0 .1 .0 .1)
+
+-- what is known of n and the count
+module _ (c : tie.Else2 Inv-loop μ-loop) where
+  abbrev start : tie.Start Inv-loop μ-loop
+  start = c .before .before .before
+
+  vars-hold : vars-sound (start .args .t1 .n) ≡ true
+  vars-hold = sym (c .before .before .vars-sound .ensures) ∙ not-false _ (c .before .if1 .left)
+
+  few : start .args .t1 .count ≤ most-terms
+  unfolding most-terms
+  few = c .if2 .left
+
+  long : start .args .t1 .count ≤ length (start .args .t1 .terms)
+  long = omega (arith, whole start)
+
+-- and of the term at hand
+module _ (c : tie.After-struct-told Inv-loop μ-loop) where
+  abbrev outside : tie.Else2 Inv-loop μ-loop
+  outside = c .before .before .before .before
+
+  abbrev held : Model
+  held = start outside .args .t1
+
+  abbrev at : Term
+  at = getD (held .terms) (c .before .before .before .loop .i) zero-term
+
+  key-small : at .key < 65536
+  key-small = c .struct-told .given .0 .1
+
+  read-back : toZ w64 (ofZ w64 (at .coefficient)) ≡ at .coefficient
+  read-back = toZ-ofZ (record { sfits = c .struct-told .given .1 .0 .1 })
+
+tested : (c : tie.After-term-sound Inv-loop μ-loop)
+    → term-sound (held (c .before) .n) (start (outside (c .before)) .args .d)
+    (c .before .before .before .before .loop .least) (at (c .before) .key) (at (c .before) .coefficient)
+    ≡ c .term-sound .result
+tested c = sym (c .term-sound .ensures ∙ ap (term-sound _ _ _ _) (read-back (c .before)))
+
+vars-sound-requires : tie.Need-vars-sound-requires Inv-loop μ-loop
+vars-sound-requires c κs = search needs
+
+returns : tie.Need-returns Inv-loop μ-loop
+returns c = sym (vars-not _ _ (sym (c .before .vars-sound .ensures) ∙ not-true _ (c .if1 .taken)))
+
+returns-2 : tie.Need-returns-2 Inv-loop μ-loop
+unfolding most-terms
+returns-2 c = sym (many-not _ _ (c .if2 .taken))
+
+loop-holds : tie.Need-loop-holds Inv-loop μ-loop
+loop-holds c = passed-first _ _ (vars-hold c) (few c) (long c)
+
+mul-t : tie.Need-mul-t Inv-loop μ-loop
+mul-t c = omega arith
+
+element-copy-out-t : tie.Need-element-copy-out-t Inv-loop μ-loop
+element-copy-out-t c = omega arith
+
+term-sound-requires : tie.Need-term-sound-requires Inv-loop μ-loop
+term-sound-requires c κs = vars-range _ (vars-hold (c .before .before .before .before)) .0
+
+returns-3 : tie.Need-returns-3 Inv-loop μ-loop
+returns-3 c =
+    let t = c .before .before in
+    let b = outside t in
+    sym
+    (passed-not _ _ (vars-hold b) (few b) (long b) _ _ _ (t .before .before .before .loop .inv)
+    (t .before .before .loop-test .taken)
+    (key-small t) (tested (c .before) ∙ not-true _ (c .if3 .taken)))
+
+magnitude-requires : tie.Need-magnitude-requires Inv-loop μ-loop
+magnitude-requires c κs = search needs
+
+capped-sum-requires : tie.Need-capped-sum-requires Inv-loop μ-loop
+capped-sum-requires c κs = search needs
+
+cast-least : tie.Need-cast-least Inv-loop μ-loop
+cast-least c = omega (arith, key-small (c .before .before .before .before .before .before))
+
+add-least : tie.Need-add-least Inv-loop μ-loop
+add-least c = omega (arith, key-small (c .before .before .before .before .before .before))
+
+add-i : tie.Need-add-i Inv-loop μ-loop
+add-i c = omega arith
+
+loop-less : tie.Need-loop-less Inv-loop μ-loop
+loop-less c = omega arith
+
+loop-again : tie.Need-loop-again Inv-loop μ-loop
+loop-again c =
+    let added = c .before in
+    let branch = added .before .before .before in
+    let t = branch .before .before in
+    let b = outside t in
+    passed-turn _ _ (vars-hold b) (few b) (long b) _ _ _ (t .before .before .before .loop .inv)
+    (t .before .before .loop-test .taken)
+    (key-small t) (tested (branch .before) ∙ not-false _ (branch .if3 .left)) (added .capped-sum .result)
+    (added .capped-sum .ensures
+    ∙ ap (λ x. capped (t .before .before .before .loop .span + x))
+    (added .before .magnitude .ensures ∙ ap natAbs (read-back t)))
+
+within-span-requires : tie.Need-within-span-requires Inv-loop μ-loop
+within-span-requires c κs = search needs
+
+returns-4 : tie.Need-returns-4 Inv-loop μ-loop
+returns-4 c =
+    let b = c .before .before .before in
+    c .within-span .ensures ∙ passed-end _ _ (vars-hold b) (few b) (long b) _ _ _ (c .before .before .loop .inv)
+    (c .before .loop-test .left)
+
+pub sound-spec : {M : Type 1} → statement M
+sound-spec =
+    tie.close
+    (tie.spec
+    Inv-loop
+    μ-loop
+    vars-sound-requires
+    returns
+    returns-2
+    loop-holds
+    mul-t
+    element-copy-out-t
+    term-sound-requires
+    returns-3
+    magnitude-requires
+    capped-sum-requires
+    cast-least
+    add-least
+    add-i
+    loop-less
+    loop-again
+    within-span-requires
+    returns-4)

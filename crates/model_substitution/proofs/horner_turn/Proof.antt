@@ -1,0 +1,78 @@
+-- `horner_turn` multiplies and adds: a refused product is the answer, and else the sum is.
+use mathlib.Core.Path.{_≡_}
+use borrow.Author.Needs.{needs}
+use Rattle.model_types.specs.declared.Verdict.the-variants.{Accepted}
+use Rattle.model_substitution.specs.TurnLaws.{product-refused, product-operands, sum-answer}
+use Rattle.model_substitution.proofs.horner_turn.Statement.{statement}
+use Rattle.model_substitution.proofs.horner_turn.Tie as tie
+
+multiplied-requires : tie.Need-multiplied-requires
+multiplied-requires c κs =
+    let s = c .before .before .before .before .before in
+    (s .pre .0 .factors, s .pre .1)
+
+enum-told : tie.Need-enum-told
+enum-told c = search needs
+
+enum-told-2 : tie.Need-enum-told-2
+enum-told-2 c = search needs
+
+abbrev start : tie.After-multiplied → tie.Start
+start c = c .before .before .before .before .before .before
+
+-- ---- the product is refused
+same-length : tie.Need-same-length
+same-length c = search needs
+
+same-length-2 : tie.Need-same-length-2
+same-length-2 c = search needs
+
+same-length-3 : tie.Need-same-length-3
+same-length-3 c = search needs
+
+returns : tie.Need-returns
+returns c =
+    let m = c .before .before .before .before .before .before .before in
+    product-refused (start m .pre .0) (m .multiplied .ensures) (c .enum-told2 .given .1)
+
+-- ---- it is accepted
+module _ (c : tie.After-enum-told) where
+  abbrev made : tie.After-multiplied
+  made = c .before .before .before .before .before .before .before
+
+  taken : made .multiplied .result .verdict ≡ Accepted
+  taken = c .enum-told .given .1
+
+added-requires : tie.Need-added-requires
+added-requires c κs = product-operands (start (made c) .pre .0) (made c .multiplied .ensures) (taken c)
+
+same-length-4 : tie.Need-same-length-4
+same-length-4 c = search needs
+
+same-length-5 : tie.Need-same-length-5
+same-length-5 c = search needs
+
+same-length-6 : tie.Need-same-length-6
+same-length-6 c = search needs
+
+returns-2 : tie.Need-returns-2
+returns-2 c =
+    let m = made (c .before) in
+    sum-answer (start m .pre .0) (m .multiplied .ensures) (taken (c .before)) (c .added .ensures)
+
+pub horner-turn-spec : {M : Type 1} → statement M
+horner-turn-spec =
+    tie.close
+    (tie.spec
+    multiplied-requires
+    enum-told
+    enum-told-2
+    same-length
+    same-length-2
+    same-length-3
+    returns
+    added-requires
+    same-length-4
+    same-length-5
+    same-length-6
+    returns-2)

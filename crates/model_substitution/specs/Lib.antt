@@ -1,0 +1,4 @@
+pub mod Substitute
+pub mod ResultLaws
+pub mod TurnLaws
+pub mod HornerLaws

@@ -1,0 +1,6 @@
+pub mod Arrays
+pub mod ArrayLaws
+pub mod ModelStruct
+pub mod ModelStructLaws
+pub mod ZeroTestLaws
+pub mod AnswerLaws

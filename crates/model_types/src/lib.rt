@@ -1,0 +1,309 @@
+// Models held in memory: their types, the answers of a refused call, and the models of constants and variables.
+ghost use mathlib.Core.Path.{_≡_};
+ghost use Prim.Native.Nat.{_-_, _^_, _≤_};
+ghost use Rattle.calculus.specs.Key.{«key-width»};
+ghost use Rattle.calculus.specs.Model.{«zero-model»};
+ghost use Rattle.calculus.specs.Refusal.{stopped, number};
+ghost use Rattle.calculus.specs.Tests.{«vars-sound»};
+ghost use Rattle.calculus.specs.Operations.{constant, variable};
+ghost use Rattle.calculus.specs.Calls.{«call-constant», «call-variable»};
+ghost use Rattle.model_types.specs.ModelStruct.{pack, «one-term», cause, answer, bounds};
+
+// The places of a model's terms.
+pub const MOST_TERMS: usize = 64;
+
+// The largest degree of a term, and the largest order.
+pub const MOST_DEGREE: u8 = 15;
+
+// One term: four exponents of four bits each, that of variable 1 in the highest bits, and a coefficient in units of
+// 1/U.
+pub struct Term {
+    pub key: u16,
+    pub coefficient: i64,
+}
+
+// A model: the first `count` of its terms, with keys strictly rising, and a radius in units of 1/U.
+pub struct Model {
+    pub n: u8,
+    pub count: usize,
+    pub radius: u64,
+    pub terms: [Term; MOST_TERMS],
+}
+
+// Why a call is refused: one case for each number of document 01's table.
+pub enum Refusal {
+    BadLength,
+    BadMark,
+    BadLimits,
+    BadOffset,
+    BadModel,
+    BadStep,
+    OverSpan,
+    TooManyTerms,
+    LeavesBox,
+    VariablesDiffer,
+    ShortBuffer,
+}
+
+// The refusal stands with its place.
+pub enum Verdict {
+    Accepted,
+    Refused(Refusal, usize),
+}
+
+// A model, or the zero model beside a refusal.
+pub struct Answer {
+    pub model: Model,
+    pub verdict: Verdict,
+}
+
+// Two ends, or zeros beside a refusal.
+pub struct Bounds {
+    pub low: i64,
+    pub high: i64,
+    pub verdict: Verdict,
+}
+
+impl Term {
+    // What stands in a place that is not used.
+    pub const ZERO: Term = Term {
+        key: 0,
+        coefficient: 0,
+    };
+}
+
+impl Model {
+    // No terms and radius 0, in one variable.
+    pub const ZERO: Model = Model {
+        n: 1,
+        count: 0,
+        radius: 0,
+        terms: [Term::ZERO; MOST_TERMS],
+    };
+
+    // One term of key 0, coefficient U.
+    pub const ONE: Model = Model {
+        n: 1,
+        count: 1,
+        radius: 0,
+        terms: [
+            Term {
+                key: 0,
+                coefficient: fixed::UNIT as i64,
+            },
+            Term::ZERO,
+            Term::ZERO,
+            Term::ZERO,
+            Term::ZERO,
+            Term::ZERO,
+            Term::ZERO,
+            Term::ZERO,
+            Term::ZERO,
+            Term::ZERO,
+            Term::ZERO,
+            Term::ZERO,
+            Term::ZERO,
+            Term::ZERO,
+            Term::ZERO,
+            Term::ZERO,
+            Term::ZERO,
+            Term::ZERO,
+            Term::ZERO,
+            Term::ZERO,
+            Term::ZERO,
+            Term::ZERO,
+            Term::ZERO,
+            Term::ZERO,
+            Term::ZERO,
+            Term::ZERO,
+            Term::ZERO,
+            Term::ZERO,
+            Term::ZERO,
+            Term::ZERO,
+            Term::ZERO,
+            Term::ZERO,
+            Term::ZERO,
+            Term::ZERO,
+            Term::ZERO,
+            Term::ZERO,
+            Term::ZERO,
+            Term::ZERO,
+            Term::ZERO,
+            Term::ZERO,
+            Term::ZERO,
+            Term::ZERO,
+            Term::ZERO,
+            Term::ZERO,
+            Term::ZERO,
+            Term::ZERO,
+            Term::ZERO,
+            Term::ZERO,
+            Term::ZERO,
+            Term::ZERO,
+            Term::ZERO,
+            Term::ZERO,
+            Term::ZERO,
+            Term::ZERO,
+            Term::ZERO,
+            Term::ZERO,
+            Term::ZERO,
+            Term::ZERO,
+            Term::ZERO,
+            Term::ZERO,
+            Term::ZERO,
+            Term::ZERO,
+            Term::ZERO,
+            Term::ZERO,
+        ],
+    };
+}
+
+// Document 01's number of a refusal.
+pub fn number(refusal: Refusal) -> u8
+    ensures { λ r. ⌜ r ≡ number (cause refusal) ⌝ }
+{
+    match refusal {
+        Refusal::BadLength => 1,
+        Refusal::BadMark => 2,
+        Refusal::BadLimits => 3,
+        Refusal::BadOffset => 4,
+        Refusal::BadModel => 5,
+        Refusal::BadStep => 6,
+        Refusal::OverSpan => 7,
+        Refusal::TooManyTerms => 8,
+        Refusal::LeavesBox => 9,
+        Refusal::VariablesDiffer => 10,
+        Refusal::ShortBuffer => 11,
+    }
+}
+
+// The answers of a refused call.
+pub fn refuse(refusal: Refusal, place: usize) -> Answer
+    ensures { λ r. ⌜ r ≡ answer (stopped (cause refusal) place) ⌝ }
+{
+    Answer {
+        model: Model::ZERO,
+        verdict: Verdict::Refused(refusal, place),
+    }
+}
+
+pub fn refuse_bounds(refusal: Refusal, place: usize) -> Bounds
+    ensures { λ r. ⌜ r ≡ bounds (stopped (cause refusal) place) ⌝ }
+{
+    Bounds {
+        low: 0,
+        high: 0,
+        verdict: Verdict::Refused(refusal, place),
+    }
+}
+
+// Whether n is 1 to 4.
+pub fn vars_sound(n: u8) -> bool
+    ensures { λ r. ⌜ r ≡ vars-sound n ⌝ }
+{
+    1 <= n && n <= 4
+}
+
+// A model without terms, in n variables.
+pub fn without_terms(n: u8) -> Model
+    ensures { λ r. ⌜ r ≡ pack (zero-model n) ⌝ }
+{
+    Model {
+        n: n,
+        count: 0,
+        radius: 0,
+        terms: [Term::ZERO; MOST_TERMS],
+    }
+}
+
+// A model of one term.
+fn of_one_term(n: u8, key: u16, coefficient: i64) -> Model
+    requires { ⌜ n ≤ key-width ⌝ }
+    ensures { λ r. ⌜ r ≡ pack (one-term n key coefficient) ⌝ }
+{
+    let mut out = [Term::ZERO; MOST_TERMS];
+    out[0] = Term {
+        key: key,
+        coefficient: coefficient,
+    };
+    Model {
+        n: n,
+        count: 1,
+        radius: 0,
+        terms: out,
+    }
+}
+
+// The key of variable i.
+fn variable_key(i: u8) -> u16
+    requires { ⌜ (1 ≤ i) × (i ≤ 4) ⌝ }
+    ensures { λ r. ⌜ r ≡ 16 ^ (4 - i) ⌝ }
+{
+    if i == 1 {
+        return 4096;
+    }
+    if i == 2 {
+        return 256;
+    }
+    if i == 3 {
+        return 16;
+    }
+    1
+}
+
+// The model of a constant.
+pub fn constant_of(n: u8, value: i64) -> Model
+    requires { ⌜ n ≤ key-width ⌝ }
+    ensures { λ r. ⌜ r ≡ pack (constant n value) ⌝ }
+{
+    if value == 0 {
+        without_terms(n)
+    } else {
+        of_one_term(n, 0, value)
+    }
+}
+
+// The model of a variable.
+pub fn variable_of(n: u8, i: u8) -> Model
+    requires { ⌜ (1 ≤ i) × (i ≤ n) × (n ≤ key-width) ⌝ }
+    ensures { λ r. ⌜ r ≡ pack (variable n i) ⌝ }
+{
+    of_one_term(n, variable_key(i), fixed::unit())
+}
+
+impl Model {
+    // The call for a constant, from -2^30 to 2^30.
+    pub fn constant(n: u8, value: i64) -> Answer
+        ensures { λ r. ⌜ r ≡ answer (call-constant n value) ⌝ }
+    {
+        if !vars_sound(n) {
+            return refuse(Refusal::BadLimits, 0);
+        }
+        if !fixed::constant_within_limits(value) {
+            return refuse(Refusal::BadStep, 0);
+        }
+        Answer {
+            model: constant_of(n, value),
+            verdict: Verdict::Accepted,
+        }
+    }
+
+    // The call for a variable, from 1 to n.
+    pub fn variable(n: u8, i: u8) -> Answer
+        ensures { λ r. ⌜ r ≡ answer (call-variable n i) ⌝ }
+    {
+        if !vars_sound(n) {
+            return refuse(Refusal::BadLimits, 0);
+        }
+        if i < 1 {
+            return refuse(Refusal::BadStep, 0);
+        }
+        if n < i {
+            return refuse(Refusal::BadStep, 0);
+        }
+        Answer {
+            model: variable_of(n, i),
+            verdict: Verdict::Accepted,
+        }
+    }
+}

@@ -1,0 +1,133 @@
+-- A sweep, one term after the other: what is kept and what goes into the radius.
+use mathlib.Core.Path.{_≡_, refl, sym, _∙_, ap, subst}
+use mathlib.Core.Bool.{Bool, true, false, not, _&&_}
+use mathlib.Core.List.{List, [], _∷_, _++_, map}
+use Prim.Native.Nat.{ℕ, _+_, _≤_, _<_}
+use native.Mathlib.Omega.{arith}
+use lib.Dec.{T, eqb, leb}
+use lib.IntN.{ℤ, natAbs}
+use lib.ListN.{length, getD, set, length-append}
+use Rattle.polynomial.specs.Polynomial as P
+use Rattle.calculus.specs.Key.{key-width, monomial-of}
+use Rattle.calculus.specs.Terms.{Terms, select, sum-over, size}
+use Rattle.calculus.specs.TermsLaws.{length-select}
+use Rattle.calculus.specs.SumLaws.{ℕ-addition, sum-snoc}
+use Rattle.calculus.specs.Model.{most-terms, span}
+use Rattle.calculus.specs.Operations.{is-small, sweep}
+use Rattle.model_types.specs.declared.Term.{Term}
+use Rattle.model_types.specs.declared.Model.{Model}
+use Rattle.model_types.specs.ModelStruct.{zero-term, view-term, view, pack-term, pad, pack}
+use Rattle.calculus.specs.MonomialKeyLaws.{constant-monomial}
+use Rattle.model_types.specs.ModelStructLaws.{pack-view-term, read, length-read, term-at, view-is, read-within-span}
+use Rattle.model_types.specs.ModelStructLaws.{select-more, select-same, select-turn, sum-select-le, size-more}
+
+-- the test by key and size
+small-test : (t n z : ℕ) (c : ℤ) → n ≤ key-width → z < 65536
+    → is-small t (monomial-of n z) c ≡ not (eqb z 0) && leb (natAbs c) t
+unfolding is-small
+small-test t n z c l h = ap (λ b. not b && leb (natAbs c) t) (constant-monomial n z l h)
+
+size-snoc : (p : Terms) (t : P.Term ℤ) → size (p ++ (t ∷ [])) ≡ size p + natAbs (t .coefficient)
+unfolding size
+size-snoc p t = sum-snoc ℕ-addition (λ k c. natAbs c) p t
+
+module _ (t : ℕ) (m : Model) where
+  -- what stays
+  abbrev large : List ℕ → ℤ → Bool
+  large k c = not (is-small t k c)
+
+  abbrev before : (i : ℕ) → Terms
+  before i = read (m .n) i (m .terms)
+
+  pub record Swept (out : List Term) (count radius i : ℕ) : Type 0 where
+    pub within : i ≤ m .count
+    pub stored : out ≡ pad (map pack-term (select large (before i)))
+    pub counted : count ≡ length (select large (before i))
+    pub sum : radius ≡ m .radius + size (select (is-small t) (before i))
+
+  pub swept-first : Swept (pad []) 0 (m .radius) 0
+  unfolding select size sum-over
+  swept-first = record { within = omega arith; stored = refl; counted = refl; sum = omega arith }
+
+  module _ (w : m .count ≤ length (m .terms)) (out : List Term) (count radius i : ℕ) (h : Swept out count radius i)
+    where
+      -- there is room
+      pub swept-room : count ≤ i
+      swept-room = omega (
+        arith,
+        h .counted,
+        length-select large (before i),
+        length-read (m .n) i (m .terms) (omega (arith, h .within)),
+      )
+
+      pub swept-end : m .count ≤ i
+          → record { n = m .n; count = count; radius = radius; terms = out } ≡ pack (sweep t (view m))
+      unfolding pack sweep
+      swept-end l =
+          let e : i ≡ m .count = omega (arith, h .within) in rw (view-is m w, h .stored, h .counted, h .sum, e)
+
+      module _ (l : i < m .count) (width : m .n ≤ key-width) (small : getD (m .terms) i zero-term .key < 65536) where
+        abbrev at : Term
+        at = getD (m .terms) i zero-term
+
+        pub swept-within : radius + natAbs (at .coefficient) ≤ span (view m)
+        unfolding size
+        swept-within = omega (
+          arith,
+          h .sum,
+          sum-select-le (λ k c. natAbs c) (is-small t) (before i),
+          size-more (m .n) i (m .terms) (omega arith),
+          read-within-span m (i + 1) w (omega arith),
+        )
+
+        test : is-small t (term-at (m .n) i (m .terms) .exponents) (term-at (m .n) i (m .terms) .coefficient)
+            ≡ not (eqb (at .key) 0) && leb (natAbs (at .coefficient)) t
+        unfolding view-term
+        test = small-test t (m .n) (at .key) (at .coefficient) width small
+
+        pub swept-drop : not (eqb (at .key) 0) && leb (natAbs (at .coefficient)) t ≡ true
+            → Swept out count (radius + natAbs (at .coefficient)) (i + 1)
+        unfolding view-term
+        swept-drop s = record {
+          within = omega arith;
+          stored = h .stored ∙ ap (λ p. pad (map pack-term p)) (sym unchanged);
+          counted = h .counted ∙ ap length (sym unchanged);
+          sum = ap (λ r. r + natAbs (at .coefficient)) (h .sum)
+              ∙ omega (arith, ap size more, size-snoc (select (is-small t) (before i)) (term-at (m .n) i (m .terms)));
+        }
+          where
+            drops : T (is-small t (term-at (m .n) i (m .terms) .exponents) (term-at (m .n) i (m .terms) .coefficient))
+            drops = subst T (sym (test ∙ s)) tt
+
+            more : select (is-small t) (before (i + 1))
+                ≡ select (is-small t) (before i) ++ (term-at (m .n) i (m .terms) ∷ [])
+            more = select-more (m .n) i (m .terms) (omega arith) (is-small t) drops
+
+            unchanged : select large (before (i + 1)) ≡ select large (before i)
+            unchanged = select-same (m .n) i (m .terms) (omega arith) large
+                (subst (λ b. T (not (not b))) (sym (test ∙ s)) tt)
+
+        pub swept-keep : not (eqb (at .key) 0) && leb (natAbs (at .coefficient)) t ≡ false → i < most-terms
+            → Swept (set out count at) (count + 1) radius (i + 1)
+        swept-keep s k = record {
+          within = omega arith;
+          stored = ap (set out count) (sym (pack-view-term (m .n) at width small))
+              ∙ select-turn large (m .n) i count (m .terms) out (omega arith) (omega (arith, swept-room)) stays
+              (h .counted) (h .stored);
+          counted = omega (
+            arith,
+            h .counted,
+            ap length more,
+            length-append (select large (before i)) (term-at (m .n) i (m .terms) ∷ []),
+          );
+          sum = h .sum ∙ ap (λ p. m .radius + size p) (sym unchanged);
+        }
+          where
+            stays : T (large (term-at (m .n) i (m .terms) .exponents) (term-at (m .n) i (m .terms) .coefficient))
+            stays = subst (λ b. T (not b)) (sym (test ∙ s)) tt
+
+            more : select large (before (i + 1)) ≡ select large (before i) ++ (term-at (m .n) i (m .terms) ∷ [])
+            more = select-more (m .n) i (m .terms) (omega arith) large stays
+
+            unchanged : select (is-small t) (before (i + 1)) ≡ select (is-small t) (before i)
+            unchanged = select-same (m .n) i (m .terms) (omega arith) (is-small t) stays

@@ -1,0 +1,75 @@
+// Operations on one model: the signs turned, and small terms swept into the radius.
+ghost use mathlib.Core.Path.{_≡_};
+ghost use mathlib.Core.Bool.{not, _&&_};
+ghost use lib.Dec.{T, eqb, leb};
+ghost use Rattle.calculus.specs.Model.{«most-degree», sound};
+ghost use Rattle.calculus.specs.Operations.{negate, sweep};
+ghost use Rattle.model_types.specs.ModelStruct.{view, pack};
+use model_types::MOST_TERMS;
+use model_types::Model;
+use model_types::Term;
+
+// Whether a term is swept: not the constant one, and not above the threshold.
+fn is_small(threshold: u64, key: u16, size: u64) -> bool
+    ensures { λ r. ⌜ r ≡ (not (eqb key 0) && leb size threshold) ⌝ }
+{
+    if key == 0 {
+        return false;
+    }
+    size <= threshold
+}
+
+// All signs turned.
+pub fn negated(m: Model) -> Model
+    requires { ⌜ T (sound most-degree (view m)) ⌝ }
+    ensures { λ r. ⌜ r ≡ pack (negate (view m)) ⌝ }
+{
+    let count = m.count;
+    let mut turned = [Term::ZERO; MOST_TERMS];
+    let mut i = 0;
+    while i < count {
+        let t = m.terms[i];
+        let old = t.coefficient;
+        let new = fixed::negated(old);
+        turned[i] = Term {
+            key: t.key,
+            coefficient: new,
+        };
+        i += 1;
+    }
+    Model {
+        n: m.n,
+        count: count,
+        radius: m.radius,
+        terms: turned,
+    }
+}
+
+// Terms other than the constant one with coefficients up to the threshold dropped, their size added to the radius.
+pub fn swept(m: Model, threshold: u64) -> Model
+    requires { ⌜ T (sound most-degree (view m)) ⌝ }
+    ensures { λ r. ⌜ r ≡ pack (sweep threshold (view m)) ⌝ }
+{
+    let total = m.count;
+    let mut out = [Term::ZERO; MOST_TERMS];
+    let mut count = 0;
+    let mut radius = m.radius;
+    let mut i = 0;
+    while i < total {
+        let t = m.terms[i];
+        let size = fixed::magnitude(t.coefficient);
+        i += 1;
+        if is_small(threshold, t.key, size) {
+            radius += size;
+        } else {
+            out[count] = t;
+            count += 1;
+        }
+    }
+    Model {
+        n: m.n,
+        count: count,
+        radius: radius,
+        terms: out,
+    }
+}

@@ -1,4 +1,0 @@
-pub mod Exponents
-pub mod Parts
-pub mod KeyExponentLaws
-pub mod PartLaws

@@ -1,0 +1,6 @@
+pub mod Wide
+pub mod Kept
+pub mod GatheringContracts
+pub mod WideLaws
+pub mod KeptTermLaws
+pub mod GatherLaws

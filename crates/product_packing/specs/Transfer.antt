@@ -1,0 +1,60 @@
+-- Terms between a struct and arrays of wide keys: the keys, and what is asked and promised on the way there and back.
+use mathlib.Core.Path.{_≡_}
+use mathlib.Core.List.{List, map}
+use Prim.Native.Nat.{ℕ, _≤_, _<_}
+use lib.IntN.{ℤ}
+use lib.ListN.{length, getD}
+use Rattle.polynomial.specs.Polynomial as P
+use Rattle.polynomial.specs.Polynomial.{exponent}
+use Rattle.fixed.specs.Fixed.{span-limit}
+use Rattle.calculus.specs.Key.{decode, key-width, key, key-exponents, wide-key}
+use Rattle.calculus.specs.Key.{Below}
+use Rattle.calculus.specs.Terms.{Terms, size}
+use Rattle.calculus.specs.Model.{most-terms, span}
+use Rattle.model_types.specs.declared.Term.{Term}
+use Rattle.model_types.specs.declared.Model.{Model}
+use Rattle.model_types.specs.ModelStruct.{view, pad}
+use Rattle.product_table.specs.Table.{terms}
+use Rattle.product_gathering.specs.Wide.{wide-terms}
+
+-- ---- from a struct
+-- the wide key of a key
+unfoldable pub widened : ℕ → ℕ
+widened z = wide-key (key-exponents key-width key-width z)
+
+-- a model within the limits, and places for its terms
+pub record Unpack-ready (m : Model) (keys : List ℕ) (coefficients : List ℤ) : Type 0 where
+  pub width : m .n ≤ key-width
+  pub few : m .count ≤ most-terms
+  pub small : span (view m) ≤ span-limit
+  pub keys-room : most-terms ≤ length keys
+  pub coefficients-room : most-terms ≤ length coefficients
+
+-- its terms stand by their wide keys, and the total is the sum of their |c|
+pub record Unpacked (m : Model) (keys : List ℕ) (coefficients : List ℤ) (total : ℕ) : Type 0 where
+  pub held : terms (m .count) keys coefficients ≡ wide-terms (view m .terms)
+  pub sum : total ≡ size (view m .terms)
+
+-- ---- to a struct
+-- the exponents of a wide key, as many as a key has
+unfoldable pub wide-exponents : ℕ → List ℕ
+wide-exponents = decode 256 8 key-width
+
+-- the key of a wide key
+unfoldable pub narrowed : ℕ → ℕ
+narrowed z = key key-width (wide-exponents z)
+
+-- the key of the one exponent that a term at a wide key has
+unfoldable pub narrowed-term : P.Term ℤ → Term
+narrowed-term t = record { key = narrowed (exponent 0 (t .exponents)); coefficient = t .coefficient }
+
+-- terms by wide keys whose exponents fit a key
+pub record Pack-ready (count : ℕ) (keys : List ℕ) (coefficients : List ℤ) : Type 0 where
+  pub few : count ≤ most-terms
+  pub keys-long : count ≤ length keys
+  pub coefficients-long : count ≤ length coefficients
+  pub small : (i : ℕ) → i < count → Below 16 (wide-exponents (getD keys i 0))
+
+-- the struct that holds them
+unfoldable pub packed : (n radius : ℕ) → Terms → Model
+packed n radius p = record { n = n; count = length p; radius = radius; terms = pad (map narrowed-term p) }

@@ -1,0 +1,58 @@
+// An index of slots that lead to entries by their keys: where a search begins, how it goes on, and emptying.
+ghost use mathlib.Core.Path.{_≡_};
+ghost use Prim.Native.Nat.{ℕ, _<_, _≤_};
+ghost use lib.ListN.{getD};
+ghost use Rattle.product_slots.specs.Slots.{«home-slots», «home-slot», Searchable, Found};
+
+// Two odd factors found by trial: the sums of two wide keys of up to four variables then seldom begin at the same slot,
+// and those of eight variables no more often than numbers at random.
+const LOW_FACTOR: u64 = 1132569001;
+
+const HIGH_FACTOR: u64 = 2571668233;
+
+const HALF_WORD: u64 = 1 << 32;
+
+// Where the search for a key begins, of so many slots: its halves, each times its factor, are added modulo 2^32, and as
+// the sum is to 2^32 so is the slot to their number. A remainder by that number would cost a division.
+fn home_slot(homes: usize, key: u64) -> usize
+    requires { ⌜ (0 < homes) × (homes ≤ home-slots) ⌝ }
+    ensures { λ r. ⌜ (r ≡ home-slot homes key) × (r < homes) ⌝ }
+{
+    let mixed = key % HALF_WORD * LOW_FACTOR + key / HALF_WORD * HIGH_FACTOR;
+    let scaled = mixed % HALF_WORD * homes as u64;
+    (scaled / HALF_WORD) as usize
+}
+
+// The same number in a wider type.
+pub fn widened(x: u16) -> usize
+    ensures { λ r. ⌜ r ≡ x ⌝ }
+{
+    x as usize
+}
+
+// The first slot from the key's home slot on that leads to the key. It passes each entry once at the most, so that
+// 4,096 products pass some eight million slots at the worst, where all keys have the same home slot.
+pub fn find(slots: &[u16], keys: &[u64], homes: usize, key: u64) -> usize
+    requires { ⌜ Searchable homes (now slots) (now keys) key ⌝ }
+    ensures { λ r. ⌜ Found homes (now (slots .entry)) (now (keys .entry)) key r ⌝ }
+{
+    let mut h = home_slot(homes, key);
+    loop {
+        let x = widened(slots[h]);
+        if keys[x] == key {
+            return h;
+        }
+        h += 1;
+    }
+}
+
+// Every slot is emptied.
+pub fn clear(slots: &mut [u16])
+    ensures { λ r. ⌜ ((s : ℕ) → getD (now (slots .exit)) s 0 ≡ 0) ⌝ }
+{
+    let mut i = 0;
+    while i < slots.len() {
+        slots[i] = 0;
+        i += 1;
+    }
+}

@@ -1,0 +1,4 @@
+pub mod Table
+pub mod AccumulatedLaws
+pub mod TermArrayLaws
+pub mod TableLaws

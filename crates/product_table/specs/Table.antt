@@ -1,0 +1,92 @@
+-- Sums by key: a list of entries in order of first occurrence, and an index of slots that leads to each by its key.
+use mathlib.Core.Path.{_≡_}
+use mathlib.Core.Bool.{true, false}
+use mathlib.Core.List.{List, [], _∷_}
+use Prim.Native.Nat.{ℕ, zero, suc, _+_, _^_, _<_, _≤_}
+use lib.Dec.{T}
+use lib.IntN.{ℤ, pos, natAbs, _+ℤ_}
+use lib.ListN.{length, getD, drop}
+use Rattle.polynomial.specs.Polynomial.{Term}
+use Rattle.calculus.specs.Monomial.{same}
+use Rattle.calculus.specs.Terms.{Terms, term, size}
+use Rattle.calculus.specs.Terms.{distinct}
+use Rattle.product_slots.specs.Slots.{home-slots, home-slot}
+
+-- ---- entries
+-- a coefficient at a key: a term in one variable
+abbrev pub at-key : ℕ → ℤ → Term ℤ
+at-key key z = term z (key ∷ [])
+
+-- what stands at no place
+abbrev pub none : Term ℤ
+none = at-key 0 (pos 0)
+
+-- what the first n places of an array of keys and of one of coefficients hold
+unfoldable pub terms : ℕ → List ℕ → List ℤ → Terms
+terms zero keys sums = []
+terms (suc n) [] sums = []
+terms (suc n) (k ∷ keys) [] = []
+terms (suc n) (k ∷ keys) (z ∷ sums) = at-key k z ∷ terms n keys sums
+
+-- the n entries of a table: from place 1 on, since place 0 serves the search
+unfoldable pub entries : ℕ → List ℕ → List ℤ → Terms
+entries n keys sums = terms n (drop 1 keys) (drop 1 sums)
+
+-- t added to the term of its monomial, or put behind the others where that is new
+unfoldable pub accumulated : Term ℤ → Terms → Terms
+accumulated t [] = t ∷ []
+accumulated t (s ∷ p) = elim (same (t .exponents) (s .exponents)) [
+  | true ↦ term (t .coefficient +ℤ s .coefficient) (s .exponents) ∷ p
+  | false ↦ s ∷ accumulated t p
+]
+
+-- ---- slots
+-- the most entries that a table can have
+abbrev pub most-entries : ℕ
+most-entries = 4096
+
+-- a search that begins at slot b comes to entry i, past full slots only
+pub record Reached (slots : List ℕ) (b i : ℕ) : Type 0 where
+  pub place : ℕ
+  pub after : b ≤ place
+  pub holds : getD slots place 0 ≡ i
+  pub full : (s : ℕ) → b ≤ s → s ≤ place → 0 < getD slots s 0
+
+-- the slots lead to the n entries, each from its key's home slot; no key stands twice;
+-- and the slots from homes + n on are empty
+pub record Table (homes : ℕ) (slots keys : List ℕ) (sums : List ℤ) (n : ℕ) : Type 0 where
+  pub keys-long : n < length keys
+  pub sums-long : n < length sums
+  pub low : (s : ℕ) → getD slots s 0 ≤ n
+  pub rest : (s : ℕ) → homes + n ≤ s → getD slots s 0 ≡ 0
+  pub reach : (i : ℕ) → 0 < i → i ≤ n → Reached slots (home-slot homes (getD keys i 0)) i
+  pub distinct-keys : T (distinct (entries n keys sums))
+
+-- ---- one more term
+-- there is room for one more entry, and its sum fits
+pub record Room (homes : ℕ) (slots keys : List ℕ) (sums : List ℤ) (n : ℕ) (z : ℤ) : Type 0 where
+  pub table : Table homes slots keys sums n
+  pub some : 0 < homes
+  pub not-many : homes ≤ home-slots
+  pub slots-room : homes + (n + 1) < length slots
+  pub keys-room : n + 1 < length keys
+  pub sums-room : n + 1 < length sums
+  pub few : n + 1 < 2 ^ 16
+  pub small : natAbs z + size (entries n keys sums) < 2 ^ 63
+
+-- the table holds those entries and t
+pub record Added (homes : ℕ) (old : Terms) (n : ℕ) (t : Term ℤ) (slots keys : List ℕ) (sums : List ℤ) (count : ℕ)
+    : Type 0 where
+  pub table : Table homes slots keys sums count
+  pub few : count ≤ n + 1
+  pub sum : entries count keys sums ≡ accumulated t old
+
+-- the entry that a slot's number x leads to: x, or the next where the slot is empty
+pub record Placed (x next place : ℕ) : Type 0 where
+  pub new : x ≡ 0 → place ≡ next
+  pub known : 0 < x → place ≡ x
+
+-- how many entries there are then
+pub record Counted (x n count : ℕ) : Type 0 where
+  pub new : x ≡ 0 → count ≡ n + 1
+  pub known : 0 < x → count ≡ n

@@ -1,0 +1,10 @@
+pub mod BookStruct
+pub mod BookStructLaws
+pub mod TestedLaws
+pub mod CodeLaws
+pub mod Failing
+pub mod FailingLaws
+pub mod Cleared
+pub mod UndoLaws
+pub mod Zeros
+pub mod ZeroLaws

@@ -1,0 +1,174 @@
+// Books held in memory: their types, test 3, and test 6 of one step.
+ghost use mathlib.Core.Path.{_≡_};
+ghost use Rattle.calculus.specs.Model.{between};
+ghost use Rattle.calculus.specs.Book.{«limits-sound»};
+ghost use Rattle.format.specs.HeldBook.{outline};
+ghost use Rattle.format.specs.Fields.{«limit-a», «limit-b», «v-sound», «value-sound», «fields-sound»};
+ghost use Rattle.sheet_book.specs.BookStruct.{«held-step»};
+use model_types::Model;
+use model_types::Term;
+use model_types::Verdict;
+
+// The places of a book's models.
+pub const MOST_MODELS: usize = 16;
+
+// The places of its steps.
+pub const MOST_STEPS: usize = 64;
+
+// The codes of steps: 0 to this.
+const LAST_CODE: u8 = 8;
+
+// A step: its code and its fields.
+pub struct Step {
+    pub code: u8,
+    pub a: u8,
+    pub b: u8,
+    pub v: u8,
+    pub value: i64,
+}
+
+// A book: n, the order d, the first `model_count` of its models and the first `step_count` of its steps.
+pub struct Book {
+    pub n: u8,
+    pub d: u8,
+    pub model_count: usize,
+    pub step_count: usize,
+    pub models: [Model; MOST_MODELS],
+    pub steps: [Step; MOST_STEPS],
+}
+
+// A book, or one of zeros beside a refusal.
+pub struct Read {
+    pub book: Book,
+    pub verdict: Verdict,
+}
+
+// The length of what was written, or 0 beside a refusal.
+pub struct Written {
+    pub length: usize,
+    pub verdict: Verdict,
+}
+
+// What stands in a model's place that is not used: zeros, also for n.
+pub const NO_MODEL: Model = Model {
+    n: 0,
+    count: 0,
+    radius: 0,
+    terms: [Term::ZERO; model_types::MOST_TERMS],
+};
+
+impl Step {
+    // What stands in a step's place that is not used.
+    pub const ZERO: Step = Step {
+        code: 0,
+        a: 0,
+        b: 0,
+        v: 0,
+        value: 0,
+    };
+}
+
+// ---- test 3
+
+// Whether i is 1 to `most`.
+fn from_one(most: u8, i: u8) -> bool
+    ensures { λ r. ⌜ r ≡ between 1 most i ⌝ }
+{
+    if i < 1 {
+        return false;
+    }
+    i <= most
+}
+
+// Whether n, d and the counts are within their limits.
+pub fn limits_sound(n: u8, d: u8, models: usize, steps: usize) -> bool
+    ensures { λ r. ⌜ r ≡ limits-sound (outline n d models steps) ⌝ }
+{
+    if !model_types::vars_sound(n) {
+        return false;
+    }
+    if !from_one(model_types::MOST_DEGREE, d) {
+        return false;
+    }
+    if MOST_MODELS < models {
+        return false;
+    }
+    if steps < 1 {
+        return false;
+    }
+    steps <= MOST_STEPS
+}
+
+// ---- test 6, field by field: a field that the code does not name is 0
+
+// What field a is below: the count of models for an input, the step's own number where a is a step.
+fn limit_a(models: usize, i: usize, code: u8) -> usize
+    ensures { λ r. ⌜ r ≡ limit-a models i code ⌝ }
+{
+    if code == 0 {
+        return models;
+    }
+    if 3 <= code {
+        return i;
+    }
+    1
+}
+
+// What field b is below.
+fn limit_b(i: usize, code: u8) -> usize
+    ensures { λ r. ⌜ r ≡ limit-b i code ⌝ }
+{
+    if code < 4 {
+        return 1;
+    }
+    if 7 < code {
+        return 1;
+    }
+    i
+}
+
+// Whether field v is a variable of n where the code names it.
+fn v_sound(n: u8, code: u8, v: u8) -> bool
+    ensures { λ r. ⌜ r ≡ v-sound n code v ⌝ }
+{
+    if code == 2 {
+        return from_one(n, v);
+    }
+    if code == 7 {
+        return from_one(n, v);
+    }
+    v == 0
+}
+
+// Whether the value is a constant or a threshold where the code names it.
+fn value_sound(code: u8, value: i64) -> bool
+    ensures { λ r. ⌜ r ≡ value-sound code value ⌝ }
+{
+    if code == 1 {
+        return fixed::constant_within_limits(value);
+    }
+    if code == 8 {
+        return fixed::threshold_within_limits(value);
+    }
+    fixed::magnitude(value) == 0
+}
+
+// Whether step i of a book has its form.
+pub fn step_sound(n: u8, models: usize, i: usize, s: Step) -> bool
+    ensures { λ r. ⌜ r ≡ fields-sound n models i (held-step s) ⌝ }
+{
+    let code = s.code;
+    if LAST_CODE < code {
+        return false;
+    }
+    if limit_a(models, i, code) <= s.a as usize {
+        return false;
+    }
+    if limit_b(i, code) <= s.b as usize {
+        return false;
+    }
+    if !v_sound(n, code, s.v) {
+        return false;
+    }
+    value_sound(code, s.value)
+}

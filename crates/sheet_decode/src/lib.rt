@@ -1,0 +1,127 @@
+// The fields of a sheet's records at a place of its bytes: numbers, terms, steps and the trailer.
+ghost use mathlib.Core.Path.{_≡_};
+ghost use Prim.Native.Nat.{_+_, _≤_, _<_};
+ghost use lib.ListN.{length, drop};
+ghost use Rattle.format.specs.Bytes.{byte, u16, u32, signed};
+ghost use Rattle.format.specs.Format.{«read-term», «read-step», «read-trailer»};
+ghost use Rattle.sheet_book.specs.BookStruct.{«stored-term», «stored-step»};
+ghost use Rattle.sheet_decode.specs.Trailer.{«stored-trailer»};
+use model_types::Term;
+use sheet_book::Step;
+
+// The least number of 32 bits that stands for a negative one.
+const SIGN_BIT: u32 = 1 << 31;
+
+// What a trailer says: n, d, the counts, the offset of the first step, and whether the mark stands.
+pub struct Trailer {
+    pub n: u8,
+    pub d: u8,
+    pub models: u8,
+    pub steps: u8,
+    pub offset: u16,
+    pub marked: bool,
+}
+
+// ---- numbers at a place, little-endian
+
+// A byte.
+pub fn byte_at(s: &[u8], at: usize) -> u8
+    requires { ⌜ at < length (now s) ⌝ }
+    ensures { λ r. ⌜ r ≡ byte at (now (s .entry)) ⌝ }
+{
+    s[at]
+}
+
+// 2 bytes without a sign.
+pub fn u16_at(s: &[u8], at: usize) -> u16
+    requires { ⌜ at + 2 ≤ length (now s) ⌝ }
+    ensures { λ r. ⌜ r ≡ u16 (drop at (now (s .entry))) ⌝ }
+{
+    let low = byte_at(s, at) as u16;
+    let high = byte_at(s, at + 1) as u16;
+    low + 256 * high
+}
+
+// 4 bytes without a sign.
+pub fn u32_at(s: &[u8], at: usize) -> u32
+    requires { ⌜ at + 4 ≤ length (now s) ⌝ }
+    ensures { λ r. ⌜ r ≡ u32 (drop at (now (s .entry))) ⌝ }
+{
+    let first = byte_at(s, at) as u32;
+    let second = byte_at(s, at + 1) as u32;
+    let third = byte_at(s, at + 2) as u32;
+    let fourth = byte_at(s, at + 3) as u32;
+    first + 256 * (second + 256 * (third + 256 * fourth))
+}
+
+// The integer of 32 bits, two's complement.
+fn signed_of(bits: u32) -> i64
+    ensures { λ r. ⌜ r ≡ signed bits ⌝ }
+{
+    if bits < SIGN_BIT {
+        bits as i64
+    } else {
+        bits as i64 - format::WORD
+    }
+}
+
+// 4 bytes, two's complement.
+fn signed_at(s: &[u8], at: usize) -> i64
+    requires { ⌜ at + 4 ≤ length (now s) ⌝ }
+    ensures { λ r. ⌜ r ≡ signed (u32 (drop at (now (s .entry)))) ⌝ }
+{
+    signed_of(u32_at(s, at))
+}
+
+// ---- records at a place
+
+// A term: key and coefficient.
+pub fn term_at(s: &[u8], at: usize) -> Term
+    requires { ⌜ at + 6 ≤ length (now s) ⌝ }
+    ensures { λ r. ⌜ r ≡ stored-term (read-term (drop at (now (s .entry)))) ⌝ }
+{
+    Term {
+        key: u16_at(s, at),
+        coefficient: signed_at(s, at + 2),
+    }
+}
+
+// A step: code, a, b, v and value.
+pub fn step_at(s: &[u8], at: usize) -> Step
+    requires { ⌜ at + 8 ≤ length (now s) ⌝ }
+    ensures { λ r. ⌜ r ≡ stored-step (read-step (drop at (now (s .entry)))) ⌝ }
+{
+    Step {
+        code: byte_at(s, at),
+        a: byte_at(s, at + 1),
+        b: byte_at(s, at + 2),
+        v: byte_at(s, at + 3),
+        value: signed_at(s, at + 4),
+    }
+}
+
+// Whether the mark stands in the last two bytes of a trailer.
+fn marked_at(s: &[u8], at: usize) -> bool
+    requires { ⌜ at + 8 ≤ length (now s) ⌝ }
+    ensures { λ r. ⌜ r ≡ read-trailer (drop at (now (s .entry))) .marked ⌝ }
+{
+    if byte_at(s, at + 6) != format::FIRST_MARK {
+        return false;
+    }
+    byte_at(s, at + 7) == format::SECOND_MARK
+}
+
+// A trailer.
+pub fn trailer_at(s: &[u8], at: usize) -> Trailer
+    requires { ⌜ at + 8 ≤ length (now s) ⌝ }
+    ensures { λ r. ⌜ r ≡ stored-trailer (read-trailer (drop at (now (s .entry)))) ⌝ }
+{
+    Trailer {
+        n: byte_at(s, at),
+        d: byte_at(s, at + 1),
+        models: byte_at(s, at + 2),
+        steps: byte_at(s, at + 3),
+        offset: u16_at(s, at + 4),
+        marked: marked_at(s, at),
+    }
+}

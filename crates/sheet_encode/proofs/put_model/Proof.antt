@@ -1,0 +1,179 @@
+-- `put_model` puts the radius and the count, and the terms behind them.
+use mathlib.Core.Path.{_≡_, sym, _∙_, ap}
+use mathlib.Core.List.{map}
+use Prim.Native.Nat.{_+_, _*_, _-_, _<_, _≤_}
+use native.Mathlib.Omega.{arith}
+use borrow.Author.Needs.{needs}
+use lib.ListN.{length, getD, set, length-map, length-set}
+use lib.Seq.{sets}
+use mir.Facts.{toZ-ofZ}
+use mir.Syntax.{w64}
+use mir.Val.{toZ, ofZ}
+use Rattle.model_types.specs.declared.Term.{Term}
+use Rattle.model_types.specs.declared.Model.{Model}
+use Rattle.model_types.specs.ModelStruct.{zero-term}
+use Rattle.format.specs.Bytes.{join}
+use Rattle.format.specs.Format.{term-bytes}
+use Rattle.format.specs.ReadBackLaws.{length-term, length-terms}
+use Rattle.sheet_book.specs.BookStruct.{held-term, held-model}
+use Rattle.sheet_encode.specs.RecordLoopLaws.{Put, put-first, put-length, put-room, put-turn, put-end}
+use Rattle.sheet_encode.specs.StoreLaws.{model-stores}
+use Rattle.sheet_encode.specs.FittingLaws.{count-terms, length-record, term-at, coefficient-at}
+use Rattle.sheet_encode.proofs.put_model.Statement.{statement}
+use Rattle.sheet_encode.proofs.put_model.Tie as tie
+
+abbrev Inv-loop : tie.InvT-loop
+Inv-loop buffer₀ at m count place₀ i₀ buffer place i =
+    Put term-bytes (held-model m .terms) buffer₀ (at + 5) buffer place i
+
+abbrev μ-loop : tie.MeasureT-loop
+μ-loop buffer₀ at m count place₀ i₀ buffer place i = count - i
+
+module _ (c : tie.Start Inv-loop μ-loop) where
+  whole : length (c .args .t3 .terms) ≡ 64
+  whole = simp length-map at (c .good .1 .1 .0 .1 .1 .1 .1 .1 .0 .1 .0 .1)
+
+  few : c .args .t3 .count ≤ 64
+  few = omega (arith, c .pre .0 .count, count-terms (c .args .t3))
+
+  room : c .args .at + 5 + 6 * c .args .t3 .count ≤ length (c .args .buffer .now)
+  room = omega (arith, c .pre .1, length-record (c .args .t3))
+
+cast-put-u32 : tie.Need-cast-put-u32 Inv-loop μ-loop
+unfolding held-model
+cast-put-u32 c = omega (arith, c .before .before .pre .0 .radius)
+
+put-u32-requires : tie.Need-put-u32-requires Inv-loop μ-loop
+put-u32-requires c κs = omega (arith, room (c .before .before))
+
+cast-buffer : tie.Need-cast-buffer Inv-loop μ-loop
+cast-buffer c = omega (arith, few (c .before .before .before .before .before))
+
+add-buffer : tie.Need-add-buffer Inv-loop μ-loop
+add-buffer c = search needs
+
+slice-write-buffer : tie.Need-slice-write-buffer Inv-loop μ-loop
+slice-write-buffer c =
+    omega (arith, c .before .before .put-u32 .kept .0, room (c .before .before .before .before .before))
+
+add-place : tie.Need-add-place Inv-loop μ-loop
+add-place c = search needs
+
+loop-holds : tie.Need-loop-holds Inv-loop μ-loop
+loop-holds c = put-first term-bytes _ _ _
+
+-- ---- a turn
+abbrev start : tie.At-loop Inv-loop μ-loop → tie.Start Inv-loop μ-loop
+start c = c .before .before .before .before .before .before
+
+-- the buffer keeps its length
+long : (c : tie.At-loop Inv-loop μ-loop) → length (c .loop .buffer) ≡ length (start c .args .buffer .now)
+long c = put-length term-bytes _ _ _ (c .loop .inv) ∙ (simp length-set (c .before .before .before .put-u32 .kept .0))
+
+mul-t : tie.Need-mul-t Inv-loop μ-loop
+mul-t c = omega (arith, few (start (c .before)))
+
+element-copy-out-t : tie.Need-element-copy-out-t Inv-loop μ-loop
+element-copy-out-t c = omega (arith, few (start (c .before)))
+
+module _ (c : tie.After-struct-told Inv-loop μ-loop) where
+  abbrev turn : tie.At-loop Inv-loop μ-loop
+  turn = c .before .before .before .before
+
+  abbrev held : Model
+  held = start turn .args .t3
+
+  abbrev term : Term
+  term = getD (held .terms) (turn .loop .i) zero-term
+
+  inside : turn .loop .i < held .count
+  inside = c .before .before .before .loop-test .taken
+
+  whole-count : held .count ≤ length (held .terms)
+  whole-count = omega (arith, whole (start turn), few (start turn))
+
+  read-back : toZ w64 (ofZ w64 (term .coefficient)) ≡ term .coefficient
+  read-back = toZ-ofZ (record { sfits = c .struct-told .given .1 .0 .1 })
+
+  here : getD (held-model held .terms) (turn .loop .i) (held-term zero-term) ≡ held-term term
+  here = term-at held (turn .loop .i) zero-term inside whole-count
+
+  below : turn .loop .i < length (held-model held .terms)
+  below = omega (arith, inside, count-terms held)
+
+  fits : turn .loop .place + 6 ≤ length (turn .loop .buffer)
+  fits =
+      let e = put-length term-bytes _ _ _ (turn .loop .inv) in
+      omega (
+        arith,
+        put-room term-bytes _ _ _ (turn .loop .inv) (held-term zero-term) (held-term term) below here
+            (omega (arith, e, long turn, room (start turn), length-terms (held-model held .terms), count-terms held)),
+        length-term (held-term term),
+      )
+
+put-term-requires : tie.Need-put-term-requires Inv-loop μ-loop
+put-term-requires c κs = (
+  rw (read-back c) (coefficient-at (held c) (start (turn c) .pre .0) _ _ (inside c) (whole-count c)),
+  fits c,
+)
+
+add-place-2 : tie.Need-add-place-2 Inv-loop μ-loop
+add-place-2 c =
+    let t = c .before .before .before in
+    omega (arith, fits t, long (turn t), start (turn t) .fits)
+
+add-i : tie.Need-add-i Inv-loop μ-loop
+add-i c = omega (arith, few (start (turn (c .before .before .before))))
+
+loop-less : tie.Need-loop-less Inv-loop μ-loop
+loop-less c = search needs
+
+loop-again : tie.Need-loop-again Inv-loop μ-loop
+unfolding held-term
+loop-again c =
+    let t = c .before .before .before in
+    let l = turn t in
+    put-turn term-bytes _ _ _ (l .loop .inv) (held-term zero-term) (held-term (term t)) (below t) (here t) _ _
+    (c .before .before .put-term .ensures
+    ∙ ap (λ z. sets (l .loop .buffer) (l .loop .place) (term-bytes (record { key = term t .key; coefficient = z })))
+    (read-back t))
+    (ap (λ s. l .loop .place + s) (sym (length-term (held-term (term t)))))
+
+-- ---- after the loop
+same-length : tie.Need-same-length Inv-loop μ-loop
+same-length c = long (c .before)
+
+returns : tie.Need-returns Inv-loop μ-loop
+unfolding held-model
+returns c =
+    let l = c .before in
+    let s = start l in
+    let m = s .args .t3 in
+    put-end term-bytes _ _ _ (l .loop .inv) (omega (arith, c .loop-test .left, count-terms m))
+    ∙ ap (λ b. sets (set b (s .args .at + 4) (m .count)) (s .args .at + 5)
+    (join (map term-bytes (held-model m .terms))))
+    (l .before .before .before .put-u32 .ensures)
+    ∙ model-stores (s .args .buffer .now) (s .args .at) (held-model m) (m .count) (sym (count-terms m))
+
+pub put-model-spec : {M : Type 1} → statement M
+put-model-spec =
+    tie.close
+    (tie.spec
+    Inv-loop
+    μ-loop
+    cast-put-u32
+    put-u32-requires
+    cast-buffer
+    add-buffer
+    slice-write-buffer
+    add-place
+    loop-holds
+    mul-t
+    element-copy-out-t
+    put-term-requires
+    add-place-2
+    add-i
+    loop-less
+    loop-again
+    same-length
+    returns)

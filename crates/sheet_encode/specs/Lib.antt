@@ -1,0 +1,5 @@
+pub mod Fitting
+pub mod BitsLaws
+pub mod RecordLoopLaws
+pub mod StoreLaws
+pub mod FittingLaws

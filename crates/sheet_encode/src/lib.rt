@@ -1,0 +1,110 @@
+// One record of a sheet put into a lent buffer: its fields one behind the other, numbers little-endian.
+ghost use mathlib.Core.Path.{_≡_};
+ghost use Prim.Native.Nat.{_+_, _^_, _<_, _≤_};
+ghost use lib.IntN.{natAbs};
+ghost use lib.ListN.{length};
+ghost use lib.Seq.{sets};
+ghost use Rattle.format.specs.Bytes.{«u16-bytes», «u32-bytes», bits};
+ghost use Rattle.format.specs.Format.{«term-bytes», «model-bytes», «step-bytes»};
+ghost use Rattle.sheet_book.specs.BookStruct.{«held-model», «held-step»};
+ghost use Rattle.sheet_encode.specs.Fitting.{Model-fits};
+use model_types::Model;
+use sheet_book::Step;
+
+// ---- numbers, little-endian; the rest of the buffer stays
+
+// Two bytes.
+pub fn put_u16(buffer: &mut [u8], at: usize, x: u16)
+    requires { ⌜ at + 2 ≤ length (now buffer) ⌝ }
+    ensures { λ r. ⌜ now (buffer .exit) ≡ sets (now (buffer .entry)) at (u16-bytes x) ⌝ }
+{
+    buffer[at] = (x % 256) as u8;
+    buffer[at + 1] = (x / 256 % 256) as u8;
+}
+
+// Four bytes.
+fn put_u32(buffer: &mut [u8], at: usize, u: u32)
+    requires { ⌜ at + 4 ≤ length (now buffer) ⌝ }
+    ensures { λ r. ⌜ now (buffer .exit) ≡ sets (now (buffer .entry)) at (u32-bytes u) ⌝ }
+{
+    buffer[at] = (u % 256) as u8;
+    buffer[at + 1] = (u / 256 % 256) as u8;
+    buffer[at + 2] = (u / 256 / 256 % 256) as u8;
+    buffer[at + 3] = (u / 256 / 256 / 256 % 256) as u8;
+}
+
+// Two's complement in 32 bits. Coefficients and values that pass the tests are at most the span limit in size, which
+// `span-four-bytes` puts below 2^31.
+fn bits_of(z: i64) -> u32
+    requires { ⌜ natAbs z < 2 ^ 31 ⌝ }
+    ensures { λ r. ⌜ r ≡ bits z ⌝ }
+{
+    if z < 0 {
+        (z + format::WORD) as u32
+    } else {
+        z as u32
+    }
+}
+
+// Four bytes with a sign.
+fn put_i32(buffer: &mut [u8], at: usize, z: i64)
+    requires { ⌜ natAbs z < 2 ^ 31 ⌝ }
+    requires { ⌜ at + 4 ≤ length (now buffer) ⌝ }
+    ensures { λ r. ⌜ now (buffer .exit) ≡ sets (now (buffer .entry)) at (u32-bytes (bits z)) ⌝ }
+{
+    let u = bits_of(z);
+    put_u32(buffer, at, u);
+}
+
+// ---- records
+
+// A term.
+fn put_term(buffer: &mut [u8], at: usize, key: u16, coefficient: i64)
+    requires { ⌜ natAbs coefficient < 2 ^ 31 ⌝ }
+    requires { ⌜ at + 6 ≤ length (now buffer) ⌝ }
+    ensures { λ r. ⌜ now (buffer .exit)
+        ≡ sets (now (buffer .entry)) at (term-bytes (record { key = key; coefficient = coefficient })) ⌝ }
+{
+    put_u16(buffer, at, key);
+    put_i32(buffer, at + 2, coefficient);
+}
+
+// A model.
+pub fn put_model(buffer: &mut [u8], at: usize, m: Model)
+    requires { ⌜ Model-fits (held-model m) ⌝ }
+    requires { ⌜ at + length (model-bytes (held-model m)) ≤ length (now buffer) ⌝ }
+    ensures { λ r. ⌜ now (buffer .exit) ≡ sets (now (buffer .entry)) at (model-bytes (held-model m)) ⌝ }
+{
+    let count = m.count;
+    put_u32(buffer, at, m.radius as u32);
+    buffer[at + format::COUNT_AT] = count as u8;
+    let mut place = at + format::MODEL_BYTES;
+    let mut i = 0;
+    while i < count {
+        let t = m.terms[i];
+        put_term(buffer, place, t.key, t.coefficient);
+        place += format::TERM_BYTES;
+        i += 1;
+    }
+}
+
+// The length of a model's record.
+pub fn model_size(m: Model) -> usize
+    requires { ⌜ Model-fits (held-model m) ⌝ }
+    ensures { λ r. ⌜ r ≡ length (model-bytes (held-model m)) ⌝ }
+{
+    format::MODEL_BYTES + format::TERM_BYTES * m.count
+}
+
+// A step.
+pub fn put_step(buffer: &mut [u8], at: usize, s: Step)
+    requires { ⌜ natAbs (s .value) < 2 ^ 31 ⌝ }
+    requires { ⌜ at + 8 ≤ length (now buffer) ⌝ }
+    ensures { λ r. ⌜ now (buffer .exit) ≡ sets (now (buffer .entry)) at (step-bytes (held-step s)) ⌝ }
+{
+    buffer[at] = s.code;
+    buffer[at + 1] = s.a;
+    buffer[at + 2] = s.b;
+    buffer[at + 3] = s.v;
+    put_i32(buffer, at + 4, s.value);
+}

@@ -1,0 +1,36 @@
+-- Laws of a place: how long the record there should be.
+use mathlib.Core.Path.{_≡_, ap}
+use mathlib.Core.Bool.{Bool, true, false, cond}
+use mathlib.Core.List.{List}
+use Prim.Native.Nat.{ℕ, _+_, _-_, _*_, _≤_, _<_}
+use native.Mathlib.Omega.{arith}
+use borrow.Author.Tests.{lt-ltb, le-ltb}
+use lib.Dec.{ltb}
+use lib.ListN.{length, drop}
+use lib.Seq.{drop-drop}
+use Rattle.format.specs.Bytes.{byte, u16}
+use Rattle.format.specs.Format.{model-length, trailer-of, read-trailer}
+use Rattle.format.specs.ReadLoopLaws.{byte-at}
+use Rattle.sheet_record_places.specs.Places.{first-step, record-size}
+
+module _ (s : List ℕ) where
+  pub first-step-is : first-step s ≡ u16 (drop (length s - 8 + 4) s)
+  unfolding first-step read-trailer trailer-of
+  first-step-is = ap u16 (drop-drop 4 (length s - 8) s)
+
+module _ (s : List ℕ) (at : ℕ) where
+  pub size-model : at < first-step s → record-size s at ≡ 5 + 6 * byte (at + 4) s
+  unfolding record-size model-length
+  size-model h = rw (lt-ltb at (first-step s) h, byte-at at 4 s)
+
+  pub size-step : first-step s ≤ at → record-size s at ≡ 8
+  unfolding record-size
+  size-step h = rw (le-ltb at (first-step s) h)
+
+  pub size-some : 5 ≤ record-size s at
+  unfolding record-size model-length
+  size-some = go (ltb at (first-step s))
+    where
+      go : (t : Bool) → 5 ≤ cond t (5 + 6 * byte 4 (drop at s)) 8
+      go true = omega arith
+      go false = omega arith

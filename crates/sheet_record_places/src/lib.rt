@@ -1,0 +1,68 @@
+// The record at a place of a sheet: how long it is, its bytes without copying them, and where the next one stands.
+ghost use mathlib.Core.Path.{_≡_};
+ghost use Prim.Native.Nat.{_+_, _≤_, _<_};
+ghost use lib.ListN.{length};
+ghost use Rattle.sheet_record_places.specs.Places.{«first-step», «record-size», «length-at», «next-at»};
+ghost use Rattle.sheet_record_places.specs.Places.{«bytes-at»};
+
+// Where the first step stands, by the trailer.
+pub fn first_step(s: &[u8]) -> usize
+    requires { ⌜ 8 ≤ length (now s) ⌝ }
+    ensures { λ r. ⌜ r ≡ first-step (now (s .entry)) ⌝ }
+{
+    let end = s.len() - format::TRAILER_BYTES;
+    sheet_decode::u16_at(s, end + 4) as usize
+}
+
+// How long the record at a place should be: a model's by its term count.
+fn size_at(s: &[u8], at: usize) -> usize
+    requires { ⌜ at + 8 < length (now s) ⌝ }
+    ensures { λ r. ⌜ r ≡ record-size (now (s .entry)) at ⌝ }
+{
+    let first = first_step(s);
+    if at < first {
+        let count = s[at + format::COUNT_AT] as usize;
+        return format::MODEL_BYTES + format::TERM_BYTES * count;
+    }
+    format::STEP_BYTES
+}
+
+// How long it is: 0 where there is none.
+pub fn length_at(s: &[u8], at: usize) -> usize
+    ensures { λ r. ⌜ r ≡ length-at (now (s .entry)) at ⌝ }
+{
+    let length = s.len();
+    if length < format::TRAILER_BYTES {
+        return 0;
+    }
+    let end = length - format::TRAILER_BYTES;
+    if end <= at {
+        return 0;
+    }
+    let left = end - at;
+    let size = size_at(s, at);
+    if left < size {
+        return left;
+    }
+    size
+}
+
+// Where the record behind it stands: the place itself where there is none.
+pub fn next_at(s: &[u8], at: usize) -> usize
+    ensures { λ r. ⌜ r ≡ next-at (now (s .entry)) at ⌝ }
+{
+    let length = length_at(s, at);
+    at + length
+}
+
+// Its bytes: empty where there is none.
+pub fn bytes_at(s: &[u8], at: usize) -> &[u8]
+    ensures { λ r. ⌜ now r ≡ bytes-at (now (s .entry)) at ⌝ }
+{
+    let length = length_at(s, at);
+    if length == 0 {
+        return &s[0..0];
+    }
+    let next = at + length;
+    &s[at..next]
+}

@@ -1,0 +1,287 @@
+-- `last_result` runs the steps in order: the results so far and the steps that are left lead to the answer.
+use mathlib.Core.Path.{_≡_, refl, sym, _∙_, ap, subst}
+use mathlib.Core.List.{List}
+use Prim.Native.Nat.{_-_, _≤_, _<_}
+use native.Mathlib.Omega.{arith}
+use borrow.Author.Needs.{needs}
+use lib.ListN.{length, getD, length-map}
+use Rattle.calculus.specs.Book.{most-steps}
+use Rattle.format.specs.HeldBook.{Held-passes}
+use Rattle.model_types.specs.declared.Model.{Model}
+use Rattle.model_types.specs.ModelStruct.{view}
+use Rattle.sheet_book.specs.declared.Book.{Book}
+use Rattle.sheet_book.specs.declared.Step.{Step}
+use Rattle.sheet_book.specs.BookStruct.{no-step, held-step, held-book}
+use Rattle.sheet_book.specs.FailingLaws.{count-steps}
+use Rattle.sheet_running.specs.RunLaws.{empty-place, Running, Named, Step-at, running-first, first-place}
+use Rattle.sheet_running.specs.RunLaws.{second-place}
+use Rattle.sheet_running.specs.RunLaws.{model-place, step-ready, step-refused, step-accepted}
+use Rattle.sheet_running.specs.RunLaws.{last-answer}
+use Rattle.sheet_running.specs.MemoryLaws.{few-steps, some-step, step-here, model-here}
+use Rattle.sheet_step_answers.specs.Answers.{refused-answer, verdict-at}
+use Rattle.sheet_running.proofs.last_result.Statement.{statement}
+use Rattle.sheet_running.proofs.last_result.Tie as tie
+
+abbrev Inv-loop : tie.InvT-loop
+Inv-loop b n d count slots₀ keys₀ sums₀ results₀ i₀ slots keys sums results i =
+    (i ≤ count)
+    × Running (held-book b) i results
+    × (length slots ≡ length slots₀)
+    × (length keys ≡ length keys₀)
+    × (length sums ≡ length sums₀)
+
+abbrev μ-loop : tie.MeasureT-loop
+μ-loop b n d count slots₀ keys₀ sums₀ results₀ i₀ slots keys sums results i = count - i
+
+-- ---- before the loop
+without-terms-requires : tie.Need-without-terms-requires Inv-loop μ-loop
+without-terms-requires c κs = search needs
+
+module _ (c : tie.Start Inv-loop μ-loop) where
+  steps-long : length (c .args .t1 .steps) ≡ 64
+  steps-long = simp length-map at (c .good .0 .1 .1 .1 .1 .1 .1 .1 .0 .1 .0 .1)
+
+  models-long : length (c .args .t1 .models) ≡ 16
+  models-long = simp length-map at (c .good .0 .1 .1 .1 .1 .1 .1 .0 .1 .0 .1)
+
+loop-holds : tie.Need-loop-holds Inv-loop μ-loop
+unfolding most-steps held-book
+loop-holds c = (omega arith, running-first (c .before .pre) (c .without-terms .ensures), refl, refl, refl)
+
+-- ---- a turn: the step
+abbrev start : tie.At-loop Inv-loop μ-loop → tie.Start Inv-loop μ-loop
+start l = l .before .before
+
+module _ (c : tie.In-loop Inv-loop μ-loop) where
+  abbrev turn : tie.At-loop Inv-loop μ-loop
+  turn = c .before
+
+  abbrev book : Book
+  book = start turn .args .t1
+
+  abbrev pass : Held-passes (held-book book)
+  pass = start turn .pre
+
+  inside : turn .loop .i < book .«step_count»
+  inside = c .loop-test .taken
+
+  small : turn .loop .i < 64
+  small = omega (arith, inside, few-steps book pass)
+
+  -- the step at hand
+  abbrev at : Step
+  at = getD (book .steps) (turn .loop .i) no-step
+
+  here : Step-at (held-book book) (turn .loop .i) (held-step at)
+  here = step-here book pass (steps-long (start turn)) (turn .loop .i) inside
+
+  first : at .a < 64
+  unfolding held-step
+  first = first-place pass here
+
+  second : at .b < 64
+  unfolding held-step
+  second = second-place pass here
+
+mul-s : tie.Need-mul-s Inv-loop μ-loop
+mul-s c = omega (arith, small c)
+
+element-copy-out-s : tie.Need-element-copy-out-s Inv-loop μ-loop
+element-copy-out-s c = small c
+
+model-place-requires : tie.Need-model-place-requires Inv-loop μ-loop
+model-place-requires c κs = search needs
+
+mul-input : tie.Need-mul-input Inv-loop μ-loop
+mul-input c = omega (arith, c .model-place .ensures)
+
+element-copy-out-input : tie.Need-element-copy-out-input Inv-loop μ-loop
+element-copy-out-input c = omega (arith, c .model-place .ensures)
+
+cast-f : tie.Need-cast-f Inv-loop μ-loop
+cast-f c = omega (arith, first (c .before .before .before .before))
+
+mul-f : tie.Need-mul-f Inv-loop μ-loop
+mul-f c = omega (arith, first (c .before .before .before .before))
+
+array-copy-out-f : tie.Need-array-copy-out-f Inv-loop μ-loop
+array-copy-out-f c = first (c .before .before .before .before)
+
+cast-g : tie.Need-cast-g Inv-loop μ-loop
+cast-g c = omega (arith, second (c .before .before .before .before .before .before))
+
+mul-g : tie.Need-mul-g Inv-loop μ-loop
+mul-g c = omega (arith, second (c .before .before .before .before .before .before))
+
+array-copy-out-g : tie.Need-array-copy-out-g Inv-loop μ-loop
+array-copy-out-g c = second (c .before .before .before .before .before .before)
+
+slice-aggregate-step-answer : tie.Need-slice-aggregate-step-answer Inv-loop μ-loop
+slice-aggregate-step-answer c = search needs
+
+slice-aggregate-step-answer-2 : tie.Need-slice-aggregate-step-answer-2 Inv-loop μ-loop
+slice-aggregate-step-answer-2 c = search needs
+
+slice-aggregate-step-answer-3 : tie.Need-slice-aggregate-step-answer-3 Inv-loop μ-loop
+slice-aggregate-step-answer-3 c = search needs
+
+-- what its fields name
+module _ (c : tie.After-sums Inv-loop μ-loop) where
+  abbrev step : tie.In-loop Inv-loop μ-loop
+  step = c .before .before .before .before .before .before .before .before .before .before
+
+  abbrev results : List Model
+  results = turn step .loop .results
+
+  abbrev placed : tie.After-model-place Inv-loop μ-loop
+  placed = c .before .before .before .before .before .before .before .before
+
+  abbrev taken : Model
+  taken = getD (book step .models) (placed .model-place .result) empty-place
+
+  named : Named (held-book (book step)) (held-step (at step)) results taken
+      (getD results (at step .a) empty-place) (getD results (at step .b) empty-place)
+  unfolding held-step
+  named = record {
+    is-model = λ e.
+        ap (λ i. view (getD (book step .models) i empty-place))
+        (placed .model-place .ensures)
+        ∙ model-here (book step) (pass step) (models-long (start (turn step))) (at step .a) empty-place
+        (model-place (pass step) (here step) e);
+    is-first = refl;
+    is-second = refl;
+  }
+
+step-answer-requires : tie.Need-step-answer-requires Inv-loop μ-loop
+unfolding held-book
+step-answer-requires c κs = (
+  step-ready (pass (step c)) (here (step c)) (turn (step c) .loop .inv .1) (named c),
+  record { slots-room = search needs; keys-room = search needs; sums-room = search needs },
+)
+
+enum-told : tie.Need-enum-told Inv-loop μ-loop
+enum-told c = search needs
+
+enum-told-2 : tie.Need-enum-told-2 Inv-loop μ-loop
+enum-told-2 c = search needs
+
+refused-at-requires : tie.Need-refused-at-requires Inv-loop μ-loop
+refused-at-requires c κs = search needs
+
+-- ---- it is refused
+returns : tie.Need-returns Inv-loop μ-loop
+unfolding held-book
+returns c =
+    let a = c .before .before .before .before .before .before in
+    let s = step (a .before) in
+    let v = a .step-answer .result .verdict in
+    let place : c .refused-at .result ≡ refused-answer (verdict-at (turn s .loop .i) v) = c .refused-at .ensures in
+    place
+    ∙ step-refused (pass s) (here s) (turn s .loop .inv .1) (named (a .before)) (a .step-answer .ensures)
+    (c .before .enum-told2 .given .1)
+
+-- ---- it is accepted
+abbrev answered : tie.After-m Inv-loop μ-loop → tie.After-step-answer Inv-loop μ-loop
+answered c = c .before .before .before .before .before .before
+
+abbrev stepped : tie.After-m Inv-loop μ-loop → tie.In-loop Inv-loop μ-loop
+stepped c = step (answered c .before)
+
+mul-results : tie.Need-mul-results Inv-loop μ-loop
+mul-results c = omega (arith, small (stepped c))
+
+array-set-from-results : tie.Need-array-set-from-results Inv-loop μ-loop
+array-set-from-results c = small (stepped c)
+
+add-i : tie.Need-add-i Inv-loop μ-loop
+add-i c = omega (arith, small (stepped c))
+
+loop-less : tie.Need-loop-less Inv-loop μ-loop
+loop-less c = omega (arith, inside (stepped c))
+
+loop-again : tie.Need-loop-again Inv-loop μ-loop
+unfolding held-book
+loop-again c =
+    let a = answered c in
+    let s = stepped c in
+    let l = turn s .loop .inv in (
+      omega (arith, inside s),
+      step-accepted (pass s) (here s) (l .1) (named (a .before)) (a .step-answer .ensures)
+          (c .before .enum-told .given .1),
+      a .step-answer .kept .1 .1 .1 .1 .1 .1 .0 ∙ l .2,
+      a .step-answer .kept .1 .1 .1 .1 .1 .1 .1 .0 ∙ l .3,
+      a .step-answer .kept .1 .1 .1 .1 .1 .1 .1 .1 .0 ∙ l .4,
+    )
+
+-- ---- after the loop
+sub-last : tie.Need-sub-last Inv-loop μ-loop
+sub-last c = omega (arith, some-step _ (start (c .before) .pre))
+
+mul-last : tie.Need-mul-last Inv-loop μ-loop
+mul-last c = omega (arith, few-steps _ (start (c .before) .pre))
+
+array-copy-out-last : tie.Need-array-copy-out-last Inv-loop μ-loop
+array-copy-out-last c = omega (arith, few-steps _ (start (c .before) .pre), some-step _ (start (c .before) .pre))
+
+module _ (c : tie.After-last Inv-loop μ-loop) where
+  abbrev end : tie.At-loop Inv-loop μ-loop
+  end = c .before .before
+
+  abbrev whole : Book
+  whole = start end .args .t1
+
+  ended : Running (held-book whole) (length (held-book whole .steps)) (end .loop .results)
+  ended =
+      let e : end .loop .i ≡ length (held-book whole .steps) =
+      omega (arith, end .loop .inv .0, c .before .loop-test .left, count-steps whole) in
+      subst (λ i. Running (held-book whole) i (end .loop .results)) e (end .loop .inv .1)
+
+  is-last : getD (end .loop .results) (whole .«step_count» - 1) empty-place
+      ≡ getD (end .loop .results) (length (held-book whole .steps) - 1) empty-place
+  is-last = ap (λ k. getD (end .loop .results) (k - 1) empty-place) (sym (count-steps whole))
+
+accepted-requires : tie.Need-accepted-requires Inv-loop μ-loop
+accepted-requires c κs = search needs
+
+returns-2 : tie.Need-returns-2 Inv-loop μ-loop
+returns-2 c =
+    let l = c .before in
+    c .accepted .ensures ∙ last-answer (start (end l) .pre) (ended l) (is-last l)
+
+pub last-result-spec : {M : Type 1} → statement M
+last-result-spec =
+    tie.close
+    (tie.spec
+    Inv-loop
+    μ-loop
+    without-terms-requires
+    loop-holds
+    mul-s
+    element-copy-out-s
+    model-place-requires
+    mul-input
+    element-copy-out-input
+    cast-f
+    mul-f
+    array-copy-out-f
+    cast-g
+    mul-g
+    array-copy-out-g
+    slice-aggregate-step-answer
+    slice-aggregate-step-answer-2
+    slice-aggregate-step-answer-3
+    step-answer-requires
+    enum-told
+    enum-told-2
+    refused-at-requires
+    returns
+    mul-results
+    array-set-from-results
+    add-i
+    loop-less
+    loop-again
+    sub-last
+    mul-last
+    array-copy-out-last
+    accepted-requires
+    returns-2)

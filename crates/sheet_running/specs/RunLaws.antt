@@ -1,0 +1,339 @@
+-- The run of a book that passed the tests: one turn of its loop, with each way out.
+use mathlib.Core.Path.{_≡_, refl, sym, _∙_, ap, ap₂, subst}
+use mathlib.Core.Bool.{Bool, true, false, cond, _&&_}
+use mathlib.Core.List.{List, [], _∷_, _++_, map}
+use mathlib.Core.Option.{some}
+use Prim.Native.Nat.{ℕ, zero, suc, _+_, _-_, _<_, _≤_}
+use native.Mathlib.Numerals.{add-one}
+use native.Mathlib.Omega.{arith}
+use borrow.Author.Tests.{le-leb}
+use lib.Dec.{T, eqb, leb, ltb, ltb→lt, leb→le}
+use lib.ListN.{length, drop, getD, set, replicate, length-map, length-replicate, getD-replicate, drop-of-length-le}
+use lib.ListN.{List·getD-map}
+use lib.Seq.{drop-cons}
+use Rattle.calculus.specs.Model as C
+use Rattle.calculus.specs.Model.{most-vars, most-degree, zero-model, between, sound}
+use Rattle.calculus.specs.Refusal as R
+use Rattle.calculus.specs.Refusal.{accepted, refused, done, at-place, _followed-by_}
+use Rattle.calculus.specs.Tests.{vars-sound}
+use Rattle.calculus.specs.TestLaws.{and-right}
+use Rattle.calculus.specs.Refusal.{all-from}
+use Rattle.calculus.specs.SoundLaws.{Sound, zero-sound}
+use Rattle.calculus.specs.EachLaws.{All, nil, each-snoc, each-at, each-last}
+use Rattle.calculus.specs.Book.{Step, input, Book, most-steps, model-sound, step-sound}
+use Rattle.calculus.specs.Book.{model-of, result-of, run-step, run-steps, last}
+use Rattle.calculus.specs.BookLaws.{Passes, model-passes, all-from-at, next-number}
+use Rattle.calculus.specs.BookSoundLaws.{step-good}
+use Rattle.model_types.specs.Arrays.{padded}
+use Rattle.model_types.specs.ArrayLaws.{padded-more}
+use Rattle.model_types.specs.declared.Model.{Model}
+use Rattle.model_types.specs.declared.Refusal.{Refusal}
+use Rattle.model_types.specs.declared.Verdict.the-variants.{Accepted, Refused}
+use Rattle.model_types.specs.declared.Answer.{Answer}
+use Rattle.model_types.specs.ModelStruct.{view, pack, answer}
+use Rattle.model_types.specs.ModelStructLaws.{map-++}
+use Rattle.model.specs.OperationLaws.{Holds, held-vars, held-view, held-sound, Got, got}
+use Rattle.format.specs.HeldBook.{Held-step, Held-book, view-model, view-step, view-book, outline, outline-of}
+use Rattle.format.specs.HeldBook.{held-step-sound, Held-passes}
+use Rattle.format.specs.HeldBookLaws.{In-limits, in-limits, steps-pass, view-at, view-passes}
+use Rattle.format.specs.Fields.{limit-a, limit-b, v-sound}
+use Rattle.format.specs.StepFieldLaws.{Fields, fields-of}
+use Rattle.sheet_direct.specs.Direct.{step-answer}
+use Rattle.sheet_steps.specs.Steps.{Step-ready}
+use Rattle.sheet_steps.specs.StepLaws.{step-is}
+use Rattle.sheet_step_answers.specs.Answers.{accepted-answer, refused-answer, verdict-at}
+use Rattle.sheet_running.specs.Running.{last-result}
+
+-- ---- any list
+-- places of a padded array: those in use, then zeros
+getD-padded : {A : Type 0} (zeros : A) (size : ℕ) (l : List A) (i : ℕ) (x : A) → i < size
+    → getD (padded zeros size l) i x ≡ getD l i zeros
+unfolding padded
+getD-padded zeros size l i x h = go l (size - length l) i (omega arith)
+  where
+    go : (l : List _) (k i : ℕ) → i < length l + k → getD (l ++ replicate k zeros) i x ≡ getD l i zeros
+    go [] k i h = getD-replicate k i zeros x (omega arith)
+    go (y ∷ l) k zero h = refl
+    go (y ∷ l) k (suc i) h = go l k i (omega arith)
+
+-- the last of a list stands at its last place
+last-at : {A : Type 0} (x y : A) (l : List A) → last y l ≡ getD (y ∷ l) (length l) x
+unfolding last
+last-at x y [] = refl
+last-at x y (z ∷ l) = last-at x z l
+
+under-cond : (b : Bool) (x y k : ℕ) → x ≤ k → y ≤ k → cond b x y ≤ k
+under-cond true x y k p q = p
+under-cond false x y k p q = q
+
+-- each test of a list, numbered from 0
+passes-at : {A : Type 0} (ok : ℕ → A → Bool) (l : List A) (d : A) → T (all-from 0 ok l)
+    → (j : ℕ) → j < length l → T (ok j (getD l j d))
+passes-at ok l d t j k =
+    let e : 0 + j ≡ j = omega arith in
+    subst (λ i. T (ok i (getD l j d))) e (all-from-at 0 ok l d t j k)
+
+-- what is read past the end of an array of models
+abbrev pub empty-place : Model
+empty-place = record { n = 0; count = 0; radius = 0; terms = [] }
+
+-- ---- a held book
+module _ (h : Held-book) where
+  -- sound, of the book's variables and order
+  abbrev pub Good : C.Model → Type 0
+  Good = Sound (h .n) (h .d)
+
+  -- the results of the first i steps stand in an array, and the steps that are left lead to the answer
+  pub record Running (i : ℕ) (results : List Model) : Type 0 where
+    pub models : List C.Model
+    pub count : length models ≡ i
+    pub good : All Good models
+    pub stored : results ≡ padded (pack (zero-model (h .n))) most-steps (map pack models)
+    pub rest : run-steps (view-book h) models (drop i (view-book h .steps))
+        ≡ run-steps (view-book h) [] (view-book h .steps)
+
+  -- what the fields of a step name: a model, if it is an input, and two results
+  pub record Named (s : Held-step) (results : List Model) (m f g : Model) : Type 0 where
+    pub is-model : s .code ≡ 0 → view m ≡ model-of (view-book h) (s .a)
+    pub is-first : f ≡ getD results (s .a) empty-place
+    pub is-second : g ≡ getD results (s .b) empty-place
+
+  -- s is step i
+  pub record Step-at (i : ℕ) (s : Held-step) : Type 0 where
+    pub within : i < length (h .steps)
+    pub is-step : getD (h .steps) i s ≡ s
+
+-- ---- a held book that passes its tests
+module _ {h : Held-book} (p : Held-passes h) where
+  -- the book that it stands for
+  abbrev book : Book
+  book = view-book h
+
+  passes : Passes book
+  passes = view-passes h p
+
+  pub in-limits-of : In-limits (h .n) (h .d) (length (h .models)) (length (h .steps))
+  unfolding outline-of
+  in-limits-of = in-limits (h .n) (h .d) (length (h .models)) (length (h .steps)) (p .limits)
+
+  order : h .d ≤ most-degree
+  unfolding most-degree
+  order = in-limits-of .d-high
+
+  vars : vars-sound (h .n) ≡ true
+  unfolding vars-sound between most-vars
+  vars = rw (le-leb 1 (h .n) (in-limits-of .n-low), le-leb (h .n) 4 (in-limits-of .n-high))
+
+  pub running-first : {x : Model} → x ≡ pack (zero-model (h .n)) → Running h 0 (replicate most-steps x)
+  unfolding padded most-steps
+  running-first e = record {
+    models = [];
+    count = refl;
+    good = nil;
+    stored = ap (replicate most-steps) e;
+    rest = refl;
+  }
+
+  counted : length (book .steps) ≡ length (h .steps)
+  unfolding view-book
+  counted = steps-pass (outline-of h) 0 (h .steps) (p .steps) .count
+
+  -- ---- the step at hand
+  module _ {i : ℕ} {s : Held-step} (at : Step-at h i s) where
+    -- in the book that it stands for
+    abbrev step-at : Step
+    step-at = getD (book .steps) i (input 0)
+
+    stands : view-step s ≡ some step-at
+    unfolding view-book
+    stands = ap view-step (sym (at .is-step))
+        ∙ view-at (outline-of h) 0 (h .steps) s (input 0) (p .steps) i (at .within)
+
+    next : drop i (book .steps) ≡ step-at ∷ drop (i + 1) (book .steps)
+    next = drop-cons (book .steps) i (input 0) (omega (arith, counted, at .within))
+        ∙ ap (λ j. step-at ∷ drop j (book .steps)) (sym (add-one i))
+
+    step-passes : T (step-sound book i step-at)
+    step-passes = passes-at (step-sound book) (book .steps) (input 0) (passes .steps) i
+        (omega (arith, counted, at .within))
+
+    fields : Fields (outline-of h) i s
+    fields = fields-of (outline-of h) i s (subst (λ s. T (held-step-sound (outline-of h) i s)) (at .is-step)
+        (passes-at (held-step-sound (outline-of h)) (h .steps) s (p .steps) i (at .within)))
+
+    models-counted : length (outline-of h .models) ≡ length (h .models)
+    unfolding outline-of outline
+    models-counted = length-replicate (length (h .models)) (zero-model (h .n))
+
+    -- its fields are places of the results
+    pub first-place : s .a < 64
+    unfolding limit-a
+    first-place = omega (
+      arith,
+      ltb→lt (s .a) _ (fields .in-a),
+      under-cond (eqb (s .code) 0) (length (outline-of h .models)) (cond (leb 3 (s .code)) i 1) 64
+          (omega (arith, models-counted, in-limits-of .models))
+          (under-cond (leb 3 (s .code)) i 1 64 (omega (arith, at .within, in-limits-of .steps-high)) (omega arith)),
+    )
+
+    pub second-place : s .b < 64
+    unfolding limit-b
+    second-place = omega (
+      arith,
+      ltb→lt (s .b) _ (fields .in-b),
+      under-cond (leb 4 (s .code) && leb (s .code) 7) i 1 64
+          (omega (arith, at .within, in-limits-of .steps-high)) (omega arith),
+    )
+
+    -- that of an input is a model
+    pub model-place : s .code ≡ 0 → s .a < length (h .models)
+    unfolding limit-a
+    model-place e = omega (
+      arith,
+      models-counted,
+      ltb→lt (s .a) (length (outline-of h .models))
+          (subst (λ c. T (ltb (s .a) (limit-a (length (outline-of h .models)) i c))) e (fields .in-a)),
+    )
+
+    -- ---- what it asks, after the results rs
+    module _ {results : List Model} (l : Running h i results) {m f g : Model} (o : Named h s results m f g) where
+      -- a result as the book's steps see it
+      abbrev result : ℕ → C.Model
+      result = result-of book (l .models)
+
+      result-good : (a : ℕ) → Good h (result a)
+      unfolding result-of view-book
+      result-good a = each-at (λ m k. Good h k) (zero-model (h .n)) (zero-model (h .n)) (zero-sound (h .n) (h .d))
+          (l .good) a
+
+      -- and as the array holds it
+      held-result : {k : Model} (a : ℕ) → a < 64 → k ≡ getD results a empty-place → Holds (h .n) (h .d) k (result a)
+      unfolding result-of view-book most-steps
+      held-result a s e = record {
+        packed = e ∙ ap (λ r. getD r a empty-place) (l .stored)
+            ∙ getD-padded (pack (zero-model (h .n))) 64 (map pack (l .models)) a empty-place s
+            ∙ List·getD-map pack (l .models) a (zero-model (h .n));
+        sound = result-good a;
+      }
+
+      first-held : Holds (h .n) (h .d) f (result (s .a))
+      first-held = held-result (s .a) first-place (o .is-first)
+
+      second-held : Holds (h .n) (h .d) g (result (s .b))
+      second-held = held-result (s .b) second-place (o .is-second)
+
+      input-passes : s .code ≡ 0 → T (sound (h .d) (view m))
+      unfolding model-sound view-book
+      input-passes e = subst (λ m. T (sound (h .d) m)) (sym (o .is-model e))
+          (and-right (eqb (model-of book (s .a) .vars) (h .n)) _
+          (model-passes book passes (s .a) (omega (arith, model-place e, length-map (h .models) view-model))))
+
+      in-variable : T (v-sound (h .n) (s .code) (s .v))
+      unfolding outline-of outline
+      in-variable = fields .in-v
+
+      pub step-ready : Step-ready (h .n) (h .d) s m f g
+      step-ready = record {
+        vars = vars;
+        order = order;
+        code = leb→le (s .code) 8 (fields .in-code);
+        variable = in-variable;
+        input = input-passes;
+        first = held-sound vars order first-held;
+        first-vars = held-vars first-held;
+        second = held-sound vars order second-held;
+        second-vars = held-vars second-held;
+      }
+
+      -- ---- what it answers
+      -- what its code gives
+      abbrev coded : R.Answer C.Model
+      coded = step-answer (h .n) (h .d) s (view m) (view f) (view g)
+
+      -- the answer of the book's step
+      abbrev given : R.Answer C.Model
+      given = run-step book result step-at
+
+      -- the steps that are left, after its result
+      abbrev after : C.Model → R.Result (List C.Model)
+      after k = run-steps book (l .models ++ (k ∷ [])) (drop (i + 1) (book .steps))
+
+      turn : run-steps book [] (book .steps) ≡ (at-place i given followed-by after)
+      unfolding run-steps
+      turn = sym (l .rest) ∙ ap (run-steps book (l .models)) next
+          ∙ ap (λ j. at-place j given followed-by after) (l .count)
+
+      module _ {r : Answer} (e : r ≡ answer (at-place 0 coded)) where
+        is-given : r ≡ answer (at-place 0 given)
+        unfolding view-book
+        is-given = e ∙ ap (λ a. answer (at-place 0 a))
+            (ap₂ (step-answer (h .n) (h .d) s (view m)) (held-view vars order first-held)
+            (held-view vars order second-held)
+            ∙ step-is book result s step-at stands (view m) (o .is-model))
+
+        -- it is refused, and with it the run, at the number of the step
+        pub step-refused : {x : Refusal} {y : ℕ} → r .verdict ≡ Refused x y
+            → refused-answer (verdict-at i (r .verdict)) ≡ answer (last-result book)
+        unfolding last-result answer at-place verdict-at _followed-by_
+        step-refused v = stop given is-given turn
+          where
+            stop : (a : R.Answer C.Model) → r ≡ answer (at-place 0 a)
+                → run-steps book [] (book .steps) ≡ (at-place i a followed-by after)
+                → refused-answer (verdict-at i (r .verdict)) ≡ answer (last-result book)
+            stop (accepted k) q t = let z : _≡_ {A = ℕ} 0 1 = cc in absurd (omega arith)
+            stop (refused k) q t = ap (λ r. refused-answer (verdict-at i (r .verdict))) q ∙ sym (ap
+                (λ s. answer (s followed-by (λ results. done (last (zero-model (book .vars)) results)))) t)
+
+        -- it is accepted, and stored behind the others
+        pub step-accepted : r .verdict ≡ Accepted → Running h (i + 1) (set results i (r .model))
+        unfolding at-place _followed-by_ most-steps
+        step-accepted v = record {
+          models = l .models ++ (q .model ∷ []);
+          count = omega (arith, next-number (l .models) (q .model), l .count);
+          good = each-snoc (λ m k. Good h k) (l .good) (q .holds .sound);
+          stored = ap₂ (λ r m. set r i m) (l .stored) (q .holds .packed)
+              ∙ padded-more (pack (zero-model (h .n))) 64 (map pack (l .models)) i (pack (q .model))
+              (length-map (l .models) pack ∙ l .count) (omega (arith, at .within, in-limits-of .steps-high))
+              ∙ ap (padded (pack (zero-model (h .n))) 64) (sym (map-++ pack (l .models) (q .model ∷ [])));
+          rest = sym (turn ∙ ap (λ a. at-place i a followed-by after) (q .is));
+        }
+          where
+            q : Got (h .n) (h .d) given (r .model)
+            q = unfold view-book in got is-given v (step-good book passes i step-at step-passes (l .good))
+
+  -- ---- after the last step
+  module _ {results : List Model} (l : Running h (length (h .steps)) results) {m : Model}
+      (is-last : m ≡ getD results (length (h .steps) - 1) empty-place) where
+    -- the last result
+    abbrev final : C.Model
+    final = last (zero-model (h .n)) (l .models)
+
+    final-at : (k : List C.Model) → 1 ≤ length k
+        → last (zero-model (h .n)) k ≡ getD k (length k - 1) (zero-model (h .n))
+    unfolding last
+    final-at [] s = absurd (omega arith)
+    final-at (y ∷ k) s =
+        let e : length k ≡ suc (length k) - 1 = omega arith in
+        last-at (zero-model (h .n)) y k ∙ ap (λ j. getD (y ∷ k) j (zero-model (h .n))) e
+
+    final-held : Holds (h .n) (h .d) m final
+    unfolding most-steps
+    final-held = record {
+      packed = is-last ∙ ap (λ r. getD r (length (h .steps) - 1) empty-place) (l .stored)
+          ∙ getD-padded (pack (zero-model (h .n))) 64 (map pack (l .models)) (length (h .steps) - 1) empty-place
+          (omega (arith, in-limits-of .steps-low, in-limits-of .steps-high))
+          ∙ List·getD-map pack (l .models) (length (h .steps) - 1) (zero-model (h .n))
+          ∙ ap (λ j. pack (getD (l .models) (j - 1) (zero-model (h .n)))) (sym (l .count))
+          ∙ ap pack (sym (final-at (l .models) (omega (arith, l .count, in-limits-of .steps-low))));
+      sound = each-last (λ m k. Good h k) (zero-model (h .n)) (zero-model (h .n)) (zero-sound (h .n) (h .d)) (l .good);
+    }
+
+    ended : done (l .models) ≡ run-steps book [] (book .steps)
+    unfolding run-steps
+    ended = ap (run-steps book (l .models))
+        (sym (drop-of-length-le (book .steps) {i = length (h .steps)} (omega (arith, counted)))) ∙ l .rest
+
+    pub last-answer : accepted-answer m ≡ answer (last-result book)
+    unfolding last-result answer _followed-by_ view-book
+    last-answer = ap accepted-answer (final-held .packed)
+        ∙ ap (λ s. answer (s followed-by (λ results. done (last (zero-model (h .n)) results)))) ended

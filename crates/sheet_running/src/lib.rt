@@ -1,0 +1,44 @@
+// The steps of a book in order: each after the results so far, until the last or until one is refused.
+ghost use mathlib.Core.Path.{_≡_};
+ghost use Rattle.model_types.specs.ModelStruct.{answer};
+ghost use Rattle.format.specs.HeldBook.{«view-book», «Held-passes»};
+ghost use Rattle.sheet_book.specs.BookStruct.{«held-book»};
+ghost use Rattle.sheet_running.specs.Running.{«last-result»};
+use model_types::Answer;
+use model_types::Verdict;
+use sheet_book::Book;
+
+// The last result of a book that passed the tests. The first step that is refused ends the run, with the refusal and
+// its number. The results stand in one array, which holds the model without terms where no step has come yet, and all
+// products share one table. What the fields of a step name is copied out before its code is looked at: the tests keep
+// every field within the array of results.
+pub fn last_result(b: Book) -> Answer
+    requires { ⌜ Held-passes (held-book b) ⌝ }
+    ensures { λ r. ⌜ r ≡ answer (last-result (view-book (held-book b))) ⌝ }
+{
+    let n = b.n;
+    let d = b.d;
+    let count = b.step_count;
+    let none = model_types::without_terms(n);
+    let mut slots = [0u16; model::SLOTS];
+    let mut keys = [0u64; model::PLACES];
+    let mut sums = [0i64; model::PLACES];
+    let mut results = [none; sheet_book::MOST_STEPS];
+    let mut i = 0;
+    while i < count {
+        let s = b.steps[i];
+        let input = b.models[sheet_steps::model_place(s.a)];
+        let f = results[s.a as usize];
+        let g = results[s.b as usize];
+        let a = sheet_steps::step_answer(n, d, s, input, f, g, &mut slots, &mut keys, &mut sums);
+        let v = a.verdict;
+        let Verdict::Accepted = v else {
+            return sheet_step_answers::refused_at(v, i);
+        };
+        let m = a.model;
+        results[i] = m;
+        i += 1;
+    }
+    let last = results[count - 1];
+    sheet_step_answers::accepted(last)
+}

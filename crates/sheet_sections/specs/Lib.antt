@@ -1,0 +1,2 @@
+pub mod TrailerStoreLaws
+pub mod SectionFittingLaws

@@ -1,0 +1,111 @@
+-- `step_answer` goes by the code: a product and a substitution are asked and answer what the step is asked and answers.
+use mathlib.Core.Path.{_≡_, refl, _∙_}
+use Prim.Native.Nat.{ℕ}
+use lib.ListN.{getD}
+use Rattle.calculus.specs.Model as C
+use Rattle.calculus.specs.Refusal as R
+use Rattle.calculus.specs.Refusal.{accepted, at-place}
+use Rattle.model_types.specs.declared.Answer.{Answer}
+use Rattle.model_types.specs.ModelStruct.{view, answer}
+use Rattle.sheet_book.specs.BookStruct.{held-step}
+use Rattle.sheet_direct.specs.Direct.{step-answers, step-answer}
+use Rattle.sheet_direct.specs.DirectLaws.{answered-is, gives}
+use Rattle.sheet_steps.specs.StepLaws.{factors, substitution, direct-ready}
+use Rattle.sheet_steps.proofs.step_answer.Statement.{statement}
+use Rattle.sheet_steps.proofs.step_answer.Tie as tie
+
+-- where all codes begin
+abbrev start : tie.After-slice-known2 → tie.Start
+start c = c .before .before
+
+-- ---- what the operations ask
+multiplied-requires : tie.Need-multiplied-requires
+multiplied-requires c κs =
+    let p = start (c .before .before .before .before) .pre in
+    (factors (p .0), p .1)
+
+substituted-requires : tie.Need-substituted-requires
+unfolding held-step
+substituted-requires c κs =
+    let p = start (c .before .before .before .before) .pre in
+    (substitution (p .0) (c .before .before .before .match .keys2), p .1)
+
+direct-answer-requires : tie.Need-direct-answer-requires
+unfolding held-step
+direct-answer-requires c κs =
+    let r = c .match .rest in
+    direct-ready (start (c .before) .pre .0) (r .0 .1) (r .1)
+
+-- ---- what they answer
+module _ (c : tie.Start) where
+  -- an operation that can be refused
+  answers : {r : Answer} (i : ℕ) (a : R.Answer C.Model) → r ≡ answer (at-place 0 a) → c .args .s .code ≡ i
+      → getD
+      (step-answers (c .args .n) (c .args .d) (held-step (c .args .s)) (view (c .args .input)) (view (c .args .f))
+      (view (c .args .g)))
+      i (accepted (view (c .args .f))) ≡ a
+      → r
+      ≡ answer (at-place 0 (step-answer (c .args .n) (c .args .d) (held-step (c .args .s)) (view (c .args .input))
+      (view (c .args .f)) (view (c .args .g))))
+  unfolding held-step
+  answers i a e h g =
+      let s = held-step (c .args .s) in
+      answered-is (c .args .n) (c .args .d) s (c .args .input) (c .args .f) (c .args .g) a e
+      (gives (c .args .n) (c .args .d) s (c .args .input) (c .args .f) (c .args .g) i h ∙ g)
+
+-- where the product is made, and where the substitution
+abbrev product : tie.After-sums → tie.After-multiplied
+product c = c .before .before .before .before .before
+
+abbrev substituted : tie.After-sums2 → tie.After-substituted
+substituted c = c .before .before .before .before .before
+
+same-length : tie.Need-same-length
+same-length c = product c .multiplied .kept .1 .1 .1 .0
+
+same-length-2 : tie.Need-same-length-2
+same-length-2 c = product c .multiplied .kept .1 .1 .1 .1 .0
+
+same-length-3 : tie.Need-same-length-3
+same-length-3 c = product c .multiplied .kept .1 .1 .1 .1 .1 .0
+
+returns : tie.Need-returns
+unfolding step-answers
+returns c =
+    let m = product c .before .before .before .before in
+    answers (start (m .before)) 6 _ (product c .multiplied .ensures) (m .match .keys1) refl
+
+same-length-4 : tie.Need-same-length-4
+same-length-4 c = substituted c .substituted .kept .1 .1 .1 .1 .0
+
+same-length-5 : tie.Need-same-length-5
+same-length-5 c = substituted c .substituted .kept .1 .1 .1 .1 .1 .0
+
+same-length-6 : tie.Need-same-length-6
+same-length-6 c = substituted c .substituted .kept .1 .1 .1 .1 .1 .1 .0
+
+returns-2 : tie.Need-returns-2
+unfolding step-answers held-step
+returns-2 c =
+    let m = substituted c .before .before .before .before in
+    answers (start (m .before)) 7 _ (substituted c .substituted .ensures) (m .match .keys2) refl
+
+returns-3 : tie.Need-returns-3
+returns-3 c = c .direct-answer .ensures (start (c .before .before) .args .d)
+
+pub step-answer-spec : {M : Type 1} → statement M
+step-answer-spec =
+    tie.close
+    (tie.spec
+    multiplied-requires
+    substituted-requires
+    direct-answer-requires
+    same-length
+    same-length-2
+    same-length-3
+    returns
+    same-length-4
+    same-length-5
+    same-length-6
+    returns-2
+    returns-3)

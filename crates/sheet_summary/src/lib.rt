@@ -1,0 +1,62 @@
+// What a run answers: a result with its range and its integral, or a refusal.
+ghost use mathlib.Core.Path.{_≡_};
+ghost use lib.Dec.{T};
+ghost use Rattle.calculus.specs.Model.{«most-degree», sound};
+ghost use Rattle.calculus.specs.Refusal.{done};
+ghost use Rattle.calculus.specs.Book.{summary};
+ghost use Rattle.model_types.specs.ModelStruct.{view, pack};
+ghost use Rattle.sheet_summary.specs.Summary.{«run-answer», «refused-summary»};
+use model_types::Model;
+use model_types::Verdict;
+
+// Two ends, in units of 1/U.
+pub struct Ends {
+    pub low: i64,
+    pub high: i64,
+}
+
+// The last step's result, its range and its integral; or the zero model and ends 0 beside a refusal.
+pub struct Summary {
+    pub model: Model,
+    pub range: Ends,
+    pub integral: Ends,
+    pub verdict: Verdict,
+}
+
+impl Ends {
+    // The ends beside a refusal.
+    pub const ZERO: Ends = Ends { low: 0, high: 0 };
+}
+
+// A refused run.
+pub fn refused(verdict: Verdict) -> Summary
+    ensures { λ r. ⌜ r ≡ refused-summary verdict ⌝ }
+{
+    Summary {
+        model: Model::ZERO,
+        range: Ends::ZERO,
+        integral: Ends::ZERO,
+        verdict: verdict,
+    }
+}
+
+// A result with its range and its integral.
+pub fn summarized(m: Model) -> Summary
+    requires { ⌜ (T (sound most-degree (view m))) × (pack (view m) ≡ m) ⌝ }
+    ensures { λ r. ⌜ r ≡ run-answer (done (summary (view m))) ⌝ }
+{
+    let range = model::range_of(m);
+    let integral = model::integral_of(m);
+    Summary {
+        model: m,
+        range: Ends {
+            low: range.low,
+            high: range.high,
+        },
+        integral: Ends {
+            low: integral.low,
+            high: integral.high,
+        },
+        verdict: Verdict::Accepted,
+    }
+}

@@ -1,4 +1,0 @@
-pub mod Substitute
-pub mod AnswerLaws
-pub mod TurnLaws
-pub mod HornerLaws

@@ -1,4 +1,0 @@
-pub mod Table
-pub mod AccumulatedLaws
-pub mod ArrayLaws
-pub mod TableLaws

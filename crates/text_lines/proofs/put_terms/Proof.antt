@@ -1,0 +1,123 @@
+-- `put_terms` puts the line of one term a turn: the invariant is what the first i leave.
+use mathlib.Core.Path.{_≡_, sym, ap, _∙_}
+use mathlib.Core.List.{[]}
+use Prim.Native.Nat.{_≤_, _-_, _<_}
+use native.Mathlib.Omega.{arith}
+use borrow.Author.Needs.{needs}
+use lib.Dec.{T}
+use lib.ListN.{length, getD, length-map}
+use mir.Facts.{toZ-ofZ}
+use mir.Syntax.{w64}
+use mir.Val.{toZ, ofZ}
+use Rattle.calculus.specs.Key.{key-width, key-fits, monomial-of}
+use Rattle.calculus.specs.Terms.{term}
+use Rattle.calculus.specs.Model.{most-terms, most-degree}
+use Rattle.model_types.specs.declared.Term.{Term}
+use Rattle.model_types.specs.ModelStruct.{zero-term, view, view-term}
+use Rattle.model_types.specs.ModelStructLaws.{Limits, limits, length-view, key-fits-at, term-at}
+use Rattle.format.specs.Lines.{term-line}
+use Rattle.text_decimal.specs.PutLaws.{put-as, put-length}
+use Rattle.text_lines.specs.LineLaws.{term-of, Listed, listed-none, listed-room, listed-more, listed-all}
+use Rattle.text_lines.proofs.put_terms.Statement.{statement}
+use Rattle.text_lines.proofs.put_terms.Tie as tie
+
+abbrev Inv-loop : tie.InvT-loop
+Inv-loop out₀ at m n count next₀ i₀ out next i = Listed term-line (view m .terms) out₀ at out next i
+
+abbrev μ-loop : tie.MeasureT-loop
+μ-loop out₀ at m n count next₀ i₀ out next i = count - i
+
+module _ (c : tie.Start Inv-loop μ-loop) where
+  whole : length (c .args .t3 .terms) ≡ 64
+  whole = simp length-map at (c .good .1 .1 .0 .1 .1 .1 .1 .1 .0 .1 .0 .1)
+
+  known : Limits (c .args .t3)
+  known = limits _ _ (c .pre .0)
+
+  few : c .args .t3 .count ≤ 64
+  unfolding most-terms
+  few = known .few
+
+  long : c .args .t3 .count ≤ length (c .args .t3 .terms)
+  long = omega (arith, few, whole)
+
+loop-holds : tie.Need-loop-holds Inv-loop μ-loop
+loop-holds c = listed-none term-line _
+
+mul-t : tie.Need-mul-t Inv-loop μ-loop
+mul-t c = omega (arith, few (c .before .before .before))
+
+element-copy-out-t : tie.Need-element-copy-out-t Inv-loop μ-loop
+element-copy-out-t c = omega (arith, few (c .before .before .before))
+
+-- the term at hand
+module _ (c : tie.After-struct-told Inv-loop μ-loop) where
+  abbrev place : tie.At-loop Inv-loop μ-loop
+  place = c .before .before .before .before
+
+  abbrev start : tie.Start Inv-loop μ-loop
+  start = place .before .before
+
+  abbrev at : Term
+  at = getD (start .args .t3 .terms) (place .loop .i) zero-term
+
+  within : place .loop .i < start .args .t3 .count
+  within = omega arith
+
+  listed : place .loop .i < length (view (start .args .t3) .terms)
+  listed = omega (arith, within, length-view (start .args .t3))
+
+  line-is : term-line (term (toZ w64 (ofZ w64 (at .coefficient))) (monomial-of (start .args .t3 .n) (at .key)))
+      ≡ term-line (getD (view (start .args .t3) .terms) (place .loop .i) (term-at (start .args .t3 .n) 0 []))
+  unfolding view-term
+  line-is = ap term-line
+      (ap (λ z. term z (monomial-of (start .args .t3 .n) (at .key)))
+      (toZ-ofZ (record { sfits = c .struct-told .given .1 .0 .1 }))
+      ∙ sym (term-of (start .args .t3) (place .loop .i) (long start) within))
+
+  key-fits-here : T (key-fits key-width (start .args .t3 .n) (at .key))
+  unfolding most-degree
+  key-fits-here = key-fits-at most-degree (start .args .t3) (place .loop .i) (omega arith) (start .pre .0) (long start)
+      within
+
+put-term-requires : tie.Need-put-term-requires Inv-loop μ-loop
+put-term-requires c κs = (
+  record { width = known (start c) .width; fits = key-fits-here c },
+  rw (line-is c) (listed-room term-line _ (place c .loop .inv) _ (listed c) (start c .pre .1)),
+)
+
+add-i : tie.Need-add-i Inv-loop μ-loop
+add-i c = omega (arith, few (start (c .before .before .before)))
+
+loop-less : tie.Need-loop-less Inv-loop μ-loop
+loop-less c = search needs
+
+loop-again : tie.Need-loop-again Inv-loop μ-loop
+loop-again c =
+    let p = c .before .before in
+    let t = p .before in
+    listed-more term-line _ (place t .loop .inv) _ (listed t) (put-as (line-is t) (p .put-term .ensures))
+
+same-length : tie.Need-same-length Inv-loop μ-loop
+same-length c = put-length (c .before .loop .inv .put)
+
+returns : tie.Need-returns Inv-loop μ-loop
+returns c =
+    let s = c .before .before .before in
+    listed-all term-line _ (c .before .loop .inv) (omega (arith, length-view (s .args .t3)))
+
+pub put-terms-spec : {M : Type 1} → statement M
+put-terms-spec =
+    tie.close
+    (tie.spec
+    Inv-loop
+    μ-loop
+    loop-holds
+    mul-t
+    element-copy-out-t
+    put-term-requires
+    add-i
+    loop-less
+    loop-again
+    same-length
+    returns)
