@@ -1,8 +1,8 @@
 //! How the cost grows: a table with bars for a plot. All sizes take turns by round, so that a busy moment of the machine
 //! does not fall on one of them.
 
-use crate::products::{Kind, Pair};
-use crate::sheets;
+use crate::inputs::{largest, Kind};
+use crate::products::Pair;
 use crate::timing::best;
 use reference::generate::Random;
 use std::hint::black_box;
@@ -35,7 +35,7 @@ fn products(random: &mut Random) -> [f64; SIZES.len()] {
 
 fn runs(random: &mut Random) -> [f64; SIZES.len()] {
     let sheets = SIZES.map(|steps| {
-        let sheet = |_| sheets::largest(random, steps);
+        let sheet = |_| largest(random, steps);
         (0..INPUTS).map(sheet).collect::<Vec<_>>()
     });
     best(ROUNDS, INPUTS, |size, input| {

@@ -3,6 +3,7 @@
 
 mod flint;
 mod growth;
+mod inputs;
 mod products;
 mod sheets;
 mod timing;

@@ -3,27 +3,16 @@
 //! FLINT's is the exact product alone, of polynomials built beforehand. The second implementation's is its whole call.
 
 use crate::flint::Polynomial;
+use crate::inputs::{factors, Kind};
 use crate::timing::best;
-use hechroung::{Model, UNIT};
+use hechroung::Model;
 use reference::calls;
 use reference::generate::Random;
 use reference::stored::{StoredModel, StoredTerm};
-use std::collections::BTreeSet;
 use std::hint::black_box;
 
 const INPUTS: usize = 64;
 const ROUNDS: usize = 40;
-const VARIABLES: u8 = 4;
-const RADIUS: u64 = 5;
-
-/// What the factors of a row are like.
-#[derive(Clone, Copy, PartialEq)]
-pub enum Kind {
-    /// Coefficients of any size: with many monomials more than 64 are kept, and the call refuses with 8.
-    Any,
-    /// One large coefficient and small others at the same keys, so that what is kept fits.
-    Kept,
-}
 
 /// Two factors, as each side takes them.
 pub struct Pair {
@@ -36,13 +25,7 @@ pub struct Pair {
 
 impl Pair {
     pub fn new(random: &mut Random, terms: usize, order: u8, kind: Kind) -> Pair {
-        let keys = keys(random, terms, order);
-        let other = match kind {
-            Kind::Kept => keys.clone(),
-            Kind::Any => self::keys(random, terms, order),
-        };
-        let f = model(random, &keys, kind);
-        let g = model(random, &other, kind);
+        let (f, g) = factors(random, terms, order, kind);
         Pair {
             stored_f: stored(&f),
             stored_g: stored(&g),
@@ -105,43 +88,6 @@ fn row(random: &mut Random, name: &str, terms: usize, order: u8, kind: Kind) {
         ours / flint,
         ours / second
     );
-}
-
-/// Different rising keys of degree at most the order, 0 among them. For high orders low exponents are the likelier.
-pub fn keys(random: &mut Random, terms: usize, order: u8) -> Vec<u16> {
-    let mut keys = BTreeSet::from([0]);
-    while keys.len() < terms {
-        let mut left = order;
-        let mut key = 0;
-        for _ in 0..VARIABLES {
-            let most = if order > 8 { left / 2 } else { left };
-            let exponent = random.byte(0, most);
-            left -= exponent;
-            key = key << 4 | u16::from(exponent);
-        }
-        keys.insert(key);
-    }
-    keys.into_iter().collect()
-}
-
-pub fn model(random: &mut Random, keys: &[u16], kind: Kind) -> Model {
-    let mut model = Model {
-        n: VARIABLES,
-        count: keys.len(),
-        radius: RADIUS,
-        ..Model::ZERO
-    };
-    for (place, &key) in keys.iter().enumerate() {
-        let size = match kind {
-            Kind::Any => random.between(1, 1 << 22),
-            Kind::Kept if place == 0 => UNIT + random.between(0, 999),
-            Kind::Kept => random.between(1, 60),
-        };
-        let sign = if place == 0 { 1 } else { random.sign() };
-        model.keys[place] = key;
-        model.coefficients[place] = size * sign;
-    }
-    model
 }
 
 fn stored(model: &Model) -> StoredModel {

@@ -1,21 +1,16 @@
 //! Sheets: run, and read with tests 1 to 6 only. Each answer is compared with the second implementation's.
 
-use crate::products::{keys, model, Kind};
+use crate::inputs::{largest, typical, ORDER, STEPS};
 use crate::timing::best;
 use hechroung::Model;
-use reference::book::{Step, ADD, INPUT, MULTIPLY};
-use reference::generate::{Draft, DraftModel, Random};
+use reference::book::INPUT;
+use reference::generate::Random;
 use reference::stored::StoredModel;
 use reference::{run::run_sheet, sheet, text};
 use std::hint::black_box;
 
 const INPUTS: usize = 16;
 const ROUNDS: usize = 20;
-/// The order of the largest sheets.
-const ORDER: u8 = 15;
-/// The most models and steps.
-const MODELS: usize = 16;
-const STEPS: usize = 64;
 
 pub fn print(random: &mut Random) {
     println!("| Sheet, 4 variables | Bytes | Steps | Ours, µs | Second, µs | Ours / second |");
@@ -142,57 +137,4 @@ fn row(name: &str, steps: usize, sheets: &[Vec<u8>], [ours, second]: [f64; 2]) {
         "| {name} | {bytes} | {steps} | {ours:.1} | {second:.1} | {:.3} |",
         ours / second
     );
-}
-
-/// Three inputs, then sums and products in turn of a result and an input.
-fn typical(random: &mut Random) -> Vec<u8> {
-    let keys = keys(random, 15, 4);
-    let models = (0..3).map(|_| draft_model(random, &keys)).collect();
-    let mut steps: Vec<Step> = (0..3).map(|number| Step::one(INPUT, number)).collect();
-    while steps.len() < 20 {
-        let code = if steps.len() % 2 == 0 { ADD } else { MULTIPLY };
-        let last = steps.len() as u8 - 1;
-        let earlier = random.byte(0, 2);
-        steps.push(if code == ADD {
-            Step::two(ADD, earlier, random.byte(0, 2))
-        } else {
-            Step::two(MULTIPLY, last, earlier)
-        });
-    }
-    Draft::new(4, 4, models, steps).bytes()
-}
-
-/// Sixteen models of 64 terms at the same keys; two inputs, then products of the last result and an input.
-pub fn largest(random: &mut Random, count: usize) -> Vec<u8> {
-    let keys = keys(random, 64, 15);
-    let models = (0..MODELS).map(|_| draft_model(random, &keys)).collect();
-    let mut steps = vec![
-        Step::one(INPUT, random.byte(0, 15)),
-        Step::one(INPUT, random.byte(0, 15)),
-    ];
-    while steps.len() < count {
-        let last = steps.len() as u8 - 1;
-        steps.push(Step::two(MULTIPLY, last, random.byte(0, 1)));
-    }
-    steps.truncate(count);
-    Draft::new(4, ORDER, models, steps).bytes()
-}
-
-/// Small coefficients but for the constant one, so that 62 products in a row keep the same 64 terms.
-fn draft_model(random: &mut Random, keys: &[u16]) -> DraftModel {
-    let model = model(random, keys, Kind::Kept);
-    let small = |key: u16, c: i64| {
-        if key == 0 {
-            c
-        } else {
-            c.signum() * (c.abs() % 15 + 1)
-        }
-    };
-    DraftModel {
-        radius: model.radius as u32,
-        terms: model
-            .terms()
-            .map(|(key, c)| (key, small(key, c) as i32))
-            .collect(),
-    }
 }

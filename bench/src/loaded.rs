@@ -1,0 +1,201 @@
+//! A build of the library that is loaded while the program runs, so that two of them stand side by side. All unsafe code
+//! of bench/versus stands here. The signatures are those of include/hechroung.h.
+
+use hechroung::{Model, MOST_TERMS};
+use std::ffi::{c_char, c_int, c_void, CStr, CString};
+
+/// Every name is looked up at once, and none is lent to another library.
+const RTLD_NOW: c_int = 2;
+
+#[link(name = "dl")]
+extern "C" {
+    fn dlopen(path: *const c_char, mode: c_int) -> *mut c_void;
+    fn dlsym(library: *mut c_void, name: *const c_char) -> *mut c_void;
+    fn dlerror() -> *const c_char;
+}
+
+type Call = unsafe extern "C" fn(
+    code: u8,
+    d: u8,
+    i: u8,
+    value: i64,
+    n1: u8,
+    count1: usize,
+    radius1: u64,
+    keys1: *const u16,
+    keys1_length: usize,
+    coefficients1: *const i64,
+    coefficients1_length: usize,
+    n2: u8,
+    count2: usize,
+    radius2: u64,
+    keys2: *const u16,
+    keys2_length: usize,
+    coefficients2: *const i64,
+    coefficients2_length: usize,
+    keys: *mut u16,
+    keys_length: usize,
+    coefficients: *mut i64,
+    coefficients_length: usize,
+    numbers: *mut u64,
+    numbers_length: usize,
+) -> u8;
+
+type Run = unsafe extern "C" fn(
+    sheet: *const u8,
+    sheet_length: usize,
+    keys: *mut u16,
+    keys_length: usize,
+    coefficients: *mut i64,
+    coefficients_length: usize,
+    numbers: *mut u64,
+    numbers_length: usize,
+    ends: *mut i64,
+    ends_length: usize,
+) -> u8;
+
+type Record = unsafe extern "C" fn(
+    sheet: *const u8,
+    sheet_length: usize,
+    i: usize,
+    bytes: *mut u8,
+    bytes_length: usize,
+) -> usize;
+
+/// The functions of one build. It stays loaded until the program ends.
+pub struct Library {
+    call: Call,
+    run: Run,
+    record: Record,
+}
+
+/// All that a product or a run answers, as it is stored; a product has no ends.
+#[derive(Clone, Debug, PartialEq, Eq)]
+pub struct Answer {
+    pub refusal: u8,
+    numbers: [u64; 4],
+    keys: [u16; MOST_TERMS],
+    coefficients: [i64; MOST_TERMS],
+    ends: [i64; 4],
+}
+
+impl Answer {
+    const EMPTY: Answer = Answer {
+        refusal: 0,
+        numbers: [0; 4],
+        keys: [0; MOST_TERMS],
+        coefficients: [0; MOST_TERMS],
+        ends: [0; 4],
+    };
+}
+
+impl Library {
+    pub fn load(path: &str) -> Library {
+        let file = CString::new(path).expect("a path has no zero byte");
+        // SAFETY: the path ends with a zero. The library has no code that runs when it is loaded.
+        let library = unsafe { dlopen(file.as_ptr(), RTLD_NOW) };
+        assert!(!library.is_null(), "{path}: {}", why());
+        // SAFETY: the three functions have these signatures, by the header that all builds share.
+        unsafe {
+            Library {
+                call: std::mem::transmute::<*mut c_void, Call>(function(
+                    library,
+                    c"hechroung_call",
+                )),
+                run: std::mem::transmute::<*mut c_void, Run>(function(library, c"hechroung_run")),
+                record: std::mem::transmute::<*mut c_void, Record>(function(
+                    library,
+                    c"hechroung_record",
+                )),
+            }
+        }
+    }
+
+    pub fn multiply(&self, d: u8, f: &Model, g: &Model) -> Answer {
+        let mut answer = Answer::EMPTY;
+        // SAFETY: each pointer comes from an array that lives during the call, with its own length; what is written
+        // overlaps nothing. The contract asks for nothing else, here and below.
+        answer.refusal = unsafe {
+            (self.call)(
+                6,
+                d,
+                0,
+                0,
+                f.n,
+                f.count,
+                f.radius,
+                f.keys.as_ptr(),
+                f.keys.len(),
+                f.coefficients.as_ptr(),
+                f.coefficients.len(),
+                g.n,
+                g.count,
+                g.radius,
+                g.keys.as_ptr(),
+                g.keys.len(),
+                g.coefficients.as_ptr(),
+                g.coefficients.len(),
+                answer.keys.as_mut_ptr(),
+                answer.keys.len(),
+                answer.coefficients.as_mut_ptr(),
+                answer.coefficients.len(),
+                answer.numbers.as_mut_ptr(),
+                answer.numbers.len(),
+            )
+        };
+        answer
+    }
+
+    pub fn run(&self, sheet: &[u8]) -> Answer {
+        let mut answer = Answer::EMPTY;
+        // SAFETY: as in `multiply`.
+        answer.refusal = unsafe {
+            (self.run)(
+                sheet.as_ptr(),
+                sheet.len(),
+                answer.keys.as_mut_ptr(),
+                answer.keys.len(),
+                answer.coefficients.as_mut_ptr(),
+                answer.coefficients.len(),
+                answer.numbers.as_mut_ptr(),
+                answer.numbers.len(),
+                answer.ends.as_mut_ptr(),
+                answer.ends.len(),
+            )
+        };
+        answer
+    }
+
+    /// Record i: its length, and as much of it as there is room for.
+    pub fn record(&self, sheet: &[u8], i: usize, bytes: &mut [u8]) -> usize {
+        // SAFETY: as in `multiply`.
+        unsafe {
+            (self.record)(
+                sheet.as_ptr(),
+                sheet.len(),
+                i,
+                bytes.as_mut_ptr(),
+                bytes.len(),
+            )
+        }
+    }
+}
+
+fn function(library: *mut c_void, name: &CStr) -> *mut c_void {
+    // SAFETY: the library is loaded, and the name ends with a zero.
+    let function = unsafe { dlsym(library, name.as_ptr()) };
+    assert!(!function.is_null(), "{}", why());
+    function
+}
+
+/// The loader's last complaint.
+fn why() -> String {
+    // SAFETY: the text is read at once, before the next call of the loader.
+    unsafe {
+        let text = dlerror();
+        if text.is_null() {
+            return String::from("no reason is given");
+        }
+        CStr::from_ptr(text).to_string_lossy().into_owned()
+    }
+}

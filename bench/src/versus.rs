@@ -1,0 +1,144 @@
+//! Two builds of the library by turns in one run, on the same inputs: for each row the ratio of their times, new / old,
+//! once for each seed. Every answer of one is compared with the other's, and the run stops where they differ.
+//! usage: versus NEW.so OLD.so SEEDS
+
+mod inputs;
+mod loaded;
+mod timing;
+
+use inputs::{factors, largest, typical, Kind, STEPS};
+use loaded::Library;
+use reference::generate::Random;
+use std::hint::black_box;
+use timing::best;
+
+const PRODUCTS: usize = 64;
+const SHEETS: usize = 16;
+const PRODUCT_ROUNDS: usize = 300;
+const SHEET_ROUNDS: usize = 60;
+/// The longest record: a model of 64 terms of 6 bytes, and more than its head.
+const ROOM: usize = 1_024;
+
+/// The new build and the old one.
+type Builds = [Library; 2];
+
+/// The times of both builds for one seed.
+type Times = [f64; 2];
+
+/// What is timed of a new seed's inputs.
+type Measure = Box<dyn Fn(&Builds, &mut Random) -> Times>;
+
+fn main() {
+    let words: Vec<String> = std::env::args().skip(1).collect();
+    let [new, old, seeds] = &words[..] else {
+        panic!("usage: versus NEW.so OLD.so SEEDS");
+    };
+    let seeds: u64 = seeds.parse().expect("SEEDS is a number");
+    assert!(seeds > 0, "at least one seed");
+    let builds = [Library::load(new), Library::load(old)];
+    println!("| Seeds: {seeds} | New, µs | Old, µs | New / old, median | Lowest | Highest |");
+    println!("|---|---|---|---|---|---|");
+    for (name, measure) in rows() {
+        let times: Vec<Times> = (0..seeds)
+            .map(|seed| measure(&builds, &mut Random::new(seed)))
+            .collect();
+        print_row(name, &times);
+    }
+}
+
+fn rows() -> Vec<(&'static str, Measure)> {
+    vec![
+        (
+            "product, sparse 64 x 64, refused",
+            product(64, 15, Kind::Any),
+        ),
+        ("product, sparse 64 x 64, kept", product(64, 15, Kind::Kept)),
+        ("product, dense 64 x 64", product(64, 4, Kind::Kept)),
+        ("product, dense 15 x 15", product(15, 4, Kind::Kept)),
+        ("product, dense 4 x 4", product(4, 4, Kind::Kept)),
+        ("product, sparse 1 x 1", product(1, 15, Kind::Kept)),
+        ("product, sparse 8 x 8", product(8, 15, Kind::Kept)),
+        ("product, sparse 24 x 24", product(24, 15, Kind::Kept)),
+        ("run, typical", run(typical)),
+        ("run, largest", run(|random| largest(random, STEPS))),
+        ("run, largest, 1 step", run(|random| largest(random, 1))),
+        ("run, largest, 8 steps", run(|random| largest(random, 8))),
+        ("read, largest", Box::new(read)),
+    ]
+}
+
+fn product(terms: usize, order: u8, kind: Kind) -> Measure {
+    Box::new(move |builds, random| {
+        let pairs: Vec<_> = (0..PRODUCTS)
+            .map(|_| factors(random, terms, order, kind))
+            .collect();
+        for (f, g) in &pairs {
+            let [new, old] = builds.each_ref().map(|build| build.multiply(order, f, g));
+            assert_eq!(new, old, "both builds give one product");
+        }
+        best(PRODUCT_ROUNDS, PRODUCTS, |way, input| {
+            let (f, g) = &pairs[input];
+            let _ = black_box(builds[way].multiply(order, f, g));
+        })
+    })
+}
+
+fn run(sheet: impl Fn(&mut Random) -> Vec<u8> + 'static) -> Measure {
+    Box::new(move |builds, random| {
+        let sheets: Vec<_> = (0..SHEETS).map(|_| sheet(random)).collect();
+        for sheet in &sheets {
+            let [new, old] = builds.each_ref().map(|build| build.run(sheet));
+            assert_eq!(new, old, "both builds give one result");
+            assert_eq!(new.refusal, 0, "the sheet is accepted");
+        }
+        best(SHEET_ROUNDS, SHEETS, |way, input| {
+            let _ = black_box(builds[way].run(&sheets[input]));
+        })
+    })
+}
+
+/// A record that there is none of is asked for, which makes all tests and copies nothing.
+fn read(builds: &Builds, random: &mut Random) -> Times {
+    let sheets: Vec<_> = (0..SHEETS).map(|_| largest(random, STEPS)).collect();
+    for sheet in &sheets {
+        let [new, old] = builds.each_ref().map(|build| records(build, sheet));
+        assert_eq!(new, old, "both builds give the same records");
+    }
+    best(SHEET_ROUNDS, SHEETS, |way, input| {
+        let _ = black_box(builds[way].record(&sheets[input], usize::MAX, &mut []));
+    })
+}
+
+/// All records of a sheet.
+fn records(build: &Library, sheet: &[u8]) -> Vec<Vec<u8>> {
+    let mut room = [0; ROOM];
+    let mut records = Vec::new();
+    loop {
+        let length = build.record(sheet, records.len(), &mut room);
+        if length == 0 {
+            return records;
+        }
+        records.push(room[..length].to_vec());
+    }
+}
+
+fn print_row(name: &str, times: &[Times]) {
+    let [new, old] = [0, 1].map(|way| median(times.iter().map(|times| times[way])));
+    let ratios = || times.iter().map(|[new, old]| new / old);
+    let lowest = ratios().fold(f64::INFINITY, f64::min);
+    let highest = ratios().fold(0.0, f64::max);
+    let middle = median(ratios());
+    println!("| {name} | {new:.2} | {old:.2} | {middle:.3} | {lowest:.3} | {highest:.3} |");
+}
+
+/// The middle number, or the mean of the two in the middle.
+fn median(numbers: impl Iterator<Item = f64>) -> f64 {
+    let mut numbers: Vec<f64> = numbers.collect();
+    numbers.sort_by(f64::total_cmp);
+    let half = numbers.len() / 2;
+    if numbers.len() % 2 == 1 {
+        numbers[half]
+    } else {
+        (numbers[half - 1] + numbers[half]) / 2.0
+    }
+}
