@@ -47,7 +47,7 @@ pub fn model_call(code: u8, d: u8, i: u8, value: i64, f: Model, g: Model) -> Ans
 }
 
 // The call that a code names: 1 range, 2 integral, any other evaluate.
-pub fn ends_call(code: u8, xs: [i64; 4], f: Model) -> Bounds
+pub fn ends_call(code: u8, xs: [i64; model_types::MOST_VARS as usize], f: Model) -> Bounds
     ensures { λ r. ⌜ r ≡ bounds (ends-call code xs (view f)) ⌝ }
 {
     if code == 1 {

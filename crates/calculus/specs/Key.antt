@@ -27,6 +27,10 @@ fits-digits base w n z = ltb z (base ^ w) && eqb (z % base ^ (w - n)) 0
 unfoldable pub key-width : ℕ
 key-width = 4
 
+-- every key is below this
+unfoldable pub key-limit : ℕ
+key-limit = 16 ^ key-width
+
 -- the key of a monomial
 abbrev pub key : (w : ℕ) → List ℕ → ℕ
 key = encode 16

@@ -7,11 +7,11 @@ use native.Mathlib.Omega.{arith}
 use native.Mathlib.Nat as NatL
 use lib.Dec.{T, ltb, leb, eqb, ltb→lt, lt→ltb, lit<, eqb→eq, eqb-refl, leb→le, T-not}
 use lib.ListN.{length}
-use Rattle.polynomial.specs.Polynomial.{replace}
+use Rattle.polynomial.specs.Polynomial.{exponent, replace}
 use Rattle.calculus.specs.Monomial.{degree, zeros, index-of, single, same, less}
 use Rattle.calculus.specs.MonomialLaws.{length-zeros, length-single, degree-zeros, degree-single}
 use Rattle.calculus.specs.Operations.{is-constant}
-use Rattle.calculus.specs.Key.{encode, decode, fits-digits, key-width, key, key-exponents, key-fits}
+use Rattle.calculus.specs.Key.{encode, decode, fits-digits, key-width, key-limit, key, key-exponents, key-fits}
 use Rattle.calculus.specs.Key.{monomial-of, key-degree}
 use Rattle.calculus.specs.Key.{Below}
 use Rattle.calculus.specs.KeyLaws.{below-degree, encode-less, encode-same, encode-fits}
@@ -31,7 +31,7 @@ module _ (base : ℕ) (positive : 0 < base) where
   less-power-divides w n l = subst (λ i. base ^ (w - n) ∣ base ^ i) (omega arith) (power-divides (w - n) n)
 
   -- the digits of 0
-  decode-zero : (w : ℕ) → decode base w w 0 ≡ zeros w
+  pub decode-zero : (w : ℕ) → decode base w w 0 ≡ zeros w
   unfolding decode zeros
   decode-zero zero = refl
   decode-zero (suc w) =
@@ -56,7 +56,7 @@ positive : 0 < 16
 positive = lit< tt
 
 -- the two cases of the monomial
-by-fits : (P : List ℕ → Type 0) (n z : ℕ)
+pub by-fits : (P : List ℕ → Type 0) (n z : ℕ)
     → (T (key-fits key-width n z) → P (key-exponents key-width n z))
     → (T (not (key-fits key-width n z)) → P (key-exponents key-width key-width z)) → P (monomial-of n z)
 unfolding monomial-of
@@ -68,18 +68,27 @@ by-fits P n z = go (key-fits key-width n z)
     go true f g = f tt
     go false f g = g tt
 
--- a number of 16 bits fits 4 variables
-fits-all : (z : ℕ) → z < 65536 → T (key-fits key-width key-width z)
-unfolding key-width fits-digits
-fits-all z h = both (ltb z (16 ^ 4)) _ (lt→ltb z 65536 h) (rw (NatL.mod-one z) tt)
+-- a number of 16 bits is a key, and a key has 16 bits
+pub word-key : (z : ℕ) → z < 2 ^ 16 → z < key-limit
+unfolding key-width key-limit
+word-key z h = h
 
--- a key that fits has 16 bits
-pub fits-below : (n z : ℕ) → T (key-fits key-width n z) → z < 65536
-unfolding key-width fits-digits
-fits-below n z h = ltb→lt z 65536 (and-left (ltb z 65536) _ h)
+pub key-word : (z : ℕ) → z < key-limit → z < 2 ^ 16
+unfolding key-width key-limit
+key-word z h = h
+
+-- a key fits as many variables as it has digits
+fits-all : (z : ℕ) → z < key-limit → T (key-fits key-width key-width z)
+unfolding key-limit key-width fits-digits
+fits-all z h = both (ltb z key-limit) _ (lt→ltb z key-limit h) (rw (NatL.mod-one z) tt)
+
+-- what fits is a key
+pub fits-below : (n z : ℕ) → T (key-fits key-width n z) → z < key-limit
+unfolding key-limit fits-digits
+fits-below n z h = ltb→lt z key-limit (and-left (ltb z key-limit) _ h)
 
 -- the key of the monomial of a key
-pub key-monomial : (n z : ℕ) → n ≤ key-width → z < 65536 → key key-width (monomial-of n z) ≡ z
+pub key-monomial : (n z : ℕ) → n ≤ key-width → z < key-limit → key key-width (monomial-of n z) ≡ z
 key-monomial n z l h = by-fits (λ k. key key-width k ≡ z) n z
     (λ f. encode-decode 16 positive key-width n z l f)
     (λ f. encode-decode 16 positive key-width key-width z (omega arith) (fits-all z h))
@@ -127,10 +136,10 @@ monomial-digits n z t = by-fits (λ k. k ≡ key-exponents key-width n z) n z (�
 pub monomial-length : (n z : ℕ) → n ≤ key-width → T (key-fits key-width n z) → length (monomial-of n z) ≡ n
 monomial-length n z l t = ap length (monomial-digits n z t) ∙ length-monomial n z l
 
-pub monomial-below : (n z : ℕ) → z < 65536 → Below 16 (monomial-of n z)
-unfolding key-width
+pub monomial-below : (n z : ℕ) → z < key-limit → Below 16 (monomial-of n z)
+unfolding key-limit
 monomial-below n z h = by-fits (Below 16) n z
-    (λ f. decode-below 16 positive 4 n z h) (λ f. decode-below 16 positive 4 4 z h)
+    (λ f. decode-below 16 positive key-width n z h) (λ f. decode-below 16 positive key-width key-width z h)
 
 -- at least one of them
 pub above-empty : (n z : ℕ) → 1 ≤ n → less [] (monomial-of n z) ≡ true
@@ -150,7 +159,7 @@ all-digits n d z t = (
     digits : List ℕ
     digits = key-exponents key-width key-width z
 
-pub fits-monomial : (n d z : ℕ) → n ≤ key-width → z < 65536
+pub fits-monomial : (n d z : ℕ) → n ≤ key-width → z < key-limit
     → fits n d (monomial-of n z) ≡ (key-fits key-width n z && leb (key-degree z) d)
 unfolding fits
 fits-monomial n d z l h = same-tests (fits n d (monomial-of n z)) _
@@ -171,9 +180,9 @@ fits-key n d z l s = by-fits (λ k. T (fits n d k) → T (key-fits key-width n z
     (λ f t. subst (λ i. T (key-fits key-width i z)) (all-digits n d z t .0)
     (fits-all z (small (all-digits n d z t .1))))
   where
-    small : degree (key-exponents key-width key-width z) ≤ d → z < 65536
-    small h = unfold key-width decode degree in
-        let q : z / 4096 < 16 = omega arith in NatL.div-lt-iff-lt-mul (lit< tt) .0 q
+    small : degree (key-exponents key-width key-width z) ≤ d → z < key-limit
+    small h = unfold key-limit key-width decode degree in
+        let q : z / 16 ^ (key-width - 1) < 16 = omega arith in NatL.div-lt-iff-lt-mul (lit< tt) .0 q
 
 module _ (n y z : ℕ) (l : n ≤ key-width) (f : T (key-fits key-width n y)) (g : T (key-fits key-width n z)) where
   pub less-monomials : less (monomial-of n y) (monomial-of n z) ≡ ltb y z
@@ -189,7 +198,7 @@ module _ (n y z : ℕ) (l : n ≤ key-width) (f : T (key-fits key-width n y)) (g
       ∙ ap₂ eqb (key-monomial n y l (fits-below n y f)) (key-monomial n z l (fits-below n z g))
 
 -- ---- the monomials of a constant and of a variable
-encode-constant : (base w : ℕ) (k : List ℕ) → degree k ≡ 0 → encode base w k ≡ 0
+pub encode-constant : (base w : ℕ) (k : List ℕ) → degree k ≡ 0 → encode base w k ≡ 0
 unfolding encode degree
 encode-constant base w [] h = refl
 encode-constant base zero (e ∷ k) h = refl
@@ -197,16 +206,29 @@ encode-constant base (suc w) (e ∷ k) h =
     let p : e * base ^ w ≡ 0 * base ^ w = ap (λ i. i * base ^ w) (omega arith) in
     let r = encode-constant base w k (omega arith) in omega arith
 
-encode-replace : (base w n i : ℕ) → i < n → n ≤ w → encode base w (replace i 1 (zeros n)) ≡ base ^ (w - suc i)
-unfolding encode replace zeros
-encode-replace base w zero i h l = absurd (omega arith)
-encode-replace base zero (suc n) i h l = absurd (omega arith)
-encode-replace base (suc w) (suc n) zero h l =
-    let e : encode base w (zeros n) ≡ 0 = encode-constant base w (zeros n) (degree-zeros n) in
+-- one more of an exponent counts as much wherever the others stand
+pub encode-raised : (base w i : ℕ) (k : List ℕ) → i < length k → length k ≤ w
+    → encode base w (replace i (suc (exponent i k)) k) ≡ encode base w k + base ^ (w - suc i)
+unfolding encode replace exponent
+encode-raised base w i [] h l = absurd (omega arith)
+encode-raised base zero i (e ∷ k) h l = absurd (omega arith)
+encode-raised base (suc w) zero (e ∷ k) h l =
     let p : base ^ (suc w - suc 0) ≡ base ^ w = ap (λ j. base ^ j) (omega arith) in omega arith
-encode-replace base (suc w) (suc n) (suc i) h l =
-    let e = encode-replace base w n i (omega arith) (omega arith) in
+encode-raised base (suc w) (suc i) (e ∷ k) h l =
+    let r = encode-raised base w i k (omega arith) (omega arith) in
     let p : base ^ (suc w - suc (suc i)) ≡ base ^ (w - suc i) = ap (λ j. base ^ j) (omega arith) in omega arith
+
+pub exponent-zeros : (n i : ℕ) → exponent i (zeros n) ≡ 0
+unfolding exponent zeros
+exponent-zeros zero i = refl
+exponent-zeros (suc n) zero = refl
+exponent-zeros (suc n) (suc i) = exponent-zeros n i
+
+encode-single : (base w n i : ℕ) → i < n → n ≤ w → encode base w (replace i 1 (zeros n)) ≡ base ^ (w - suc i)
+encode-single base w n i h l = ap (λ e. encode base w (replace i (suc e) (zeros n))) (sym (exponent-zeros n i))
+    ∙ encode-raised base w i (zeros n) (omega (arith, length-zeros n)) (omega (arith, length-zeros n))
+    ∙ ap (λ z. z + base ^ (w - suc i)) (encode-constant base w (zeros n) (degree-zeros n))
+    ∙ NatL.zero-add (base ^ (w - suc i))
 
 pub monomial-zero : (n : ℕ) → n ≤ key-width → monomial-of n 0 ≡ zeros n
 monomial-zero n l =
@@ -217,12 +239,12 @@ pub monomial-variable : (n i : ℕ) → 1 ≤ i → i ≤ n → n ≤ key-width 
 unfolding single index-of
 monomial-variable n zero s h l = absurd (omega arith)
 monomial-variable n (suc i) s h l =
-    ap₂ monomial-of (sym (length-single n (suc i))) (sym (encode-replace 16 key-width n i (omega arith) l))
+    ap₂ monomial-of (sym (length-single n (suc i))) (sym (encode-single 16 key-width n i (omega arith) l))
     ∙ monomial-key (single n (suc i)) (omega (arith, length-single n (suc i)))
     (below-degree 16 (single n (suc i)) (omega (arith, degree-single n (suc i))))
 
 -- the constant one has the key 0
-pub constant-monomial : (n z : ℕ) → n ≤ key-width → z < 65536 → is-constant (monomial-of n z) ≡ eqb z 0
+pub constant-monomial : (n z : ℕ) → n ≤ key-width → z < key-limit → is-constant (monomial-of n z) ≡ eqb z 0
 unfolding is-constant
 constant-monomial n z l h = same-tests (eqb (degree (monomial-of n z)) 0) (eqb z 0)
     (λ t. subst (λ y. T (eqb y 0))

@@ -41,7 +41,7 @@ drop-more k c s =
 step-up : (x y : ℕ) → x / 256 ≡ y → x % 256 + 256 * y ≡ x
 step-up x y e = omega arith
 
-pub read-u16 : (x : ℕ) (r : List ℕ) → x < 65536 → u16 (u16-bytes x ++ r) ≡ x
+pub read-u16 : (x : ℕ) (r : List ℕ) → x < 2 ^ 16 → u16 (u16-bytes x ++ r) ≡ x
 unfolding u16 u16-bytes
 read-u16 x r h = omega arith
 

@@ -7,6 +7,7 @@ use Prim.Native.Nat.{ℕ, zero, suc, _<_, _≤_}
 use native.Mathlib.Omega.{arith}
 use lib.Dec.{T, leb, ltb, leb→le}
 use lib.ListN.{length, getD, length-map, length-replicate}
+use Rattle.calculus.specs.Key.{key-width}
 use Rattle.calculus.specs.Model.{Model, most-vars, most-degree, zero-model, between}
 use Rattle.calculus.specs.Refusal.{bad-limits, bad-model, bad-step, Result, done, require-each}
 use Rattle.calculus.specs.Tests.{vars-sound, order-sound, variable-sound}
@@ -23,7 +24,7 @@ use Rattle.format.specs.HeldBook.{held-model-sound, held-step-sound, hel
 -- ---- the limits
 pub record In-limits (n d m k : ℕ) : Type 0 where
   pub n-low : 1 ≤ n
-  pub n-high : n ≤ 4
+  pub n-high : n ≤ key-width
   pub d-low : 1 ≤ d
   pub d-high : d ≤ 15
   pub models : m ≤ 16
@@ -32,26 +33,26 @@ pub record In-limits (n d m k : ℕ) : Type 0 where
 
 module _ (b : Book) (h : T (limits-sound b)) where
   abbrev three : Bool
-  three = between 1 4 (b .vars) && between 1 15 (b .order) && leb (length (b .models)) 16
+  three = between 1 key-width (b .vars) && between 1 15 (b .order) && leb (length (b .models)) 16
 
-  n-and-d : T (between 1 4 (b .vars) && between 1 15 (b .order))
-  unfolding limits-sound vars-sound order-sound most-vars most-degree most-models most-steps
-  n-and-d = and-left (between 1 4 (b .vars) && between 1 15 (b .order)) _ (and-left three _ h)
+  n-and-d : T (between 1 key-width (b .vars) && between 1 15 (b .order))
+  unfolding limits-sound vars-sound order-sound most-vars key-width most-degree most-models most-steps
+  n-and-d = and-left (between 1 key-width (b .vars) && between 1 15 (b .order)) _ (and-left three _ h)
 
   few-models : T (leb (length (b .models)) 16)
-  unfolding limits-sound vars-sound order-sound most-vars most-degree most-models most-steps
-  few-models = and-right (between 1 4 (b .vars) && between 1 15 (b .order)) _ (and-left three _ h)
+  unfolding limits-sound vars-sound order-sound most-vars key-width most-degree most-models most-steps
+  few-models = and-right (between 1 key-width (b .vars) && between 1 15 (b .order)) _ (and-left three _ h)
 
   few-steps : T (between 1 64 (length (b .steps)))
-  unfolding limits-sound vars-sound order-sound most-vars most-degree most-models most-steps
+  unfolding limits-sound vars-sound order-sound most-vars key-width most-degree most-models most-steps
   few-steps = and-right three _ h
 
   book-limits : In-limits (b .vars) (b .order) (length (b .models)) (length (b .steps))
   book-limits = record {
-    n-low = between-low 1 4 (b .vars) (and-left (between 1 4 (b .vars)) _ n-and-d);
-    n-high = between-high 1 4 (b .vars) (and-left (between 1 4 (b .vars)) _ n-and-d);
-    d-low = between-low 1 15 (b .order) (and-right (between 1 4 (b .vars)) _ n-and-d);
-    d-high = between-high 1 15 (b .order) (and-right (between 1 4 (b .vars)) _ n-and-d);
+    n-low = between-low 1 key-width (b .vars) (and-left (between 1 key-width (b .vars)) _ n-and-d);
+    n-high = between-high 1 key-width (b .vars) (and-left (between 1 key-width (b .vars)) _ n-and-d);
+    d-low = between-low 1 15 (b .order) (and-right (between 1 key-width (b .vars)) _ n-and-d);
+    d-high = between-high 1 15 (b .order) (and-right (between 1 key-width (b .vars)) _ n-and-d);
     models = leb→le (length (b .models)) 16 few-models;
     steps-low = between-low 1 64 (length (b .steps)) few-steps;
     steps-high = between-high 1 64 (length (b .steps)) few-steps;

@@ -10,6 +10,8 @@ use lib.ListN.{length, take, drop, length-append, length-replicate}
 use lib.Seq.{drop-at, take-at}
 use Rattle.fixed.specs.Fixed.{span-limit}
 use Rattle.fixed.specs.FixedLaws.{span-four-bytes}
+use Rattle.calculus.specs.Key.{key-width, key-limit}
+use Rattle.calculus.specs.MonomialKeyLaws.{key-word}
 use Rattle.calculus.specs.Terms.{every, size}
 use Rattle.calculus.specs.Model.{zero-model, between, fits}
 use Rattle.calculus.specs.Refusal.{bad-length, bad-mark, bad-limits, bad-offset, bad-model, bad-step, short-buffer}
@@ -57,16 +59,16 @@ length-trailer h = refl
 term-is : (t : Held-term) (k : ℕ) (z : ℤ) → k ≡ t .key → z ≡ t .coefficient → record { key = k; coefficient = z } ≡ t
 term-is t k z p q = rw (p, q)
 
-term-back : (t : Held-term) (r : List ℕ) → t .key < 65536 → natAbs (t .coefficient) ≤ span-limit
+term-back : (t : Held-term) (r : List ℕ) → t .key < key-limit → natAbs (t .coefficient) ≤ span-limit
     → read-term (term-bytes t ++ r) ≡ t
 unfolding read-term term-bytes u16-bytes
-term-back t r h k = term-is t _ _ (read-u16 (t .key) _ h)
+term-back t r h k = term-is t _ _ (read-u16 (t .key) _ (key-word (t .key) h))
     (ap signed (read-u32 (bits (t .coefficient)) r (bits-below _ small)) ∙ signed-bits _ small)
   where
     small : natAbs (t .coefficient) < 2 ^ 31
     small = omega (arith, span-four-bytes)
 
-terms-back : (n d : ℕ) (ts : List Held-term) (r : List ℕ) → n ≤ 4 → d ≤ 15
+terms-back : (n d : ℕ) (ts : List Held-term) (r : List ℕ) → n ≤ key-width → d ≤ 15
     → T (every (λ k c. fits n d k) (map (view-term n) ts)) → size (map (view-term n) ts) ≤ span-limit
     → read-terms (length ts) (join (map term-bytes ts) ++ r) ≡ ts
 unfolding read-terms join
@@ -103,7 +105,7 @@ model-fits m r = le→leb (model-length (model-bytes m ++ r)) (length (model-byt
 pub model-rest : (m : Held-model) (r : List ℕ) → drop (model-length (model-bytes m ++ r)) (model-bytes m ++ r) ≡ r
 model-rest m r = drop-at (model-bytes m) r _ (sym (model-length-back m r))
 
-model-back : (b : Book) (m : Held-model) (r : List ℕ) → b .vars ≤ 4 → b .order ≤ 15 → T (held-model-sound b m)
+model-back : (b : Book) (m : Held-model) (r : List ℕ) → b .vars ≤ key-width → b .order ≤ 15 → T (held-model-sound b m)
     → read-model (b .vars) (model-bytes m ++ r) ≡ m
 unfolding read-model model-bytes
 model-back b m r ln ld h = model-is m _ _ _ (sym (f .same-n))
@@ -114,7 +116,7 @@ model-back b m r ln ld h = model-is m _ _ _ (sym (f .same-n))
     f : Model-facts (b .vars) (b .order) m
     f = model-facts b m h
 
-pub models-back : (b : Book) (i : ℕ) (before ms : List Held-model) → b .vars ≤ 4 → b .order ≤ 15
+pub models-back : (b : Book) (i : ℕ) (before ms : List Held-model) → b .vars ≤ key-width → b .order ≤ 15
     → T (all-from i (λ i. held-model-sound b) ms)
     → read-models b before (length ms) (join (map model-bytes ms)) ≡ done (before ++ ms)
 unfolding read-models join all-from
@@ -153,7 +155,7 @@ pub length-step : (s : Held-step) → length (step-bytes s) ≡ 8
 unfolding step-bytes u32-bytes
 length-step s = refl
 
-pub steps-back : (b : Book) (i : ℕ) (l : List Held-step) (r : List ℕ) → length (b .models) ≤ 16 → b .vars ≤ 4
+pub steps-back : (b : Book) (i : ℕ) (l : List Held-step) (r : List ℕ) → length (b .models) ≤ 16 → b .vars ≤ key-width
     → i + length l ≤ 64 → T (all-from i (held-step-sound b) l)
     → read-steps (length l) (join (map step-bytes l) ++ r) ≡ l
 unfolding read-steps join all-from
@@ -182,7 +184,7 @@ module _ (h : Held-book) (p : Held-passes h) where
   unfolding outline-of
   limits = in-limits (h .n) (h .d) (length (h .models)) (length (h .steps)) (p .limits)
 
-  pub outline-small : (length (o .models) ≤ 16) × (o .vars ≤ 4)
+  pub outline-small : (length (o .models) ≤ 16) × (o .vars ≤ key-width)
   unfolding outline-of outline
   outline-small = (rw (length-replicate (length (h .models)) (zero-model (h .n))) (limits .models), limits .n-high)
 

@@ -9,7 +9,7 @@ use lib.IntN.{ℤ, natAbs}
 use lib.Signed.{nonNeg}
 use lib.ListN.{length, length-map}
 use Rattle.fixed.specs.Fixed.{span-limit}
-use Rattle.calculus.specs.Key.{key-width, monomial-of}
+use Rattle.calculus.specs.Key.{key-width, key-limit, monomial-of}
 use Rattle.calculus.specs.Terms.{every, sum-over, size}
 use Rattle.calculus.specs.Model.{most-terms, span, fits}
 use Rattle.calculus.specs.Tests.{constant-sound, variable-sound, threshold-sound}
@@ -47,14 +47,14 @@ model-facts b m h = record {
     parts = sound-parts (b .order) (view-model m) (and-right (eqb (m .n) (b .vars)) _ h)
 
 pub record Term-facts (n d : ℕ) (t : Held-term) (ts : List Held-term) : Type 0 where
-  pub key : t .key < 65536
+  pub key : t .key < key-limit
   pub coefficient : natAbs (t .coefficient) ≤ size (map (view-term n) (t ∷ ts))
   pub size-rest : size (map (view-term n) ts) ≤ size (map (view-term n) (t ∷ ts))
   pub fitting-rest : T (every (λ k c. fits n d k) (map (view-term n) ts))
 
-pub term-facts : (n d : ℕ) (t : Held-term) (ts : List Held-term) → n ≤ 4 → d ≤ 15
+pub term-facts : (n d : ℕ) (t : Held-term) (ts : List Held-term) → n ≤ key-width → d ≤ 15
     → T (every (λ k c. fits n d k) (map (view-term n) (t ∷ ts))) → Term-facts n d t ts
-unfolding every size sum-over view-term key-width
+unfolding every size sum-over view-term
 term-facts n d t ts l u h = record {
   key = fits-below n (t .key)
       (fits-key n d (t .key) l (omega arith) (and-left (fits n d (monomial-of n (t .key))) _ h));
@@ -88,9 +88,9 @@ value-small true u z h = leb→le (natAbs z) span-limit h
 value-small false true z h = leb→le (natAbs z) span-limit (and-right (nonNeg z) _ h)
 value-small false false z h = let e = eqb→eq (natAbs z) 0 h in omega arith
 
-pub step-facts : (b : Book) (i : ℕ) (s : Held-step) → i ≤ 64 → length (b .models) ≤ 16 → b .vars ≤ 4
+pub step-facts : (b : Book) (i : ℕ) (s : Held-step) → i ≤ 64 → length (b .models) ≤ 16 → b .vars ≤ key-width
     → T (held-step-sound b i s) → Step-facts s
-unfolding limit-a limit-b v-sound value-sound
+unfolding limit-a limit-b v-sound value-sound key-width
 step-facts b i s li lm ln h = record {
   code = leb→le (s .code) 8 (p .in-code);
   a = let l = ltb→lt (s .a) _ (p .in-a) in

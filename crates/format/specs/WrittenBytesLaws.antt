@@ -5,6 +5,7 @@ use Prim.Native.Nat.{ℕ, zero, suc, _+_, _/_, _%_, _<_, _≤_}
 use native.Mathlib.Omega.{arith}
 use lib.Dec.{T}
 use lib.ListN.{length}
+use Rattle.calculus.specs.Key.{key-width}
 use Rattle.calculus.specs.Refusal.{done}
 use Rattle.calculus.specs.Book.{Book}
 use Rattle.calculus.specs.TestLaws.{and-left, and-right}
@@ -60,7 +61,7 @@ models-all b i (m ∷ ms) h = both-bytes (model-bytes m) _
     count : length (m .terms) < 256
     count = omega (arith, model-facts b m (and-left (held-model-sound b m) _ h) .count)
 
-steps-all : (b : Book) (i : ℕ) (l : List Held-step) → length (b .models) ≤ 16 → b .vars ≤ 4 → i + length l ≤ 64
+steps-all : (b : Book) (i : ℕ) (l : List Held-step) → length (b .models) ≤ 16 → b .vars ≤ key-width → i + length l ≤ 64
     → T (all-from i (held-step-sound b) l) → All-bytes (join (map step-bytes l))
 unfolding join step-bytes all-from
 steps-all b i [] lm ln li h = none-bytes
@@ -79,7 +80,7 @@ module _ (h : Held-book) (p : Held-passes h) where
   small x l = omega arith
 
   pub sheet-all : All-bytes (sheet-bytes h)
-  unfolding sheet-bytes models-bytes trailer-bytes
+  unfolding sheet-bytes models-bytes trailer-bytes key-width
   sheet-all = both-bytes (models-bytes h) _ (models-all (outline-of h) 0 (h .models) (p .models))
       (both-bytes (join (map step-bytes (h .steps))) _
       (steps-all (outline-of h) 0 (h .steps) (outline-small h p .0) (outline-small h p .1)

@@ -4,5 +4,5 @@ pub use Rattle.model_addition.specs.Addition.{Operands}
 pub use Rattle.model_product.specs.Factors.{Factors}
 pub use Rattle.model_substitution.specs.Substitute.{Substitution}
 pub use Rattle.product_collector.specs.CollectorContracts.{Lent-table}
--- the range rule by its terms
-unfoldable pub use Rattle.model_bounds.specs.Bounds.{rule}
+-- the rounding of a quotient
+unfoldable pub use Rattle.model_integral.specs.Rounding.{rule}

@@ -16,10 +16,10 @@ pub use model_types::Verdict;
 // ---- for callers whose operands are known to be sound: the tests, the operations, and how long a lent table must be
 pub use model_addition::added;
 pub use model_addition::subtracted;
-pub use model_bounds::integral_of;
-pub use model_bounds::range_of;
+pub use model_integral::integral_of;
+pub use model_keys::exponent_of;
 pub use model_multiplication::multiplied;
-pub use model_powers::exponent_of;
+pub use model_range::range_of;
 pub use model_soundness::sound;
 pub use model_soundness::term_sound;
 pub use model_substitution::substituted;
@@ -62,7 +62,7 @@ pub fn range(m: Model) -> Bounds
 {
     let v = model_call_tests::single_model(m);
     match v {
-        Verdict::Accepted => model_bounds::range_of(m),
+        Verdict::Accepted => model_range::range_of(m),
         Verdict::Refused(refusal, place) => model_types::refuse_bounds(refusal, place),
     }
 }
@@ -73,7 +73,7 @@ pub fn integral(m: Model) -> Bounds
 {
     let v = model_call_tests::single_model(m);
     match v {
-        Verdict::Accepted => model_bounds::integral_of(m),
+        Verdict::Accepted => model_integral::integral_of(m),
         Verdict::Refused(refusal, place) => model_types::refuse_bounds(refusal, place),
     }
 }
@@ -130,7 +130,7 @@ pub fn substitute(d: u8, i: u8, f: Model, g: Model) -> Answer
 
 // Two ends around the value at the point X_1/U, .., X_n/U: for every function within the model its value there, times
 // U, lies between them. 5, 6 for a coordinate above n that is not 0, 9 for one of the others outside -U to U, then 7.
-pub fn evaluate(m: Model, xs: [i64; 4]) -> Bounds
+pub fn evaluate(m: Model, xs: [i64; model_types::MOST_VARS as usize]) -> Bounds
     ensures { λ r. ⌜ r ≡ bounds (call-evaluate xs (view m)) ⌝ }
 {
     let v = model_call_tests::at_point(m, xs);

@@ -4,15 +4,15 @@ use mathlib.Core.Bool.{Bool, true, false}
 use mathlib.Core.List.{List}
 use Prim.Native.Nat.{ℕ, _≤_}
 use native.Mathlib.Omega.{arith}
-use lib.Dec.{T, eqb→eq, leb, leb→le}
+use lib.Dec.{T, eqb→eq}
 use lib.IntN.{ℤ}
 use lib.ListN.{take}
-use Rattle.calculus.specs.Model.{Model, most-degree, between, sound}
+use Rattle.calculus.specs.Model.{Model, most-degree, sound}
+use Rattle.calculus.specs.BookLaws.{between-low, between-high}
 use Rattle.calculus.specs.Refusal as R
 use Rattle.calculus.specs.Refusal.{Result, done, stopped, require-at, _followed-by_}
 use Rattle.calculus.specs.RefusalLaws.{passed-at}
 use Rattle.calculus.specs.Tests.{order-sound, variable-sound, all-in-unit}
-use Rattle.calculus.specs.TestLaws.{and-left, and-right}
 use Rattle.calculus.specs.Calls.{require-two}
 use Rattle.model_types.specs.declared.Refusal.{Refusal}
 use Rattle.model_types.specs.declared.Verdict.the-variants.{Accepted, Refused}
@@ -110,15 +110,11 @@ pub record Ordered (d : ℕ) (f g : Model) : Type 0 where
   pub order : d ≤ most-degree
   pub models : Two-models d f g (done tt)
 
-order-limit : (d : ℕ) → T (order-sound d) → d ≤ most-degree
-unfolding order-sound between
-order-limit d h = leb→le d most-degree (and-right (leb 1 d) _ h)
-
 pub ordered-passed : (d : ℕ) (f g : Model) → verdict (ordered d f g) ≡ Accepted → Ordered d f g
-unfolding ordered
+unfolding ordered order-sound
 ordered-passed d f g e =
     let limit = passed-at 0 _ _ _ tt (accepted-done (ordered d f g) e) in
-    record { order = order-limit d (limit .test); models = two-done d f g (done tt) (limit .result) }
+    record { order = between-high 1 most-degree d (limit .test); models = two-done d f g (done tt) (limit .result) }
 
 -- and a variable
 pub record Substituting (d i : ℕ) (f g : Model) : Type 0 where
@@ -129,24 +125,19 @@ pub record Substituting (d i : ℕ) (f g : Model) : Type 0 where
   pub least : 1 ≤ i
   pub most : i ≤ f .vars
 
-variable-range : (n i : ℕ) → T (variable-sound n i) → (1 ≤ i) × (i ≤ n)
-unfolding variable-sound between
-variable-range n i h =
-    (leb→le 1 i (and-left (leb 1 i) (leb i n) h), leb→le i n (and-right (leb 1 i) (leb i n) h))
-
 pub substituting-passed : (d i : ℕ) (f g : Model) → verdict (substituting d i f g) ≡ Accepted → Substituting d i f g
-unfolding substituting
+unfolding substituting order-sound variable-sound
 substituting-passed d i f g e =
     let limit = passed-at 0 _ _ _ tt (accepted-done (substituting d i f g) e) in
     let two = two-done d f g _ (limit .result) in
-    let range = variable-range (f .vars) i (passed-at 0 _ _ _ tt (two .later) .test) in
+    let variable = passed-at 0 _ _ _ tt (two .later) .test in
     record {
-      order = order-limit d (limit .test);
+      order = between-high 1 most-degree d (limit .test);
       model = two .first;
       inner = two .second;
       vars = two .vars;
-      least = range .0;
-      most = range .1;
+      least = between-low 1 (f .vars) i variable;
+      most = between-high 1 (f .vars) i variable;
     }
 
 -- ---- a substitution's tests are a product's, then that of the variable

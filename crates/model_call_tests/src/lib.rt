@@ -3,7 +3,8 @@
 ghost use mathlib.Core.Path.{_≡_};
 ghost use lib.ListN.{take, drop};
 ghost use Prim.Native.Nat.{_≤_};
-ghost use Rattle.calculus.specs.Tests.{«order-sound», «all-zero», «all-in-unit»};
+ghost use Rattle.calculus.specs.Key.{«key-width»};
+ghost use Rattle.calculus.specs.Tests.{«all-zero», «all-in-unit»};
 ghost use Rattle.model_types.specs.ModelStruct.{view, verdict};
 ghost use Rattle.model_call_tests.specs.Admission.{«single-model», sweeping, «at-point»};
 ghost use Rattle.model_call_tests.specs.Admission.{«two-models», ordered, substituting};
@@ -50,21 +51,11 @@ pub fn two_models(d: u8, a: Model, b: Model) -> Verdict
     Verdict::Accepted
 }
 
-// Whether an order is 1 to 15.
-fn order_sound(d: u8) -> bool
-    ensures { λ r. ⌜ r ≡ order-sound d ⌝ }
-{
-    if d < 1 {
-        return false;
-    }
-    d <= model_types::MOST_DEGREE
-}
-
 // The tests of a product with order d. 3, 5 at place 0 or 1, 10.
 pub fn ordered(d: u8, a: Model, b: Model) -> Verdict
     ensures { λ r. ⌜ r ≡ verdict (ordered d (view a) (view b)) ⌝ }
 {
-    if !order_sound(d) {
+    if !model_types::order_sound(d) {
         return Verdict::Refused(Refusal::BadLimits, 0);
     }
     two_models(d, a, b)
@@ -78,22 +69,19 @@ pub fn substituting(d: u8, i: u8, f: Model, g: Model) -> Verdict
     let Verdict::Accepted = v else {
         return v;
     };
-    if i < 1 {
-        return Verdict::Refused(Refusal::BadStep, 0);
-    }
-    if f.n < i {
+    if !model_types::from_one(f.n, i) {
         return Verdict::Refused(Refusal::BadStep, 0);
     }
     Verdict::Accepted
 }
 
 // Whether the coordinates above n are 0.
-fn unused_zero(n: u8, xs: [i64; 4]) -> bool
-    requires { ⌜ n ≤ 4 ⌝ }
+fn unused_zero(n: u8, xs: [i64; model_types::MOST_VARS as usize]) -> bool
+    requires { ⌜ n ≤ key-width ⌝ }
     ensures { λ r. ⌜ r ≡ all-zero (drop n xs) ⌝ }
 {
     let mut i = n;
-    while i < 4 {
+    while i < model_types::MOST_VARS {
         let x = xs[i as usize];
         if x != 0 {
             return false;
@@ -104,8 +92,8 @@ fn unused_zero(n: u8, xs: [i64; 4]) -> bool
 }
 
 // Whether the first n coordinates lie from -U to U.
-fn used_within(n: u8, xs: [i64; 4]) -> bool
-    requires { ⌜ n ≤ 4 ⌝ }
+fn used_within(n: u8, xs: [i64; model_types::MOST_VARS as usize]) -> bool
+    requires { ⌜ n ≤ key-width ⌝ }
     ensures { λ r. ⌜ r ≡ all-in-unit (take n xs) ⌝ }
 {
     let mut i = 0;
@@ -120,7 +108,7 @@ fn used_within(n: u8, xs: [i64; 4]) -> bool
 }
 
 // The tests of an evaluation. 5, 6 for a coordinate above n that is not 0, 9 for one of the others outside -U to U.
-pub fn at_point(m: Model, xs: [i64; 4]) -> Verdict
+pub fn at_point(m: Model, xs: [i64; model_types::MOST_VARS as usize]) -> Verdict
     ensures { λ r. ⌜ r ≡ verdict (at-point xs (view m)) ⌝ }
 {
     if !model_soundness::sound(m, model_types::MOST_DEGREE) {

@@ -13,7 +13,7 @@ use model_types::Verdict;
 // The range of what is left of m after the coordinates are put in for its variables, one after the other.
 pub fn evaluated(
     m: Model,
-    xs: [i64; 4],
+    xs: [i64; model_types::MOST_VARS as usize],
     slots: &mut [u16],
     keys: &mut [u64],
     sums: &mut [i64],
@@ -47,5 +47,5 @@ pub fn evaluated(
         left = a.model;
         i += 1;
     }
-    model_bounds::range_of(left)
+    model_range::range_of(left)
 }

@@ -1,4 +1,2 @@
-pub mod Exponents
 pub mod Powers
-pub mod KeyExponentLaws
 pub mod PowersLaws

@@ -24,9 +24,9 @@ use Rattle.model_types.specs.ModelStruct.{zero-term, places, view-term, view, p
 use Rattle.model_types.specs.ModelStructLaws.{map-++, read, term-at, length-read, view-terms, read-more}
 use Rattle.model_types.specs.ModelStructLaws.{select-more, select-same}
 use Rattle.model_types.specs.ModelStructLaws.{sum-select-le, packed-more, limits, key-fits-at}
-use Rattle.model_powers.specs.Exponents.{key-exponent, key-without, Slot}
+use Rattle.model_keys.specs.Keys.{key-exponent, key-without, Slot}
 use Rattle.model_powers.specs.Powers.{In-variable}
-use Rattle.model_powers.specs.KeyExponentLaws.{monomial-exponent, monomial-without}
+use Rattle.model_keys.specs.KeyExponentLaws.{monomial-exponent, monomial-without}
 
 -- ---- one more term
 largest-snoc : (i : ℕ) (p : Terms) (t : P.Term ℤ)

@@ -1,46 +1,11 @@
-// A model by the powers of one of its variables: exponents in keys, the largest one, and what multiplies each power.
+// A model by the powers of one of its variables: the largest exponent, and what multiplies each power.
 ghost use mathlib.Core.Path.{_≡_};
 ghost use Prim.Native.Nat.{max};
 ghost use Rattle.calculus.specs.Operations.{«largest-exponent», part};
 ghost use Rattle.model_types.specs.ModelStruct.{view, pack};
-ghost use Rattle.model_powers.specs.Exponents.{«key-exponent», «key-without», Slot};
 ghost use Rattle.model_powers.specs.Powers.{«In-variable»};
 use model_types::Model;
 use model_types::Term;
-
-// The exponent of variable i in a key, where that of variable 1 stands in the highest four bits.
-pub fn exponent_of(key: u16, i: u8) -> u16
-    requires { ⌜ Slot i ⌝ }
-    ensures { λ r. ⌜ r ≡ key-exponent i key ⌝ }
-{
-    if i == 1 {
-        return key / 4096;
-    }
-    if i == 2 {
-        return key % 4096 / 256;
-    }
-    if i == 3 {
-        return key % 256 / 16;
-    }
-    key % 16
-}
-
-// The key with the exponent of variable i made 0.
-pub fn without(key: u16, i: u8) -> u16
-    requires { ⌜ Slot i ⌝ }
-    ensures { λ r. ⌜ r ≡ key-without i key ⌝ }
-{
-    if i == 1 {
-        return key % 4096;
-    }
-    if i == 2 {
-        return key / 4096 * 4096 + key % 256;
-    }
-    if i == 3 {
-        return key / 256 * 256 + key % 16;
-    }
-    key / 16 * 16
-}
 
 // The larger of two.
 fn larger(a: u16, b: u16) -> u16
@@ -59,7 +24,7 @@ pub fn largest_exponent(f: Model, i: u8) -> u16
     let mut j = 0;
     while j < count {
         let t = f.terms[j];
-        largest = larger(largest, exponent_of(t.key, i));
+        largest = larger(largest, model_keys::exponent_of(t.key, i));
         j += 1;
     }
     largest
@@ -77,9 +42,9 @@ pub fn part(f: Model, i: u8, k: u16) -> Model
     while j < total {
         let t = f.terms[j];
         j += 1;
-        if exponent_of(t.key, i) == k {
+        if model_keys::exponent_of(t.key, i) == k {
             out[count] = Term {
-                key: without(t.key, i),
+                key: model_keys::without(t.key, i),
                 coefficient: t.coefficient,
             };
             count += 1;

@@ -11,7 +11,7 @@ use lib.IntN.{ℤ, natAbs}
 use lib.ListN.{length, take, drop, getD}
 use Rattle.polynomial.specs.Polynomial as P
 use Rattle.calculus.specs.Monomial.{less}
-use Rattle.calculus.specs.Key.{key-width, key-fits, monomial-of}
+use Rattle.calculus.specs.Key.{key-width, key-limit, key-fits, monomial-of}
 use Rattle.fixed.specs.Fixed.{span-limit, capped}
 use Rattle.fixed.specs.FixedLaws.{capped-within}
 use Rattle.calculus.specs.Terms.{Terms, every, is-nonzero, nonzero, rising-from, rising, sum-over, size}
@@ -153,7 +153,7 @@ module _ (d : ℕ) (m : Model) where
               ∙ rest-nil (m .n) d (h .last)
 
       -- a turn, for a key of 16 bits
-      module _ (l : i < m .count) (small : getD (m .terms) i zero-term .key < 65536) where
+      module _ (l : i < m .count) (small : getD (m .terms) i zero-term .key < key-limit) where
         abbrev key-at : ℕ
         key-at = getD (m .terms) i zero-term .key
 

@@ -1,37 +1,10 @@
 // The rules that a model must keep: the tests of one term, and of a whole struct.
 ghost use mathlib.Core.Path.{_≡_};
 ghost use Prim.Native.Nat.{_≤_};
-ghost use Rattle.calculus.specs.Key.{«key-width», «key-fits», «key-degree»};
 ghost use Rattle.calculus.specs.Model.{sound};
 ghost use Rattle.model_types.specs.ModelStruct.{view, «term-sound»};
 use model_types::MOST_TERMS;
 use model_types::Model;
-
-// Whether the exponents of variables above n are 0.
-fn key_fits(n: u8, key: u16) -> bool
-    requires { ⌜ 1 ≤ n ⌝ }
-    ensures { λ r. ⌜ r ≡ key-fits key-width n key ⌝ }
-{
-    if n == 1 {
-        return key % 4096 == 0;
-    }
-    if n == 2 {
-        return key % 256 == 0;
-    }
-    if n == 3 {
-        return key % 16 == 0;
-    }
-    true
-}
-
-// The total degree.
-fn degree(key: u16) -> u16
-    ensures { λ r. ⌜ r ≡ key-degree key ⌝ }
-{
-    let low = key % 4096;
-    let lower = low % 256;
-    key / 4096 + low / 256 + lower / 16 + lower % 16
-}
 
 // Whether a term may stand in a model where keys before it are below `least`.
 pub fn term_sound(n: u8, d: u8, least: u32, key: u16, coefficient: i64) -> bool
@@ -44,8 +17,8 @@ pub fn term_sound(n: u8, d: u8, least: u32, key: u16, coefficient: i64) -> bool
     if (key as u32) < least {
         return false;
     }
-    if key_fits(n, key) {
-        degree(key) <= d as u16
+    if model_keys::key_fits(n, key) {
+        model_keys::degree(key) <= d as u16
     } else {
         false
     }

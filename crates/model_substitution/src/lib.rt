@@ -48,7 +48,7 @@ pub fn substituted(
     requires { ⌜ Lent-table (now slots) (now keys) (now sums) ⌝ }
     ensures { λ r. ⌜ r ≡ answer (at-place 0 (substitute d i (view f) (view g))) ⌝ }
 {
-    if !model_bounds::in_box(g) {
+    if !model_range::in_box(g) {
         return model_types::refuse(Refusal::LeavesBox, 0);
     }
     let mut k = model_powers::largest_exponent(f, i);

@@ -5,7 +5,9 @@ use mathlib.Core.List.{List, [], _∷_, _++_, map, append-nil}
 use Prim.Native.Nat.{ℕ, zero, suc, _+_, _-_, _^_, _≤_, _<_}
 use native.Mathlib.Numerals.{add-one}
 use native.Mathlib.Omega.{arith}
-use lib.Dec.{T, T-not, eqb, eqb→eq, leb, leb→le}
+use native.Mathlib.Nat as NatL
+use borrow.Author.Tests.{le-leb}
+use lib.Dec.{T, T-not}
 use lib.IntN.{ℤ, pos, natAbs}
 use lib.ListN.{length, take, drop, getD, set, length-map, drop-of-length-le}
 use lib.ListN.{List·getD-map}
@@ -13,8 +15,7 @@ use lib.Seq.{length-take-le, drop-cons, getD-take}
 use Rattle.algebra.specs.Integer.{natAbs-add}
 use Rattle.polynomial.specs.Polynomial as P
 use Rattle.fixed.specs.Fixed.{U, span-limit}
-use Rattle.calculus.specs.Monomial.{degree}
-use Rattle.calculus.specs.Key.{key-width, key, key-fits, monomial-of}
+use Rattle.calculus.specs.Key.{key-width, key-limit, key, key-fits, monomial-of}
 use Rattle.calculus.specs.Key.{Below}
 use Rattle.calculus.specs.KeyLaws.{below-degree}
 use Rattle.calculus.specs.Terms.{Terms, term, every, select, sum-over, sum-ℕ, sum-ℤ, size, is-nonzero, drop-zeros}
@@ -25,9 +26,10 @@ use Rattle.calculus.specs.SumLaws.{Addition, sum-snoc, sum-split, ℕ-addition,
 use Rattle.calculus.specs.Model as C
 use Rattle.calculus.specs.Model.{zero-model, most-terms, most-vars, most-degree, between, fits, sound, span}
 use Rattle.calculus.specs.Tests.{vars-sound}
+use Rattle.calculus.specs.BookLaws.{between-low, between-high}
+use Rattle.calculus.specs.FitsLaws.{fits-length, fits-degree}
 use Rattle.calculus.specs.SoundLaws.{sound-parts}
 use Rattle.calculus.specs.Refusal as R
-use Rattle.calculus.specs.TestLaws.{and-left, and-right}
 pub use Rattle.model_types.specs.ArrayLaws.{take-more}
 use Rattle.model_types.specs.ArrayLaws.{first-take, length-first, padded-more, length-padded-least, take-padded}
 use Rattle.model_types.specs.declared.Term.{Term}
@@ -41,6 +43,7 @@ use Rattle.model_types.specs.ModelStruct.{refusal, cause, one-term, zero
 use Rattle.model_types.specs.ModelStruct.{pack-term, pad, pack}
 use Rattle.calculus.specs.MonomialKeyLaws.{key-monomial, monomial-key, fits-key, fits-below}
 use Rattle.calculus.specs.MonomialKeyLaws.{monomial-zero, monomial-variable}
+use Rattle.model_keys.specs.Keys.{key-raised}
 
 -- ---- any list
 pub map-++ : {A B : Type 0} (f : A → B) (k l : List A) → map f (k ++ l) ≡ map f k ++ map f l
@@ -67,12 +70,12 @@ pub pad-more : (ts : List Term) (i : ℕ) (t : Term) → length ts ≡ i → i <
 pad-more = padded-more zero-term most-terms
 
 -- ---- there and back
-pub pack-key : (n z : ℕ) (c : ℤ) → n ≤ key-width → z < 65536
+pub pack-key : (n z : ℕ) (c : ℤ) → n ≤ key-width → z < key-limit
     → pack-term (term c (monomial-of n z)) ≡ record { key = z; coefficient = c }
 unfolding pack-term
 pack-key n z c l h = ap (λ k. record { key = k; coefficient = c }) (key-monomial n z l h)
 
-pub pack-view-term : (n : ℕ) (t : Term) → n ≤ key-width → t .key < 65536 → pack-term (view-term n t) ≡ t
+pub pack-view-term : (n : ℕ) (t : Term) → n ≤ key-width → t .key < key-limit → pack-term (view-term n t) ≡ t
 unfolding view-term
 pack-view-term n t l h = pack-key n (t .key) (t .coefficient) l h
 
@@ -89,10 +92,8 @@ view-pack-terms n d (t ∷ p) l s h = ap₂ _∷_ (head (every-head (λ k c. fit
     (view-pack-terms n d p l s (every-tail (λ k c. fits n d k) t p h))
   where
     head : T (fits n d (t .exponents)) → view-term n (pack-term t) ≡ t
-    head f = unfold fits in view-pack-term n t l
-        (eqb→eq (length (t .exponents)) n (and-left (eqb (length (t .exponents)) n) _ f))
-        (below-degree 16 (t .exponents)
-        (omega (arith, leb→le (degree (t .exponents)) d (and-right (eqb (length (t .exponents)) n) _ f))))
+    head f = view-pack-term n t l (fits-length n d (t .exponents) f)
+        (below-degree 16 (t .exponents) (omega (arith, fits-degree n d (t .exponents) f)))
 
 pub length-packed : (m : C.Model) → length (m .terms) ≤ length (pack m .terms)
 unfolding pack
@@ -111,10 +112,12 @@ view-pack d m s l h = ap (λ p. record { vars = m .vars; radius = m .radius; ter
 
 -- ---- a sound model: 1 to 4 variables, and its other parts
 pub vars-range : (n : ℕ) → vars-sound n ≡ true → (1 ≤ n) × (n ≤ key-width)
+unfolding vars-sound most-vars key-width
+vars-range n v = let h = subst T (sym v) tt in (between-low 1 key-width n h, between-high 1 key-width n h)
+
+pub vars-within : (n : ℕ) → 1 ≤ n → n ≤ key-width → vars-sound n ≡ true
 unfolding vars-sound between most-vars key-width
-vars-range n v =
-    let h : T (leb 1 n && leb n 4) = subst T (sym v) tt in
-    (leb→le 1 n (and-left (leb 1 n) (leb n 4) h), leb→le n 4 (and-right (leb 1 n) (leb n 4) h))
+vars-within n l h = rw (le-leb 1 n l, le-leb n key-width h)
 
 pub sound-vars : (d : ℕ) (m : C.Model) → T (sound d m) → vars-sound (m .vars) ≡ true
 unfolding sound vars-sound
@@ -389,9 +392,9 @@ unfolding constant one-term drop-zeros select
 constant-one-term n v l h = rw (h, select, monomial-zero n l)
 
 pub variable-one-term : (n i : ℕ) → 1 ≤ i → i ≤ n → n ≤ key-width
-    → variable n i ≡ one-term n (16 ^ (key-width - i)) (pos U)
-unfolding variable one-term
-variable-one-term n i s h l = rw (monomial-variable n i s h l)
+    → variable n i ≡ one-term n (key-raised i 0) (pos U)
+unfolding variable one-term key-raised
+variable-one-term n i s h l = rw (NatL.zero-add (16 ^ (key-width - i)), monomial-variable n i s h l)
 
 -- ---- refusals
 pub refusal-cause : (r : Refusal) → refusal (cause r) ≡ r

@@ -1,16 +1,19 @@
 // Models held in memory: their types, the answers of a refused call, and the models of constants and variables.
 ghost use mathlib.Core.Path.{_≡_};
-ghost use Prim.Native.Nat.{_-_, _^_, _≤_};
+ghost use Prim.Native.Nat.{_≤_};
 ghost use Rattle.calculus.specs.Key.{«key-width»};
-ghost use Rattle.calculus.specs.Model.{«zero-model»};
+ghost use Rattle.calculus.specs.Model.{«zero-model», between};
 ghost use Rattle.calculus.specs.Refusal.{stopped, number};
-ghost use Rattle.calculus.specs.Tests.{«vars-sound»};
+ghost use Rattle.calculus.specs.Tests.{«vars-sound», «order-sound»};
 ghost use Rattle.calculus.specs.Operations.{constant, variable};
 ghost use Rattle.calculus.specs.Calls.{«call-constant», «call-variable»};
 ghost use Rattle.model_types.specs.ModelStruct.{pack, «one-term», cause, answer, bounds};
 
 // The places of a model's terms.
 pub const MOST_TERMS: usize = 64;
+
+// The largest number of variables.
+pub const MOST_VARS: u8 = 4;
 
 // The largest degree of a term, and the largest order.
 pub const MOST_DEGREE: u8 = 15;
@@ -197,11 +200,28 @@ pub fn refuse_bounds(refusal: Refusal, place: usize) -> Bounds
     }
 }
 
-// Whether n is 1 to 4.
+// Whether i is 1 to `most`.
+pub fn from_one(most: u8, i: u8) -> bool
+    ensures { λ r. ⌜ r ≡ between 1 most i ⌝ }
+{
+    if i < 1 {
+        return false;
+    }
+    i <= most
+}
+
+// Whether n is a number of variables.
 pub fn vars_sound(n: u8) -> bool
     ensures { λ r. ⌜ r ≡ vars-sound n ⌝ }
 {
-    1 <= n && n <= 4
+    from_one(MOST_VARS, n)
+}
+
+// Whether d is an order.
+pub fn order_sound(d: u8) -> bool
+    ensures { λ r. ⌜ r ≡ order-sound d ⌝ }
+{
+    from_one(MOST_DEGREE, d)
 }
 
 // A model without terms, in n variables.
@@ -234,23 +254,6 @@ fn of_one_term(n: u8, key: u16, coefficient: i64) -> Model
     }
 }
 
-// The key of variable i.
-fn variable_key(i: u8) -> u16
-    requires { ⌜ (1 ≤ i) × (i ≤ 4) ⌝ }
-    ensures { λ r. ⌜ r ≡ 16 ^ (4 - i) ⌝ }
-{
-    if i == 1 {
-        return 4096;
-    }
-    if i == 2 {
-        return 256;
-    }
-    if i == 3 {
-        return 16;
-    }
-    1
-}
-
 // The model of a constant.
 pub fn constant_of(n: u8, value: i64) -> Model
     requires { ⌜ n ≤ key-width ⌝ }
@@ -268,7 +271,7 @@ pub fn variable_of(n: u8, i: u8) -> Model
     requires { ⌜ (1 ≤ i) × (i ≤ n) × (n ≤ key-width) ⌝ }
     ensures { λ r. ⌜ r ≡ pack (variable n i) ⌝ }
 {
-    of_one_term(n, variable_key(i), fixed::unit())
+    of_one_term(n, model_keys::raised(0, i), fixed::unit())
 }
 
 impl Model {
@@ -295,10 +298,7 @@ impl Model {
         if !vars_sound(n) {
             return refuse(Refusal::BadLimits, 0);
         }
-        if i < 1 {
-            return refuse(Refusal::BadStep, 0);
-        }
-        if n < i {
+        if !from_one(n, i) {
             return refuse(Refusal::BadStep, 0);
         }
         Answer {

@@ -8,7 +8,7 @@ use lib.Dec.{T, eqb, leb}
 use lib.IntN.{ℤ, natAbs}
 use lib.ListN.{length, getD, set, length-append}
 use Rattle.polynomial.specs.Polynomial as P
-use Rattle.calculus.specs.Key.{key-width, monomial-of}
+use Rattle.calculus.specs.Key.{key-width, key-limit, monomial-of}
 use Rattle.calculus.specs.Terms.{Terms, select, sum-over, size}
 use Rattle.calculus.specs.TermsLaws.{length-select}
 use Rattle.calculus.specs.SumLaws.{ℕ-addition, sum-snoc}
@@ -22,7 +22,7 @@ use Rattle.model_types.specs.ModelStructLaws.{pack-view-term, read, length-read
 use Rattle.model_types.specs.ModelStructLaws.{select-more, select-same, select-turn, sum-select-le, size-more}
 
 -- the test by key and size
-small-test : (t n z : ℕ) (c : ℤ) → n ≤ key-width → z < 65536
+small-test : (t n z : ℕ) (c : ℤ) → n ≤ key-width → z < key-limit
     → is-small t (monomial-of n z) c ≡ not (eqb z 0) && leb (natAbs c) t
 unfolding is-small
 small-test t n z c l h = ap (λ b. not b && leb (natAbs c) t) (constant-monomial n z l h)
@@ -66,7 +66,8 @@ module _ (t : ℕ) (m : Model) where
       swept-end l =
           let e : i ≡ m .count = omega (arith, h .within) in rw (view-is m w, h .stored, h .counted, h .sum, e)
 
-      module _ (l : i < m .count) (width : m .n ≤ key-width) (small : getD (m .terms) i zero-term .key < 65536) where
+      module _ (l : i < m .count) (width : m .n ≤ key-width)
+          (small : getD (m .terms) i zero-term .key < key-limit) where
         abbrev at : Term
         at = getD (m .terms) i zero-term
 

@@ -1,3 +1,2 @@
 pub mod Transfer
-pub mod WideKeyLaws
 pub mod TransferLaws

@@ -1,4 +1,4 @@
--- Terms between a struct and arrays of wide keys: the keys, and what is asked and promised on the way there and back.
+-- Terms between a struct and arrays of wide keys: what is asked and promised on the way there and back.
 use mathlib.Core.Path.{_≡_}
 use mathlib.Core.List.{List, map}
 use Prim.Native.Nat.{ℕ, _≤_, _<_}
@@ -7,10 +7,10 @@ use lib.ListN.{length, getD}
 use Rattle.polynomial.specs.Polynomial as P
 use Rattle.polynomial.specs.Polynomial.{exponent}
 use Rattle.fixed.specs.Fixed.{span-limit}
-use Rattle.calculus.specs.Key.{decode, key-width, key, key-exponents, wide-key}
-use Rattle.calculus.specs.Key.{Below}
+use Rattle.calculus.specs.Key.{key-width, Below}
 use Rattle.calculus.specs.Terms.{Terms, size}
 use Rattle.calculus.specs.Model.{most-terms, span}
+use Rattle.model_keys.specs.Keys.{wide-exponents, narrowed}
 use Rattle.model_types.specs.declared.Term.{Term}
 use Rattle.model_types.specs.declared.Model.{Model}
 use Rattle.model_types.specs.ModelStruct.{view, pad}
@@ -18,10 +18,6 @@ use Rattle.product_table.specs.Table.{terms}
 use Rattle.product_gathering.specs.Wide.{wide-terms}
 
 -- ---- from a struct
--- the wide key of a key
-unfoldable pub widened : ℕ → ℕ
-widened z = wide-key (key-exponents key-width key-width z)
-
 -- a model within the limits, and places for its terms
 pub record Unpack-ready (m : Model) (keys : List ℕ) (coefficients : List ℤ) : Type 0 where
   pub width : m .n ≤ key-width
@@ -36,14 +32,6 @@ pub record Unpacked (m : Model) (keys : List ℕ) (coefficients : List ℤ) (tot
   pub sum : total ≡ size (view m .terms)
 
 -- ---- to a struct
--- the exponents of a wide key, as many as a key has
-unfoldable pub wide-exponents : ℕ → List ℕ
-wide-exponents = decode 256 8 key-width
-
--- the key of a wide key
-unfoldable pub narrowed : ℕ → ℕ
-narrowed z = key key-width (wide-exponents z)
-
 -- the key of the one exponent that a term at a wide key has
 unfoldable pub narrowed-term : P.Term ℤ → Term
 narrowed-term t = record { key = narrowed (exponent 0 (t .exponents)); coefficient = t .coefficient }

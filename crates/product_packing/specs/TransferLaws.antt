@@ -4,18 +4,18 @@ use mathlib.Core.List.{List, [], _∷_, _++_, map}
 use Prim.Native.Nat.{ℕ, zero, suc, _+_, _≤_, _<_}
 use native.Mathlib.Numerals.{add-one}
 use native.Mathlib.Omega.{arith}
-use lib.Dec.{T, eqb, eqb→eq, leb→le}
+use lib.Dec.{T}
 use lib.IntN.{ℤ, pos, natAbs}
 use lib.ListN.{length, getD, set, length-set, length-map}
 use Rattle.polynomial.specs.Polynomial.{exponent}
-use Rattle.calculus.specs.Monomial.{degree}
-use Rattle.calculus.specs.Key.{key-width}
-use Rattle.calculus.specs.Key.{Below}
+use Rattle.calculus.specs.Key.{key-width, key-limit, Below}
 use Rattle.calculus.specs.KeyLaws.{below-degree}
 use Rattle.calculus.specs.Terms.{Terms, term, every, sum-over, size, map-monomials}
 use Rattle.calculus.specs.TermsLaws.{every-head, every-tail}
 use Rattle.calculus.specs.Model.{most-terms, most-degree, fits}
-use Rattle.calculus.specs.TestLaws.{and-left, and-right}
+use Rattle.calculus.specs.FitsLaws.{fits-length, fits-degree}
+use Rattle.model_keys.specs.Keys.{widened, wide-exponents, narrowed}
+use Rattle.model_keys.specs.WideKeyLaws.{widened-monomial, narrowed-key, exponents-below}
 use Rattle.model_types.specs.declared.Term.{Term}
 use Rattle.model_types.specs.declared.Model.{Model}
 use Rattle.model_types.specs.ModelStruct.{zero-term, view-term, pack-term, pad, pack}
@@ -24,9 +24,7 @@ use Rattle.product_table.specs.Table.{at-key, none, terms}
 use Rattle.product_table.specs.TermArrayLaws.{terms-length, terms-at, terms-push}
 use Rattle.product_gathering.specs.Wide.{wide, wide-terms}
 use Rattle.product_gathering.specs.WideLaws.{wide-length}
-use Rattle.product_packing.specs.Transfer.{widened, Unpacked}
-use Rattle.product_packing.specs.Transfer.{wide-exponents, narrowed, narrowed-term, Pack-ready, packed}
-use Rattle.product_packing.specs.WideKeyLaws.{widened-monomial, narrowed-key, exponents-below}
+use Rattle.product_packing.specs.Transfer.{Unpacked, narrowed-term, Pack-ready, packed}
 
 -- ---- from a struct
 -- the first i terms stand in arrays as long as they were
@@ -46,7 +44,7 @@ module _ (m : Model) (w : m .count ≤ length (m .terms)) (keys₀ : List ℕ) (
   module _ {keys : List ℕ} {coefficients : List ℤ} {total i : ℕ}
       (h : Unpacking m keys₀ coefficients₀ keys coefficients total i) where
     pub unpacking-turn : i < m .count → i < length keys → i < length coefficients → m .n ≤ key-width
-        → let t = getD (m .terms) i zero-term in t .key < 65536
+        → let t = getD (m .terms) i zero-term in t .key < key-limit
         → Unpacking m keys₀ coefficients₀ (set keys i (widened (t .key))) (set coefficients i (t .coefficient))
         (total + natAbs (t .coefficient)) (i + 1)
     unfolding wide-terms map-monomials wide view-term
@@ -107,12 +105,11 @@ module _ (keys : List ℕ) (coefficients : List ℤ) (i : ℕ) where
 module _ (n d : ℕ) (width : n ≤ key-width) (low : d ≤ most-degree) where
   module _ (k : List ℕ) (h : T (fits n d k)) where
     short : length k ≤ key-width
-    unfolding fits
-    short = omega (arith, eqb→eq (length k) n (and-left (eqb (length k) n) _ h))
+    short = omega (arith, fits-length n d k h)
 
     below : Below 16 k
-    unfolding fits most-degree
-    below = below-degree 16 k (omega (arith, leb→le (degree k) d (and-right (eqb (length k) n) _ h)))
+    unfolding most-degree
+    below = below-degree 16 k (omega (arith, fits-degree n d k h))
 
   narrowed-wide : (p : Terms) → T (every (λ k c. fits n d k) p) → map narrowed-term (wide-terms p) ≡ map pack-term p
   unfolding wide-terms map-monomials wide narrowed-term pack-term exponent

@@ -4,7 +4,7 @@ use mathlib.Core.Bool.{_&&_}
 use Prim.Native.Nat.{ℕ}
 use lib.Dec.{eqb, leb}
 use lib.ListN.{length-replicate}
-use Rattle.calculus.specs.Model.{zero-model, between, most-degree, sound}
+use Rattle.calculus.specs.Model.{zero-model, between, sound}
 use Rattle.calculus.specs.Tests.{vars-sound, order-sound}
 use Rattle.calculus.specs.Book.{input, limits-sound, model-sound, most-models, most-steps}
 use Rattle.model_types.specs.declared.Model.{Model}
@@ -17,8 +17,8 @@ use Rattle.sheet_book.specs.BookStructLaws.{view-held-model}
 
 -- test 3
 pub limits-by-numbers : (n d m k : ℕ) → limits-sound (outline n d m k)
-    ≡ (vars-sound n && between 1 15 d && leb m 16 && (leb 1 k && leb k 64))
-unfolding limits-sound outline order-sound between most-degree most-models most-steps
+    ≡ (vars-sound n && order-sound d && leb m 16 && (leb 1 k && leb k 64))
+unfolding limits-sound outline between most-models most-steps
 limits-by-numbers n d m k = rw (length-replicate m (zero-model n), length-replicate k (input 0))
 
 -- test 5: it asks only for n and d of a book

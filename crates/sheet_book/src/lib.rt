@@ -1,6 +1,5 @@
 // Books held in memory: their types, test 3, and test 6 of one step.
 ghost use mathlib.Core.Path.{_≡_};
-ghost use Rattle.calculus.specs.Model.{between};
 ghost use Rattle.calculus.specs.Book.{«limits-sound»};
 ghost use Rattle.format.specs.HeldBook.{outline};
 ghost use Rattle.format.specs.Fields.{«limit-a», «limit-b», «v-sound», «value-sound», «fields-sound»};
@@ -70,16 +69,6 @@ impl Step {
 
 // ---- test 3
 
-// Whether i is 1 to `most`.
-fn from_one(most: u8, i: u8) -> bool
-    ensures { λ r. ⌜ r ≡ between 1 most i ⌝ }
-{
-    if i < 1 {
-        return false;
-    }
-    i <= most
-}
-
 // Whether n, d and the counts are within their limits.
 pub fn limits_sound(n: u8, d: u8, models: usize, steps: usize) -> bool
     ensures { λ r. ⌜ r ≡ limits-sound (outline n d models steps) ⌝ }
@@ -87,7 +76,7 @@ pub fn limits_sound(n: u8, d: u8, models: usize, steps: usize) -> bool
     if !model_types::vars_sound(n) {
         return false;
     }
-    if !from_one(model_types::MOST_DEGREE, d) {
+    if !model_types::order_sound(d) {
         return false;
     }
     if MOST_MODELS < models {
@@ -132,10 +121,10 @@ fn v_sound(n: u8, code: u8, v: u8) -> bool
     ensures { λ r. ⌜ r ≡ v-sound n code v ⌝ }
 {
     if code == 2 {
-        return from_one(n, v);
+        return model_types::from_one(n, v);
     }
     if code == 7 {
-        return from_one(n, v);
+        return model_types::from_one(n, v);
     }
     v == 0
 }

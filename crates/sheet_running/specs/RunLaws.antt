@@ -6,13 +6,12 @@ use mathlib.Core.Option.{some}
 use Prim.Native.Nat.{ℕ, zero, suc, _+_, _-_, _<_, _≤_}
 use native.Mathlib.Numerals.{add-one}
 use native.Mathlib.Omega.{arith}
-use borrow.Author.Tests.{le-leb}
 use lib.Dec.{T, eqb, leb, ltb, ltb→lt, leb→le}
 use lib.ListN.{length, drop, getD, set, replicate, length-map, length-replicate, getD-replicate, drop-of-length-le}
 use lib.ListN.{List·getD-map}
 use lib.Seq.{drop-cons}
 use Rattle.calculus.specs.Model as C
-use Rattle.calculus.specs.Model.{most-vars, most-degree, zero-model, between, sound}
+use Rattle.calculus.specs.Model.{most-degree, zero-model, sound}
 use Rattle.calculus.specs.Refusal as R
 use Rattle.calculus.specs.Refusal.{accepted, refused, done, at-place, _followed-by_}
 use Rattle.calculus.specs.Tests.{vars-sound}
@@ -31,7 +30,7 @@ use Rattle.model_types.specs.declared.Refusal.{Refusal}
 use Rattle.model_types.specs.declared.Verdict.the-variants.{Accepted, Refused}
 use Rattle.model_types.specs.declared.Answer.{Answer}
 use Rattle.model_types.specs.ModelStruct.{view, pack, answer}
-use Rattle.model_types.specs.ModelStructLaws.{map-++}
+use Rattle.model_types.specs.ModelStructLaws.{map-++, vars-within}
 use Rattle.model.specs.OperationLaws.{Holds, held-vars, held-view, held-sound, Got, got}
 use Rattle.format.specs.HeldBook.{Held-step, Held-book, view-model, view-step, view-book, outline, outline-of}
 use Rattle.format.specs.HeldBook.{held-step-sound, Held-passes}
@@ -121,8 +120,7 @@ module _ {h : Held-book} (p : Held-passes h) where
   order = in-limits-of .d-high
 
   vars : vars-sound (h .n) ≡ true
-  unfolding vars-sound between most-vars
-  vars = rw (le-leb 1 (h .n) (in-limits-of .n-low), le-leb (h .n) 4 (in-limits-of .n-high))
+  vars = vars-within (h .n) (in-limits-of .n-low) (in-limits-of .n-high)
 
   pub running-first : {x : Model} → x ≡ pack (zero-model (h .n)) → Running h 0 (replicate most-steps x)
   unfolding padded most-steps

@@ -8,16 +8,16 @@ use lib.Dec.{leb}
 use lib.IntN.{pos, natAbs}
 use lib.ListN.{length, getD, set, take, drop, replicate, length-map, List·getD-append, List·getD-map}
 use lib.Seq.{drop-drop, length-take-le, take-length}
-use borrow.Author.Tests.{le-leb}
 use Rattle.fixed.specs.Fixed.{span-limit, capped}
-use Rattle.calculus.specs.Model.{most-vars, most-terms, between, sound}
+use Rattle.calculus.specs.Key.{key-width, key-limit}
+use Rattle.calculus.specs.Model.{most-terms, sound}
 use Rattle.calculus.specs.Tests.{vars-sound}
 use Rattle.model_types.specs.declared.Term.{Term}
 use Rattle.model_types.specs.declared.Model.{Model}
 use Rattle.model_types.specs.Arrays.{padded}
 use Rattle.model_types.specs.ModelStruct.{zero-term, pad, view, term-sound}
 use Rattle.model_types.specs.ArrayLaws.{take-more, padded-more, length-padded-least}
-use Rattle.model_types.specs.ModelStructLaws.{map-++}
+use Rattle.model_types.specs.ModelStructLaws.{map-++, vars-within}
 use Rattle.model.specs.OperationLaws.{Passed, passed-first, passed-turn, passed-not, passed-end, many-not}
 use Rattle.format.specs.Bytes.{byte, u32}
 use Rattle.format.specs.HeldBook.{Held-term, Held-model, view-model}
@@ -46,10 +46,6 @@ pub record Terms-so-far (s : List ℕ) (n d at : ℕ) (terms : List Term) (span 
   pub placed : place ≡ at + 5 + 6 * i
   pub stored : terms ≡ pad (map stored-term (take i (terms-at at s)))
 
-vars-hold : (n : ℕ) → 1 ≤ n → n ≤ 4 → vars-sound n ≡ true
-unfolding vars-sound between most-vars
-vars-hold n l h = rw (le-leb 1 n l, le-leb n 4 h)
-
 module _ (s : List ℕ) (n d at : ℕ) where
   abbrev m : Model
   m = model-at n at s
@@ -65,10 +61,10 @@ module _ (s : List ℕ) (n d at : ℕ) where
   unfolding most-terms
   many-terms h = many-not d m (omega (arith, count-is))
 
-  module _ (low : 1 ≤ n) (high : n ≤ 4) (few : byte (at + 4) s ≤ 64) where
+  module _ (low : 1 ≤ n) (high : n ≤ key-width) (few : byte (at + 4) s ≤ 64) where
     vars : vars-sound (m .n) ≡ true
     unfolding stored-model read-model
-    vars = vars-hold n low high
+    vars = vars-within n low high
 
     few-terms : m .count ≤ most-terms
     unfolding most-terms
@@ -133,13 +129,13 @@ module _ (s : List ℕ) (n d at : ℕ) where
         unfolding most-terms
         room = omega arith
 
-        pub terms-turn : t .key < 65536 → term-sound n d least (t .key) (t .coefficient) ≡ true
+        pub terms-turn : t .key < key-limit → term-sound n d least (t .key) (t .coefficient) ≡ true
             → (next : ℕ) → next ≡ capped (span + natAbs (t .coefficient))
             → Terms-so-far s n d at (set terms i t) next (t .key + 1) (place + 6) (i + 1)
         terms-turn small g next k = record {
           passed = subst (λ x. Passed d m next (x .key + 1) (i + 1)) here
               (passed-turn d m vars few-terms whole span least i (h .passed) counted
-              (subst (λ x. x .key < 65536) (sym here) small) (tested true g) next
+              (subst (λ x. x .key < key-limit) (sym here) small) (tested true g) next
               (k ∙ ap (λ x. capped (span + natAbs (x .coefficient))) (sym here)));
           placed = omega (arith, h .placed);
           stored = ap (λ x. set x i t) (h .stored)
@@ -148,10 +144,10 @@ module _ (s : List ℕ) (n d at : ℕ) where
               ∙ ap pad one-more;
         }
 
-        pub terms-bad : t .key < 65536 → term-sound n d least (t .key) (t .coefficient) ≡ false
+        pub terms-bad : t .key < key-limit → term-sound n d least (t .key) (t .coefficient) ≡ false
             → sound d (view m) ≡ false
         terms-bad small g = passed-not d m vars few-terms whole span least i (h .passed) counted
-            (subst (λ x. x .key < 65536) (sym here) small) (tested false g)
+            (subst (λ x. x .key < key-limit) (sym here) small) (tested false g)
 
       pub terms-end : byte (at + 4) s ≤ i → leb span span-limit ≡ sound d (view m)
       terms-end l = passed-end d m vars few-terms whole span least i (h .passed) (omega (arith, count-is))

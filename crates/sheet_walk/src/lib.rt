@@ -2,6 +2,7 @@
 ghost use mathlib.Core.Path.{_≡_};
 ghost use Prim.Native.Nat.{_+_, _*_, _≤_};
 ghost use lib.ListN.{length, drop};
+ghost use Rattle.calculus.specs.Key.{«key-width»};
 ghost use Rattle.sheet_walk.specs.Walk.{«models-read», «steps-read»};
 use model_types::Model;
 use model_types::Term;
@@ -23,7 +24,7 @@ pub struct StepsRead {
 
 // The models in `s`, which ends at the first step. A fault leaves both loops, and k is then the faulty model's number.
 pub fn walk_models(s: &[u8], n: u8, d: u8, count: usize) -> ModelsRead
-    requires { ⌜ (1 ≤ n) × (n ≤ 4) × (count ≤ 16) ⌝ }
+    requires { ⌜ (1 ≤ n) × (n ≤ key-width) × (count ≤ 16) ⌝ }
     ensures { λ r. ⌜ r ≡ models-read n d count (now (s .entry)) ⌝ }
 {
     let mut models = [sheet_book::NO_MODEL; sheet_book::MOST_MODELS];

@@ -6,7 +6,7 @@ use Prim.Native.Nat.{ℕ, zero, suc, _+_, _*_, _/_, _%_, _^_, _≤_, _<_}
 use native.Mathlib.Decide.{decLe}
 use native.Mathlib.Nat as NatL
 use native.Mathlib.Omega.{arith}
-use lib.Dec.{T, eqb, eqb→eq, leb→le, lit<}
+use lib.Dec.{T, lit<}
 use lib.IntN.{ℤ, pos, negsuc, natAbs, _-ℤ_, negℤ}
 use lib.ListN.{length, take, drop, length-append}
 use lib.Seq.{take-append-seam}
@@ -24,7 +24,7 @@ use Rattle.calculus.specs.Refusal.{over-span, too-many-terms, leaves-box, varia
 use Rattle.calculus.specs.Refusal.{number, Result, done, stopped}
 use Rattle.calculus.specs.Operations.{Ends, range, integral, integral-sum, constant-part, variation}
 use Rattle.calculus.specs.Book.{Summary, summary}
-use Rattle.calculus.specs.TestLaws.{and-left, and-right}
+use Rattle.calculus.specs.FitsLaws.{fits-length, fits-degree}
 use Rattle.calculus.specs.SoundLaws.{sound-parts}
 use Rattle.model_types.specs.ModelStructLaws.{vars-range, sound-vars}
 use Rattle.model.specs.Operations.{rule}
@@ -130,9 +130,8 @@ terms-length n d (t ∷ p) w o f s = omega (
 )
   where
     head : T (fits n d (t .exponents)) → length (term-line t) ≤ 29
-    head h = unfold fits in term-length t
-        (omega (arith, eqb→eq (length (t .exponents)) n (and-left (eqb (length (t .exponents)) n) _ h)))
-        (omega (arith, leb→le (degree (t .exponents)) d (and-right (eqb (length (t .exponents)) n) _ h)))
+    head h = term-length t (omega (arith, fits-length n d (t .exponents) h))
+        (omega (arith, fits-degree n d (t .exponents) h))
         (omega arith)
 
 -- ---- the lines of a sound model

@@ -24,8 +24,7 @@ holds : (c : tie.Else1) → sound most-degree (view (c .before .before .args .m)
 unfolding most-degree
 holds c = sym (c .before .sound .ensures) ∙ not-false _ (c .if1 .left)
 
-width : (c : tie.Else1) → c .before .before .args .m .n ≤ 4
-unfolding key-width
+width : (c : tie.Else1) → c .before .before .args .m .n ≤ key-width
 width c = limits most-degree (c .before .before .args .m) (rw (holds c) tt) .width
 
 -- the arguments, where the coordinates above n and where the others are tested

@@ -1,12 +1,13 @@
 -- `substituting` makes the tests of a product, then that of the variable.
 use mathlib.Core.Path.{_≡_, sym, _∙_}
+use mathlib.Core.Bool.{Bool, true, false}
 use borrow.Author.Needs.{needs}
+use borrow.Author.Tests.{not-true, not-false}
 use Rattle.calculus.specs.Refusal.{bad-step, done, require-at}
 use Rattle.calculus.specs.Tests.{variable-sound}
 use Rattle.model_types.specs.ModelStruct.{view, refusal, verdict}
 use Rattle.model_call_tests.specs.Admission.{substituting}
 use Rattle.model_call_tests.specs.AdmissionLaws.{substituting-refused, by-variable}
-use Rattle.model_call_tests.specs.CallStructLaws.{variable-low, variable-high, variable-within}
 use Rattle.model_call_tests.proofs.substituting.Statement.{statement}
 use Rattle.model_call_tests.proofs.substituting.Tie as tie
 
@@ -33,26 +34,25 @@ returns c =
     let v = c .enum-told2 .given .1 in
     v ∙ sym (substituting-refused _ _ _ _ _ _ (sym (c .before .before .ordered .ensures) ∙ v))
 
+from-one-requires : tie.Need-from-one-requires
+from-one-requires c κs = search needs
+
+-- the variable's test
+tested : (c : tie.After-from-one) (b : Bool) → c .from-one .result ≡ b
+    → variable-sound (view (start (c .before) .args .f) .vars) (start (c .before) .args .i) ≡ b
+unfolding variable-sound view
+tested c b h = sym (c .from-one .ensures) ∙ h
+
 returns-2 : tie.Need-returns-2
 unfolding require-at refusal verdict
 returns-2 c =
-    let s = start (c .before) in
-    rw (decided (c .before), variable-low (s .args .f) (s .args .i) (c .if1 .taken))
+    rw (decided (c .before .before), tested (c .before) false (not-true _ (c .if1 .taken)))
 
 returns-3 : tie.Need-returns-3
-unfolding require-at refusal verdict
-returns-3 c =
-    let e = c .before .before in
-    let s = start (e .before) in
-    rw (decided (e .before), variable-high (s .args .f) (s .args .i) (e .if1 .left) (c .if2 .taken))
-
-returns-4 : tie.Need-returns-4
 unfolding require-at verdict
-returns-4 c =
-    let e = c .before .before in
-    let s = start (e .before) in
-    rw (decided (e .before), variable-within (s .args .f) (s .args .i) (e .if1 .left) (c .if2 .left))
+returns-3 c =
+    rw (decided (c .before .before), tested (c .before) true (not-false _ (c .if1 .left)))
 
 pub substituting-spec : {M : Type 1} → statement M
 substituting-spec =
-    tie.close (tie.spec ordered-requires enum-told enum-told-2 returns returns-2 returns-3 returns-4)
+    tie.close (tie.spec ordered-requires enum-told enum-told-2 returns from-one-requires returns-2 returns-3)

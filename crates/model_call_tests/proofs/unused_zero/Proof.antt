@@ -4,6 +4,7 @@ use Prim.Native.Nat.{_≤_, _-_}
 use native.Mathlib.Omega.{arith}
 use borrow.Author.Needs.{needs}
 use lib.ListN.{length, drop}
+use Rattle.calculus.specs.Key.{key-width}
 use Rattle.calculus.specs.Tests.{all-zero}
 use Rattle.model_types.specs.ZeroTestLaws.{zero-bits, nonzero-bits}
 use Rattle.model_call_tests.specs.CoordinateLaws.{zero-next, zero-fails, zero-end}
@@ -11,12 +12,13 @@ use Rattle.model_call_tests.proofs.unused_zero.Statement.{statement}
 use Rattle.model_call_tests.proofs.unused_zero.Tie as tie
 
 abbrev Inv-loop : tie.InvT-loop
-Inv-loop n xs i₀ i = (i ≤ 4) × (all-zero (drop n xs) ≡ all-zero (drop i xs))
+Inv-loop n xs i₀ i = (i ≤ key-width) × (all-zero (drop n xs) ≡ all-zero (drop i xs))
 
 abbrev μ-loop : tie.MeasureT-loop
-μ-loop n xs i₀ i = 4 - i
+μ-loop n xs i₀ i = key-width - i
 
-long : (c : tie.Start Inv-loop μ-loop) → length (c .args .t2) ≡ 4
+long : (c : tie.Start Inv-loop μ-loop) → length (c .args .t2) ≡ key-width
+unfolding key-width
 long c = search needs
 
 loop-holds : tie.Need-loop-holds Inv-loop μ-loop
@@ -29,6 +31,7 @@ mul-x : tie.Need-mul-x Inv-loop μ-loop
 mul-x c = search needs
 
 array-copy-out-x : tie.Need-array-copy-out-x Inv-loop μ-loop
+unfolding key-width
 array-copy-out-x c = search needs
 
 returns : tie.Need-returns Inv-loop μ-loop
@@ -42,9 +45,11 @@ add-i : tie.Need-add-i Inv-loop μ-loop
 add-i c = search needs
 
 loop-less : tie.Need-loop-less Inv-loop μ-loop
+unfolding key-width
 loop-less c = search needs
 
 loop-again : tie.Need-loop-again Inv-loop μ-loop
+unfolding key-width
 loop-again c =
     let l = c .before .before .before in
     let s = l .before in (

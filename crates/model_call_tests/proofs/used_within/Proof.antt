@@ -11,6 +11,7 @@ use mir.Facts.{toZ-ofZ}
 use mir.Syntax.{w64}
 use mir.Val.{toZ, ofZ}
 use Rattle.fixed.specs.Fixed.{U}
+use Rattle.calculus.specs.Key.{key-width}
 use Rattle.calculus.specs.Tests.{all-in-unit}
 use Rattle.model_call_tests.specs.CoordinateLaws.{unit-next, unit-fails, unit-end}
 use Rattle.model_call_tests.proofs.used_within.Statement.{statement}
@@ -22,7 +23,8 @@ Inv-loop n xs i₀ i = (i ≤ n) × (all-in-unit (take n xs) ≡ all-in-unit (dr
 abbrev μ-loop : tie.MeasureT-loop
 μ-loop n xs i₀ i = n - i
 
-long : (c : tie.Start Inv-loop μ-loop) → length (c .args .t2) ≡ 4
+long : (c : tie.Start Inv-loop μ-loop) → length (c .args .t2) ≡ key-width
+unfolding key-width
 long c = search needs
 
 loop-holds : tie.Need-loop-holds Inv-loop μ-loop
@@ -35,6 +37,7 @@ mul-x : tie.Need-mul-x Inv-loop μ-loop
 mul-x c = omega arith
 
 array-copy-out-x : tie.Need-array-copy-out-x Inv-loop μ-loop
+unfolding key-width
 array-copy-out-x c = omega arith
 
 within-unit-requires : tie.Need-within-unit-requires Inv-loop μ-loop

@@ -11,6 +11,8 @@ use mir.Facts.{toZ-ofZ}
 use mir.Syntax.{w64}
 use mir.Val.{toZ, ofZ}
 use Rattle.fixed.specs.Fixed.{capped}
+use Rattle.calculus.specs.Key.{key-limit}
+use Rattle.calculus.specs.MonomialKeyLaws.{word-key}
 use Rattle.calculus.specs.Model.{most-terms}
 use Rattle.calculus.specs.Tests.{vars-sound}
 use Rattle.model_types.specs.declared.Term.{Term}
@@ -59,8 +61,8 @@ module _ (c : tie.After-struct-told Inv-loop μ-loop) where
   abbrev at : Term
   at = getD (held .terms) (c .before .before .before .loop .i) zero-term
 
-  key-small : at .key < 65536
-  key-small = c .struct-told .given .0 .1
+  key-small : at .key < key-limit
+  key-small = word-key _ (c .struct-told .given .0 .1)
 
   read-back : toZ w64 (ofZ w64 (at .coefficient)) ≡ at .coefficient
   read-back = toZ-ofZ (record { sfits = c .struct-told .given .1 .0 .1 })

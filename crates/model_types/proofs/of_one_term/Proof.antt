@@ -5,7 +5,7 @@ use mir.Facts.{toZ-ofZ}
 use Rattle.calculus.specs.Model.{most-terms}
 use Rattle.model_types.specs.Arrays.{padded}
 use Rattle.model_types.specs.ModelStruct.{one-term, pack, pack-term}
-use Rattle.calculus.specs.MonomialKeyLaws.{key-monomial}
+use Rattle.calculus.specs.MonomialKeyLaws.{word-key, key-monomial}
 use Rattle.model_types.proofs.of_one_term.Statement.{statement}
 use Rattle.model_types.proofs.of_one_term.Tie as tie
 
@@ -14,7 +14,10 @@ array-set-from-out c = search needs
 
 returns : tie.Need-returns
 unfolding most-terms one-term pack pack-term padded
-returns c = rw (key-monomial (c .args .n) (c .args .key) (c .pre) (omega arith), toZ-ofZ (c .fits .coefficient))
+returns c = rw (
+  key-monomial (c .args .n) (c .args .key) (c .pre) (word-key _ (omega arith)),
+  toZ-ofZ (c .fits .coefficient),
+)
 
 pub of-one-term-spec : {M : Type 1} → statement M
 of-one-term-spec = tie.close (tie.spec array-set-from-out returns)

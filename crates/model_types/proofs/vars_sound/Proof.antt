@@ -1,17 +1,16 @@
--- `vars_sound` is the test of n.
-use borrow.Author.Tests.{le-leb, lt-leb}
-use Rattle.calculus.specs.Model.{between, most-vars}
+-- `vars_sound` is the test of a number of variables.
+use borrow.Author.Needs.{needs}
+use Rattle.calculus.specs.Model.{most-vars}
 use Rattle.calculus.specs.Tests.{vars-sound}
 use Rattle.model_types.proofs.vars_sound.Statement.{statement}
 use Rattle.model_types.proofs.vars_sound.Tie as tie
 
-returns : tie.Need-returns
-unfolding vars-sound between most-vars
-returns c = rw (le-leb 1 _ (c .if1 .taken))
+from-one-requires : tie.Need-from-one-requires
+from-one-requires c κs = search needs
 
-returns-2 : tie.Need-returns-2
-unfolding vars-sound between most-vars
-returns-2 c = rw (lt-leb 1 _ (c .if1 .left))
+returns : tie.Need-returns
+unfolding vars-sound most-vars
+returns c = c .from-one .ensures
 
 pub vars-sound-spec : {M : Type 1} → statement M
-vars-sound-spec = tie.close (tie.spec returns returns-2)
+vars-sound-spec = tie.close (tie.spec from-one-requires returns)

@@ -10,6 +10,7 @@ use mir.Syntax.{w64}
 use mir.Val.{toZ, ofZ}
 use Rattle.fixed.specs.FixedLaws.{span-fits}
 use Rattle.fixed.specs.MachineLaws.{answered}
+use Rattle.calculus.specs.MonomialKeyLaws.{word-key}
 use Rattle.calculus.specs.Terms.{term, map-coefficients}
 use Rattle.calculus.specs.Model.{most-terms}
 use Rattle.calculus.specs.Operations.{negate}
@@ -102,7 +103,7 @@ loop-again c =
           (omega (arith, whole s, few s)) (omega (arith, few s)) (t .before .before .before .loop .inv .1)
           (ap (λ z. record { key = at t .key; coefficient = z }) turned
           ∙ sym (pack-key (m .n) (at t .key) (negℤ (at t .coefficient)) (known s .width)
-          (t .struct-told .given .0 .1))),
+          (word-key _ (t .struct-told .given .0 .1)))),
     )
 
 -- what the struct must be, once all terms are read

@@ -9,6 +9,7 @@ use mir.Facts.{toZ-ofZ}
 use mir.Syntax.{w64}
 use mir.Val.{toZ, ofZ}
 use Rattle.fixed.specs.FixedLaws.{span-fits}
+use Rattle.calculus.specs.MonomialKeyLaws.{word-key}
 use Rattle.calculus.specs.Model.{most-terms}
 use Rattle.model_types.specs.declared.Term.{Term}
 use Rattle.model_types.specs.ModelStruct.{zero-term}
@@ -96,7 +97,7 @@ loop-again c =
     let s = l .before .before in
     rw (c .before .wide-key .ensures, c .magnitude .ensures, read-back t)
     (unpacking-turn _ (whole s) _ _ (l .loop .inv) (omega arith) (omega arith) (omega arith) (s .pre .width)
-    (t .struct-told .given .0 .1))
+    (word-key _ (t .struct-told .given .0 .1)))
 
 same-length : tie.Need-same-length Inv-loop μ-loop
 same-length c = search needs

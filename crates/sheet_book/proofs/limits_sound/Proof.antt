@@ -5,8 +5,7 @@ use native.Mathlib.Omega.{arith}
 use borrow.Author.Needs.{needs}
 use borrow.Author.Tests.{le-leb, lt-leb, not-true, not-false}
 use lib.Dec.{leb}
-use Rattle.calculus.specs.Model.{between}
-use Rattle.calculus.specs.Tests.{vars-sound}
+use Rattle.calculus.specs.Tests.{vars-sound, order-sound}
 use Rattle.sheet_book.specs.CodeLaws.{limits-by-numbers}
 use Rattle.sheet_book.proofs.limits_sound.Statement.{statement}
 use Rattle.sheet_book.proofs.limits_sound.Tie as tie
@@ -15,8 +14,8 @@ use Rattle.sheet_book.proofs.limits_sound.Tie as tie
 n-sound : (c : tie.Else1) → vars-sound (c .before .before .args .n) ≡ true
 n-sound c = sym (c .before .vars-sound .ensures) ∙ not-false _ (c .if1 .left)
 
-d-sound : (c : tie.Else2) → between 1 15 (c .before .before .before .before .args .d) ≡ true
-d-sound c = sym (c .before .from-one .ensures) ∙ not-false _ (c .if2 .left)
+d-sound : (c : tie.Else2) → order-sound (c .before .before .before .before .args .d) ≡ true
+d-sound c = sym (c .before .order-sound .ensures) ∙ not-false _ (c .if2 .left)
 
 few-models : (c : tie.Else3) → leb (c .before .before .before .before .before .args .models) 16 ≡ true
 few-models c = le-leb _ 16 (c .if3 .left)
@@ -27,12 +26,16 @@ vars-sound-requires c κs = search needs
 returns : tie.Need-returns
 returns c = rw (limits-by-numbers, sym (c .before .vars-sound .ensures) ∙ not-true _ (c .if1 .taken))
 
-from-one-requires : tie.Need-from-one-requires
-from-one-requires c κs = search needs
+order-sound-requires : tie.Need-order-sound-requires
+order-sound-requires c κs = search needs
 
 returns-2 : tie.Need-returns-2
 returns-2 c =
-    rw (limits-by-numbers, n-sound (c .before .before), sym (c .before .from-one .ensures) ∙ not-true _ (c .if2 .taken))
+    rw (
+      limits-by-numbers,
+      n-sound (c .before .before),
+      sym (c .before .order-sound .ensures) ∙ not-true _ (c .if2 .taken),
+    )
 
 returns-3 : tie.Need-returns-3
 returns-3 c =
@@ -59,4 +62,4 @@ returns-5 c = rw (
 pub limits-sound-spec : {M : Type 1} → statement M
 limits-sound-spec =
     tie.close
-    (tie.spec vars-sound-requires returns from-one-requires returns-2 returns-3 returns-4 returns-5)
+    (tie.spec vars-sound-requires returns order-sound-requires returns-2 returns-3 returns-4 returns-5)

@@ -11,6 +11,8 @@ use mir.Facts.{toZ-ofZ}
 use mir.Syntax.{w64}
 use mir.Val.{Fits, toZ, ofZ}
 use Rattle.fixed.specs.Fixed.{capped}
+use Rattle.calculus.specs.Key.{key-limit}
+use Rattle.calculus.specs.MonomialKeyLaws.{word-key}
 use Rattle.calculus.specs.Model.{most-terms, sound}
 use Rattle.calculus.specs.Book.{most-models}
 use Rattle.model_types.specs.declared.Term.{Term}
@@ -69,8 +71,8 @@ module _ (c : tie.After-struct-told Inv-terms μ-terms Inv-models μ-models) whe
   abbrev term : Term
   term = c .before .term-at .result
 
-  key-small : term .key < 65536
-  key-small = c .struct-told .given .0 .1
+  key-small : term .key < key-limit
+  key-small = word-key _ (c .struct-told .given .0 .1)
 
   read-back : toZ w64 (ofZ w64 (term .coefficient)) ≡ term .coefficient
   read-back = toZ-ofZ (record { sfits = c .struct-told .given .1 .0 .1 })

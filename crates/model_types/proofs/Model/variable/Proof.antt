@@ -1,11 +1,13 @@
 -- `Model::variable` makes the tests of the call in order, then the model.
-use mathlib.Core.Path.{_≡_, sym, _∙_}
+use mathlib.Core.Path.{_≡_, sym, _∙_, subst}
 use mathlib.Core.Bool.{true, false}
 use borrow.Author.Needs.{needs}
-use borrow.Author.Tests.{le-leb, lt-leb, not-true, not-false}
+use borrow.Author.Tests.{not-true, not-false}
+use lib.Dec.{T}
 use Rattle.calculus.specs.Model.{between}
 use Rattle.calculus.specs.Refusal.{require-at}
 use Rattle.calculus.specs.Tests.{vars-sound, variable-sound}
+use Rattle.calculus.specs.BookLaws.{between-low, between-high}
 use Rattle.calculus.specs.Calls.{call-variable}
 use Rattle.model_types.specs.ModelStruct.{cause, answer}
 use Rattle.model_types.specs.ModelStructLaws.{vars-range}
@@ -28,40 +30,36 @@ returns : tie.Need-returns
 unfolding require-at call-variable cause
 returns c = rw (c .refuse .ensures, vars-fail (c .before))
 
+from-one-requires : tie.Need-from-one-requires
+from-one-requires c κs = search needs
+
 refuse-requires-2 : tie.Need-refuse-requires-2
 refuse-requires-2 c κs = search needs
 
 returns-2 : tie.Need-returns-2
-unfolding between variable-sound require-at call-variable cause
-returns-2 c = rw (c .refuse2 .ensures, vars-hold (c .before .before), lt-leb 1 _ (c .before .if2 .taken))
-
-refuse-requires-3 : tie.Need-refuse-requires-3
-refuse-requires-3 c κs = search needs
-
-returns-3 : tie.Need-returns-3
-unfolding between variable-sound require-at call-variable cause
-returns-3 c =
+unfolding variable-sound require-at call-variable cause
+returns-2 c =
     let t = c .before in
     rw (
-      c .refuse3 .ensures,
+      c .refuse2 .ensures,
       vars-hold (t .before .before),
-      le-leb 1 _ (t .before .if2 .left),
-      lt-leb _ _ (t .if3 .taken),
+      sym (t .before .from-one .ensures) ∙ not-true _ (t .if2 .taken),
     )
+
+variable-hold : (c : tie.Else2) → between 1 (c .before .before .before .before .args .n)
+    (c .before .before .before .before .args .i) ≡ true
+variable-hold c = sym (c .before .from-one .ensures) ∙ not-false _ (c .if2 .left)
 
 variable-of-requires : tie.Need-variable-of-requires
-variable-of-requires c κs = (c .before .if2 .left, c .if3 .left, vars-range _ (vars-hold (c .before .before)) .1)
+variable-of-requires c κs =
+    let h = subst T (sym (variable-hold c)) tt in
+    (between-low 1 _ _ h, between-high 1 _ _ h, vars-range _ (vars-hold (c .before .before)) .1)
 
-returns-4 : tie.Need-returns-4
-unfolding between variable-sound require-at call-variable answer
-returns-4 c =
+returns-3 : tie.Need-returns-3
+unfolding variable-sound require-at call-variable answer
+returns-3 c =
     let t = c .before in
-    rw (
-      c .variable-of .ensures,
-      vars-hold (t .before .before),
-      le-leb 1 _ (t .before .if2 .left),
-      le-leb _ _ (t .if3 .left),
-    )
+    rw (c .variable-of .ensures, vars-hold (t .before .before), variable-hold t)
 
 pub variable-spec : {M : Type 1} → statement M
 variable-spec =
@@ -70,9 +68,8 @@ variable-spec =
     vars-sound-requires
     refuse-requires
     returns
+    from-one-requires
     refuse-requires-2
     returns-2
-    refuse-requires-3
-    returns-3
     variable-of-requires
-    returns-4)
+    returns-3)

@@ -1,0 +1,4 @@
+pub mod Keys
+pub mod KeyExponentLaws
+pub mod KeyIntegralLaws
+pub mod WideKeyLaws
