@@ -1,2 +1,2 @@
 pub mod Rounding
-pub mod IntegralLaws
+pub mod IntegralSizeLaws

@@ -36,7 +36,7 @@ module _ (c : tie.Start Inv-loop μ-loop) where
   long : c .args .m .n ≤ length (c .args .t2)
   unfolding key-width
   long =
-      let e : length (c .args .t2) ≡ 4 = search needs in
+      let e : length (c .args .t2) ≡ key-width = search needs in
       omega (arith, width)
 
 loop-holds : tie.Need-loop-holds Inv-loop μ-loop

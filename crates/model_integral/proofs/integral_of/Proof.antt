@@ -12,7 +12,7 @@ use Rattle.calculus.specs.Operations.{integral-sum, integral}
 use Rattle.model_types.specs.ModelStruct.{view, bounds}
 use Rattle.model_types.specs.ModelStructLaws.{Limits, limits}
 use Rattle.model_integral.specs.Rounding.{rule}
-use Rattle.model_integral.specs.IntegralLaws.{integral-within, scaled-fits}
+use Rattle.model_integral.specs.IntegralSizeLaws.{integral-within, scaled-fits}
 use Rattle.model_integral.proofs.integral_of.Statement.{statement}
 use Rattle.model_integral.proofs.integral_of.Tie as tie
 

@@ -24,8 +24,8 @@ use Rattle.model_types.specs.ModelStructLaws.{summed-more, summed-same}
 use Rattle.model_types.specs.ModelStructLaws.{sum-room, within-span, read-within-span}
 use Rattle.model_integral.specs.Rounding.{rule}
 use Rattle.model_keys.specs.KeyIntegralLaws.{even-monomial, divisor-monomial}
-use Rattle.model_integral.specs.IntegralLaws.{share, shares-within}
-use Rattle.model_integral.specs.IntegralLaws.{volume-le, scaled-fits}
+use Rattle.model_integral.specs.IntegralSizeLaws.{share, shares-within}
+use Rattle.model_integral.specs.IntegralSizeLaws.{volume-le, scaled-fits}
 use Rattle.model_integral.proofs.integral_sum.Statement.{statement}
 use Rattle.model_integral.proofs.integral_sum.Tie as tie
 

@@ -11,7 +11,7 @@ use Rattle.fixed.specs.MachineLaws.{answered}
 use Rattle.calculus.specs.Operations.{constant-part, variation, range}
 use Rattle.model_types.specs.ModelStruct.{view, bounds}
 use Rattle.model_types.specs.ModelStructLaws.{limits}
-use Rattle.model_range.specs.RangeLaws.{range-within}
+use Rattle.model_range.specs.RangeSizeLaws.{range-within}
 use Rattle.model_range.proofs.range_of.Statement.{statement}
 use Rattle.model_range.proofs.range_of.Tie as tie
 

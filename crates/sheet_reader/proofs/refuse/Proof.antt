@@ -1,6 +1,7 @@
 -- `refuse` answers a book of zeros beside the refusal.
 use mathlib.Core.Path.{_∙_, ap}
 use borrow.Author.Needs.{needs}
+use Rattle.calculus.specs.Key.{key-width}
 use Rattle.model_types.specs.ModelStructLaws.{refusal-cause}
 use Rattle.format.specs.HeldBook.{zero-book}
 use Rattle.sheet_book.specs.BookStruct.{stored-book, read-answer}
@@ -13,6 +14,7 @@ slice-aggregate-walk-models : tie.Need-slice-aggregate-walk-models
 slice-aggregate-walk-models c = search needs
 
 walk-models-requires : tie.Need-walk-models-requires
+unfolding key-width
 walk-models-requires c κs = search needs
 
 slice-aggregate-walk-steps : tie.Need-slice-aggregate-walk-steps
