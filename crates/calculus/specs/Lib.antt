@@ -45,3 +45,4 @@ pub mod IntegralEndsLaws
 pub mod OutcomeLaws
 pub mod ClaimProof
 pub mod ClaimFacts
+pub mod JumpFacts
