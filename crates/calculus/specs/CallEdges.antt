@@ -11,7 +11,7 @@ use Rattle.calculus.specs.Calls.{call-constant, call-variable, call-nega
 use Rattle.calculus.specs.Calls.{call-evaluate, call-add, call-subtract, call-multiply, call-substitute}
 use Rattle.calculus.specs.Calls.{returned-model, returned-ends}
 use Rattle.calculus.specs.Computing.{calls}
-use Rattle.calculus.specs.Samples.{at-key, model, ends, minus, line, forms}
+use Rattle.calculus.specs.Forms.{at-key, model, ends, minus, line, forms}
 use Rattle.calculus.specs.Edges.{one-term, terms-from}
 
 -- what a call hands back
@@ -19,8 +19,8 @@ pub data Handed-back : Type 0 where
   of-model : Returned Model → Handed-back
   of-ends : Returned Ends → Handed-back
 
--- a row: a number, what the call hands back, and what it must be
-pub record Row : Type 0 where
+-- a row of the table: its number, what the call hands back, and what it must be
+pub record Call-edge : Type 0 where
   pub number : ℕ
   pub given : Handed-back
   pub wanted : Handed-back
@@ -31,11 +31,11 @@ unfoldable pub back : {A : Type 0} → (refusal place : ℕ) → A → Returned 
 back r i a = record { number = r; place = i; value = a }
 
 -- a call that gives a model
-unfoldable pub gives : (number : ℕ) → Result Model → Model → Row
+unfoldable pub gives : (number : ℕ) → Result Model → Model → Call-edge
 gives i c m = record { number = i; given = of-model (returned-model c); wanted = of-model (back 0 0 m) }
 
 -- a call that is refused: the zero model, and its n is 1
-unfoldable pub refuses : (number : ℕ) → Result Model → (refusal place : ℕ) → Row
+unfoldable pub refuses : (number : ℕ) → Result Model → (refusal place : ℕ) → Call-edge
 refuses i c r p = record {
   number = i;
   given = of-model (returned-model c);
@@ -43,11 +43,11 @@ refuses i c r p = record {
 }
 
 -- a call that gives ends
-unfoldable pub gives-ends : (number : ℕ) → Result Ends → Ends → Row
+unfoldable pub gives-ends : (number : ℕ) → Result Ends → Ends → Call-edge
 gives-ends i c e = record { number = i; given = of-ends (returned-ends c); wanted = of-ends (back 0 0 e) }
 
 -- a call for ends that is refused, at place 0: both are 0
-unfoldable pub refuses-ends : (number : ℕ) → Result Ends → (refusal : ℕ) → Row
+unfoldable pub refuses-ends : (number : ℕ) → Result Ends → (refusal : ℕ) → Call-edge
 refuses-ends i c r = record {
   number = i;
   given = of-ends (returned-ends c);
@@ -75,7 +75,7 @@ unfoldable pub near-limit : (n c : ℕ) → Model
 near-limit n c = model n 0 (at-key n 0x0000 (pos c) ∷ at-key n 0x1000 (pos 1) ∷ [])
 
 -- ---- the table; the line is 5 + 3x
-unfoldable pub call-edges : List Row
+unfoldable pub call-edges : List Call-edge
 call-edges =
     -- 3 before 6
     refuses 1 (call-constant 0 (pos 1073741825)) 3 0

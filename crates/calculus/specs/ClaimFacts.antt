@@ -1,22 +1,24 @@
 -- Facts beside the claim. It is not empty: every book has a point of the box and functions within its models, among
 -- them polynomials. And it is not true of everything: each band alone, that of the radius, of the range and of the
--- integral, refutes a wrong answer, whatever the rest of the answer is.
+-- integral, refutes a wrong answer, whatever the rest of the answer is. JumpFacts goes on with functions that are no
+-- polynomials.
 use mathlib.Core.Path.{_≡_, refl, sym, _∙_, ap, ap₂}
-use mathlib.Core.List.{[], _∷_}
-use Prim.Native.Nat.{ℕ, zero, suc, _<_, _^_}
+use mathlib.Core.List.{List, [], _∷_}
+use Prim.Native.Nat.{ℕ, zero, suc, _+_, _<_, _^_}
 use native.Mathlib.Omega.{arith}
 use lib.Dec.{leb→le}
-use lib.IntN.{pos}
+use lib.IntN.{pos, negsuc}
 use lib.ListN.{replicate}
 use Rattle.algebra.specs.Ring.{Ring, nat}
 use Rattle.algebra.specs.RingLaws.{*-zero}
-use Rattle.algebra.specs.RingSolver.{𝟎, _⊞_, _⊟_, _⊠_, ring}
+use Rattle.algebra.specs.RingSolver.{𝟎, _⊞_, _⊟_, _⊠_, ⊝_, ring}
 use Rattle.algebra.specs.Ordered.{abs}
-use Rattle.algebra.specs.Rational.{_+ℚ_, _*ℚ_, _≤ℚ_}
+use Rattle.algebra.specs.OrderedLaws.{abs-neg-eq}
+use Rattle.algebra.specs.Rational.{ℚ, _+ℚ_, _*ℚ_, negℚ, whole, _≤ℚ_}
 use Rattle.algebra.specs.RationalRing.{ℚR}
 use Rattle.algebra.specs.RationalOrder.{ℚO}
 use Rattle.algebra.specs.RationalField.{ℚF}
-use Rattle.algebra.specs.RationalLaws.{≤-whole, nat-whole}
+use Rattle.algebra.specs.RationalLaws.{≤-whole, nat-whole, whole-+, whole-neg}
 use Rattle.polynomial.specs.Polynomial as P
 use Rattle.polynomial.specs.Box.{none, more}
 use Rattle.polynomial.specs.IntegralLaws.{integral-constant}
@@ -25,15 +27,15 @@ use Rattle.calculus.specs.Model.{Model, zero-model, _/U, _-ℚ_, distanc
 use Rattle.calculus.specs.Model.{Within}
 use Rattle.calculus.specs.Operations as Op
 use Rattle.calculus.specs.Operations.{Ends, zero-ends}
-use Rattle.calculus.specs.Book.{constant, add, Book, model-of, Summary, last}
+use Rattle.calculus.specs.Book.{constant, negate, Book, model-of, last}
 use Rattle.calculus.specs.Outcome.{Function, 0ℚ, step-outcome, outcome-of, outcomes-after, outcomes, outcome}
 use Rattle.calculus.specs.Outcome.{ℚ-Polynomial, value-of, step-polynomial, polynomials-after}
 use Rattle.calculus.specs.Outcome.{outcome-polynomial, exact-integral}
 use Rattle.calculus.specs.Claim.{Lies, All-within, Given, Claim}
-use Rattle.calculus.specs.Samples.{ends}
-use Rattle.calculus.specs.UnitLaws.{natural, natural-+, natural-*, natural-≤, natural-nonneg, abs-whole, U-times}
+use Rattle.calculus.specs.UnitLaws.{natural, natural-*, natural-≤, natural-nonneg, abs-whole, U-times}
 use Rattle.calculus.specs.UnitLaws.{U-cancel}
-use Rattle.calculus.specs.ValueLaws.{Near, at-near, scaled-value, scaled-nil, abs-zero}
+use Rattle.calculus.specs.ValueLaws.{Near, at-near, scaled-value, abs-zero, sum-≤}
+use Rattle.calculus.specs.EnclosureLaws.{zero-near, constant-near}
 use Rattle.calculus.specs.ChainLaws.{_≤≤_, _≡≤_, _≤≡_}
 open Ring ℚR using (+-neg, *-assoc)
 
@@ -42,7 +44,7 @@ open Ring ℚR using (+-neg, *-assoc)
 unfoldable pub own : Book → ℕ → Function
 own b a = value (model-of b a)
 
-radius-nonneg : (e : ℕ) → natural 0 ≤ℚ pos e /U
+pub radius-nonneg : (e : ℕ) → natural 0 ≤ℚ pos e /U
 radius-nonneg e = U-cancel (natural 0) (pos e /U) (*-zero ℚR (natural U) ≡≤ natural-nonneg e ≤≡ sym (U-times (pos e)))
 
 pub own-within : (b : Book) → All-within b (own b)
@@ -73,44 +75,55 @@ own-given b = record { functions = own-within b; point = origin-inside (b .vars)
 
 -- ---- each band alone refutes a wrong answer
 -- an inequality of whole numbers that is false
-false-≤ : (m n : ℕ) → n < m → natural m ≤ℚ natural n → ⊥
+pub false-≤ : (m n : ℕ) → n < m → natural m ≤ℚ natural n → ⊥
 false-≤ m n l h = omega (arith, leb→le m n (≤-whole (pos m) (pos n) h .le))
 
--- the constant 1 / U
-unfoldable pub one-step : Book
-one-step = record { vars = 1; order = 1; models = []; steps = constant (pos 1) ∷ [] }
+-- what lies within two models of the same terms differs by at most both radii
+pub both-near : (m k : Model) (x : Point) (y z : ℚ) → m .terms ≡ k .terms → Near m x y → Near k x z
+    → abs ℚO (natural U *ℚ y -ℚ natural U *ℚ z) ≤ℚ natural (m .radius + k .radius)
+unfolding Near
+both-near m k x y z e h g = ap (abs ℚO) (ring 3 ℚR (λ a b v. a ⊟ b) (λ a b v. (a ⊟ v) ⊞ ⊝ (b ⊟ v)) refl
+    (natural U *ℚ y) (natural U *ℚ z) (scaled-value (m .terms) x))
+    ≡≤ sum-≤ _ _ _ _ h (abs-neg-eq ℚO _
+    ≡≤ ap (λ p. abs ℚO (natural U *ℚ z -ℚ scaled-value p x)) e ≡≤ g)
+
+-- the constant 1 / U, beside any models
+unfoldable pub one-step : List Model → Book
+one-step ms = record { vars = 1; order = 1; models = ms; steps = constant (pos 1) ∷ [] }
 
 -- the zero model is not its result
-pub radius-refutes : (r i : Ends) → Claim one-step (record { model = zero-model 1; range = r; integral = i }) → ⊥
+pub radius-refutes : (ms : List Model) (n : ℕ) (r i : Ends)
+    → Claim (one-step ms) (record { model = zero-model n; range = r; integral = i }) → ⊥
 unfolding one-step outcome outcomes outcomes-after step-outcome last zero-model
-radius-refutes r i c =
-    false-≤ 1 0 (omega arith) (sym (abs-whole (pos 1)) ≡≤ ap (abs ℚO) (sym difference) ≡≤ near)
+radius-refutes ms n r i c = false-≤ 1 0 (omega arith) (sym (abs-whole (pos 1)) ≡≤ ap (abs ℚO) (sym difference) ≡≤ near)
   where
-    at : At (zero-model 1) (origin 1) (pos 1 /U)
-    at = c .within-radius (own one-step) (origin 1) (own-given one-step)
+    at : At (zero-model n) (origin 1) (pos 1 /U)
+    at = c .within-radius (own (one-step ms)) (origin 1) (own-given (one-step ms))
 
-    near : abs ℚO (natural U *ℚ pos 1 /U -ℚ scaled-value [] (origin 1)) ≤ℚ natural 0
-    near = unfold Near zero-model in at-near (zero-model 1) (origin 1) (pos 1 /U) at
+    near : abs ℚO (natural U *ℚ pos 1 /U -ℚ natural U *ℚ 0ℚ) ≤ℚ natural 0
+    near = both-near (zero-model n) (zero-model n) (origin 1) (pos 1 /U) 0ℚ refl
+        (at-near (zero-model n) (origin 1) (pos 1 /U) at) (zero-near n (origin 1))
 
-    difference : natural U *ℚ pos 1 /U -ℚ scaled-value [] (origin 1) ≡ natural 1
-    difference = ap₂ _-ℚ_ (U-times (pos 1)) (scaled-nil (origin 1)) ∙ ring 1 ℚR (λ a. a ⊟ 𝟎) (λ a. a) refl (natural 1)
+    difference : natural U *ℚ pos 1 /U -ℚ natural U *ℚ 0ℚ ≡ natural 1
+    difference = ring 2 ℚR (λ u a. u ⊠ a ⊟ u ⊠ 𝟎) (λ u a. u ⊠ a) refl (natural U) (pos 1 /U) ∙ U-times (pos 1)
 
 -- 0 to 0 is not its range
-pub range-refutes : (m : Model) (i : Ends) → Claim one-step (record { model = m; range = zero-ends; integral = i }) → ⊥
+pub range-refutes : (m : Model) (i : Ends)
+    → Claim (one-step []) (record { model = m; range = zero-ends; integral = i }) → ⊥
 unfolding one-step zero-ends outcome outcomes outcomes-after step-outcome last
 range-refutes m i c = false-≤ 1 0 (omega arith) (sym (U-times (pos 1)) ≡≤ lies .to)
   where
     lies : Lies (pos 1 /U) zero-ends
-    lies = c .in-range (own one-step) (origin 1) (own-given one-step)
+    lies = c .in-range (own (one-step [])) (origin 1) (own-given (one-step []))
 
 -- 0 to 0 is not its integral
 pub integral-refutes : (m : Model) (r : Ends)
-    → Claim one-step (record { model = m; range = r; integral = zero-ends }) → ⊥
+    → Claim (one-step []) (record { model = m; range = r; integral = zero-ends }) → ⊥
 unfolding one-step zero-ends outcome-polynomial polynomials-after step-polynomial last exact-integral
 integral-refutes m r c = false-≤ 2 0 (omega arith) (sym amount ≡≤ lies .to)
   where
     lies : Lies (exact-integral 1 (P.constant ℚR (pos 1 /U))) zero-ends
-    lies = c .integral-in-ends (own-polynomial one-step) (own-polynomial-within one-step)
+    lies = c .integral-in-ends (own-polynomial (one-step [])) (own-polynomial-within (one-step []))
 
     amount : natural U *ℚ exact-integral 1 (P.constant ℚR (pos 1 /U)) ≡ natural 2
     amount = ap (λ z. natural U *ℚ z) (integral-constant ℚF 1 (pos 1 /U))
@@ -118,25 +131,31 @@ integral-refutes m r c = false-≤ 2 0 (omega arith) (sym amount ≡≤ lies .to
         ∙ ap₂ _*ℚ_ (U-times (pos 1)) (nat-whole 2) ∙ sym (natural-* 1 2)
 
 -- so the zero model with ends 0 is not the answer to every book
-pub claim-refuted : Claim one-step (record { model = zero-model 1; range = zero-ends; integral = zero-ends }) → ⊥
+pub claim-refuted : Claim (one-step []) (record { model = zero-model 1; range = zero-ends; integral = zero-ends }) → ⊥
 claim-refuted = range-refutes (zero-model 1) zero-ends
 
 -- ---- and an operand passed through is not the answer of the step that takes it
--- 1 / U + 1 / U
-unfoldable pub doubled : Book
-doubled = record { vars = 1; order = 1; models = []; steps = constant (pos 1) ∷ add 0 0 ∷ [] }
+-- 1 / U, and minus that
+unfoldable pub negated : Book
+negated = record { vars = 1; order = 1; models = []; steps = constant (pos 1) ∷ negate 0 ∷ [] }
 
--- the answer that belongs to 1 / U
-unfoldable pub passed-through : Summary
-passed-through = record { model = Op.constant 1 (pos 1); range = ends (pos 1) (pos 1); integral = ends (pos 2) (pos 2) }
-
-pub passing-refuted : Claim doubled passed-through → ⊥
-unfolding doubled passed-through outcome outcomes outcomes-after step-outcome outcome-of last ends
-passing-refuted c = false-≤ 2 1 (omega arith) (sym amount ≡≤ lies .to)
+-- the model of 1 / U is not its result
+pub passing-refuted : (r i : Ends)
+    → Claim negated (record { model = Op.constant 1 (pos 1); range = r; integral = i }) → ⊥
+unfolding negated outcome outcomes outcomes-after step-outcome outcome-of last
+passing-refuted r i c = false-≤ 2 0 (omega arith) (sym (abs-whole (negsuc 1)) ≡≤ ap (abs ℚO) (sym difference) ≡≤ near)
   where
-    lies : Lies (pos 1 /U +ℚ pos 1 /U) (ends (pos 1) (pos 1))
-    lies = c .in-range (own doubled) (origin 1) (own-given doubled)
+    m : Model
+    m = Op.constant 1 (pos 1)
 
-    amount : natural U *ℚ (pos 1 /U +ℚ pos 1 /U) ≡ natural 2
-    amount = ring 2 ℚR (λ u z. u ⊠ (z ⊞ z)) (λ u z. u ⊠ z ⊞ u ⊠ z) refl (natural U) (pos 1 /U)
-        ∙ ap (λ z. z +ℚ z) (U-times (pos 1)) ∙ sym (natural-+ 1 1)
+    at : At m (origin 1) (negℚ (pos 1 /U))
+    at = c .within-radius (own negated) (origin 1) (own-given negated)
+
+    near : abs ℚO (natural U *ℚ negℚ (pos 1 /U) -ℚ natural U *ℚ pos 1 /U) ≤ℚ natural 0
+    near = unfold Op.constant in both-near m m (origin 1) (negℚ (pos 1 /U)) (pos 1 /U) refl
+        (at-near m (origin 1) (negℚ (pos 1 /U)) at) (constant-near 1 (pos 1) (origin 1))
+
+    difference : natural U *ℚ negℚ (pos 1 /U) -ℚ natural U *ℚ pos 1 /U ≡ whole (negsuc 1)
+    difference = ring 2 ℚR (λ u a. u ⊠ ⊝ a ⊟ u ⊠ a) (λ u a. ⊝ (u ⊠ a ⊞ u ⊠ a)) refl (natural U) (pos 1 /U)
+        ∙ ap (λ z. negℚ (z +ℚ z)) (U-times (pos 1))
+        ∙ ap negℚ (sym (whole-+ (pos 1) (pos 1))) ∙ sym (whole-neg (pos 2))

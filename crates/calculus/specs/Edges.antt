@@ -1,5 +1,5 @@
--- Books at the edges, beside the samples: what a definition near to the right one would answer otherwise. CallEdges has
--- the single calls.
+-- Books at the edges: what a definition near to the right one would answer otherwise. CallEdges has the single calls,
+-- and the crate that reads sheets the samples of document 01.
 use mathlib.Core.Path.{_≡_, refl}
 use mathlib.Core.List.{List, [], _∷_, map}
 use Prim.Native.Nat.{ℕ, zero, suc, _+_, _*_, _/_, _%_}
@@ -8,13 +8,23 @@ use lib.ListN.{replicate}
 use Rattle.calculus.specs.Terms.{Terms}
 use Rattle.calculus.specs.Model.{Model}
 use Rattle.calculus.specs.Refusal.{bad-limits, bad-model, bad-step, over-span, too-many-terms, leaves-box}
-use Rattle.calculus.specs.Refusal.{stopped}
+use Rattle.calculus.specs.Refusal.{Result, stopped}
 use Rattle.calculus.specs.Book.{Step, input, constant, variable, negate, add, subtract, multiply, substitute}
-use Rattle.calculus.specs.Book.{sweep, run}
+use Rattle.calculus.specs.Book.{sweep, Book, Summary, run}
 use Rattle.calculus.specs.Computing.{runs}
-use Rattle.calculus.specs.Samples.{Row, at-key, model, book, ends, minus, gives, row, forms}
+use Rattle.calculus.specs.Forms.{at-key, model, book, ends, minus, gives, forms}
+
+-- a row of the table: its number, a book, and what its run must give
+pub record Book-edge : Type 0 where
+  pub number : ℕ
+  pub book : Book
+  pub result : Result Summary
 
 -- ---- short forms
+-- such a row
+unfoldable pub row : (number : ℕ) → Book → Result Summary → Book-edge
+row i b r = record { number = i; book = b; result = r }
+
 -- a model in two variables, 2^26 at each key
 unfoldable pub row-of-terms : List ℕ → Model
 row-of-terms keys = model 2 0 (map (λ key. at-key 2 key (pos 67108864)) keys)
@@ -33,11 +43,11 @@ unfoldable pub small-constant : Model
 small-constant = model 1 0 (at-key 1 0x0000 (pos 2) ∷ at-key 1 0x1000 (pos 3) ∷ [])
 
 -- a step that breaks its form, after a variable
-unfoldable pub broken : (number : ℕ) → Step → Row
+unfoldable pub broken : (number : ℕ) → Step → Book-edge
 broken i s = row i (book 1 1 [] (variable 1 ∷ s ∷ [])) (stopped bad-step 1)
 
 -- ---- the table
-unfoldable pub edges : List Row
+unfoldable pub edges : List Book-edge
 edges =
     -- (x + y)(x - y) above order 1: |z| after collecting, and not |products|
     row 1 (book 2 1 [] (variable 1 ∷ variable 2 ∷ add 0 1 ∷ subtract 0 1 ∷ multiply 2 3 ∷ []))
@@ -137,5 +147,5 @@ edges =
 
 -- the run of each book gives what its row says
 pub edges-run : map (λ r. run (r .book)) edges ≡ map (λ r. r .result) edges
-unfolding runs forms edges row-of-terms one-term terms-from small-constant broken
+unfolding runs forms edges row row-of-terms one-term terms-from small-constant broken
 edges-run = refl

@@ -10,7 +10,7 @@ pub mod Calls
 pub mod Book
 pub mod Outcome
 pub mod Claim
-pub mod Samples
+pub mod Forms
 pub mod Edges
 pub mod CallEdges
 -- Lists of definitions that facts by computation open.
@@ -45,3 +45,4 @@ pub mod IntegralEndsLaws
 pub mod OutcomeLaws
 pub mod ClaimProof
 pub mod ClaimFacts
+pub mod JumpFacts

@@ -12,18 +12,18 @@ use Rattle.format.specs.Format.{longest, returned-book, opened, written}
 use Rattle.format.specs.Samples.{hex, sheet-forms}
 use Rattle.format.specs.Computing.{reads, writes}
 
--- a row: the number and the place that a read gives, 0 and 0 where it is accepted, and the sheet
-pub record Row : Type 0 where
+-- a row of the table: the number and the place that a read gives, 0 and 0 where it is accepted, and the sheet
+pub record Sheet-edge : Type 0 where
   pub number : ℕ
   pub place : ℕ
   pub bytes : List ℕ
 
 -- a row of the table
-unfoldable pub edge : (number place : ℕ) → List String → Row
+unfoldable pub edge : (number place : ℕ) → List String → Sheet-edge
 edge i p l = record { number = i; place = p; bytes = hex l }
 
 -- the table
-unfoldable pub edges : List Row
+unfoldable pub edges : List Sheet-edge
 edges =
     -- no byte
     edge 1 0 []

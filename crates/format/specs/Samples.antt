@@ -1,13 +1,14 @@
--- The proved samples of document 01 as one table of sheets in bytes, and the lines of the first.
+-- The proved samples of document 01 as one table of sheets in bytes with their answers, and the lines of the first.
 use mathlib.Core.Path.{_≡_, refl}
 use mathlib.Core.Bool.{true, false}
-use mathlib.Core.List.{List, [], _∷_, _++_, map}
+use mathlib.Core.List.{List, [], _∷_, map}
 use Prim.Native.Nat.{ℕ, _+_, _-_, _*_}
 use Prim.Native.String.{String}
 use lib.Dec.{eqb, ltb}
-use Rattle.calculus.specs.Refusal.{bad-mark, Result, stopped}
+use lib.IntN.{pos}
+use Rattle.calculus.specs.Refusal.{bad-mark, bad-step, over-span, leaves-box, Result, stopped}
 use Rattle.calculus.specs.Book.{Summary}
-use Rattle.calculus.specs.Samples.{samples, forms}
+use Rattle.calculus.specs.Forms.{at-key, model, ends, minus, gives, line, forms}
 use Rattle.format.specs.Bytes.{join}
 use Rattle.format.specs.Format.{run-sheet}
 use Rattle.format.specs.Lines.{text, printed}
@@ -32,63 +33,95 @@ unfoldable pub hex : List String → List ℕ
 hex l = join (map (λ s. hex-bytes (text s)) l)
 
 -- ---- the table
--- a row: the number of the sample and a sheet
-pub record Row : Type 0 where
+-- a row: the number of the sample, a sheet, and what its run must give
+pub record Sample : Type 0 where
   pub number : ℕ
   pub bytes : List ℕ
+  pub result : Result Summary
 
--- a row of the table
-unfoldable pub sheet : ℕ → List String → Row
-sheet i l = record { number = i; bytes = hex l }
+-- such a row
+unfoldable pub sample : (number : ℕ) → List String → Result Summary → Sample
+sample i l r = record { number = i; bytes = hex l; result = r }
 
--- the sheet that document 01 prints
+-- the sheet that document 01 prints: (x + 0.5) squared, order 2
 unfoldable pub worked : List String
 worked = "02 00 00 01 00 00 00 00" ∷ "01 00 00 00 00 00 08 00" ∷ "04 00 01 00 00 00 00 00" ∷
     "06 02 02 00 00 00 00 00" ∷ "01 02 00 04 00 00 4D 4B" ∷ []
 
--- the samples 1 to 13 in order
-unfoldable pub sheets : List Row
-sheets =
-    sheet 1 worked
-    ∷ sheet 2 ("02 00 00 01 00 00 00 00" ∷ "01 00 00 00 00 00 08 00" ∷ "04 00 01 00 00 00 00 00" ∷
+-- the samples 1 to 13 in order: what document 01 says of each, and the rest of its answer
+unfoldable pub samples : List Sample
+samples =
+    -- the sheet above: range -1835008 to 2359296, integral 1223338 to 1223339
+    sample 1 worked
+    (gives
+    (model 1 0 (at-key 1 0x0000 (pos 262144) ∷ at-key 1 0x1000 (pos 1048576) ∷ at-key 1 0x2000 (pos 1048576) ∷ []))
+    (ends (minus 1835008) (pos 2359296)) (ends (pos 1223338) (pos 1223339)))
+    -- the same with order 1: radius 1048576, integral -1572864 to 2621440
+    ∷ sample 2 ("02 00 00 01 00 00 00 00" ∷ "01 00 00 00 00 00 08 00" ∷ "04 00 01 00 00 00 00 00" ∷
     "06 02 02 00 00 00 00 00" ∷ "01 01 00 04 00 00 4D 4B" ∷ [])
-    ∷ sheet 3 ("01 00 00 00 00 00 00 00" ∷ "01 02 00 01 00 00 4D 4B" ∷ [])
-    ∷ sheet 4 ("01 00 00 00 00 00 00 40" ∷ "01 02 00 01 00 00 4D 4B" ∷ [])
-    ∷ sheet 4 ("01 00 00 00 01 00 00 40" ∷ "01 02 00 01 00 00 4D 4B" ∷ [])
-    ∷ sheet 5 ("01 00 00 00 00 00 00 40" ∷ "01 00 00 00 01 00 00 00" ∷ "04 00 01 00 00 00 00 00" ∷
+    (gives (model 1 1048576 (at-key 1 0x0000 (pos 262144) ∷ at-key 1 0x1000 (pos 1048576) ∷ []))
+    (ends (minus 1835008) (pos 2359296)) (ends (minus 1572864) (pos 2621440)))
+    -- constant 0: no terms, range 0 0, integral 0 0
+    ∷ sample 3 ("01 00 00 00 00 00 00 00" ∷ "01 02 00 01 00 00 4D 4B" ∷ [])
+    (gives (model 1 0 []) (ends (pos 0) (pos 0)) (ends (pos 0) (pos 0)))
+    -- constant 2^30 is accepted, 2^30 + 1 gets 6
+    ∷ sample 4 ("01 00 00 00 00 00 00 40" ∷ "01 02 00 01 00 00 4D 4B" ∷ [])
+    (gives (model 1 0 (at-key 1 0x0000 (pos 1073741824) ∷ []))
+    (ends (pos 1073741824) (pos 1073741824)) (ends (pos 2147483648) (pos 2147483648)))
+    ∷ sample 4 ("01 00 00 00 01 00 00 40" ∷ "01 02 00 01 00 00 4D 4B" ∷ [])
+    (stopped bad-step 0)
+    -- 2^30 plus 1, as constants, gets 7
+    ∷ sample 5 ("01 00 00 00 00 00 00 40" ∷ "01 00 00 00 01 00 00 00" ∷ "04 00 01 00 00 00 00 00" ∷
     "01 02 00 03 00 00 4D 4B" ∷ [])
-    ∷ sheet 6 ("01 00 00 00 01 00 00 00" ∷ "01 00 00 00 00 00 08 00" ∷ "06 00 01 00 00 00 00 00" ∷
+    (stopped over-span 2)
+    -- constants 1 times 524288: coefficient 1, radius 1
+    ∷ sample 6 ("01 00 00 00 01 00 00 00" ∷ "01 00 00 00 00 00 08 00" ∷ "06 00 01 00 00 00 00 00" ∷
     "01 02 00 03 00 00 4D 4B" ∷ [])
-    ∷ sheet 7 ("01 00 00 00 FF FF FF FF" ∷ "01 00 00 00 00 00 08 00" ∷ "06 00 01 00 00 00 00 00" ∷
+    (gives (model 1 1 (at-key 1 0x0000 (pos 1) ∷ [])) (ends (pos 0) (pos 2)) (ends (pos 0) (pos 4)))
+    -- constants -1 times 524288: no terms, radius 1
+    ∷ sample 7 ("01 00 00 00 FF FF FF FF" ∷ "01 00 00 00 00 00 08 00" ∷ "06 00 01 00 00 00 00 00" ∷
     "01 02 00 03 00 00 4D 4B" ∷ [])
-    ∷ sheet 8 ("02 00 00 00 00" ∷ "03 00 00 00 00" ∷ "00 00 00 00 00 00 00 00" ∷ "00 01 00 00 00 00 00 00" ∷
+    (gives (model 1 1 []) (ends (minus 1) (pos 1)) (ends (minus 2) (pos 2)))
+    -- radii 2 and 3 without terms, multiplied: radius 1
+    ∷ sample 8 ("02 00 00 00 00" ∷ "03 00 00 00 00" ∷ "00 00 00 00 00 00 00 00" ∷ "00 01 00 00 00 00 00 00" ∷
     "06 00 01 00 00 00 00 00" ∷ "01 02 02 03 0A 00 4D 4B" ∷ [])
-    ∷ sheet 9 ("02 00 00 01 00 00 00 00" ∷ "06 00 00 00 00 00 00 00" ∷ "01 00 00 00 00 00 08 00" ∷
+    (gives (model 1 1 []) (ends (minus 1) (pos 1)) (ends (minus 2) (pos 2)))
+    -- x squared, order 2, with the constant 524288 put in: 262144, radius 0
+    ∷ sample 9 ("02 00 00 01 00 00 00 00" ∷ "06 00 00 00 00 00 00 00" ∷ "01 00 00 00 00 00 08 00" ∷
     "07 01 02 01 00 00 00 00" ∷ "01 02 00 04 00 00 4D 4B" ∷ [])
-    ∷ sheet 10 ("02 00 00 01 00 00 00 00" ∷ "06 00 00 00 00 00 00 00" ∷ "01 00 00 00 00 00 10 00" ∷
+    (gives (model 1 0 (at-key 1 0x0000 (pos 262144) ∷ []))
+    (ends (pos 262144) (pos 262144)) (ends (pos 524288) (pos 524288)))
+    -- putting in 1048576 is accepted, 1048577 gets 9
+    ∷ sample 10 ("02 00 00 01 00 00 00 00" ∷ "06 00 00 00 00 00 00 00" ∷ "01 00 00 00 00 00 10 00" ∷
     "07 01 02 01 00 00 00 00" ∷ "01 02 00 04 00 00 4D 4B" ∷ [])
-    ∷ sheet 10 ("02 00 00 01 00 00 00 00" ∷ "06 00 00 00 00 00 00 00" ∷ "01 00 00 00 01 00 10 00" ∷
+    (gives (model 1 0 (at-key 1 0x0000 (pos 1048576) ∷ []))
+    (ends (pos 1048576) (pos 1048576)) (ends (pos 2097152) (pos 2097152)))
+    ∷ sample 10 ("02 00 00 01 00 00 00 00" ∷ "06 00 00 00 00 00 00 00" ∷ "01 00 00 00 01 00 10 00" ∷
     "07 01 02 01 00 00 00 00" ∷ "01 02 00 04 00 00 4D 4B" ∷ [])
-    ∷ sheet 11 ("00 00 00 00 02 00 00 05 00 00 00 00 10 03 00 00 00" ∷ "00 00 00 00 00 00 00 00" ∷
+    (stopped leaves-box 3)
+    -- 5 + 3x swept at 3: term 5, radius 3; at 2: unchanged
+    ∷ sample 11 ("00 00 00 00 02 00 00 05 00 00 00 00 10 03 00 00 00" ∷ "00 00 00 00 00 00 00 00" ∷
     "08 00 00 00 03 00 00 00" ∷ "01 02 01 02 11 00 4D 4B" ∷ [])
-    ∷ sheet 11 ("00 00 00 00 02 00 00 05 00 00 00 00 10 03 00 00 00" ∷ "00 00 00 00 00 00 00 00" ∷
+    (gives (model 1 3 (at-key 1 0x0000 (pos 5) ∷ [])) (ends (pos 2) (pos 8)) (ends (pos 4) (pos 16)))
+    ∷ sample 11 ("00 00 00 00 02 00 00 05 00 00 00 00 10 03 00 00 00" ∷ "00 00 00 00 00 00 00 00" ∷
     "08 00 00 00 02 00 00 00" ∷ "01 02 01 02 11 00 4D 4B" ∷ [])
-    ∷ sheet 12 ("00 00 00 00 01 00 20 FF FF FF FF" ∷ "00 00 00 00 00 00 00 00" ∷ "01 02 01 01 0B 00 4D 4B" ∷ [])
-    ∷ sheet 13 ("02 00 00 01 00 00 00 00" ∷ "01 00 00 00 00 00 08 00" ∷ "04 00 01 00 00 00 00 00" ∷
+    (gives line (ends (pos 2) (pos 8)) (ends (pos 10) (pos 10)))
+    -- the single term of key hex 2000, coefficient -1: integral -1 to 0
+    ∷ sample 12 ("00 00 00 00 01 00 20 FF FF FF FF" ∷ "00 00 00 00 00 00 00 00" ∷ "01 02 01 01 0B 00 4D 4B" ∷ [])
+    (gives (model 1 0 (at-key 1 0x2000 (minus 1) ∷ [])) (ends (minus 1) (pos 1)) (ends (minus 1) (pos 0)))
+    -- a wrong mark together with n = 0 gets 2
+    ∷ sample 13 ("02 00 00 01 00 00 00 00" ∷ "01 00 00 00 00 00 08 00" ∷ "04 00 01 00 00 00 00 00" ∷
     "06 02 02 00 00 00 00 00" ∷ "00 02 00 04 00 00 4D 4C" ∷ [])
+    (stopped bad-mark 0)
     ∷ []
-
--- what the calculus says of the samples 1 to 12, and the wrong mark of 13, which comes before n = 0
-unfoldable pub results : List (ℕ × Result Summary)
-results = map (λ r. (r .number, r .result)) samples ++ ((13, stopped bad-mark 0) ∷ [])
 
 -- the short forms, for facts that compute
 unfoldable pub sheet-forms : Unit {0}
-unfolding hex-digit hex-bytes hex sheet worked sheets results text forms
+unfolding hex-digit hex-bytes hex sample worked samples text forms
 sheet-forms = tt
 
 -- the run of each sheet gives what its row says
-pub sheets-run : map (λ r. (r .number, run-sheet (r .bytes))) sheets ≡ results
+pub sheets-run : map (λ r. run-sheet (r .bytes)) samples ≡ map (λ r. r .result) samples
 unfolding reads sheet-forms
 sheets-run = refl
 

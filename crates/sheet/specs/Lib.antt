@@ -1,3 +1,4 @@
 pub mod Sheet
-pub mod SheetLaws
 pub mod Refuted
+pub mod SheetLaws
+pub mod RefutedLaws

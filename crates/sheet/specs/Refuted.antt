@@ -1,40 +1,28 @@
--- Wrong programs that the contract of `run` rules out: those that document 01 lists. Each is named by what it answers,
--- and refuted at a sheet by one clause of the contract, or by both.
-use mathlib.Core.Path.{_≡_, refl, sym, _∙_, ap, subst}
+-- Wrong programs that the contract of `run` rules out: those that document 01 lists, each as a kind, and of each kind
+-- programs that are always so and one that can be run. RefutedLaws proves that no program of a kind meets the contract.
+use mathlib.Core.Path.{_≡_}
+use mathlib.Core.Logic.{_≢_}
 use mathlib.Core.Bool.{Bool, true, _&&_}
 use mathlib.Core.List.{List, [], _∷_, _++_}
 use mathlib.Core.Option.{some}
-use Prim.Native.Nat.{ℕ, suc, _≤_}
-use native.Mathlib.Omega.{arith}
-use lib.Dec.{T, ltb, le→leb}
-use lib.IntN.{natAbs}
+use Prim.Native.Nat.{ℕ, _+_, _-_, _<_, _≤_}
+use lib.Dec.{T, ltb}
 use lib.ListN.{length, getElem?}
 use Rattle.fixed.specs.Fixed.{span-limit}
-use Rattle.calculus.specs.Key as K
+use Rattle.calculus.specs.Terms.{size}
 use Rattle.calculus.specs.Model as C
-use Rattle.calculus.specs.Model.{zero-model, span, Point}
-use Rattle.calculus.specs.Refusal as R
-use Rattle.calculus.specs.Refusal.{Answer, accepted, Result, done, stopped, at-place, _followed-by_}
+use Rattle.calculus.specs.Model.{zero-model}
+use Rattle.calculus.specs.Refusal.{Refusal, bad-length, too-many-terms, Answer, accepted, Result, done, stopped}
+use Rattle.calculus.specs.Refusal.{at-place, _followed-by_}
 use Rattle.calculus.specs.Book as B
 use Rattle.calculus.specs.Book.{Step, input, constant, variable, negate, add, subtract, multiply, substitute, sweep}
-use Rattle.calculus.specs.Book.{Book, result-of, run-step, last, summary}
-use Rattle.calculus.specs.Outcome.{Function, step-outcome, outcomes-after, outcomes, outcome}
-use Rattle.calculus.specs.Outcome.{step-polynomial, polynomials-after, outcome-polynomial}
-use Rattle.calculus.specs.Claim.{Given, Claim}
-use Rattle.calculus.specs.ClaimFacts.{own, own-within, own-polynomial, own-polynomial-within, one-step, radius-refutes}
-use Rattle.calculus.specs.ClaimFacts.{doubled, passed-through, passing-refuted}
+use Rattle.calculus.specs.Book.{Book, model-of, result-of, run-step, run-steps, last, summary, returned-summary}
 use Rattle.model_types.specs.declared.Verdict.the-variants.{Accepted}
-use Rattle.model_types.specs.Arrays.{first-places, padded}
-use Rattle.model_types.specs.ModelStruct.{view-term, view, pack-term, pack, refusal, cause, verdict-number}
-use Rattle.model_types.specs.ModelStruct.{verdict-place}
-use Rattle.format.specs.HeldBook.{Held-model, Held-book, view-book}
+use Rattle.model_types.specs.ModelStruct.{view, verdict-number, verdict-place}
+use Rattle.format.specs.HeldBook.{Held-book, view-book}
 use Rattle.format.specs.Format.{read, run-sheet}
-use Rattle.format.specs.Computing.{reads}
-use Rattle.format.specs.Samples.{hex, sheet-forms}
-use Rattle.format.specs.SheetClaim.{Sheet-claim}
-use Rattle.sheet_book.specs.BookStruct.{stored-model}
 use Rattle.sheet_summary.specs.declared.Summary.{Summary}
-use Rattle.sheet_summary.specs.Summary.{stored-ends, ends-of, summary-of, refused-summary, run-answer}
+use Rattle.sheet_summary.specs.Summary.{run-answer}
 use Rattle.sheet.specs.Sheet.{Exact, Encloses}
 
 -- ---- programs and the clauses of the contract
@@ -55,207 +43,177 @@ Exact-program W = (sheet : List ℕ) → T (are-bytes sheet) → Exact sheet (W 
 abbrev pub Enclosing : Program → Type 0
 Enclosing W = (sheet : List ℕ) → T (are-bytes sheet) → Encloses sheet (W sheet)
 
--- a program that accepts what is to be accepted
-abbrev pub Accepting : Program → Type 0
-Accepting W = (sheet : List ℕ) (s : B.Summary) → run-sheet sheet ≡ done s → W sheet .verdict ≡ Accepted
+-- the model that a program answers; places beyond its count are not looked at
+abbrev pub model-by : Program → List ℕ → C.Model
+model-by W sheet = view (W sheet .model)
 
--- ---- the sheets
--- the constant 0
-unfoldable pub nothing : List ℕ
-nothing = hex ("01 00 00 00 00 00 00 00" ∷ "01 01 00 01 00 00 4D 4B" ∷ [])
+-- ---- sheets
+-- one that the run accepts, with the book that it reads as and the result
+pub record Accepted-sheet : Type 0 where
+  pub sheet : List ℕ
+  pub bytes : T (are-bytes sheet)
+  pub held : Held-book
+  pub is-read : read sheet ≡ done held
+  pub result : B.Summary
+  pub is-run : run-sheet sheet ≡ done result
 
--- the constant 1 / U
-unfoldable pub one : List ℕ
-one = hex ("01 00 00 00 01 00 00 00" ∷ "01 01 00 01 00 00 4D 4B" ∷ [])
+-- its book
+abbrev pub book-of : Accepted-sheet → Book
+book-of at = view-book (at .held)
 
--- the same, after a model without terms
-unfoldable pub one-beside : List ℕ
-one-beside = hex ("00 00 00 00 00" ∷ "01 00 00 00 01 00 00 00" ∷ "01 01 01 01 05 00 4D 4B" ∷ [])
+-- the earlier steps that a step names
+unfoldable pub operands : Step → List ℕ
+operands (input a) = []
+operands (constant value) = []
+operands (variable v) = []
+operands (negate a) = a ∷ []
+operands (add a b) = a ∷ b ∷ []
+operands (subtract a b) = a ∷ b ∷ []
+operands (multiply a b) = a ∷ b ∷ []
+operands (substitute a b v) = a ∷ b ∷ []
+operands (sweep a value) = a ∷ []
 
--- 1 / U + 1 / U
-unfoldable pub twice : List ℕ
-twice = hex ("01 00 00 00 01 00 00 00" ∷ "04 00 00 00 00 00 00 00" ∷ "01 01 00 02 00 00 4D 4B" ∷ [])
+-- those of the last step; test 3 keeps the default out of reach
+unfoldable pub last-operands : Book → List ℕ
+last-operands book = operands (last (input 0) (book .steps))
 
--- 2^30 plus 1, in units: step 2 is refused
-unfoldable pub over : List ℕ
-over = hex ("01 00 00 00 00 00 00 40" ∷ "01 00 00 00 01 00 00 00" ∷ "04 00 01 00 00 00 00 00" ∷
-    "01 02 00 03 00 00 4D 4B" ∷ [])
+-- ---- the kinds: at one sheet at least, a program
+-- answers another radius than the run's
+pub record Answers-other-radius (W : Program) : Type 0 where
+  pub at : Accepted-sheet
+  pub other : model-by W (at .sheet) .radius ≢ at .result .model .radius
 
--- 2^30 plus itself: step 1 is refused
-unfoldable pub over-sooner : List ℕ
-over-sooner = hex ("01 00 00 00 00 00 00 40" ∷ "04 00 00 00 00 00 00 00" ∷ "01 02 00 02 00 00 4D 4B" ∷ [])
+-- hands an operand of the last step through, whose result is another
+pub record Hands-operand-through (W : Program) : Type 0 where
+  pub at : Accepted-sheet
+  pub results : List C.Model
+  pub ran : run-steps (book-of at) [] (book-of at .steps) ≡ done results
+  pub place : ℕ
+  pub operand : ℕ
+  pub is-operand : getElem? (last-operands (book-of at)) place ≡ some operand
+  pub answers : model-by W (at .sheet) ≡ result-of (book-of at) results operand
+  pub other : result-of (book-of at) results operand ≢ at .result .model
 
--- what opens for facts that compute
-unfoldable pub answers : Unit {0}
-unfolding
-    reads sheet-forms are-bytes nothing one one-beside twice over over-sooner
-    stored-ends ends-of summary-of refused-summary run-answer
-    K.encode first-places padded view-term view pack-term pack refusal cause
-    verdict-number verdict-place
-answers = tt
+-- answers the zero model, in some number of variables, and the result is not the zero model
+pub record Answers-zero (W : Program) : Type 0 where
+  pub at : Accepted-sheet
+  pub answers : model-by W (at .sheet) ≡ zero-model (model-by W (at .sheet) .vars)
+  pub other : at .result .model ≢ zero-model (at .result .model .vars)
 
--- ---- the radius always widened to the limit
--- every accepted result has the largest span, or a larger one
-abbrev pub Widening : Program → Type 0
-Widening W = (sheet : List ℕ) → W sheet .verdict ≡ Accepted → span-limit ≤ span (view (W sheet .model))
+-- answers one of the sheet's models, and the result is another
+pub record Answers-input (W : Program) : Type 0 where
+  pub at : Accepted-sheet
+  pub number : ℕ
+  pub is-number : number < length (book-of at .models)
+  pub answers : model-by W (at .sheet) ≡ model-of (book-of at) number
+  pub other : model-of (book-of at) number ≢ at .result .model
 
-pub widening-refuted : (W : Program) → Widening W → Exact-program W → ⊥
-unfolding answers
-widening-refuted W w e =
-    let a = e nothing tt in
-    le→leb span-limit 0
-    (subst (λ r. span-limit ≤ span (view (r .model))) a (w nothing (ap (λ r. r .verdict) a)))
+-- says 8 where the run does not
+pub record Says-eight (W : Program) : Type 0 where
+  pub sheet : List ℕ
+  pub bytes : T (are-bytes sheet)
+  pub says : verdict-number (W sheet .verdict) ≡ 8
+  pub other : returned-summary (run-sheet sheet) .number ≢ 8
 
--- ---- operands passed through after the first step
--- a step with operands gives the first of them
+-- names another step than the one that the run stops at
+pub record Names-other-step (W : Program) : Type 0 where
+  pub sheet : List ℕ
+  pub bytes : T (are-bytes sheet)
+  pub cause : Refusal
+  pub step : ℕ
+  pub stops : run-sheet sheet ≡ stopped cause step
+  pub other : verdict-place (W sheet .verdict) ≢ step
+
+-- refuses a sheet that the run accepts
+pub record Refuses-accepted (W : Program) : Type 0 where
+  pub at : Accepted-sheet
+  pub refuses : W (at .sheet) .verdict ≢ Accepted
+
+-- ---- programs that are always so, whatever their verdict and their ends are: each is of its kind
+-- widens the radius, so that the terms of the result have the largest span with it, or a larger one
+abbrev pub Widens : Program → Type 0
+Widens W = (at : Accepted-sheet) → span-limit ≤ size (at .result .model .terms) + model-by W (at .sheet) .radius
+
+-- runs the first step and passes operands through afterwards; so where a second step, the last, names the first alone,
+-- the answer is the result of the first
+abbrev pub Passes-operands : Program → Type 0
+Passes-operands W = (at : Accepted-sheet) (s t : Step) (m : C.Model) → book-of at .steps ≡ s ∷ t ∷ []
+    → operands t ≡ 0 ∷ [] → run-step (book-of at) (result-of (book-of at) []) s ≡ accepted m
+    → model-by W (at .sheet) ≡ m
+
+-- gives the zero model, in some number of variables
+abbrev pub Gives-zero : Program → Type 0
+Gives-zero W = (at : Accepted-sheet) → model-by W (at .sheet) ≡ zero-model (model-by W (at .sheet) .vars)
+
+-- hands back its input: at least the model of a sheet that has one model
+abbrev pub Hands-back : Program → Type 0
+Hands-back W = (at : Accepted-sheet) (m : C.Model) → book-of at .models ≡ m ∷ [] → model-by W (at .sheet) ≡ m
+
+-- says 8 of what the run accepts, however few terms its results have
+abbrev pub Says-eight-uncounted : Program → Type 0
+Says-eight-uncounted W = (at : Accepted-sheet) → verdict-number (W (at .sheet) .verdict) ≡ 8
+
+-- names the same step, whichever the run stops at
+abbrev pub Names-always : ℕ → Program → Type 0
+Names-always k W = (sheet : List ℕ) (q : Refusal) (i : ℕ) → run-sheet sheet ≡ stopped q i
+    → verdict-place (W sheet .verdict) ≡ k
+
+-- refuses every sheet
+abbrev pub Refuses-all : Program → Type 0
+Refuses-all W = (sheet : List ℕ) → W sheet .verdict ≢ Accepted
+
+-- ---- one of each that can be run
+-- a model of the largest span
+unfoldable pub widened : C.Model → C.Model
+widened m = record { vars = m .vars; radius = span-limit - size (m .terms); terms = m .terms }
+
+-- the run, its result widened: the band is true
+unfoldable pub widening : Program
+widening sheet = run-answer (run-sheet sheet followed-by (λ s. done (summary (widened (s .model)))))
+
+-- a step that names no step is run, any other gives the result of the first that it names
 unfoldable pub pass-step : Book → (r : ℕ → C.Model) → Step → Answer C.Model
-pass-step book r (input a) = run-step book r (input a)
-pass-step book r (constant value) = run-step book r (constant value)
-pass-step book r (variable v) = run-step book r (variable v)
-pass-step book r (negate a) = accepted (r a)
-pass-step book r (add a b) = accepted (r a)
-pass-step book r (subtract a b) = accepted (r a)
-pass-step book r (multiply a b) = accepted (r a)
-pass-step book r (substitute a b v) = accepted (r a)
-pass-step book r (sweep a value) = accepted (r a)
+pass-step book r s = elim (operands s) [ [] ↦ run-step book r s | a ∷ l ↦ accepted (r a) ]
 
--- the steps in order
+-- steps in order, after the results so far
 unfoldable pub pass-steps : Book → List C.Model → List Step → Result (List C.Model)
 pass-steps book results [] = done results
 pass-steps book results (s ∷ l) =
     at-place (length results) (pass-step book (result-of book results) s)
     followed-by (λ m. pass-steps book (results ++ (m ∷ [])) l)
 
--- the tests, the first step, and the others in that way
+-- the first step run, the others in that way
+unfoldable pub pass-after-first : Book → List Step → Result (List C.Model)
+pass-after-first book [] = done []
+pass-after-first book (s ∷ l) =
+    at-place 0 (run-step book (result-of book []) s) followed-by (λ m. pass-steps book (m ∷ []) l)
+
+-- the last of what was passed on
 unfoldable pub passing : Program
-passing sheet = run-answer (read sheet followed-by (λ h. pass-steps (view-book h) [] (view-book h .steps)
+passing sheet = run-answer (read sheet followed-by (λ h. pass-after-first (view-book h) (view-book h .steps)
     followed-by (λ results. done (summary (last (zero-model (view-book h .vars)) results)))))
 
--- what opens for facts about it
-unfoldable pub passes : Unit {0}
-unfolding answers pass-step pass-steps passing
-passes = tt
+-- the zero model where the run has a result
+unfoldable pub giving-zero : Program
+giving-zero sheet = run-answer (run-sheet sheet followed-by (λ s. done (summary (zero-model (s .model .vars)))))
 
-pub passing-not-exact : Exact-program passing → ⊥
-unfolding passes
-passing-not-exact e = let k : _≡_ {A = ℕ} 1 2 = ap (λ r. natAbs (r .range .low)) (e twice tt) in omega arith
+-- the first model
+unfoldable pub handing-back : Program
+handing-back sheet = run-answer (read sheet followed-by (λ h. done (summary (model-of (view-book h) 0))))
 
--- the book of a sheet, where the claim holds of it
-claim-of : (sheet : List ℕ) (h : Held-book) (s : B.Summary) → read sheet ≡ done h → Sheet-claim sheet s
-    → Claim (view-book h) s
-claim-of sheet h s e c = subst (λ b. Claim (view-book b) s) (same (c .book) (sym (c .is-read) ∙ e)) (c .claims)
-  where
-    same : (b : Held-book) → done b ≡ done h → b ≡ h
-    same b p = cc
+-- 8 where the run has a result
+unfoldable pub saying-eight : Program
+saying-eight sheet = run-answer (run-sheet sheet followed-by (λ s. stopped too-many-terms 0))
 
-pub passing-not-enclosing : Enclosing passing → ⊥
-unfolding passes Encloses doubled passed-through
-passing-not-enclosing c = passing-refuted (claim-of twice _ _ refl (c twice tt refl))
+-- a refusal at step 0
+unfoldable pub at-step-0 : Result B.Summary → Result B.Summary
+at-step-0 (done s) = done s
+at-step-0 (stopped q i) = stopped q 0
 
--- ---- always the zero model
--- at least for sheets in one variable that pass the tests
-abbrev pub Zero : Program → Type 0
-Zero W = (sheet : List ℕ) (h : Held-book) → read sheet ≡ done h → view-book h .vars ≡ 1
-    → W sheet .model ≡ pack (zero-model 1)
+-- the run, every refusal at step 0
+unfoldable pub naming-step-0 : Program
+naming-step-0 sheet = run-answer (at-step-0 (run-sheet sheet))
 
-pub zero-not-exact : (W : Program) → Zero W → Exact-program W → ⊥
-unfolding answers
-zero-not-exact W z e =
-    let k : _≡_ {A = ℕ} 1 0 = sym (ap (λ r. r .model .count) (e one tt)) ∙ ap (λ m. m .count) (z one _ refl refl) in
-    omega arith
-
-pub zero-not-enclosing : (W : Program) → Zero W → Accepting W → Enclosing W → ⊥
-unfolding answers Encloses one-step
-zero-not-enclosing W z a c = radius-refutes _ _
-    (subst (λ m. Claim one-step (record { model = view m; range = r .range; integral = r .integral }))
-    (z one _ refl refl)
-    (claim-of one _ r refl (c one tt (a one _ refl))))
-  where
-    r : B.Summary
-    r = summary-of (W one)
-
--- ---- the input handed back
--- the first model of a sheet that has one
-abbrev pub Handing-back : Program → Type 0
-Handing-back W = (sheet : List ℕ) (h : Held-book) (m : Held-model) → read sheet ≡ done h
-    → getElem? (h .models) 0 ≡ some m → W sheet .model ≡ stored-model m
-
-pub handing-back-not-exact : (W : Program) → Handing-back W → Exact-program W → ⊥
-unfolding answers stored-model
-handing-back-not-exact W w e =
-    let k : _≡_ {A = ℕ} 1 0 =
-    sym (ap (λ r. r .model .count) (e one-beside tt)) ∙ ap (λ m. m .count) (w one-beside _ _ refl refl) in
-    omega arith
-
--- the book of the sheet, with its model
-unfoldable pub beside-step : Book
-beside-step = record { vars = 1; order = 1; models = zero-model 1 ∷ []; steps = one-step .steps }
-
--- the model is not used, so that the claim is the same without it
-without-model : (s : B.Summary) → Claim beside-step s → Claim one-step s
-unfolding beside-step one-step outcome outcomes outcomes-after step-outcome last
-    outcome-polynomial polynomials-after step-polynomial
-without-model s c = record {
-  within-radius = λ F x g. c .within-radius (own beside-step) x (given x F g);
-  in-range = λ F x g. c .in-range (own beside-step) x (given x F g);
-  stays-in-box = λ F x g i a b v e. c .stays-in-box (own beside-step) x (given x F g) i a b v e;
-  outcome-is-polynomial = λ Q x e. c .outcome-is-polynomial Q x e;
-  integral-in-ends = λ Q w. c .integral-in-ends (own-polynomial beside-step) (own-polynomial-within beside-step);
-}
-  where
-    given : (x : Point) (F : ℕ → Function) → Given one-step F x → Given beside-step (own beside-step) x
-    given x F g = record { functions = own-within beside-step; point = g .point }
-
-pub handing-back-not-enclosing : (W : Program) → Handing-back W → Accepting W → Enclosing W → ⊥
-unfolding answers Encloses stored-model beside-step one-step
-handing-back-not-enclosing W w a c = radius-refutes _ _ (without-model _
-    (subst (λ m. Claim beside-step (record { model = view m; range = r .range; integral = r .integral }))
-    (w one-beside _ _ refl refl)
-    (claim-of one-beside _ r refl (c one-beside tt (a one-beside _ refl)))))
-  where
-    r : B.Summary
-    r = summary-of (W one-beside)
-
--- ---- 8 with no term counted
--- for a result without terms
-abbrev pub Says-eight : Program → Type 0
-Says-eight W = (sheet : List ℕ) (s : B.Summary) → run-sheet sheet ≡ done s → length (s .model .terms) ≡ 0
-    → verdict-number (W sheet .verdict) ≡ 8
-
-pub eight-refuted : (W : Program) → Says-eight W → Exact-program W → ⊥
-unfolding answers
-eight-refuted W w e =
-    let k : _≡_ {A = ℕ} 0 8 = sym (ap (λ r. verdict-number (r .verdict)) (e nothing tt)) ∙ w nothing _ refl refl in
-    omega arith
-
--- ---- the step number made up
--- always the same
-abbrev pub Says-step : ℕ → Program → Type 0
-Says-step k W = (sheet : List ℕ) (q : R.Refusal) (i : ℕ) → run-sheet sheet ≡ stopped q i
-    → verdict-place (W sheet .verdict) ≡ k
-
-pub step-refuted : (k : ℕ) (W : Program) → Says-step k W → Exact-program W → ⊥
-unfolding answers
-step-refuted k W w e =
-    let two : 2 ≡ k = sym (ap (λ r. verdict-place (r .verdict)) (e over tt)) ∙ w over _ _ refl in
-    let one : 1 ≡ k = sym (ap (λ r. verdict-place (r .verdict)) (e over-sooner tt)) ∙ w over-sooner _ _ refl in
-    omega arith
-
--- counted from 1
-abbrev pub Counts-from-one : Program → Type 0
-Counts-from-one W = (sheet : List ℕ) (q : R.Refusal) (i : ℕ) → run-sheet sheet ≡ stopped q i
-    → verdict-place (W sheet .verdict) ≡ suc i
-
-pub counted-refuted : (W : Program) → Counts-from-one W → Exact-program W → ⊥
-unfolding answers
-counted-refuted W w e =
-    let k : _≡_ {A = ℕ} 2 3 = sym (ap (λ r. verdict-place (r .verdict)) (e over tt)) ∙ w over _ _ refl in
-    omega arith
-
--- ---- every sheet refused
-abbrev pub Refusing : Program → Type 0
-Refusing W = (sheet : List ℕ) → W sheet .verdict ≡ Accepted → ⊥
-
-pub refusing-refuted : (W : Program) → Refusing W → Exact-program W → ⊥
-unfolding answers
-refusing-refuted W w e = w one (ap (λ r. r .verdict) (e one tt))
+-- a refusal of every sheet
+unfoldable pub refusing : Program
+refusing sheet = run-answer (stopped bad-length 0)

@@ -2,11 +2,10 @@
 use mathlib.Core.Path.{_≡_}
 use mathlib.Core.List.{List}
 use Prim.Native.Nat.{ℕ}
-use Rattle.calculus.specs.Refusal.{Result}
+use Rattle.calculus.specs.Refusal.{Result, done}
 use Rattle.calculus.specs.Book as B
 use Rattle.calculus.specs.Book.{run-sound}
 use Rattle.calculus.specs.Claim.{Claim}
-use Rattle.model_types.specs.declared.Verdict.the-variants.{Accepted}
 use Rattle.format.specs.HeldBook.{Held-book, view-book, held-tested}
 use Rattle.format.specs.Format.{run-sheet}
 use Rattle.format.specs.SheetClaim.{Sheet-claim}
@@ -27,10 +26,10 @@ Exact sheet r = r ≡ run-answer (run-sheet sheet)
 abbrev pub Exact-book : Held-book → Summary → Type 0
 Exact-book h r = r ≡ run-answer (run-held h)
 
--- demand 3 of a sheet: if it is accepted, then the claim holds of what is answered
+-- demand 3 of a sheet: if its run accepts it, then the claim holds of what is answered, whatever the verdict says
 unfoldable pub Encloses : List ℕ → Summary → Type 0
-Encloses sheet r = r .verdict ≡ Accepted → Sheet-claim sheet (summary-of r)
+Encloses sheet r = (s : B.Summary) → run-sheet sheet ≡ done s → Sheet-claim sheet (summary-of r)
 
 -- and of a book in memory
 unfoldable pub Encloses-book : Held-book → Summary → Type 0
-Encloses-book h r = r .verdict ≡ Accepted → Claim (view-book h) (summary-of r)
+Encloses-book h r = (s : B.Summary) → run-held h ≡ done s → Claim (view-book h) (summary-of r)

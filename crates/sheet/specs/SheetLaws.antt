@@ -38,18 +38,7 @@ use Rattle.model.specs.OperationLaws.{sound-order}
 use Rattle.sheet_running.specs.Running.{last-result}
 use Rattle.sheet_running.specs.RunLaws.{in-limits-of}
 
--- ---- an accepted answer is that of a run that is done
-record Answers (a : Result B.Summary) (r : Summary) : Type 0 where
-  result : B.Summary
-  is-done : a ≡ done result
-  is-packed : r ≡ run-answer (done result)
-
-answers : (a : Result B.Summary) (r : Summary) → r ≡ run-answer a → r .verdict ≡ Accepted → Answers a r
-unfolding run-answer refused-summary
-answers (done s) r e v = record { result = s; is-done = refl; is-packed = e }
-answers (stopped q i) r e v = let z : _≡_ {A = ℕ} 0 1 = cc in absurd (omega arith)
-
--- the result of a held book that passes is sound
+-- ---- the result of a held book that passes is sound
 module _ (h : Held-book) (p : Held-passes h) (s : B.Summary) (e : run-sound (view-book h) ≡ done s) where
   order : h .d ≤ most-degree
   unfolding most-degree
@@ -117,33 +106,30 @@ module _ (h : Held-book) {r : Answer} (e : r ≡ answer (last-result (view-book 
       go (stopped x i) q k = ap (λ r. refused-summary (r .verdict)) k ∙ sym (ap run-answer (from (stopped x i) q))
 
 -- ---- what is answered exactly is enclosed
+-- it holds the result of the run
+pub exact-result : (sheet : List ℕ) (r : Summary) (s : B.Summary) → r ≡ run-answer (run-sheet sheet)
+    → run-sheet sheet ≡ done s → summary-of r ≡ s
+unfolding run-sheet
+exact-result sheet r s e d = ap summary-of (e ∙ ap run-answer d)
+    ∙ result-back (c .value) (read-passes sheet (c .value) (c .first)) s (c .then)
+  where
+    c : Came (read sheet) (λ b. run-sound (view-book b)) s
+    c = came (read sheet) (λ b. run-sound (view-book b)) s d
+
 -- THEOREM: of a sheet
 pub exact-encloses : (sheet : List ℕ) (r : Summary) → r ≡ run-answer (run-sheet sheet) → Encloses sheet r
-unfolding Encloses run-sheet
-exact-encloses sheet r e v =
-    subst (Sheet-claim sheet) (sym (ap summary-of (a .is-packed)
-    ∙ result-back (c .value) (read-passes sheet (c .value) (c .first)) (a .result) (c .then)))
-    (sheet-claim sheet (a .result) (a .is-done))
-  where
-    a : Answers (run-sheet sheet) r
-    a = answers (run-sheet sheet) r e v
-
-    c : Came (read sheet) (λ b. run-sound (view-book b)) (a .result)
-    c = came (read sheet) (λ b. run-sound (view-book b)) (a .result) (a .is-done)
+unfolding Encloses
+exact-encloses sheet r e s d = subst (Sheet-claim sheet) (sym (exact-result sheet r s e d)) (sheet-claim sheet s d)
 
 -- THEOREM: of a book
 pub exact-encloses-book : (h : Held-book) (r : Summary) → r ≡ run-answer (run-held h) → Encloses-book h r
 unfolding Encloses-book run-held
-exact-encloses-book h r e v =
-    subst (Claim (view-book h)) (sym (ap summary-of (a .is-packed)
-    ∙ result-back h (c .passes) (a .result) (c .result)))
-    (claim-sound (view-book h) (a .result) (view-passes h (c .passes)) (c .result))
+exact-encloses-book h r e s d = subst (Claim (view-book h)) (sym (ap summary-of (e ∙ ap run-answer d)
+    ∙ result-back h (c .passes) s (c .result)))
+    (claim-sound (view-book h) s (view-passes h (c .passes)) (c .result))
   where
-    a : Answers (run-held h) r
-    a = answers (run-held h) r e v
-
-    c : Held-done h (run-sound (view-book h)) (a .result)
-    c = held-tested-done h (run-sound (view-book h)) (a .result) (a .is-done)
+    c : Held-done h (run-sound (view-book h)) s
+    c = held-tested-done h (run-sound (view-book h)) s d
 
 -- ---- a sheet that is read
 pub record Has-read (sheet : List ℕ) (b : Book) : Type 0 where

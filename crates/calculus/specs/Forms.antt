@@ -1,0 +1,44 @@
+-- Short forms for tables of samples and edge cases.
+use mathlib.Core.List.{List, [], _∷_}
+use Prim.Native.Nat.{ℕ}
+use lib.IntN.{ℤ, pos, negℤ}
+use Rattle.polynomial.specs.Polynomial.{Term}
+use Rattle.calculus.specs.Key.{key-width, key-exponents}
+use Rattle.calculus.specs.Terms.{Terms}
+use Rattle.calculus.specs.Model.{Model}
+use Rattle.calculus.specs.Refusal.{Result, done}
+use Rattle.calculus.specs.Operations.{Ends}
+use Rattle.calculus.specs.Book.{Step, Book, Summary}
+
+-- the coefficient c at a key of n variables
+unfoldable pub at-key : (n key : ℕ) → ℤ → Term ℤ
+at-key n key c = record { coefficient = c; exponents = key-exponents key-width n key }
+
+-- a model
+unfoldable pub model : (n radius : ℕ) → Terms → Model
+model n e p = record { vars = n; radius = e; terms = p }
+
+-- a book of order d
+unfoldable pub book : (n d : ℕ) → List Model → List Step → Book
+book n d ms l = record { vars = n; order = d; models = ms; steps = l }
+
+-- from low to high
+unfoldable pub ends : ℤ → ℤ → Ends
+ends l h = record { low = l; high = h }
+
+-- minus a natural number
+unfoldable pub minus : ℕ → ℤ
+minus n = negℤ (pos n)
+
+-- accepted, with a model, its range and its integral
+unfoldable pub gives : Model → Ends → Ends → Result Summary
+gives m r i = done (record { model = m; range = r; integral = i })
+
+-- 5 + 3x
+unfoldable pub line : Model
+line = model 1 0 (at-key 1 0x0000 (pos 5) ∷ at-key 1 0x1000 (pos 3) ∷ [])
+
+-- all of them, for facts that compute
+unfoldable pub forms : Unit {0}
+unfolding at-key model book ends minus gives line
+forms = tt
