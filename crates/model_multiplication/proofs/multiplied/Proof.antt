@@ -10,7 +10,7 @@ use Rattle.model_multiplication.proofs.multiplied.Tie as tie
 use Rattle.model_multiplication.proofs.multiplied.Reads as reads
 use Rattle.model_multiplication.proofs.multiplied.Lts as lts
 use Rattle.product_slots.proofs.clear.Reads as clear-reads
-use Rattle.model_product.proofs.multiplied_in.Reads as multiplied-in-reads
+use Rattle.model_multiplication.proofs.multiplied_in.Reads as multiplied-in-reads
 
 abbrev start : tie.After-struct-known2 → tie.Start
 start c = c .before .before .before .before
