@@ -1,12 +1,14 @@
 -- The product of two sound models in memory: what its steps ask, and what they come to.
 use mathlib.Core.Path.{_≡_, refl}
-use mathlib.Core.List.{List}
-use Prim.Native.Nat.{ℕ, _≤_}
+use mathlib.Core.List.{List, []}
+use Prim.Native.Nat.{ℕ, _*_, _≤_}
 use native.Mathlib.Nat as NatL
 use native.Mathlib.Omega.{arith}
 use lib.Dec.{T}
 use lib.IntN.{ℤ}
 use lib.ListN.{length}
+use Rattle.algebra.specs.IntegerRing.{ℤR}
+use Rattle.polynomial.specs.Polynomial.{product}
 use Rattle.fixed.specs.Fixed.{span-limit}
 use Rattle.fixed.specs.FixedLaws.{span-square-fits}
 use Rattle.calculus.specs.Key.{key-width}
@@ -20,8 +22,11 @@ use Rattle.model_types.specs.declared.Model.{Model}
 use Rattle.model_types.specs.declared.Answer.{Answer}
 use Rattle.model_types.specs.ModelStruct.{view, answer}
 use Rattle.model_types.specs.ModelStructLaws.{limits}
+use Rattle.product_table.specs.Table.{terms, entries}
 use Rattle.product_gathering.specs.declared.Gathered.{Gathered}
+use Rattle.product_gathering.specs.GatheringContracts.{Gathering}
 use Rattle.product_collector.specs.CollectorContracts as Contracts
+use Rattle.product_collector.specs.FactorArrayLaws.{product-answer}
 use Rattle.product_packing.specs.Transfer.{Unpack-ready, Unpacked}
 use Rattle.product_answer.specs.CollectedProduct.{Product}
 use Rattle.model_multiplication.specs.Factors.{Factors}
@@ -78,18 +83,19 @@ module _ (d : ℕ) (f g : Model) (h : Factors d f g) where
           small = omega (arith, NatL.mul-le-mul sf sg, span-square-fits);
         }
 
-    -- the collector's answer for them
-    pub factors-answer : {keys : List ℕ} {coefficients : List ℤ} {r : Gathered}
-        → ((w : Contracts.Held-factors ka ca (f .count) kb cb (g .count))
-        → Contracts.Answered d (w .first) (w .second) keys coefficients r)
-        → Contracts.Answered d (view f) (view g) keys coefficients r
+    -- what is gathered of their products
+    pub factors-answer : {homes n : ℕ} {slots keys : List ℕ} {sums : List ℤ} {kept : List ℕ} {coefficients : List ℤ}
+        {r : Gathered}
+        → Contracts.Collected homes [] (f .count * g .count)
+        (product ℤR (terms (f .count) ka ca) (terms (g .count) kb cb)) slots keys sums n
+        → Gathering d (entries n keys sums) kept coefficients r
+        → Contracts.Answered d (view f) (view g) kept coefficients r
     unfolding factors
-    factors-answer p = p factors
+    factors-answer c w = product-answer factors c w
 
     -- where the product ends
     module _ {keys : List ℕ} {coefficients : List ℤ} {r : Gathered}
-        (p : (w : Contracts.Held-factors ka ca (f .count) kb cb (g .count))
-        → Contracts.Answered d (w .first) (w .second) keys coefficients r)
+        (p : Contracts.Answered d (view f) (view g) keys coefficients r)
         (lk : most-terms ≤ length keys) (lc : most-terms ≤ length coefficients) where
       pub end-ready : Product (f .n) a (f .radius) b (g .radius) r keys coefficients
       unfolding view
@@ -106,7 +112,7 @@ module _ (d : ℕ) (f g : Model) (h : Factors d f g) where
         first-radius = refl;
         second-size = ug .sum;
         second-radius = refl;
-        answered = factors-answer p;
+        answered = p;
         keys-room = lk;
         coefficients-room = lc;
       }

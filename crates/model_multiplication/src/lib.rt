@@ -1,11 +1,11 @@
-// The product of two models, in a table that is lent or in one of its own: their terms go to the collector by wide keys,
-// and what it keeps is packed again.
+// The product of two models, in a table that is lent or in one of its own: the products of their terms are summed by
+// wide keys, and what the order keeps of them is packed again.
 ghost use mathlib.Core.Path.{_≡_};
 ghost use Prim.Native.Nat.{_*_, _≤_};
 ghost use Rattle.calculus.specs.Refusal.{«at-place»};
 ghost use Rattle.calculus.specs.Operations.{multiply};
 ghost use Rattle.model_types.specs.ModelStruct.{view, answer};
-ghost use Rattle.product_collector.specs.CollectorContracts.{«Empty-table», «Lent-table»};
+ghost use Rattle.product_collector.specs.CollectorContracts.{«Empty-table», «Lent-table», «Free-table»};
 ghost use Rattle.model_multiplication.specs.Factors.{Factors};
 ghost use Rattle.model_multiplication.specs.Multiply.{«few-products»};
 use model_types::Answer;
@@ -16,7 +16,7 @@ const FEW_PRODUCTS: usize = 256;
 
 // ---- in a table that is lent
 // f times g at order d, in a table whose slots are empty, with room for so many products.
-pub fn multiplied_in(
+fn multiplied_in(
     d: u8,
     f: Model,
     g: Model,
@@ -27,7 +27,9 @@ pub fn multiplied_in(
 ) -> Answer
     requires { ⌜ Factors d f g ⌝ }
     requires { ⌜ Empty-table (f .count * g .count) room (now slots) (now keys) (now sums) ⌝ }
-    ensures { λ r. ⌜ r ≡ answer (at-place 0 (multiply d (view f) (view g))) ⌝ }
+    ensures exact { λ r. ⌜ r ≡ answer (at-place 0 (multiply d (view f) (view g))) ⌝ }
+    ensures table { λ r. ⌜ Free-table (now (slots .entry)) (now (keys .entry)) (now (sums .entry))
+        (now (slots .exit)) (now (keys .exit)) (now (sums .exit)) ⌝ }
 {
     let mut ka = [0u64; model_types::MOST_TERMS];
     let mut ca = [0i64; model_types::MOST_TERMS];
@@ -37,21 +39,20 @@ pub fn multiplied_in(
     let mut coefficients = [0i64; model_types::MOST_TERMS + 1];
     let a = product_packing::unpack(f, &mut ka, &mut ca);
     let b = product_packing::unpack(g, &mut kb, &mut cb);
-    let r = product_collector::product_in(
+    let homes = product_table::HOMES_EACH * room;
+    let n = product_collector::collect(
         slots,
         keys,
         sums,
-        room,
+        homes,
         &ka,
         &ca,
         f.count,
         &kb,
         &cb,
         g.count,
-        d as u64,
-        &mut kept,
-        &mut coefficients,
     );
+    let r = product_gathering::gather(keys, sums, n, d as u64, &mut kept, &mut coefficients);
     product_answer::answered(f.n, a, f.radius, b, g.radius, r, &kept, &coefficients)
 }
 
@@ -66,7 +67,9 @@ pub fn multiplied(
 ) -> Answer
     requires { ⌜ Factors d f g ⌝ }
     requires { ⌜ Lent-table (now slots) (now keys) (now sums) ⌝ }
-    ensures { λ r. ⌜ r ≡ answer (at-place 0 (multiply d (view f) (view g))) ⌝ }
+    ensures exact { λ r. ⌜ r ≡ answer (at-place 0 (multiply d (view f) (view g))) ⌝ }
+    ensures table { λ r. ⌜ Free-table (now (slots .entry)) (now (keys .entry)) (now (sums .entry))
+        (now (slots .exit)) (now (keys .exit)) (now (sums .exit)) ⌝ }
 {
     let products = f.count * g.count;
     let used = product_table::SLOTS_EACH * products + 1;
@@ -76,7 +79,8 @@ pub fn multiplied(
 }
 
 // ---- in a table of its own
-// f times g at order d in a table of its own, for few products: to fill the largest table with zeros takes longer than they do.
+// f times g at order d in a table of its own, for few products: to fill the largest table with zeros takes longer than
+// they do.
 fn multiplied_small(d: u8, f: Model, g: Model) -> Answer
     requires { ⌜ Factors d f g ⌝ }
     requires { ⌜ f .count * g .count ≤ few-products ⌝ }
