@@ -1,3 +1,3 @@
 pub mod CallLaws
-pub mod Operations
+pub mod OperationContracts
 pub mod OperationLaws

@@ -3,9 +3,10 @@
 // call's comment are its refusals, in the order of the tests. The constructors `Model::constant` and `Model::variable`
 // stand with the type.
 ghost use mathlib.Core.Path.{_≡_};
+ghost use Rattle.calculus.specs.Model.{«zero-model», «one-model»};
 ghost use Rattle.calculus.specs.Calls.{call-negate, call-add, call-subtract, call-multiply, call-substitute};
 ghost use Rattle.calculus.specs.Calls.{call-sweep, call-range, call-integral, call-evaluate};
-ghost use Rattle.model_types.specs.ModelStruct.{view, answer, bounds};
+ghost use Rattle.model_types.specs.ModelStruct.{view, pack, answer, bounds};
 pub use model_types::Answer;
 pub use model_types::Bounds;
 pub use model_types::Model;
@@ -13,21 +14,25 @@ pub use model_types::Refusal;
 pub use model_types::Term;
 pub use model_types::Verdict;
 
-// ---- for callers whose operands are known to be sound: the tests, the operations, and how long a lent table must be
-pub use model_addition::added;
-pub use model_addition::subtracted;
-pub use model_integral::integral_of;
-pub use model_keys::exponent_of;
-pub use model_multiplication::multiplied;
-pub use model_range::range_of;
+// Whether a struct holds a model by the rules, with degrees up to d.
 pub use model_soundness::sound;
-pub use model_soundness::term_sound;
-pub use model_substitution::substituted;
-pub use model_unary::negated;
-pub use model_unary::swept;
-pub use product_table::PLACES;
-pub use product_table::SLOTS;
 
+// ---- the named models
+// `Model::ZERO` is the zero model.
+pub fn zero_model() -> Model
+    ensures { λ r. ⌜ r ≡ pack (zero-model 1) ⌝ }
+{
+    Model::ZERO
+}
+
+// `Model::ONE` is the model of 1.
+pub fn one_model() -> Model
+    ensures { λ r. ⌜ r ≡ pack (one-model 1) ⌝ }
+{
+    Model::ONE
+}
+
+// ---- the calls
 // All signs turned. 5.
 pub fn negate(m: Model) -> Answer
     ensures { λ r. ⌜ r ≡ answer (call-negate (view m)) ⌝ }
@@ -144,3 +149,38 @@ pub fn evaluate(m: Model, xs: [i64; model_types::MOST_VARS as usize]) -> Bounds
         Verdict::Refused(refusal, place) => model_types::refuse_bounds(refusal, place),
     }
 }
+
+// ---- for the layer above: operands that are known to be sound, and a lent table
+// Whether a term may stand in a model of n variables, n at least 1, behind keys that are below `least`.
+pub use model_soundness::term_sound;
+
+// The exponent of variable i, 1 to 4, in a key.
+pub use model_keys::exponent_of;
+
+// All signs turned: the sound model of `negate`.
+pub use model_unary::negated;
+
+// Small terms swept into the radius: the model of `sweep`, for a sound one.
+pub use model_unary::swept;
+
+// The two ends of `range`, for a sound model.
+pub use model_range::range_of;
+
+// The two ends of `integral`, for a sound model.
+pub use model_integral::integral_of;
+
+// The answer of `add`, for two sound models in the same variables.
+pub use model_addition::added;
+
+// The answer of `subtract`, for two sound models in the same variables.
+pub use model_addition::subtracted;
+
+// The answer of `multiply`, for two sound models in the same variables. The table is lent, whatever is in it.
+pub use model_multiplication::multiplied;
+
+// The answer of `substitute`, for two sound models in the same variables and one of these. The table is lent.
+pub use model_substitution::substituted;
+
+// How long a lent table's keys and sums are at the least, and how long its slots.
+pub use product_table::PLACES;
+pub use product_table::SLOTS;

@@ -1,3 +1,4 @@
+pub mod Merge
 pub mod Addition
 pub mod SumTermsLaws
 pub mod MergeLaws

@@ -17,8 +17,8 @@ use Rattle.model_types.specs.declared.Model.{Model}
 use Rattle.model_types.specs.ModelStruct.{zero-term, view-term, pack-term, pad}
 use Rattle.model_types.specs.ModelStructLaws.{read, rest-more, rest-end, packed-more, pack-view-term}
 use Rattle.calculus.specs.MonomialKeyLaws.{fits-key, fits-below, less-monomials}
-use Rattle.model_merge.specs.declared.Next.{Next}
-use Rattle.model_merge.specs.Merge.{Takes, from-first, from-second, from-both}
+use Rattle.model_addition.specs.declared.Next.{Next}
+use Rattle.model_addition.specs.Merge.{Takes, from-first, from-second, from-both}
 use Rattle.model_addition.specs.SumTermsLaws.{sum-terms, unless-zero, zero-dropped, nonzero-kept, Above}
 use Rattle.model_addition.specs.SumTermsLaws.{rising-above}
 use Rattle.model_addition.specs.SumTermsLaws.{every-drop, rising-drop, first-term, second-term, joint-terms}

@@ -4,7 +4,7 @@ ghost use lib.ListN.{take};
 ghost use Rattle.calculus.specs.Refusal.{«at-place»};
 ghost use Rattle.calculus.specs.Operations.{evaluate};
 ghost use Rattle.model_types.specs.ModelStruct.{view, bounds};
-ghost use Rattle.product_collector.specs.CollectorContracts.{«Lent-table»};
+ghost use Rattle.product_collector.specs.CollectorContracts.{«Lent-table», «Free-table»};
 ghost use Rattle.model_evaluation.specs.Evaluate.{Evaluation};
 use model_types::Bounds;
 use model_types::Model;
@@ -20,7 +20,9 @@ pub fn evaluated(
 ) -> Bounds
     requires { ⌜ Evaluation m xs ⌝ }
     requires { ⌜ Lent-table (now slots) (now keys) (now sums) ⌝ }
-    ensures { λ r. ⌜ r ≡ bounds (at-place 0 (evaluate (take (m .n) xs) (view m))) ⌝ }
+    ensures exact { λ r. ⌜ r ≡ bounds (at-place 0 (evaluate (take (m .n) xs) (view m))) ⌝ }
+    ensures table { λ r. ⌜ Free-table (now (slots .entry)) (now (keys .entry)) (now (sums .entry))
+        (now (slots .exit)) (now (keys .exit)) (now (sums .exit)) ⌝ }
 {
     let n = m.n;
     let mut left = m;

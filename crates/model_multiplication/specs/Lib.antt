@@ -1,2 +1,4 @@
+pub mod Factors
+pub mod FactorLaws
 pub mod Multiply
 pub mod MultiplyLaws

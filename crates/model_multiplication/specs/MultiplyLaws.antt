@@ -11,7 +11,7 @@ use Rattle.model_types.specs.declared.Model.{Model}
 use Rattle.model_types.specs.ModelStructLaws.{limits}
 use Rattle.product_table.specs.Table.{most-entries}
 use Rattle.product_collector.specs.CollectorContracts.{Empty-table}
-use Rattle.model_product.specs.Factors.{Factors}
+use Rattle.model_multiplication.specs.Factors.{Factors}
 
 -- ---- a table of zeros
 zeros : (n s : ℕ) → getD {A = ℕ} (replicate n 0) s 0 ≡ 0

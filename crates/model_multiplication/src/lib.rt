@@ -1,17 +1,60 @@
-// The product of two models, in a table that is lent or in one of its own.
+// The product of two models, in a table that is lent or in one of its own: the products of their terms are summed by
+// wide keys, and what the order keeps of them is packed again.
 ghost use mathlib.Core.Path.{_≡_};
 ghost use Prim.Native.Nat.{_*_, _≤_};
 ghost use Rattle.calculus.specs.Refusal.{«at-place»};
 ghost use Rattle.calculus.specs.Operations.{multiply};
 ghost use Rattle.model_types.specs.ModelStruct.{view, answer};
-ghost use Rattle.product_collector.specs.CollectorContracts.{«Lent-table»};
-ghost use Rattle.model_product.specs.Factors.{Factors};
+ghost use Rattle.product_collector.specs.CollectorContracts.{«Empty-table», «Lent-table», «Free-table»};
+ghost use Rattle.model_multiplication.specs.Factors.{Factors};
 ghost use Rattle.model_multiplication.specs.Multiply.{«few-products»};
 use model_types::Answer;
 use model_types::Model;
 
 // For how many products the smaller table has room.
 const FEW_PRODUCTS: usize = 256;
+
+// ---- in a table that is lent
+// f times g at order d, in a table whose slots are empty, with room for so many products.
+fn multiplied_in(
+    d: u8,
+    f: Model,
+    g: Model,
+    slots: &mut [u16],
+    keys: &mut [u64],
+    sums: &mut [i64],
+    room: usize,
+) -> Answer
+    requires { ⌜ Factors d f g ⌝ }
+    requires { ⌜ Empty-table (f .count * g .count) room (now slots) (now keys) (now sums) ⌝ }
+    ensures exact { λ r. ⌜ r ≡ answer (at-place 0 (multiply d (view f) (view g))) ⌝ }
+    ensures table { λ r. ⌜ Free-table (now (slots .entry)) (now (keys .entry)) (now (sums .entry))
+        (now (slots .exit)) (now (keys .exit)) (now (sums .exit)) ⌝ }
+{
+    let mut ka = [0u64; model_types::MOST_TERMS];
+    let mut ca = [0i64; model_types::MOST_TERMS];
+    let mut kb = [0u64; model_types::MOST_TERMS];
+    let mut cb = [0i64; model_types::MOST_TERMS];
+    let mut kept = [0u64; model_types::MOST_TERMS + 1];
+    let mut coefficients = [0i64; model_types::MOST_TERMS + 1];
+    let a = product_packing::unpack(f, &mut ka, &mut ca);
+    let b = product_packing::unpack(g, &mut kb, &mut cb);
+    let homes = product_table::HOMES_EACH * room;
+    let n = product_collector::collect(
+        slots,
+        keys,
+        sums,
+        homes,
+        &ka,
+        &ca,
+        f.count,
+        &kb,
+        &cb,
+        g.count,
+    );
+    let r = product_gathering::gather(keys, sums, n, d as u64, &mut kept, &mut coefficients);
+    product_answer::answered(f.n, a, f.radius, b, g.radius, r, &kept, &coefficients)
+}
 
 // f times g at order d, in a table that is lent, whatever is in it. Only as many slots as the products ask are emptied.
 pub fn multiplied(
@@ -24,16 +67,20 @@ pub fn multiplied(
 ) -> Answer
     requires { ⌜ Factors d f g ⌝ }
     requires { ⌜ Lent-table (now slots) (now keys) (now sums) ⌝ }
-    ensures { λ r. ⌜ r ≡ answer (at-place 0 (multiply d (view f) (view g))) ⌝ }
+    ensures exact { λ r. ⌜ r ≡ answer (at-place 0 (multiply d (view f) (view g))) ⌝ }
+    ensures table { λ r. ⌜ Free-table (now (slots .entry)) (now (keys .entry)) (now (sums .entry))
+        (now (slots .exit)) (now (keys .exit)) (now (sums .exit)) ⌝ }
 {
     let products = f.count * g.count;
     let used = product_table::SLOTS_EACH * products + 1;
     let part = &mut slots[..used];
     product_slots::clear(part);
-    model_product::multiplied_in(d, f, g, part, keys, sums, products)
+    multiplied_in(d, f, g, part, keys, sums, products)
 }
 
-// The same in a table of its own, for few products: to fill the largest table with zeros takes longer than they do.
+// ---- in a table of its own
+// f times g at order d in a table of its own, for few products: to fill the largest table with zeros takes longer than
+// they do.
 fn multiplied_small(d: u8, f: Model, g: Model) -> Answer
     requires { ⌜ Factors d f g ⌝ }
     requires { ⌜ f .count * g .count ≤ few-products ⌝ }
@@ -42,7 +89,7 @@ fn multiplied_small(d: u8, f: Model, g: Model) -> Answer
     let mut slots = [0u16; product_table::SLOTS_EACH * FEW_PRODUCTS + 1];
     let mut keys = [0u64; FEW_PRODUCTS + 1];
     let mut sums = [0i64; FEW_PRODUCTS + 1];
-    model_product::multiplied_in(d, f, g, &mut slots, &mut keys, &mut sums, FEW_PRODUCTS)
+    multiplied_in(d, f, g, &mut slots, &mut keys, &mut sums, FEW_PRODUCTS)
 }
 
 // And for any number of products.
@@ -53,7 +100,7 @@ fn multiplied_large(d: u8, f: Model, g: Model) -> Answer
     let mut slots = [0u16; product_table::SLOTS];
     let mut keys = [0u64; product_table::PLACES];
     let mut sums = [0i64; product_table::PLACES];
-    model_product::multiplied_in(
+    multiplied_in(
         d,
         f,
         g,

@@ -9,7 +9,7 @@ use Rattle.calculus.specs.Refusal.{_then_}
 use Rattle.calculus.specs.Operations.{multiply, add}
 use Rattle.model_types.specs.declared.Model.{Model}
 use Rattle.model_types.specs.ModelStruct.{view}
-use Rattle.model_product.specs.Factors.{Factors}
+use Rattle.model_multiplication.specs.Factors.{Factors}
 
 -- h times g with order d, then q added
 unfoldable pub horner-turn : (d : ℕ) (h g q : C.Model) → R.Answer C.Model

@@ -3,7 +3,7 @@ ghost use mathlib.Core.Path.{_≡_};
 ghost use Rattle.calculus.specs.Refusal.{«at-place»};
 ghost use Rattle.calculus.specs.Operations.{substitute};
 ghost use Rattle.model_types.specs.ModelStruct.{view, answer};
-ghost use Rattle.product_collector.specs.CollectorContracts.{«Lent-table»};
+ghost use Rattle.product_collector.specs.CollectorContracts.{«Lent-table», «Free-table»};
 ghost use Rattle.model_substitution.specs.Substitute.{«horner-turn», Turn, Substitution};
 use model_types::Answer;
 use model_types::Model;
@@ -22,7 +22,9 @@ fn horner_turn(
 ) -> Answer
     requires { ⌜ Turn d h g q ⌝ }
     requires { ⌜ Lent-table (now slots) (now keys) (now sums) ⌝ }
-    ensures { λ r. ⌜ r ≡ answer (at-place 0 (horner-turn d (view h) (view g) (view q))) ⌝ }
+    ensures exact { λ r. ⌜ r ≡ answer (at-place 0 (horner-turn d (view h) (view g) (view q))) ⌝ }
+    ensures table { λ r. ⌜ Free-table (now (slots .entry)) (now (keys .entry)) (now (sums .entry))
+        (now (slots .exit)) (now (keys .exit)) (now (sums .exit)) ⌝ }
 {
     let product = model_multiplication::multiplied(d, h, g, slots, keys, sums);
     let v = product.verdict;
@@ -46,7 +48,9 @@ pub fn substituted(
 ) -> Answer
     requires { ⌜ Substitution d i f g ⌝ }
     requires { ⌜ Lent-table (now slots) (now keys) (now sums) ⌝ }
-    ensures { λ r. ⌜ r ≡ answer (at-place 0 (substitute d i (view f) (view g))) ⌝ }
+    ensures exact { λ r. ⌜ r ≡ answer (at-place 0 (substitute d i (view f) (view g))) ⌝ }
+    ensures table { λ r. ⌜ Free-table (now (slots .entry)) (now (keys .entry)) (now (sums .entry))
+        (now (slots .exit)) (now (keys .exit)) (now (sums .exit)) ⌝ }
 {
     if !model_range::in_box(g) {
         return model_types::refuse(Refusal::LeavesBox, 0);

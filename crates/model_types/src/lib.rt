@@ -84,11 +84,9 @@ impl Model {
         terms: [Term::ZERO; MOST_TERMS],
     };
 
-    // One term of key 0, coefficient U.
+    // One term of key 0, coefficient U. A constant's array is a list of all places or one value repeated.
     pub const ONE: Model = Model {
-        n: 1,
         count: 1,
-        radius: 0,
         terms: [
             Term {
                 key: 0,
@@ -158,6 +156,7 @@ impl Model {
             Term::ZERO,
             Term::ZERO,
         ],
+        ..Model::ZERO
     };
 }
 
@@ -228,12 +227,9 @@ pub fn order_sound(d: u8) -> bool
 pub fn without_terms(n: u8) -> Model
     ensures { λ r. ⌜ r ≡ pack (zero-model n) ⌝ }
 {
-    Model {
-        n: n,
-        count: 0,
-        radius: 0,
-        terms: [Term::ZERO; MOST_TERMS],
-    }
+    let mut zero = Model::ZERO;
+    zero.n = n;
+    zero
 }
 
 // A model of one term.

@@ -12,8 +12,8 @@ use Rattle.calculus.specs.Terms.{Terms, term, every, select, map-coefficients, 
 use Rattle.calculus.specs.TermsLaws.{on-monomials, every-head, every-tail}
 use Rattle.product_table.specs.Table.{accumulated}
 use Rattle.product_table.specs.AccumulatedLaws.{every-accumulated}
-use Rattle.product_insertion.specs.Insertion.{inserted, sorted-into}
-use Rattle.product_insertion.specs.SortLaws.{every-sorted}
+use Rattle.product_table.specs.Insertion.{inserted, sorted-into}
+use Rattle.product_table.specs.SortLaws.{every-sorted}
 use Rattle.product_collector.specs.Collector.{accumulated-all}
 
 -- one of two lists of terms, as tests that agree would have it

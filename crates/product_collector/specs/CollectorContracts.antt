@@ -89,10 +89,12 @@ pub record Lent-table (slots keys : List ℕ) (sums : List ℤ) : Type 0 where
   pub keys-room : most-entries < length keys
   pub sums-room : most-entries < length sums
 
--- and places for one more than the most terms
-pub record Lent-terms (kept : List ℕ) (coefficients : List ℤ) : Type 0 where
-  pub kept-room : most-terms < length kept
-  pub coefficients-room : most-terms < length coefficients
+-- what comes back of it: the content is left free, and each slice keeps its length
+pub record Free-table (slots-before keys-before : List ℕ) (sums-before : List ℤ)
+    (slots keys : List ℕ) (sums : List ℤ) : Type 0 where
+  pub slots-length : length slots ≡ length slots-before
+  pub keys-length : length keys ≡ length keys-before
+  pub sums-length : length sums ≡ length sums-before
 
 -- the answer of a product of f and g at order d; unless there are too many, its terms stand by their wide keys
 pub record Answered (d : ℕ) (f g : Model) (kept-keys : List ℕ) (coefficients : List ℤ) (r : Gathered) : Type 0 where

@@ -13,7 +13,7 @@ use Rattle.calculus.specs.Refusal.{accepted}
 use Rattle.calculus.specs.Operations as Op
 use Rattle.model_types.specs.declared.Model.{Model}
 use Rattle.model_types.specs.ModelStruct.{view}
-use Rattle.model.specs.Operations.{Operands}
+use Rattle.model.specs.OperationContracts.{Operands}
 use Rattle.format.specs.HeldBook.{Held-step}
 
 -- what the codes 0 to 8 give, in order, where field a names the model m or the result f, and b the result g

@@ -15,9 +15,9 @@ use Rattle.calculus.specs.Book.{Step, Book, model-of, run-step}
 use Rattle.model_types.specs.declared.Model.{Model}
 use Rattle.model_types.specs.ModelStruct.{view}
 use Rattle.model_types.specs.ModelStructLaws.{vars-range}
-use Rattle.model.specs.Operations.{Operands}
-use Rattle.model.specs.Operations.{Factors}
-use Rattle.model.specs.Operations.{Substitution}
+use Rattle.model.specs.OperationContracts.{Operands}
+use Rattle.model.specs.OperationContracts.{Factors}
+use Rattle.model.specs.OperationContracts.{Substitution}
 use Rattle.model.specs.OperationLaws.{sound-order}
 use Rattle.format.specs.HeldBook.{Held-step, Form, forms, step-of, view-step}
 use Rattle.format.specs.Fields.{v-sound}

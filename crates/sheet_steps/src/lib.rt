@@ -3,7 +3,7 @@ ghost use mathlib.Core.Path.{_≡_};
 ghost use Prim.Native.Nat.{min};
 ghost use Rattle.calculus.specs.Refusal.{«at-place»};
 ghost use Rattle.model_types.specs.ModelStruct.{view, answer};
-ghost use Rattle.model.specs.Operations.{«Lent-table»};
+ghost use Rattle.model.specs.OperationContracts.{«Lent-table»};
 ghost use Rattle.sheet_book.specs.BookStruct.{«held-step»};
 ghost use Rattle.sheet_direct.specs.Direct.{«step-answer»};
 ghost use Rattle.sheet_steps.specs.Steps.{«Step-ready»};

@@ -27,7 +27,7 @@ use Rattle.calculus.specs.Book.{Summary, summary}
 use Rattle.calculus.specs.FitsLaws.{fits-length, fits-degree}
 use Rattle.calculus.specs.SoundLaws.{sound-parts}
 use Rattle.model_types.specs.ModelStructLaws.{vars-range, sound-vars}
-use Rattle.model.specs.Operations.{rule}
+use Rattle.model.specs.OperationContracts.{rule}
 use Rattle.model.specs.OperationLaws.{range-within, integral-within, volume-le}
 use Rattle.format.specs.Bytes.{join}
 use Rattle.format.specs.Format.{run-sheet}

@@ -50,7 +50,7 @@ returns : tie.Need-returns
 unfolding view
 returns c =
     let g = c .before .before .before in
-    g .evaluated .ensures
+    g .evaluated .ensures .0
     ∙ ap bounds (sym (evaluate-is _ _ ∙ goes-on _ _ (passed (g .before .before .before .before))))
 
 returns-2 : tie.Need-returns-2

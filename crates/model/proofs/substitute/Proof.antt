@@ -57,7 +57,7 @@ refuse-requires c κs = search needs
 returns : tie.Need-returns
 returns c =
     let g = c .before .before .before in
-    g .substituted .ensures
+    g .substituted .ensures .0
     ∙ ap answer (sym (substitute-is _ _ _ _ ∙ goes-on _ _ (passed (g .before .before .before .before))))
 
 returns-2 : tie.Need-returns-2

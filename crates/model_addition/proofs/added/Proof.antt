@@ -43,16 +43,14 @@ module _ (c : tie.Start Inv-loop μ-loop) where
   operands : Mergeable a b
   operands = mergeable a b (c .pre) whole-first whole-second
 
-  few-first : a .count ≤ 64
-  unfolding most-terms
+  few-first : a .count ≤ most-terms
   few-first = limits most-degree a (c .pre .first) .few
 
-  few-second : b .count ≤ 64
-  unfolding most-terms
+  few-second : b .count ≤ most-terms
   few-second = limits most-degree b (c .pre .second) .few
 
 -- ---- the terms that are read
-own-place : (i k c : ℕ) → k ≡ min i 63 → c ≤ 64 → i < c → i ≡ k
+own-place : (i k c : ℕ) → k ≡ min i (most-terms - 1) → c ≤ most-terms → i < c → i ≡ k
 own-place i k c e f h = omega arith
 
 module _ (c : tie.After-y Inv-loop μ-loop) where
@@ -89,27 +87,33 @@ unfolding padded most-terms
 loop-holds c = nothing-stored _ _
 
 add-loop : tie.Need-add-loop Inv-loop μ-loop
+unfolding most-terms
 add-loop c = omega (arith, c .loop .inv .left, c .loop .inv .right, few-first (c .before), few-second (c .before))
 
 add-loop-2 : tie.Need-add-loop-2 Inv-loop μ-loop
+unfolding most-terms
 add-loop-2 c = omega (arith, few-first (c .before), few-second (c .before))
 
 place-requires : tie.Need-place-requires Inv-loop μ-loop
 place-requires c κs = search needs
 
 mul-x : tie.Need-mul-x Inv-loop μ-loop
+unfolding most-terms
 mul-x c = omega arith
 
 element-copy-out-x : tie.Need-element-copy-out-x Inv-loop μ-loop
+unfolding most-terms
 element-copy-out-x c = omega arith
 
 place-requires-2 : tie.Need-place-requires-2 Inv-loop μ-loop
 place-requires-2 c κs = search needs
 
 mul-y : tie.Need-mul-y Inv-loop μ-loop
+unfolding most-terms
 mul-y c = omega arith
 
 element-copy-out-y : tie.Need-element-copy-out-y Inv-loop μ-loop
+unfolding most-terms
 element-copy-out-y c = omega arith
 
 take-next-requires : tie.Need-take-next-requires Inv-loop μ-loop

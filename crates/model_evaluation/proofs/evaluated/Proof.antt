@@ -138,9 +138,15 @@ returns : tie.Need-returns Inv-loop μ-loop
 unfolding most-degree
 returns c =
     let k = made (refused c) in
-    let s = start k in
-    put-refused (s .pre .0) (long s) (left k) (inside k) (constant-is k) (refused c .substituted .ensures)
-    (c .enum-told2 .given .1)
+    let s = start k in (
+      put-refused (s .pre .0) (long s) (left k) (inside k) (constant-is k) (refused c .substituted .ensures .0)
+          (c .enum-told2 .given .1),
+      record {
+        slots-length = slots-long (refused c);
+        keys-length = keys-long (refused c);
+        sums-length = sums-long (refused c);
+      },
+    )
 
 -- it is accepted
 abbrev accepted : tie.After-left Inv-loop μ-loop → tie.After-substituted Inv-loop μ-loop
@@ -158,7 +164,7 @@ loop-again c =
     let a = accepted c in
     let k = made a in
     let s = start k in (
-      put-accepted (s .pre .0) (long s) (left k) (inside k) (constant-is k) (a .substituted .ensures)
+      put-accepted (s .pre .0) (long s) (left k) (inside k) (constant-is k) (a .substituted .ensures .0)
           (c .before .enum-told .given .1),
       slots-long a,
       keys-long a,
@@ -181,8 +187,10 @@ same-length-6 c = c .before .before .loop .inv .3
 returns-2 : tie.Need-returns-2 Inv-loop μ-loop
 returns-2 c =
     let l = c .before .before in
-    let s = l .before .before .before in
-    remaining-end (s .pre .0) (long s) (l .loop .inv .0) (c .before .loop-test .left) (c .range-of .ensures)
+    let s = l .before .before .before in (
+      remaining-end (s .pre .0) (long s) (l .loop .inv .0) (c .before .loop-test .left) (c .range-of .ensures),
+      record { slots-length = l .loop .inv .1; keys-length = l .loop .inv .2; sums-length = l .loop .inv .3 },
+    )
 
 pub evaluated-spec : {M : Type 1} → statement M
 evaluated-spec =

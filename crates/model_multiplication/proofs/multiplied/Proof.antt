@@ -7,10 +7,6 @@ use lib.ListN.{length, take, length-take}
 use Rattle.model_multiplication.specs.MultiplyLaws.{products-few}
 use Rattle.model_multiplication.proofs.multiplied.Statement.{statement}
 use Rattle.model_multiplication.proofs.multiplied.Tie as tie
-use Rattle.model_multiplication.proofs.multiplied.Reads as reads
-use Rattle.model_multiplication.proofs.multiplied.Lts as lts
-use Rattle.product_slots.proofs.clear.Reads as clear-reads
-use Rattle.model_product.proofs.multiplied_in.Reads as multiplied-in-reads
 
 abbrev start : tie.After-struct-known2 → tie.Start
 start c = c .before .before .before .before
@@ -72,7 +68,10 @@ same-length-3 : tie.Need-same-length-3
 same-length-3 c = search needs
 
 returns : tie.Need-returns
-returns c = search needs
+returns c = (
+  search needs,
+  record { slots-length = search needs; keys-length = search needs; sums-length = search needs },
+)
 
 pub multiplied-spec : {M : Type 1} → statement M
 multiplied-spec =

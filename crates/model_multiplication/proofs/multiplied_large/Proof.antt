@@ -5,9 +5,6 @@ use Rattle.product_table.specs.Table.{most-entries}
 use Rattle.model_multiplication.specs.MultiplyLaws.{zeros-empty, products-few}
 use Rattle.model_multiplication.proofs.multiplied_large.Statement.{statement}
 use Rattle.model_multiplication.proofs.multiplied_large.Tie as tie
-use Rattle.model_multiplication.proofs.multiplied_large.Reads as reads
-use Rattle.model_multiplication.proofs.multiplied_large.Lts as lts
-use Rattle.model_product.proofs.multiplied_in.Reads as multiplied-in-reads
 
 slice-aggregate-multiplied-in : tie.Need-slice-aggregate-multiplied-in
 slice-aggregate-multiplied-in c = search needs

@@ -5,9 +5,6 @@ use Rattle.model_multiplication.specs.Multiply.{few-products}
 use Rattle.model_multiplication.specs.MultiplyLaws.{zeros-empty}
 use Rattle.model_multiplication.proofs.multiplied_small.Statement.{statement}
 use Rattle.model_multiplication.proofs.multiplied_small.Tie as tie
-use Rattle.model_multiplication.proofs.multiplied_small.Reads as reads
-use Rattle.model_multiplication.proofs.multiplied_small.Lts as lts
-use Rattle.model_product.proofs.multiplied_in.Reads as multiplied-in-reads
 
 slice-aggregate-multiplied-in : tie.Need-slice-aggregate-multiplied-in
 slice-aggregate-multiplied-in c = search needs

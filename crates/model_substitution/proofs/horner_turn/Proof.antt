@@ -32,8 +32,10 @@ same-length-3 c = search needs
 
 returns : tie.Need-returns
 returns c =
-    let m = c .before .before .before .before .before .before .before in
-    product-refused (start m .pre .0) (m .multiplied .ensures) (c .enum-told2 .given .1)
+    let m = c .before .before .before .before .before .before .before in (
+      product-refused (start m .pre .0) (m .multiplied .ensures .0) (c .enum-told2 .given .1),
+      record { slots-length = search needs; keys-length = search needs; sums-length = search needs },
+    )
 
 -- ---- it is accepted
 module _ (c : tie.After-enum-told) where
@@ -44,7 +46,7 @@ module _ (c : tie.After-enum-told) where
   taken = c .enum-told .given .1
 
 added-requires : tie.Need-added-requires
-added-requires c κs = product-operands (start (made c) .pre .0) (made c .multiplied .ensures) (taken c)
+added-requires c κs = product-operands (start (made c) .pre .0) (made c .multiplied .ensures .0) (taken c)
 
 same-length-4 : tie.Need-same-length-4
 same-length-4 c = search needs
@@ -57,8 +59,10 @@ same-length-6 c = search needs
 
 returns-2 : tie.Need-returns-2
 returns-2 c =
-    let m = made (c .before) in
-    sum-answer (start m .pre .0) (m .multiplied .ensures) (taken (c .before)) (c .added .ensures)
+    let m = made (c .before) in (
+      sum-answer (start m .pre .0) (m .multiplied .ensures .0) (taken (c .before)) (c .added .ensures),
+      record { slots-length = search needs; keys-length = search needs; sums-length = search needs },
+    )
 
 pub horner-turn-spec : {M : Type 1} → statement M
 horner-turn-spec =

@@ -43,9 +43,11 @@ refuse-requires c κs = search needs
 
 returns : tie.Need-returns Inv-loop μ-loop
 unfolding cause
-returns c =
-    c .refuse .ensures
-    ∙ outside _ _ _ _ (sym (c .before .before .in-box .ensures) ∙ not-true _ (c .before .if1 .taken))
+returns c = (
+  c .refuse .ensures
+      ∙ outside _ _ _ _ (sym (c .before .before .in-box .ensures) ∙ not-true _ (c .before .if1 .taken)),
+  record { slots-length = refl; keys-length = refl; sums-length = refl },
+)
 
 largest-exponent-requires : tie.Need-largest-exponent-requires Inv-loop μ-loop
 largest-exponent-requires c κs = in-variable (c .before .before .before .before)
@@ -129,9 +131,11 @@ same-length-3 c = sums-long (refused c)
 returns-2 : tie.Need-returns-2 Inv-loop μ-loop
 returns-2 c =
     let m = refused c in
-    let l = turn m in
-    turn-refused (start l .pre .0) (l .loop .inv .0) (added m .part2 .ensures) (positive m) (m .horner-turn .ensures)
-    (c .enum-told2 .given .1)
+    let l = turn m in (
+      turn-refused (start l .pre .0) (l .loop .inv .0) (added m .part2 .ensures) (positive m)
+          (m .horner-turn .ensures .0) (c .enum-told2 .given .1),
+      record { slots-length = slots-long m; keys-length = keys-long m; sums-length = sums-long m },
+    )
 
 -- it is accepted
 abbrev accepted : tie.After-h Inv-loop μ-loop → tie.After-horner-turn Inv-loop μ-loop
@@ -145,7 +149,7 @@ loop-again c =
     let m = accepted c in
     let l = turn m in (
       turn-accepted (start l .pre .0) (l .loop .inv .0) (added m .part2 .ensures) (positive m)
-          (m .horner-turn .ensures) (c .before .enum-told .given .1),
+          (m .horner-turn .ensures .0) (c .before .enum-told .given .1),
       slots-long m,
       keys-long m,
       sums-long m,
@@ -166,8 +170,10 @@ same-length-6 c = c .before .before .loop .inv .3
 
 returns-3 : tie.Need-returns-3 Inv-loop μ-loop
 returns-3 c =
-    let l = c .before .before in
-    left-end (start l .pre .0) (l .loop .inv .0) (c .before .loop-test .left) (c .widened .ensures)
+    let l = c .before .before in (
+      left-end (start l .pre .0) (l .loop .inv .0) (c .before .loop-test .left) (c .widened .ensures),
+      record { slots-length = l .loop .inv .1; keys-length = l .loop .inv .2; sums-length = l .loop .inv .3 },
+    )
 
 pub substituted-spec : {M : Type 1} → statement M
 substituted-spec =

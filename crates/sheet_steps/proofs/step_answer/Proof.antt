@@ -73,7 +73,7 @@ returns : tie.Need-returns
 unfolding step-answers
 returns c =
     let m = product c .before .before .before .before in
-    answers (start (m .before)) 6 _ (product c .multiplied .ensures) (m .match .keys1) refl
+    answers (start (m .before)) 6 _ (product c .multiplied .ensures .0) (m .match .keys1) refl
 
 same-length-4 : tie.Need-same-length-4
 same-length-4 c = substituted c .substituted .kept .1 .1 .1 .1 .0
@@ -88,7 +88,7 @@ returns-2 : tie.Need-returns-2
 unfolding step-answers held-step
 returns-2 c =
     let m = substituted c .before .before .before .before in
-    answers (start (m .before)) 7 _ (substituted c .substituted .ensures) (m .match .keys2) refl
+    answers (start (m .before)) 7 _ (substituted c .substituted .ensures .0) (m .match .keys2) refl
 
 returns-3 : tie.Need-returns-3
 returns-3 c = c .direct-answer .ensures (start (c .before .before) .args .d)

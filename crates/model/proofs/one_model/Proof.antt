@@ -1,0 +1,17 @@
+-- `Model::ONE` is the model of 1 in one variable.
+use mathlib.Core.Path.{refl}
+use Rattle.fixed.specs.Fixed.{U}
+use Rattle.calculus.specs.Monomial.{zeros}
+use Rattle.calculus.specs.Key.{encode, key-width}
+use Rattle.calculus.specs.Model.{one-model, most-terms}
+use Rattle.model_types.specs.Arrays.{padded}
+use Rattle.model_types.specs.ModelStruct.{pack, pack-term}
+use Rattle.model.proofs.one_model.Statement.{statement}
+use Rattle.model.proofs.one_model.Tie as tie
+
+returns : tie.Need-returns
+unfolding U zeros encode key-width one-model most-terms pack pack-term padded
+returns c = refl
+
+pub one-model-spec : {M : Type 1} → statement M
+one-model-spec = tie.close (tie.spec returns)

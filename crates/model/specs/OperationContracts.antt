@@ -1,0 +1,8 @@
+-- What the operations ask of operands that are known to be sound and of a table that is lent, and what they leave of
+-- that: handed on from the crates that make them.
+pub use Rattle.model_addition.specs.Addition.{Operands}
+pub use Rattle.model_multiplication.specs.Factors.{Factors}
+pub use Rattle.model_substitution.specs.Substitute.{Substitution}
+pub use Rattle.product_collector.specs.CollectorContracts.{Lent-table, Free-table}
+-- the rounding of a quotient
+unfoldable pub use Rattle.model_integral.specs.Rounding.{rule}

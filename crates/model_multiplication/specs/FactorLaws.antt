@@ -1,0 +1,125 @@
+-- The product of two sound models in memory: what its steps ask, and what they come to.
+use mathlib.Core.Path.{_≡_, refl}
+use mathlib.Core.List.{List, []}
+use Prim.Native.Nat.{ℕ, _*_, _≤_}
+use native.Mathlib.Nat as NatL
+use native.Mathlib.Omega.{arith}
+use lib.Dec.{T}
+use lib.IntN.{ℤ}
+use lib.ListN.{length}
+use Rattle.algebra.specs.IntegerRing.{ℤR}
+use Rattle.polynomial.specs.Polynomial.{product}
+use Rattle.fixed.specs.Fixed.{span-limit}
+use Rattle.fixed.specs.FixedLaws.{span-square-fits}
+use Rattle.calculus.specs.Key.{key-width}
+use Rattle.calculus.specs.Terms.{every, size}
+use Rattle.calculus.specs.Model.{most-terms, most-degree, fits, sound, span}
+use Rattle.calculus.specs.Refusal.{at-place}
+use Rattle.calculus.specs.Operations.{multiply}
+use Rattle.calculus.specs.FitsLaws.{fits-more}
+use Rattle.calculus.specs.SoundLaws.{sound-parts}
+use Rattle.model_types.specs.declared.Model.{Model}
+use Rattle.model_types.specs.declared.Answer.{Answer}
+use Rattle.model_types.specs.ModelStruct.{view, answer}
+use Rattle.model_types.specs.ModelStructLaws.{limits}
+use Rattle.product_table.specs.Table.{terms, entries}
+use Rattle.product_gathering.specs.declared.Gathered.{Gathered}
+use Rattle.product_gathering.specs.GatheringContracts.{Gathering}
+use Rattle.product_collector.specs.CollectorContracts as Contracts
+use Rattle.product_collector.specs.FactorArrayLaws.{product-answer}
+use Rattle.product_packing.specs.Transfer.{Unpack-ready, Unpacked}
+use Rattle.product_answer.specs.CollectedProduct.{Product}
+use Rattle.model_multiplication.specs.Factors.{Factors}
+
+-- ---- one factor
+module _ (d : ℕ) (m : Model) (h : T (sound d (view m))) where
+  pub unpack-ready : (keys : List ℕ) (coefficients : List ℤ) → most-terms ≤ length keys
+      → most-terms ≤ length coefficients → Unpack-ready m keys coefficients
+  unpack-ready keys coefficients lk lc =
+      let l = limits d m h in
+      record { width = l .width; few = l .few; small = l .small; keys-room = lk; coefficients-room = lc }
+
+  fitting : T (every (λ k c. fits (m .n) d k) (view m .terms))
+  unfolding view
+  fitting = sound-parts d (view m) h .0 .fitting
+
+-- ---- two
+module _ (d : ℕ) (f g : Model) (h : Factors d f g) where
+  first-fitting : T (every (λ k c. fits (f .n) d k) (view f .terms))
+  first-fitting = fitting d f (h .first)
+
+  second-fitting : T (every (λ k c. fits (f .n) d k) (view g .terms))
+  second-fitting = rw (h .vars) (fitting d g (h .second))
+
+  width : f .n ≤ key-width
+  width = limits d f (h .first) .width
+
+  -- ---- the factors by their wide keys
+  module _ {ka kb : List ℕ} {ca cb : List ℤ} {a b : ℕ} (uf : Unpacked f ka ca a) (ug : Unpacked g kb cb b)
+      (lka : most-terms ≤ length ka) (lca : most-terms ≤ length ca)
+      (lkb : most-terms ≤ length kb) (lcb : most-terms ≤ length cb) where
+    pub factors : Contracts.Held-factors ka ca (f .count) kb cb (g .count)
+    unfolding span
+    factors =
+        let lf = limits d f (h .first) in
+        let lg = limits d g (h .second) in
+        let sf : size (view f .terms) ≤ span-limit = omega (arith, lf .small) in
+        let sg : size (view g .terms) ≤ span-limit = omega (arith, lg .small) in
+        record {
+          vars = f .n;
+          first = view f;
+          second = view g;
+          vars-few = unfold key-width in omega (arith, width);
+          first-fits = fits-more (f .n) d most-degree (view f .terms) (h .order) first-fitting;
+          second-fits = fits-more (f .n) d most-degree (view g .terms) (h .order) second-fitting;
+          first-held = uf .held;
+          second-held = ug .held;
+          first-few = lf .few;
+          second-few = lg .few;
+          first-keys = omega (arith, lf .few);
+          first-coefficients = omega (arith, lf .few);
+          second-keys = omega (arith, lg .few);
+          second-coefficients = omega (arith, lg .few);
+          small = omega (arith, NatL.mul-le-mul sf sg, span-square-fits);
+        }
+
+    -- what is gathered of their products
+    pub factors-answer : {homes n : ℕ} {slots keys : List ℕ} {sums : List ℤ} {kept : List ℕ} {coefficients : List ℤ}
+        {r : Gathered}
+        → Contracts.Collected homes [] (f .count * g .count)
+        (product ℤR (terms (f .count) ka ca) (terms (g .count) kb cb)) slots keys sums n
+        → Gathering d (entries n keys sums) kept coefficients r
+        → Contracts.Answered d (view f) (view g) kept coefficients r
+    unfolding factors
+    factors-answer c w = product-answer factors c w
+
+    -- where the product ends
+    module _ {keys : List ℕ} {coefficients : List ℤ} {r : Gathered}
+        (p : Contracts.Answered d (view f) (view g) keys coefficients r)
+        (lk : most-terms ≤ length keys) (lc : most-terms ≤ length coefficients) where
+      pub end-ready : Product (f .n) a (f .radius) b (g .radius) r keys coefficients
+      unfolding view
+      end-ready = record {
+        order = d;
+        first = view f;
+        second = view g;
+        low = h .order;
+        first-sound = h .first;
+        second-sound = h .second;
+        first-vars = refl;
+        second-vars = h .vars;
+        first-size = uf .sum;
+        first-radius = refl;
+        second-size = ug .sum;
+        second-radius = refl;
+        answered = p;
+        keys-room = lk;
+        coefficients-room = lc;
+      }
+
+      pub end-answer : {s : Answer}
+          → ((w : Product (f .n) a (f .radius) b (g .radius) r keys coefficients)
+          → s ≡ answer (at-place 0 (multiply (w .order) (w .first) (w .second))))
+          → s ≡ answer (at-place 0 (multiply d (view f) (view g)))
+      unfolding end-ready
+      end-answer q = q end-ready

@@ -1,0 +1,3 @@
+pub mod CollectedProduct
+pub mod ErrorLaws
+pub mod CollectedProductLaws
