@@ -6,7 +6,7 @@ ghost use lib.ListN.{length};
 ghost use Rattle.format.specs.Format.{«run-sheet»};
 ghost use Rattle.format.specs.Lines.{printed};
 ghost use Rattle.sheet_records.specs.Records.{«record-bytes»};
-ghost use Rattle.sheet_summary.specs.Summary.{«run-answer»};
+ghost use Rattle.sheet_book.specs.SummaryStruct.{«run-answer»};
 ghost use Rattle.text.specs.Text.{laid};
 ghost use Rattle.c_models.specs.HandedModels.{«model-room»};
 ghost use Rattle.exports.specs.SheetCalls.{«four-ends», «run-state», «stored-summary», «called-run»};

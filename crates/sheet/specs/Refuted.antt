@@ -33,8 +33,8 @@ use Rattle.format.specs.Computing.{reads}
 use Rattle.format.specs.Samples.{hex, sheet-forms}
 use Rattle.format.specs.SheetClaim.{Sheet-claim}
 use Rattle.sheet_book.specs.BookStruct.{stored-model}
-use Rattle.sheet_summary.specs.declared.Summary.{Summary}
-use Rattle.sheet_summary.specs.Summary.{stored-ends, ends-of, summary-of, refused-summary, run-answer}
+use Rattle.sheet_book.specs.declared.Summary.{Summary}
+use Rattle.sheet_book.specs.SummaryStruct.{stored-ends, ends-of, summary-of, refused-summary, run-answer}
 use Rattle.sheet.specs.Sheet.{Exact, Encloses}
 
 -- ---- programs and the clauses of the contract

@@ -3,16 +3,16 @@ ghost use mathlib.Core.Path.{_≡_};
 ghost use Rattle.calculus.specs.Book.{«run-sound»};
 ghost use Rattle.format.specs.HeldBook.{«view-book», «Held-passes»};
 ghost use Rattle.sheet_book.specs.BookStruct.{«held-book»};
-ghost use Rattle.sheet_summary.specs.Summary.{«run-answer»};
+ghost use Rattle.sheet_book.specs.SummaryStruct.{«run-answer»};
 ghost use Rattle.sheet.specs.Sheet.{Exact, «Exact-book», Encloses, «Encloses-book»};
 pub use model_types::Model;
 pub use model_types::Refusal;
 pub use model_types::Term;
 pub use model_types::Verdict;
 pub use sheet_book::Book;
+pub use sheet_book::Ends;
 pub use sheet_book::Step;
-pub use sheet_summary::Ends;
-pub use sheet_summary::Summary;
+pub use sheet_book::Summary;
 
 // The run of a book that passed the tests: its last result with range and integral, or the refusal of a step.
 fn run_passed(b: Book) -> Summary
