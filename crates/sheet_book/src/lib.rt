@@ -16,7 +16,7 @@ pub const MOST_MODELS: usize = 16;
 // The places of its steps.
 pub const MOST_STEPS: usize = 64;
 
-// The codes of steps: 0 to this.
+// The codes of steps: 0 to this, which is `last-code`.
 const LAST_CODE: u8 = 8;
 
 // A step: its code and its fields.
