@@ -22,6 +22,22 @@ pub data Step : Type 0 where
   substitute : (a b v : ℕ) → Step
   sweep : (a : ℕ) (value : ℤ) → Step
 
+-- their codes: 0 to 8, in this order
+abbrev pub last-code : ℕ
+last-code = 8
+
+-- the earlier steps that a step names, in order
+unfoldable pub operands : Step → List ℕ
+operands (input a) = []
+operands (constant value) = []
+operands (variable v) = []
+operands (negate a) = a ∷ []
+operands (add a b) = a ∷ b ∷ []
+operands (subtract a b) = a ∷ b ∷ []
+operands (multiply a b) = a ∷ b ∷ []
+operands (substitute a b v) = a ∷ b ∷ []
+operands (sweep a value) = a ∷ []
+
 -- a book (document 01's term): n, the order d, the models and the steps
 pub record Book : Type 0 where
   pub vars : ℕ

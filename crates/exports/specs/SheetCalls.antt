@@ -4,8 +4,8 @@ use mathlib.Core.List.{List, [], _∷_}
 use Prim.Native.Nat.{ℕ}
 use lib.IntN.{ℤ}
 use Rattle.model_types.specs.ModelStruct.{verdict-number, verdict-place}
-use Rattle.sheet_summary.specs.declared.Ends.{Ends}
-use Rattle.sheet_summary.specs.declared.Summary.{Summary}
+use Rattle.sheet_book.specs.declared.Ends.{Ends}
+use Rattle.sheet_book.specs.declared.Summary.{Summary}
 use Rattle.c_models.specs.HandedModels.{over, stored-keys, stored-coefficients, stored-numbers}
 
 -- the ends of the range and of the integral, over what the slice holds

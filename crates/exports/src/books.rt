@@ -96,7 +96,7 @@ pub extern "C" fn hechroung_write(
         models: c_books::handed_models(ns, counts, radii, keys, coefficients),
         steps: c_books::handed_steps(fields, values),
     };
-    let w = sheet_writer::write(b, buffer);
+    let w = sheet::write(b, buffer);
     store_written(w, numbers)
 }
 
@@ -111,7 +111,7 @@ pub extern "C" fn hechroung_rewrite(sheet: &[u8], buffer: &mut [u8], numbers: &m
     if numbers.len() < NUMBERS {
         return MISUSED;
     }
-    let answer = sheet_reader::read(sheet);
+    let answer = sheet::read(sheet);
     let v = answer.verdict;
     let Verdict::Accepted = v else {
         let none = Written {
@@ -121,6 +121,6 @@ pub extern "C" fn hechroung_rewrite(sheet: &[u8], buffer: &mut [u8], numbers: &m
         return store_written(none, numbers);
     };
     let b = answer.book;
-    let w = sheet_writer::write(b, buffer);
+    let w = sheet::write(b, buffer);
     store_written(w, numbers)
 }

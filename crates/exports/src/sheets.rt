@@ -5,8 +5,8 @@ ghost use lib.Dec.{leb};
 ghost use lib.ListN.{length};
 ghost use Rattle.format.specs.Format.{«run-sheet»};
 ghost use Rattle.format.specs.Lines.{printed};
-ghost use Rattle.sheet_records.specs.Records.{«record-bytes»};
-ghost use Rattle.sheet_summary.specs.Summary.{«run-answer»};
+ghost use Rattle.sheet.specs.Stepping.{«record-bytes»};
+ghost use Rattle.sheet_book.specs.SummaryStruct.{«run-answer»};
 ghost use Rattle.text.specs.Text.{laid};
 ghost use Rattle.c_models.specs.HandedModels.{«model-room»};
 ghost use Rattle.exports.specs.SheetCalls.{«four-ends», «run-state», «stored-summary», «called-run»};
@@ -111,7 +111,7 @@ pub extern "C" fn hechroung_record(sheet: &[u8], i: usize, bytes: &mut [u8]) -> 
     ensures { λ r. ⌜ (r ≡ length (record-bytes (now (sheet .entry)) i))
         × (now (bytes .exit) ≡ laid (record-bytes (now (sheet .entry)) i) (now (bytes .entry))) ⌝ }
 {
-    let found = sheet_records::record(sheet, i);
+    let found = sheet::record(sheet, i);
     copy(found, bytes);
     found.len()
 }

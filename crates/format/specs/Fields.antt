@@ -4,6 +4,7 @@ use Prim.Native.Nat.{ℕ}
 use lib.Dec.{eqb, leb, ltb}
 use lib.IntN.{ℤ, natAbs}
 use Rattle.calculus.specs.Tests.{constant-sound, variable-sound, threshold-sound}
+use Rattle.calculus.specs.Book.{last-code}
 use Rattle.format.specs.HeldBook.{Held-step}
 
 -- a: a model number (0), an earlier step (3 to 8), or 0
@@ -25,7 +26,7 @@ value-sound code z = cond (eqb code 1) (constant-sound z) (cond (eqb code 8) (th
 -- all fields of step i
 unfoldable pub fields-sound : (n models i : ℕ) → Held-step → Bool
 fields-sound n m i s =
-    leb (s .code) 8
+    leb (s .code) last-code
     && ltb (s .a) (limit-a m i (s .code))
     && ltb (s .b) (limit-b i (s .code))
     && v-sound n (s .code) (s .v)

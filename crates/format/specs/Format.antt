@@ -13,6 +13,23 @@ use Rattle.format.specs.Bytes.{byte, join, u16, u32, u16-bytes, u32-byte
 use Rattle.format.specs.HeldBook.{Held-term, Held-model, Held-step, Held-book, zero-book, view-book, outline}
 use Rattle.format.specs.HeldBook.{held-model-sound, held-step-sound, held-tested}
 
+-- ---- the lengths of the parts, in bytes
+-- of a model before its terms: radius and term count
+abbrev pub head-length : ℕ
+head-length = 5
+
+-- of a term: key and coefficient
+abbrev pub term-length : ℕ
+term-length = 6
+
+-- of a step
+abbrev pub step-length : ℕ
+step-length = 8
+
+-- of the trailer
+abbrev pub trailer-length : ℕ
+trailer-length = 8
+
 -- ---- models: radius (4 bytes), term count (1), then per term the key (2) and the coefficient (4)
 -- the term at the head
 unfoldable pub read-term : List ℕ → Held-term
@@ -21,15 +38,15 @@ read-term s = record { key = u16 s; coefficient = signed (u32 (drop 2 s)) }
 -- c terms
 unfoldable pub read-terms : (c : ℕ) → List ℕ → List Held-term
 read-terms zero s = []
-read-terms (suc c) s = read-term s ∷ read-terms c (drop 6 s)
+read-terms (suc c) s = read-term s ∷ read-terms c (drop term-length s)
 
 -- the model at the head
 unfoldable pub read-model : (n : ℕ) → List ℕ → Held-model
-read-model n s = record { n = n; radius = u32 s; terms = read-terms (byte 4 s) (drop 5 s) }
+read-model n s = record { n = n; radius = u32 s; terms = read-terms (byte 4 s) (drop head-length s) }
 
 -- the length of its record
 unfoldable pub model-length : List ℕ → ℕ
-model-length s = 5 + 6 * byte 4 s
+model-length s = head-length + term-length * byte 4 s
 
 -- test 5 of c more models, after those read before: the first whose record does not fit or that breaks a rule decides,
 -- and after the last record nothing may be left
@@ -50,7 +67,7 @@ read-step s =
 -- c steps
 unfoldable pub read-steps : (c : ℕ) → List ℕ → List Held-step
 read-steps zero s = []
-read-steps (suc c) s = read-step s ∷ read-steps c (drop 8 s)
+read-steps (suc c) s = read-step s ∷ read-steps c (drop step-length s)
 
 -- ---- trailer: n, d, model count, step count (a byte each), offset of the first step (2), hex 4D 4B
 -- what it says: n, d, the counts, the offset, and whether the mark stands
@@ -62,9 +79,9 @@ pub record Trailer : Type 0 where
   pub offset : ℕ
   pub marked : Bool
 
--- the last 8 bytes
+-- the last bytes
 unfoldable pub trailer-of : List ℕ → List ℕ
-trailer-of s = drop (length s - 8) s
+trailer-of s = drop (length s - trailer-length) s
 
 -- read from them
 unfoldable pub read-trailer : List ℕ → Trailer
@@ -92,7 +109,7 @@ read-records s t =
     let book : Book = outline (t .n) (t .d) (t .models) (t .steps) in
     let steps : List Held-step = read-steps (t .steps) (drop (t .offset) s) in
     require-at 0 (limits-sound book) bad-limits
-    (require-at 0 (eqb (t .offset + 8 * t .steps + 8) (length s)) bad-offset
+    (require-at 0 (eqb (t .offset + step-length * t .steps + trailer-length) (length s)) bad-offset
     (read-models book [] (t .models) (take (t .offset) s)
     followed-by (λ models. require-each 0 (held-step-sound book) steps bad-step
     (done (record { n = t .n; d = t .d; models = models; steps = steps })))))
@@ -121,7 +138,7 @@ model-records (suc c) s = take (model-length s) s ∷ model-records c (drop (mod
 -- the bytes of c steps
 unfoldable pub step-records : (c : ℕ) → List ℕ → List (List ℕ)
 step-records zero s = []
-step-records (suc c) s = take 8 s ∷ step-records c (drop 8 s)
+step-records (suc c) s = take step-length s ∷ step-records c (drop step-length s)
 
 -- each model's bytes, each step's 8 bytes
 unfoldable pub records : List ℕ → List (List ℕ)

@@ -11,7 +11,8 @@ use Rattle.calculus.specs.Refusal.{done}
 use Rattle.format.specs.Bytes.{All-bytes, join}
 use Rattle.format.specs.BytesLaws.{join-++}
 use Rattle.format.specs.HeldBook.{Held-model, Held-step, Held-book}
-use Rattle.format.specs.Format.{model-length, trailer-of, read-trailer, read, records}
+use Rattle.format.specs.Format.{step-length, trailer-length, model-length}
+use Rattle.format.specs.Format.{trailer-of, read-trailer, read, records}
 use Rattle.format.specs.Format.{model-bytes, step-bytes, models-bytes}
 use Rattle.format.specs.ReadBackLaws.{length-model, length-step, length-trailer, model-length-back}
 use Rattle.format.specs.ReadBackLaws.{trailer-back, said, sheet-trailer}
@@ -68,13 +69,13 @@ module _ (s : List ℕ) (h : Held-book) (y : All-bytes s) (e : read s ≡ done h
       ∙ ap (λ k. length (join (take i (records s))) + k)
       (length-append (getD (records s) i []) [] ∙ omega arith)
 
-  -- which is 8 bytes long
-  pub trailer-eight : length (trailer-of s) ≡ 8
+  -- the length of the trailer
+  pub trailer-eight : length (trailer-of s) ≡ trailer-length
   trailer-eight = ap length (ap trailer-of (sym (read-sheet s h e y)) ∙ trailer-back h (read-passes s h e))
       ∙ length-trailer h
 
   -- behind the last the trailer
-  pub last-place : record-place s (length (records s)) + 8 ≡ length s
+  pub last-place : record-place s (length (records s)) + trailer-length ≡ length s
   unfolding record-place
   last-place =
       let a = ap (λ k. length (join k)) (take-length (records s)) in
@@ -138,13 +139,14 @@ module _ (s : List ℕ) (h : Held-book) (y : All-bytes s) (e : read s ≡ done h
       ∙ getD-any B k [] (step-bytes some-step) (subst (λ i. k < i) (sym (length-map (h .steps) step-bytes)) l)
       ∙ List·getD-map step-bytes (h .steps) k some-step
 
-  -- a step's is 8 bytes long
+  -- that of a step
   pub step-here : (k : ℕ) → k < length (h .steps)
-      → take 8 (drop (record-place s (length (h .models) + k)) s) ≡ getD (records s) (length (h .models) + k) []
+      → take step-length (drop (record-place s (length (h .models) + k)) s)
+      ≡ getD (records s) (length (h .models) + k) []
   step-here k l =
-      ap (take 8)
+      ap (take step-length)
       (here (length (h .models) + k) (omega (arith, records-count s h y e)) ∙ ap (λ r. r ++ rest) (step-in k l))
-      ∙ take-at (step-bytes x) rest 8 (length-step x)
+      ∙ take-at (step-bytes x) rest step-length (length-step x)
       ∙ sym (step-in k l)
     where
       rest : List ℕ
@@ -153,7 +155,7 @@ module _ (s : List ℕ) (h : Held-book) (y : All-bytes s) (e : read s ≡ done h
       x : Held-step
       x = getD (h .steps) k some-step
 
-  pub step-size : (k : ℕ) → k < length (h .steps) → length (getD (records s) (length (h .models) + k) []) ≡ 8
+  pub step-size : (k : ℕ) → k < length (h .steps) → length (getD (records s) (length (h .models) + k) []) ≡ step-length
   step-size k l = ap length (step-in k l) ∙ length-step (getD (h .steps) k some-step)
 
   offset-is : read-trailer (trailer-of s) .offset ≡ length (join A)

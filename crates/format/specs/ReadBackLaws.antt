@@ -23,6 +23,7 @@ use Rattle.calculus.specs.RefusalLaws.{require-at-passed, require-each-passed, 
 use Rattle.format.specs.Bytes.{join, u32, u16-bytes, u32-bytes, signed, bits}
 use Rattle.format.specs.HeldBook.{Held-term, Held-model, Held-step, Held-book, view-term, outline, outline-of}
 use Rattle.format.specs.HeldBook.{held-model-sound, held-step-sound, Held-passes}
+use Rattle.format.specs.Format.{head-length, term-length, step-length, trailer-length}
 use Rattle.format.specs.Format.{read-term, read-terms, read-model, model-length, read-models}
 use Rattle.format.specs.Format.{read-step, read-steps}
 use Rattle.format.specs.Format.{Trailer, trailer-of, read-trailer, shortest, longest, read-records, read}
@@ -33,25 +34,25 @@ use Rattle.format.specs.HeldBookLaws.{In-limits, in-limits, Held-done, h
 use Rattle.format.specs.SmallLaws.{Model-facts, model-facts, Term-facts, term-facts, Step-facts, step-facts}
 
 -- ---- lengths
-pub length-terms : (ts : List Held-term) → length (join (map term-bytes ts)) ≡ 6 * length ts
+pub length-terms : (ts : List Held-term) → length (join (map term-bytes ts)) ≡ term-length * length ts
 unfolding join term-bytes u16-bytes u32-bytes
 length-terms [] = refl
 length-terms (t ∷ ts) = omega (arith, length-terms ts)
 
-pub length-term : (t : Held-term) → length (term-bytes t) ≡ 6
+pub length-term : (t : Held-term) → length (term-bytes t) ≡ term-length
 unfolding term-bytes u16-bytes u32-bytes
 length-term t = refl
 
-pub length-model : (m : Held-model) → length (model-bytes m) ≡ 5 + 6 * length (m .terms)
+pub length-model : (m : Held-model) → length (model-bytes m) ≡ head-length + term-length * length (m .terms)
 unfolding model-bytes u32-bytes
 length-model m = omega (arith, length-terms (m .terms))
 
-pub length-steps : (l : List Held-step) → length (join (map step-bytes l)) ≡ 8 * length l
+pub length-steps : (l : List Held-step) → length (join (map step-bytes l)) ≡ step-length * length l
 unfolding join step-bytes u32-bytes
 length-steps [] = refl
 length-steps (s ∷ l) = omega (arith, length-steps l)
 
-pub length-trailer : (h : Held-book) → length (trailer-bytes h) ≡ 8
+pub length-trailer : (h : Held-book) → length (trailer-bytes h) ≡ trailer-length
 unfolding trailer-bytes u16-bytes
 length-trailer h = refl
 
@@ -75,8 +76,8 @@ unfolding read-terms join
 terms-back n d [] r ln ld h z = refl
 terms-back n d (t ∷ ts) r ln ld h z = ap₂ _∷_
     (ap read-term assoc ∙ term-back t (later ++ r) (f .key) (omega (arith, f .coefficient)))
-    (ap (λ s. read-terms (length ts) (drop 6 s)) assoc
-    ∙ ap (read-terms (length ts)) (drop-at (term-bytes t) (later ++ r) 6 (length-term t))
+    (ap (λ s. read-terms (length ts) (drop term-length s)) assoc
+    ∙ ap (read-terms (length ts)) (drop-at (term-bytes t) (later ++ r) term-length (length-term t))
     ∙ terms-back n d ts r ln ld (f .fitting-rest) (omega (arith, f .size-rest)))
   where
     later : List ℕ
@@ -151,7 +152,7 @@ step-back s r h = step-is s _
     small : natAbs (s .value) < 2 ^ 31
     small = omega (arith, span-four-bytes)
 
-pub length-step : (s : Held-step) → length (step-bytes s) ≡ 8
+pub length-step : (s : Held-step) → length (step-bytes s) ≡ step-length
 unfolding step-bytes u32-bytes
 length-step s = refl
 
@@ -162,8 +163,8 @@ unfolding read-steps join all-from
 steps-back b i [] r lm ln li h = refl
 steps-back b i (s ∷ l) r lm ln li h = ap₂ _∷_
     (ap read-step assoc ∙ step-back s (later ++ r) (f .value))
-    (ap (λ x. read-steps (length l) (drop 8 x)) assoc
-    ∙ ap (read-steps (length l)) (drop-at (step-bytes s) (later ++ r) 8 (length-step s))
+    (ap (λ x. read-steps (length l) (drop step-length x)) assoc
+    ∙ ap (read-steps (length l)) (drop-at (step-bytes s) (later ++ r) step-length (length-step s))
     ∙ steps-back b (suc i) l r lm ln (omega arith) (and-right (held-step-sound b i s) _ h))
   where
     later : List ℕ
@@ -209,7 +210,7 @@ module _ (h : Held-book) (p : Held-passes h) where
     length-append (model-bytes m) (join (map model-bytes ms)),
   )
 
-  pub sheet-length : length (sheet-bytes h) ≡ length P + 8 * length (h .steps) + 8
+  pub sheet-length : length (sheet-bytes h) ≡ length P + step-length * length (h .steps) + trailer-length
   unfolding sheet-bytes
   sheet-length = omega (
     arith,
@@ -234,9 +235,10 @@ module _ (h : Held-book) (p : Held-passes h) where
 
   pub trailer-back : trailer-of (sheet-bytes h) ≡ R
   unfolding trailer-of sheet-bytes
-  trailer-back = ap (drop (length (sheet-bytes h) - 8)) (sym (append-assoc P Q R)) ∙ drop-at (P ++ Q) R _ ends
+  trailer-back = ap (drop (length (sheet-bytes h) - trailer-length)) (sym (append-assoc P Q R))
+      ∙ drop-at (P ++ Q) R _ ends
     where
-      ends : length (P ++ Q) ≡ length (sheet-bytes h) - 8
+      ends : length (P ++ Q) ≡ length (sheet-bytes h) - trailer-length
       ends = omega (arith, length-append P Q, length-steps (h .steps), sheet-length)
 
   -- what the trailer says
@@ -278,7 +280,8 @@ module _ (h : Held-book) (p : Held-passes h) where
   records-back : read-records (sheet-bytes h) said ≡ done h
   unfolding read-records said outline-of _followed-by_
   records-back = require-at-passed 0 (limits-sound o) bad-limits _ (p .limits)
-      ∙ require-at-passed 0 (eqb (length P + 8 * length (h .steps) + 8) (length (sheet-bytes h))) bad-offset _
+      ∙ require-at-passed 0
+      (eqb (length P + step-length * length (h .steps) + trailer-length) (length (sheet-bytes h))) bad-offset _
       (subst (λ x. T (eqb x (length (sheet-bytes h)))) sheet-length (eqb-refl (length (sheet-bytes h))))
       ∙ ap₂ (λ r steps. r followed-by (λ models. require-each 0 (held-step-sound o) steps bad-step
       (done (record { n = h .n; d = h .d; models = models; steps = steps })))) models-again steps-again

@@ -9,6 +9,7 @@ use lib.Seq.{getD-drop}
 use Rattle.calculus.specs.Refusal.{Refusal, Result, stopped, require-at}
 use Rattle.format.specs.Bytes.{byte, u32}
 use Rattle.format.specs.HeldBook.{Held-term, Held-step}
+use Rattle.format.specs.Format.{head-length, term-length, step-length}
 use Rattle.format.specs.Format.{read-term, read-terms, model-length}
 use Rattle.format.specs.Format.{read-step, read-steps}
 use Rattle.format.specs.BytesLaws.{drop-more}
@@ -24,21 +25,23 @@ u32-at at s = rw (byte-at at 0 s, byte-at at 1 s, byte-at at 2 s, byte-at at 3 s
 
 -- ---- the terms and steps, by their numbers
 pub read-term-at : (c i : ℕ) (s : List ℕ) (t : Held-term) → i < c
-    → getD (read-terms c s) i t ≡ read-term (drop (6 * i) s)
+    → getD (read-terms c s) i t ≡ read-term (drop (term-length * i) s)
 unfolding read-terms
 read-term-at zero i s t h = absurd (omega arith)
 read-term-at (suc c) zero s t h = refl
-read-term-at (suc c) (suc i) s t h = read-term-at c i (drop 6 s) t (omega arith) ∙ ap read-term (drop-more 6 i s)
+read-term-at (suc c) (suc i) s t h = read-term-at c i (drop term-length s) t (omega arith)
+    ∙ ap read-term (drop-more term-length i s)
 
 pub read-step-at : (c i : ℕ) (s : List ℕ) (t : Held-step) → i < c
-    → getD (read-steps c s) i t ≡ read-step (drop (8 * i) s)
+    → getD (read-steps c s) i t ≡ read-step (drop (step-length * i) s)
 unfolding read-steps
 read-step-at zero i s t h = absurd (omega arith)
 read-step-at (suc c) zero s t h = refl
-read-step-at (suc c) (suc i) s t h = read-step-at c i (drop 8 s) t (omega arith) ∙ ap read-step (drop-more 8 i s)
+read-step-at (suc c) (suc i) s t h = read-step-at c i (drop step-length s) t (omega arith)
+    ∙ ap read-step (drop-more step-length i s)
 
 -- ---- the loop over models, which are read up to the first step
-pub model-at-least : (s : List ℕ) → 5 ≤ model-length s
+pub model-at-least : (s : List ℕ) → head-length ≤ model-length s
 unfolding model-length
 model-at-least s = omega arith
 

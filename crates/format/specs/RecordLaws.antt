@@ -7,7 +7,7 @@ use lib.Seq.{drop-at, take-at}
 use Rattle.calculus.specs.Refusal.{done, _followed-by_}
 use Rattle.format.specs.Bytes.{All-bytes, join}
 use Rattle.format.specs.HeldBook.{Held-model, Held-step, Held-book, Held-passes}
-use Rattle.format.specs.Format.{model-length, trailer-of, read}
+use Rattle.format.specs.Format.{step-length, model-length, trailer-of, read}
 use Rattle.format.specs.Format.{model-records, step-records, records, opened}
 use Rattle.format.specs.Format.{model-bytes, step-bytes, models-bytes, trailer-bytes, sheet-bytes}
 use Rattle.format.specs.BytesLaws.{join-++}
@@ -40,9 +40,9 @@ steps-handed : (l : List Held-step) (r : List ℕ)
 unfolding step-records join
 steps-handed [] r = refl
 steps-handed (s ∷ l) r = ap₂ _∷_
-    (ap (take 8) assoc ∙ take-at (step-bytes s) (later ++ r) 8 (length-step s))
-    (ap (λ x. step-records (length l) (drop 8 x)) assoc
-    ∙ ap (step-records (length l)) (drop-at (step-bytes s) (later ++ r) 8 (length-step s)) ∙ steps-handed l r)
+    (ap (take step-length) assoc ∙ take-at (step-bytes s) (later ++ r) step-length (length-step s))
+    (ap (λ x. step-records (length l) (drop step-length x)) assoc
+    ∙ ap (step-records (length l)) (drop-at (step-bytes s) (later ++ r) step-length (length-step s)) ∙ steps-handed l r)
   where
     later : List ℕ
     later = join (map step-bytes l)

@@ -13,7 +13,7 @@ use Rattle.calculus.specs.Key.{key-width, key-limit, monomial-of}
 use Rattle.calculus.specs.Terms.{every, sum-over, size}
 use Rattle.calculus.specs.Model.{most-terms, span, fits}
 use Rattle.calculus.specs.Tests.{constant-sound, variable-sound, threshold-sound}
-use Rattle.calculus.specs.Book.{Book, model-sound}
+use Rattle.calculus.specs.Book.{last-code, Book, model-sound}
 use Rattle.calculus.specs.TestLaws.{and-left, and-right}
 use Rattle.calculus.specs.MonomialKeyLaws.{fits-below, fits-key}
 use Rattle.calculus.specs.SoundLaws.{Sound, sound-parts}
@@ -65,7 +65,7 @@ term-facts n d t ts l u h = record {
 
 -- ---- the numbers of a step that passes
 pub record Step-facts (s : Held-step) : Type 0 where
-  pub code : s .code ≤ 8
+  pub code : s .code ≤ last-code
   pub a : s .a < 256
   pub b : s .b < 256
   pub v : s .v < 256
@@ -92,7 +92,7 @@ pub step-facts : (b : Book) (i : ℕ) (s : Held-step) → i ≤ 64 → length (b
     → T (held-step-sound b i s) → Step-facts s
 unfolding limit-a limit-b v-sound value-sound key-width
 step-facts b i s li lm ln h = record {
-  code = leb→le (s .code) 8 (p .in-code);
+  code = leb→le (s .code) last-code (p .in-code);
   a = let l = ltb→lt (s .a) _ (p .in-a) in
       let k = at-most (eqb (s .code) 0) (length (b .models)) (cond (leb 3 (s .code)) i 1) 64 (omega arith)
       (at-most (leb 3 (s .code)) i 1 64 li (omega arith)) in omega arith;

@@ -10,7 +10,7 @@ use lib.IntN.{natAbs}
 use lib.ListN.{length, getElem?}
 use Rattle.calculus.specs.Tests.{constant-sound, variable-sound, threshold-sound}
 use Rattle.calculus.specs.Book.{Step, input, constant, variable, negate, add, subtract, multiply, substitute, sweep}
-use Rattle.calculus.specs.Book.{Book, step-sound}
+use Rattle.calculus.specs.Book.{last-code, Book, step-sound}
 use Rattle.calculus.specs.TestLaws.{and-left, and-right, both, same-tests}
 use Rattle.format.specs.HeldBook.{Held-step, Form, form, forms, step-of, view-step, held-step-sound}
 use Rattle.format.specs.Fields.{limit-a, limit-b, v-sound, value-sound, fields-sound}
@@ -192,9 +192,9 @@ module _ (b : Book) (i : ℕ) (s : Held-step) where
         passes = both a-before _ (q .in-a) (q .in-value);
       })
 
-  beyond : 8 < s .code → accepts (step-of none) ≡ fields-sound (b .vars) (length (b .models)) i s
+  beyond : last-code < s .code → accepts (step-of none) ≡ fields-sound (b .vars) (length (b .models)) i s
   unfolding step-of fields-sound
-  beyond l = rw (lt-leb (s .code) 8 l)
+  beyond l = rw (lt-leb (s .code) last-code l)
 
   by-code : (c : ℕ) → s .code ≡ c
       → accepts (step-of (getElem? (forms s) c)) ≡ fields-sound (b .vars) (length (b .models)) i s
@@ -215,9 +215,14 @@ module _ (b : Book) (i : ℕ) (s : Held-step) where
   unfolding held-step-sound view-step
   step-by-fields = by-code (s .code) refl
 
+-- each code has a form, and no other number has one
+pub forms-counted : (s : Held-step) → length (forms s) ≡ suc last-code
+unfolding forms
+forms-counted s = refl
+
 -- what it says of each
 pub record Fields (b : Book) (i : ℕ) (s : Held-step) : Type 0 where
-  pub in-code : T (leb (s .code) 8)
+  pub in-code : T (leb (s .code) last-code)
   pub in-a : T (ltb (s .a) (limit-a (length (b .models)) i (s .code)))
   pub in-b : T (ltb (s .b) (limit-b i (s .code)))
   pub in-v : T (v-sound (b .vars) (s .code) (s .v))
@@ -234,7 +239,7 @@ fields-of b i s h = record {
 }
   where
     code : Bool
-    code = leb (s .code) 8
+    code = leb (s .code) last-code
 
     a : Bool
     a = ltb (s .a) (limit-a (length (b .models)) i (s .code))

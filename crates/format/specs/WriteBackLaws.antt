@@ -1,6 +1,6 @@
 -- What is read is written again.
 use mathlib.Core.Path.{_≡_, refl, sym, _∙_, ap, ap₂, subst}
-use mathlib.Core.Bool.{_&&_}
+use mathlib.Core.Bool.{Bool, _&&_}
 use mathlib.Core.List.{List, [], _∷_, _++_, map, append-assoc, append-nil}
 use Prim.Native.Nat.{ℕ, zero, suc, _+_, _-_, _*_, _≤_}
 use native.Mathlib.Omega.{arith}
@@ -18,6 +18,7 @@ use Rattle.calculus.specs.BookLaws.{between-low}
 use Rattle.format.specs.Bytes.{byte, All-bytes, join, u16, u32, u16-bytes, u32-bytes}
 use Rattle.format.specs.HeldBook.{Held-term, Held-model, Held-step, Held-book, outline, outline-of}
 use Rattle.format.specs.HeldBook.{held-model-sound, held-step-sound, Held-passes}
+use Rattle.format.specs.Format.{head-length, term-length, step-length, trailer-length}
 use Rattle.format.specs.Format.{read-term, read-terms, read-model, model-length, read-models}
 use Rattle.format.specs.Format.{read-step, read-steps}
 use Rattle.format.specs.Format.{Trailer, trailer-of, read-trailer, shortest, longest, read-records, read}
@@ -28,10 +29,11 @@ use Rattle.format.specs.BytesLaws.{write-u16, write-u32}
 use Rattle.format.specs.HeldBookLaws.{held-tested-passes}
 
 -- ---- terms
-term-forth : (s : List ℕ) → All-bytes s → 6 ≤ length s → term-bytes (read-term s) ++ drop 6 s ≡ s
+term-forth : (s : List ℕ) → All-bytes s → term-length ≤ length s
+    → term-bytes (read-term s) ++ drop term-length s ≡ s
 unfolding term-bytes read-term
 term-forth s h l =
-    append-assoc (u16-bytes (u16 s)) _ (drop 6 s)
+    append-assoc (u16-bytes (u16 s)) _ (drop term-length s)
     ∙ ap (λ r. u16-bytes (u16 s) ++ r)
     (ap₂ (λ x r. u32-bytes x ++ r) (bits-signed (u32 (drop 2 s)) (u32-below _ later)) (sym (drop-drop 4 2 s))
     ∙ write-u32 (drop 2 s) later (simp length-drop (omega arith)))
@@ -40,31 +42,32 @@ term-forth s h l =
     later : All-bytes (drop 2 s)
     later = bytes-drop 2 s h
 
-terms-forth : (c : ℕ) (s : List ℕ) → All-bytes s → 6 * c ≤ length s
-    → join (map term-bytes (read-terms c s)) ++ drop (6 * c) s ≡ s
+terms-forth : (c : ℕ) (s : List ℕ) → All-bytes s → term-length * c ≤ length s
+    → join (map term-bytes (read-terms c s)) ++ drop (term-length * c) s ≡ s
 unfolding join read-terms
 terms-forth zero s h l = refl
 terms-forth (suc c) s h l =
-    append-assoc (term-bytes (read-term s)) _ (drop (6 * suc c) s)
+    append-assoc (term-bytes (read-term s)) _ (drop (term-length * suc c) s)
     ∙ ap (λ r. term-bytes (read-term s) ++ r)
-    (ap (λ r. join (map term-bytes (read-terms c (drop 6 s))) ++ r) (sym (drop-more 6 c s))
-    ∙ terms-forth c (drop 6 s) (bytes-drop 6 s h) (simp length-drop (omega arith)))
+    (ap (λ r. join (map term-bytes (read-terms c (drop term-length s))) ++ r) (sym (drop-more term-length c s))
+    ∙ terms-forth c (drop term-length s) (bytes-drop term-length s h) (simp length-drop (omega arith)))
     ∙ term-forth s h (omega arith)
 
 pub length-read-terms : (c : ℕ) (s : List ℕ) → length (read-terms c s) ≡ c
 unfolding read-terms
 length-read-terms zero s = refl
-length-read-terms (suc c) s = ap suc (length-read-terms c (drop 6 s))
+length-read-terms (suc c) s = ap suc (length-read-terms c (drop term-length s))
 
 -- ---- models
 model-forth : (n : ℕ) (s : List ℕ) → All-bytes s → model-length s ≤ length s
     → model-bytes (read-model n s) ++ drop (model-length s) s ≡ s
 unfolding model-bytes read-model model-length
 model-forth n s h l =
-    append-assoc (u32-bytes (u32 s)) (length ts ∷ join (map term-bytes ts)) (drop (5 + 6 * c) s)
+    append-assoc (u32-bytes (u32 s)) (length ts ∷ join (map term-bytes ts)) (drop (head-length + term-length * c) s)
     ∙ ap (λ r. u32-bytes (u32 s) ++ r)
-    (ap₂ (λ x r. x ∷ join (map term-bytes ts) ++ r) (length-read-terms c (drop 5 s)) (sym (drop-drop (6 * c) 5 s))
-    ∙ ap (λ r. c ∷ r) (terms-forth c (drop 5 s) (bytes-drop 5 s h) (simp length-drop (omega arith)))
+    (ap₂ (λ x r. x ∷ join (map term-bytes ts) ++ r) (length-read-terms c (drop head-length s))
+    (sym (drop-drop (term-length * c) head-length s))
+    ∙ ap (λ r. c ∷ r) (terms-forth c (drop head-length s) (bytes-drop head-length s h) (simp length-drop (omega arith)))
     ∙ sym (drop-cons s 4 0 (omega arith)))
     ∙ write-u32 s h (omega arith)
   where
@@ -72,7 +75,7 @@ model-forth n s h l =
     c = byte 4 s
 
     ts : List Held-term
-    ts = read-terms (byte 4 s) (drop 5 s)
+    ts = read-terms (byte 4 s) (drop head-length s)
 
 -- what a reading of c models has found, after those before
 record Found (b : Book) (i c : ℕ) (before ms : List Held-model) (s : List ℕ) : Type 0 where
@@ -116,7 +119,8 @@ models-forth b i (suc c) before ms s h =
     one-more b i c before ms s (p .test) (models-forth b (suc i) c _ ms _ (p .result))
 
 -- ---- steps
-step-forth : (s : List ℕ) → All-bytes s → 8 ≤ length s → step-bytes (read-step s) ++ drop 8 s ≡ s
+step-forth : (s : List ℕ) → All-bytes s → step-length ≤ length s
+    → step-bytes (read-step s) ++ drop step-length s ≡ s
 unfolding step-bytes read-step
 step-forth s h l =
     ap (λ r. byte 0 s ∷ byte 1 s ∷ byte 2 s ∷ byte 3 s ∷ r)
@@ -127,24 +131,24 @@ step-forth s h l =
     later : All-bytes (drop 4 s)
     later = bytes-drop 4 s h
 
-pub steps-forth : (c : ℕ) (s : List ℕ) → All-bytes s → 8 * c ≤ length s
-    → join (map step-bytes (read-steps c s)) ++ drop (8 * c) s ≡ s
+pub steps-forth : (c : ℕ) (s : List ℕ) → All-bytes s → step-length * c ≤ length s
+    → join (map step-bytes (read-steps c s)) ++ drop (step-length * c) s ≡ s
 unfolding join read-steps
 steps-forth zero s h l = refl
 steps-forth (suc c) s h l =
-    append-assoc (step-bytes (read-step s)) _ (drop (8 * suc c) s)
+    append-assoc (step-bytes (read-step s)) _ (drop (step-length * suc c) s)
     ∙ ap (λ r. step-bytes (read-step s) ++ r)
-    (ap (λ r. join (map step-bytes (read-steps c (drop 8 s))) ++ r) (sym (drop-more 8 c s))
-    ∙ steps-forth c (drop 8 s) (bytes-drop 8 s h) (simp length-drop (omega arith)))
+    (ap (λ r. join (map step-bytes (read-steps c (drop step-length s))) ++ r) (sym (drop-more step-length c s))
+    ∙ steps-forth c (drop step-length s) (bytes-drop step-length s h) (simp length-drop (omega arith)))
     ∙ step-forth s h (omega arith)
 
 pub length-read-steps : (c : ℕ) (s : List ℕ) → length (read-steps c s) ≡ c
 unfolding read-steps
 length-read-steps zero s = refl
-length-read-steps (suc c) s = ap suc (length-read-steps c (drop 8 s))
+length-read-steps (suc c) s = ap suc (length-read-steps c (drop step-length s))
 
 -- ---- the trailer
-trailer-forth : (t : List ℕ) → All-bytes t → length t ≡ 8 → byte 6 t ≡ 0x4D → byte 7 t ≡ 0x4B
+trailer-forth : (t : List ℕ) → All-bytes t → length t ≡ trailer-length → byte 6 t ≡ 0x4D → byte 7 t ≡ 0x4B
     → byte 0 t ∷ byte 1 t ∷ byte 2 t ∷ byte 3 t ∷ (u16-bytes (u16 (drop 4 t)) ++ (0x4D ∷ 0x4B ∷ [])) ≡ t
 trailer-forth t h l p q =
     ap (λ r. byte 0 t ∷ byte 1 t ∷ byte 2 t ∷ byte 3 t ∷ r)
@@ -197,12 +201,15 @@ module _ (s : List ℕ) (h : Held-book) (e : read s ≡ done h) where
   abbrev rest₄ : Result Held-book
   rest₄ = read-models o [] (t .models) (take (t .offset) s) followed-by rest₅
 
-  test₃ : Passed (limits-sound o) (require-at 0 (eqb (t .offset + 8 * t .steps + 8) (length s)) bad-offset rest₄) h
+  abbrev whole : Bool
+  whole = eqb (t .offset + step-length * t .steps + trailer-length) (length s)
+
+  test₃ : Passed (limits-sound o) (require-at 0 whole bad-offset rest₄) h
   unfolding read-records
   test₃ = passed-at 0 (limits-sound o) bad-limits _ h (test₂ .result)
 
-  test₄ : Passed (eqb (t .offset + 8 * t .steps + 8) (length s)) rest₄ h
-  test₄ = passed-at 0 (eqb (t .offset + 8 * t .steps + 8) (length s)) bad-offset _ h (test₃ .result)
+  test₄ : Passed whole rest₄ h
+  test₄ = passed-at 0 whole bad-offset _ h (test₃ .result)
 
   test₅ : Came (read-models o [] (t .models) (take (t .offset) s)) rest₅ h
   test₅ = came _ rest₅ h (test₄ .result)
@@ -236,19 +243,19 @@ module _ (s : List ℕ) (h : Held-book) (e : read s ≡ done h) where
   pub read-passes : Held-passes h
   read-passes = subst Held-passes is-book book-passes
 
-  offset-is : t .offset + 8 * t .steps + 8 ≡ length s
+  offset-is : t .offset + step-length * t .steps + trailer-length ≡ length s
   offset-is = eqb→eq _ (length s) (test₄ .test)
 
-  trailer-length : length (trailer-of s) ≡ 8
+  trailer-whole : length (trailer-of s) ≡ trailer-length
   unfolding trailer-of shortest
-  trailer-length = simp length-drop (omega (arith, between-low shortest longest (length s) (test₁ .test)))
+  trailer-whole = simp length-drop (omega (arith, between-low shortest longest (length s) (test₁ .test)))
 
   -- the trailer stands behind the steps
-  trailer-at : trailer-of s ≡ drop (8 * t .steps) (drop (t .offset) s)
+  trailer-at : trailer-of s ≡ drop (step-length * t .steps) (drop (t .offset) s)
   unfolding trailer-of
-  trailer-at = ap (λ i. drop i s) ends ∙ sym (drop-drop (8 * t .steps) (t .offset) s)
+  trailer-at = ap (λ i. drop i s) ends ∙ sym (drop-drop (step-length * t .steps) (t .offset) s)
     where
-      ends : length s - 8 ≡ t .offset + 8 * t .steps
+      ends : length s - trailer-length ≡ t .offset + step-length * t .steps
       ends = omega (arith, offset-is)
 
   module _ (y : All-bytes s) where
@@ -263,7 +270,7 @@ module _ (s : List ℕ) (h : Held-book) (e : read s ≡ done h) where
         (ap length (found .all) ∙ found .many) (length-read-steps (t .steps) (drop (t .offset) s))
         ∙ ap (λ x. t .n ∷ t .d ∷ t .models ∷ t .steps ∷ (u16-bytes x ++ (0x4D ∷ 0x4B ∷ [])))
         (ap length models-same ∙ length-take-le (t .offset) s (omega (arith, offset-is)))
-        ∙ trailer-forth (trailer-of s) (unfold trailer-of in bytes-drop (length s - 8) s y) trailer-length
+        ∙ trailer-forth (trailer-of s) (unfold trailer-of in bytes-drop (length s - trailer-length) s y) trailer-whole
         (eqb→eq _ 0x4D (and-left (eqb (byte 6 (trailer-of s)) 0x4D) _ (test₂ .test)))
         (eqb→eq _ 0x4B (and-right (eqb (byte 6 (trailer-of s)) 0x4D) _ (test₂ .test)))
 

@@ -1,4 +1,6 @@
 pub mod Sheet
+pub mod Stepping
+pub mod SteppingLaws
 pub mod Refuted
 pub mod SheetLaws
 pub mod RefutedLaws

@@ -16,13 +16,13 @@ use Rattle.calculus.specs.Refusal.{Refusal, bad-length, too-many-terms, Answer,
 use Rattle.calculus.specs.Refusal.{at-place, _followed-by_}
 use Rattle.calculus.specs.Book as B
 use Rattle.calculus.specs.Book.{Step, input, constant, variable, negate, add, subtract, multiply, substitute, sweep}
-use Rattle.calculus.specs.Book.{Book, model-of, result-of, run-step, run-steps, last, summary, returned-summary}
+use Rattle.calculus.specs.Book.{operands, Book, model-of, result-of, run-step, run-steps, last, summary, returned-summary}
 use Rattle.model_types.specs.declared.Verdict.the-variants.{Accepted}
 use Rattle.model_types.specs.ModelStruct.{view, verdict-number, verdict-place}
 use Rattle.format.specs.HeldBook.{Held-book, view-book}
 use Rattle.format.specs.Format.{read, run-sheet}
-use Rattle.sheet_summary.specs.declared.Summary.{Summary}
-use Rattle.sheet_summary.specs.Summary.{run-answer}
+use Rattle.sheet_book.specs.declared.Summary.{Summary}
+use Rattle.sheet_book.specs.SummaryStruct.{run-answer}
 use Rattle.sheet.specs.Sheet.{Exact, Encloses}
 
 -- ---- programs and the clauses of the contract
@@ -60,18 +60,6 @@ pub record Accepted-sheet : Type 0 where
 -- its book
 abbrev pub book-of : Accepted-sheet → Book
 book-of at = view-book (at .held)
-
--- the earlier steps that a step names
-unfoldable pub operands : Step → List ℕ
-operands (input a) = []
-operands (constant value) = []
-operands (variable v) = []
-operands (negate a) = a ∷ []
-operands (add a b) = a ∷ b ∷ []
-operands (subtract a b) = a ∷ b ∷ []
-operands (multiply a b) = a ∷ b ∷ []
-operands (substitute a b v) = a ∷ b ∷ []
-operands (sweep a value) = a ∷ []
 
 -- those of the last step; test 3 keeps the default out of reach
 unfoldable pub last-operands : Book → List ℕ

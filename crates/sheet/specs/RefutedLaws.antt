@@ -40,8 +40,8 @@ use Rattle.format.specs.Format.{read, run-sheet}
 use Rattle.format.specs.Computing.{reads}
 use Rattle.format.specs.Samples.{hex, sheet-forms}
 use Rattle.format.specs.SheetClaim.{Sheet-claim}
-use Rattle.sheet_summary.specs.declared.Summary.{Summary}
-use Rattle.sheet_summary.specs.Summary.{stored-ends, ends-of, summary-of, refused-summary, run-answer}
+use Rattle.sheet_book.specs.declared.Summary.{Summary}
+use Rattle.sheet_book.specs.SummaryStruct.{stored-ends, ends-of, summary-of, refused-summary, run-answer}
 use Rattle.sheet_summary.specs.SummaryLaws.{answer-number}
 use Rattle.sheet_running.specs.RunLaws.{in-limits-of}
 use Rattle.sheet.specs.Sheet.{Encloses}

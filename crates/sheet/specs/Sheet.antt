@@ -9,8 +9,8 @@ use Rattle.calculus.specs.Claim.{Claim}
 use Rattle.format.specs.HeldBook.{Held-book, view-book, held-tested}
 use Rattle.format.specs.Format.{run-sheet}
 use Rattle.format.specs.SheetClaim.{Sheet-claim}
-use Rattle.sheet_summary.specs.declared.Summary.{Summary}
-use Rattle.sheet_summary.specs.Summary.{run-answer, summary-of}
+use Rattle.sheet_book.specs.declared.Summary.{Summary}
+use Rattle.sheet_book.specs.SummaryStruct.{run-answer, summary-of}
 
 -- ---- the run
 -- the run of a book in memory: tests 3, 5 and 6, then the steps

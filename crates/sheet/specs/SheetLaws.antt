@@ -30,9 +30,9 @@ use Rattle.sheet_book.specs.declared.Book.{Book}
 use Rattle.sheet_book.specs.BookStruct.{held-book, read-answer, book-verdict}
 use Rattle.sheet_book.specs.BookStructLaws.{held-stored}
 use Rattle.sheet_book.specs.TestedLaws.{verdict-hands-on, verdict-refused}
-use Rattle.sheet_summary.specs.declared.Summary.{Summary}
-use Rattle.sheet_summary.specs.Summary.{refused-summary, run-answer, summary-of}
-use Rattle.sheet_summary.specs.SummaryLaws.{summary-back}
+use Rattle.sheet_book.specs.declared.Summary.{Summary}
+use Rattle.sheet_book.specs.SummaryStruct.{refused-summary, run-answer, summary-of}
+use Rattle.sheet_book.specs.SummaryStructLaws.{summary-back}
 use Rattle.sheet.specs.Sheet.{run-held, Encloses, Encloses-book}
 use Rattle.model.specs.OperationLaws.{sound-order}
 use Rattle.sheet_running.specs.Running.{last-result}

@@ -1,18 +1,40 @@
-// The run of a sheet or a book: its steps in order, then the last result with its range and its integral.
+// Sheets: read, written, stepped through record by record, and run. Each function takes anything, whatever the bytes or
+// the fields hold. The run of a sheet or a book is made here: its steps in order, then the last result with its range
+// and its integral.
 ghost use mathlib.Core.Path.{_≡_};
 ghost use Rattle.calculus.specs.Book.{«run-sound»};
 ghost use Rattle.format.specs.HeldBook.{«view-book», «Held-passes»};
 ghost use Rattle.sheet_book.specs.BookStruct.{«held-book»};
-ghost use Rattle.sheet_summary.specs.Summary.{«run-answer»};
+ghost use Rattle.sheet_book.specs.SummaryStruct.{«run-answer»};
 ghost use Rattle.sheet.specs.Sheet.{Exact, «Exact-book», Encloses, «Encloses-book»};
 pub use model_types::Model;
 pub use model_types::Refusal;
 pub use model_types::Term;
 pub use model_types::Verdict;
 pub use sheet_book::Book;
+pub use sheet_book::Ends;
+pub use sheet_book::Read;
 pub use sheet_book::Step;
-pub use sheet_summary::Ends;
-pub use sheet_summary::Summary;
+pub use sheet_book::Summary;
+pub use sheet_book::Written;
+pub use sheet_records::Kind;
+pub use sheet_records::Opened;
+pub use sheet_records::Records;
+
+// ---- reading, writing and stepping: made in rooms of their own
+// A sheet's book, or the first refusal of tests 1 to 6 in their order, with a book of zeros.
+pub use sheet_reader::read;
+// A book's sheet at the start of a lent buffer, its length answered; tests 3, 5, 6 and 11 come first, and a refused
+// write changes no byte.
+pub use sheet_writer::write;
+// Tests 1 to 6, and the sheet at its first record: `next` hands out one record after the other, after the last none.
+pub use sheet_records::open;
+// The bytes of record i, counted from 0: empty where there is none.
+pub use sheet_records::record;
+// How many records there are: none of a refused sheet.
+pub use sheet_records::record_count;
+
+// ---- the run
 
 // The run of a book that passed the tests: its last result with range and integral, or the refusal of a step.
 fn run_passed(b: Book) -> Summary

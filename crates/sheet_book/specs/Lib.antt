@@ -8,3 +8,5 @@ pub mod Cleared
 pub mod UndoLaws
 pub mod Zeros
 pub mod ZeroLaws
+pub mod SummaryStruct
+pub mod SummaryStructLaws

@@ -1,4 +1,5 @@
-// Books held in memory: their types, test 3, and test 6 of one step.
+// The types of the sheet layer: books held in memory, and what reading, writing and a run answer; test 3, and test 6 of
+// one step.
 ghost use mathlib.Core.Path.{_≡_};
 ghost use Rattle.calculus.specs.Book.{«limits-sound»};
 ghost use Rattle.format.specs.HeldBook.{outline};
@@ -14,7 +15,7 @@ pub const MOST_MODELS: usize = 16;
 // The places of its steps.
 pub const MOST_STEPS: usize = 64;
 
-// The codes of steps: 0 to this.
+// The codes of steps: 0 to this, which is `last-code`.
 const LAST_CODE: u8 = 8;
 
 // A step: its code and its fields.
@@ -48,6 +49,20 @@ pub struct Written {
     pub verdict: Verdict,
 }
 
+// Two ends, in units of 1/U.
+pub struct Ends {
+    pub low: i64,
+    pub high: i64,
+}
+
+// The last step's result, its range and its integral; or the zero model and ends 0 beside a refusal.
+pub struct Summary {
+    pub model: Model,
+    pub range: Ends,
+    pub integral: Ends,
+    pub verdict: Verdict,
+}
+
 // What stands in a model's place that is not used: zeros, also for n.
 pub const NO_MODEL: Model = Model {
     n: 0,
@@ -65,6 +80,11 @@ impl Step {
         v: 0,
         value: 0,
     };
+}
+
+impl Ends {
+    // The ends beside a refusal.
+    pub const ZERO: Ends = Ends { low: 0, high: 0 };
 }
 
 // ---- test 3

@@ -3,6 +3,7 @@ ghost use mathlib.Core.Path.{_≡_};
 ghost use Prim.Native.Nat.{_+_, _≤_, _<_};
 ghost use lib.ListN.{length, drop};
 ghost use Rattle.format.specs.Bytes.{byte, u16, u32, signed};
+ghost use Rattle.format.specs.Format.{«term-length», «step-length», «trailer-length»};
 ghost use Rattle.format.specs.Format.{«read-term», «read-step», «read-trailer»};
 ghost use Rattle.sheet_book.specs.BookStruct.{«stored-term», «stored-step»};
 ghost use Rattle.sheet_decode.specs.Trailer.{«stored-trailer»};
@@ -77,7 +78,7 @@ fn signed_at(s: &[u8], at: usize) -> i64
 
 // A term: key and coefficient.
 pub fn term_at(s: &[u8], at: usize) -> Term
-    requires { ⌜ at + 6 ≤ length (now s) ⌝ }
+    requires { ⌜ at + term-length ≤ length (now s) ⌝ }
     ensures { λ r. ⌜ r ≡ stored-term (read-term (drop at (now (s .entry)))) ⌝ }
 {
     Term {
@@ -88,7 +89,7 @@ pub fn term_at(s: &[u8], at: usize) -> Term
 
 // A step: code, a, b, v and value.
 pub fn step_at(s: &[u8], at: usize) -> Step
-    requires { ⌜ at + 8 ≤ length (now s) ⌝ }
+    requires { ⌜ at + step-length ≤ length (now s) ⌝ }
     ensures { λ r. ⌜ r ≡ stored-step (read-step (drop at (now (s .entry)))) ⌝ }
 {
     Step {
@@ -102,7 +103,7 @@ pub fn step_at(s: &[u8], at: usize) -> Step
 
 // Whether the mark stands in the last two bytes of a trailer.
 fn marked_at(s: &[u8], at: usize) -> bool
-    requires { ⌜ at + 8 ≤ length (now s) ⌝ }
+    requires { ⌜ at + trailer-length ≤ length (now s) ⌝ }
     ensures { λ r. ⌜ r ≡ read-trailer (drop at (now (s .entry))) .marked ⌝ }
 {
     if byte_at(s, at + 6) != format::FIRST_MARK {
@@ -113,7 +114,7 @@ fn marked_at(s: &[u8], at: usize) -> bool
 
 // A trailer.
 pub fn trailer_at(s: &[u8], at: usize) -> Trailer
-    requires { ⌜ at + 8 ≤ length (now s) ⌝ }
+    requires { ⌜ at + trailer-length ≤ length (now s) ⌝ }
     ensures { λ r. ⌜ r ≡ stored-trailer (read-trailer (drop at (now (s .entry)))) ⌝ }
 {
     Trailer {

@@ -7,7 +7,7 @@ use lib.ListN.{length, getD}
 use Rattle.model_types.specs.declared.Term.{Term}
 use Rattle.model_types.specs.declared.Model.{Model}
 use Rattle.model_types.specs.ModelStruct.{zero-term}
-use Rattle.format.specs.Format.{model-bytes}
+use Rattle.format.specs.Format.{head-length, term-length, model-bytes}
 use Rattle.format.specs.ReadBackLaws.{length-model}
 use Rattle.sheet_book.specs.BookStruct.{held-term, held-model}
 use Rattle.sheet_book.specs.FailingLaws.{length-held, held-at}
@@ -18,7 +18,7 @@ module _ (m : Model) where
   unfolding held-model
   count-terms = length-held zero-term held-term (m .count) (m .terms)
 
-  pub length-record : length (model-bytes (held-model m)) ≡ 5 + 6 * m .count
+  pub length-record : length (model-bytes (held-model m)) ≡ head-length + term-length * m .count
   length-record = omega (arith, length-model (held-model m), count-terms)
 
   pub term-at : (i : ℕ) (x : Term) → i < m .count → m .count ≤ length (m .terms)

@@ -3,3 +3,5 @@ pub mod BitsLaws
 pub mod RecordLoopLaws
 pub mod StoreLaws
 pub mod FittingLaws
+pub mod SectionFittingLaws
+pub mod TrailerStoreLaws

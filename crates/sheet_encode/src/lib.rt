@@ -1,20 +1,25 @@
-// One record of a sheet put into a lent buffer: its fields one behind the other, numbers little-endian.
+// A sheet put into a lent buffer, one function for each part: its records, their fields one behind the other, numbers
+// little-endian; and its sections, all models, all steps and the trailer.
 ghost use mathlib.Core.Path.{_≡_};
-ghost use Prim.Native.Nat.{_+_, _^_, _<_, _≤_};
+ghost use Prim.Native.Nat.{_+_, _*_, _^_, _<_, _≤_};
+ghost use mathlib.Core.List.{map};
 ghost use lib.IntN.{natAbs};
 ghost use lib.ListN.{length};
 ghost use lib.Seq.{sets};
-ghost use Rattle.format.specs.Bytes.{«u16-bytes», «u32-bytes», bits};
-ghost use Rattle.format.specs.Format.{«term-bytes», «model-bytes», «step-bytes»};
-ghost use Rattle.sheet_book.specs.BookStruct.{«held-model», «held-step»};
+ghost use Rattle.format.specs.Bytes.{join, «u16-bytes», «u32-bytes», bits};
+ghost use Rattle.format.specs.Format.{«term-length», «step-length», «trailer-length»};
+ghost use Rattle.format.specs.Format.{«term-bytes», «model-bytes», «step-bytes», «models-bytes», «trailer-bytes»};
+ghost use Rattle.format.specs.HeldBook.{Held-passes};
+ghost use Rattle.sheet_book.specs.BookStruct.{«held-model», «held-step», «held-book»};
 ghost use Rattle.sheet_encode.specs.Fitting.{Model-fits};
 use model_types::Model;
+use sheet_book::Book;
 use sheet_book::Step;
 
 // ---- numbers, little-endian; the rest of the buffer stays
 
 // Two bytes.
-pub fn put_u16(buffer: &mut [u8], at: usize, x: u16)
+fn put_u16(buffer: &mut [u8], at: usize, x: u16)
     requires { ⌜ at + 2 ≤ length (now buffer) ⌝ }
     ensures { λ r. ⌜ now (buffer .exit) ≡ sets (now (buffer .entry)) at (u16-bytes x) ⌝ }
 {
@@ -61,7 +66,7 @@ fn put_i32(buffer: &mut [u8], at: usize, z: i64)
 // A term.
 fn put_term(buffer: &mut [u8], at: usize, key: u16, coefficient: i64)
     requires { ⌜ natAbs coefficient < 2 ^ 31 ⌝ }
-    requires { ⌜ at + 6 ≤ length (now buffer) ⌝ }
+    requires { ⌜ at + term-length ≤ length (now buffer) ⌝ }
     ensures { λ r. ⌜ now (buffer .exit)
         ≡ sets (now (buffer .entry)) at (term-bytes (record { key = key; coefficient = coefficient })) ⌝ }
 {
@@ -70,7 +75,7 @@ fn put_term(buffer: &mut [u8], at: usize, key: u16, coefficient: i64)
 }
 
 // A model.
-pub fn put_model(buffer: &mut [u8], at: usize, m: Model)
+fn put_model(buffer: &mut [u8], at: usize, m: Model)
     requires { ⌜ Model-fits (held-model m) ⌝ }
     requires { ⌜ at + length (model-bytes (held-model m)) ≤ length (now buffer) ⌝ }
     ensures { λ r. ⌜ now (buffer .exit) ≡ sets (now (buffer .entry)) at (model-bytes (held-model m)) ⌝ }
@@ -89,7 +94,7 @@ pub fn put_model(buffer: &mut [u8], at: usize, m: Model)
 }
 
 // The length of a model's record.
-pub fn model_size(m: Model) -> usize
+fn model_size(m: Model) -> usize
     requires { ⌜ Model-fits (held-model m) ⌝ }
     ensures { λ r. ⌜ r ≡ length (model-bytes (held-model m)) ⌝ }
 {
@@ -97,9 +102,9 @@ pub fn model_size(m: Model) -> usize
 }
 
 // A step.
-pub fn put_step(buffer: &mut [u8], at: usize, s: Step)
+fn put_step(buffer: &mut [u8], at: usize, s: Step)
     requires { ⌜ natAbs (s .value) < 2 ^ 31 ⌝ }
-    requires { ⌜ at + 8 ≤ length (now buffer) ⌝ }
+    requires { ⌜ at + step-length ≤ length (now buffer) ⌝ }
     ensures { λ r. ⌜ now (buffer .exit) ≡ sets (now (buffer .entry)) at (step-bytes (held-step s)) ⌝ }
 {
     buffer[at] = s.code;
@@ -107,4 +112,73 @@ pub fn put_step(buffer: &mut [u8], at: usize, s: Step)
     buffer[at + 2] = s.b;
     buffer[at + 3] = s.v;
     put_i32(buffer, at + 4, s.value);
+}
+
+// ---- the sections of a book that passed the tests
+
+// The length of all models' records: the offset of the first step.
+pub fn models_size(b: Book) -> usize
+    requires { ⌜ Held-passes (held-book b) ⌝ }
+    ensures { λ r. ⌜ r ≡ length (models-bytes (held-book b)) ⌝ }
+{
+    let count = b.model_count;
+    let mut size = 0;
+    let mut k = 0;
+    while k < count {
+        let m = b.models[k];
+        size += model_size(m);
+        k += 1;
+    }
+    size
+}
+
+// All models, from the start on.
+pub fn put_models(buffer: &mut [u8], b: Book)
+    requires { ⌜ Held-passes (held-book b) ⌝ }
+    requires { ⌜ length (models-bytes (held-book b)) ≤ length (now buffer) ⌝ }
+    ensures { λ r. ⌜ now (buffer .exit) ≡ sets (now (buffer .entry)) 0 (models-bytes (held-book b)) ⌝ }
+{
+    let count = b.model_count;
+    let mut place = 0;
+    let mut k = 0;
+    while k < count {
+        let m = b.models[k];
+        put_model(buffer, place, m);
+        place += model_size(m);
+        k += 1;
+    }
+}
+
+// All steps.
+pub fn put_steps(buffer: &mut [u8], at: usize, b: Book)
+    requires { ⌜ Held-passes (held-book b) ⌝ }
+    requires { ⌜ at + step-length * b .«step_count» ≤ length (now buffer) ⌝ }
+    ensures { λ r. ⌜ now (buffer .exit)
+        ≡ sets (now (buffer .entry)) at (join (map step-bytes (held-book b .steps))) ⌝ }
+{
+    let count = b.step_count;
+    let mut place = at;
+    let mut k = 0;
+    while k < count {
+        let s = b.steps[k];
+        put_step(buffer, place, s);
+        place += format::STEP_BYTES;
+        k += 1;
+    }
+}
+
+// The trailer: n, d, the counts, the offset of the first step and the mark.
+pub fn put_trailer(buffer: &mut [u8], at: usize, b: Book, offset: usize)
+    requires { ⌜ Held-passes (held-book b) ⌝ }
+    requires { ⌜ offset ≡ length (models-bytes (held-book b)) ⌝ }
+    requires { ⌜ at + trailer-length ≤ length (now buffer) ⌝ }
+    ensures { λ r. ⌜ now (buffer .exit) ≡ sets (now (buffer .entry)) at (trailer-bytes (held-book b)) ⌝ }
+{
+    buffer[at] = b.n;
+    buffer[at + 1] = b.d;
+    buffer[at + 2] = b.model_count as u8;
+    buffer[at + 3] = b.step_count as u8;
+    put_u16(buffer, at + 4, offset as u16);
+    buffer[at + 6] = format::FIRST_MARK;
+    buffer[at + 7] = format::SECOND_MARK;
 }

@@ -1,10 +1,10 @@
 -- The arrays of a book in memory, place by place: its steps and its models are those of the held book.
 use mathlib.Core.Path.{_≡_, sym, _∙_, ap}
 use mathlib.Core.List.{List, map}
-use Prim.Native.Nat.{ℕ, _<_, _≤_, min}
+use Prim.Native.Nat.{ℕ, _-_, _<_, _≤_, min}
 use native.Mathlib.Omega.{arith}
 use lib.ListN.{length, getD, length-map, List·getD-map}
-use Rattle.calculus.specs.Book.{model-of}
+use Rattle.calculus.specs.Book.{most-models, model-of}
 use Rattle.model_types.specs.declared.Model.{Model}
 use Rattle.model_types.specs.ModelStruct.{view}
 use Rattle.format.specs.HeldBook.{view-model, view-book, Held-passes}
@@ -37,10 +37,10 @@ module _ (b : Book) (p : Held-passes (held-book b)) where
 
   -- the model at a place
   pub model-here : length (b .models) ≡ 16 → (a : ℕ) (x : Model) → a < length (held-book b .models)
-      → view (getD (b .models) (min a 15) x) ≡ model-of (view-book (held-book b)) a
-  unfolding model-of view-book
+      → view (getD (b .models) (min a (most-models - 1)) x) ≡ model-of (view-book (held-book b)) a
+  unfolding model-of view-book most-models
   model-here w a x l =
-      let e : min a 15 ≡ a = omega (arith, count-models b, few-models) in
+      let e : min a (most-models - 1) ≡ a = omega (arith, count-models b, few-models) in
       ap (λ i. view (getD (b .models) i x)) e
       ∙ sym (view-held-model (getD (b .models) a x))
       ∙ ap view-model (sym at)

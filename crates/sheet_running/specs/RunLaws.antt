@@ -19,7 +19,7 @@ use Rattle.calculus.specs.TestLaws.{and-right}
 use Rattle.calculus.specs.Refusal.{all-from}
 use Rattle.calculus.specs.SoundLaws.{Sound, zero-sound}
 use Rattle.calculus.specs.EachLaws.{All, nil, each-snoc, each-at, each-last}
-use Rattle.calculus.specs.Book.{Step, input, Book, most-steps, model-sound, step-sound}
+use Rattle.calculus.specs.Book.{Step, input, last-code, Book, most-steps, model-sound, step-sound}
 use Rattle.calculus.specs.Book.{model-of, result-of, run-step, run-steps, last}
 use Rattle.calculus.specs.BookLaws.{Passes, model-passes, all-from-at, next-number}
 use Rattle.calculus.specs.BookSoundLaws.{step-good}
@@ -37,8 +37,7 @@ use Rattle.format.specs.HeldBook.{held-step-sound, Held-passes}
 use Rattle.format.specs.HeldBookLaws.{In-limits, in-limits, steps-pass, view-at, view-passes}
 use Rattle.format.specs.Fields.{limit-a, limit-b, v-sound}
 use Rattle.format.specs.StepFieldLaws.{Fields, fields-of}
-use Rattle.sheet_direct.specs.Direct.{step-answer}
-use Rattle.sheet_steps.specs.Steps.{Step-ready}
+use Rattle.sheet_steps.specs.Steps.{step-answer, Step-ready}
 use Rattle.sheet_steps.specs.StepLaws.{step-is}
 use Rattle.sheet_step_answers.specs.Answers.{accepted-answer, refused-answer, verdict-at}
 use Rattle.sheet_running.specs.Running.{last-result}
@@ -234,7 +233,7 @@ module _ {h : Held-book} (p : Held-passes h) where
       step-ready = record {
         vars = vars;
         order = order;
-        code = leb→le (s .code) 8 (fields .in-code);
+        code = leb→le (s .code) last-code (fields .in-code);
         variable = in-variable;
         input = input-passes;
         first = held-sound vars order first-held;
@@ -267,7 +266,7 @@ module _ {h : Held-book} (p : Held-passes h) where
         is-given = e ∙ ap (λ a. answer (at-place 0 a))
             (ap₂ (step-answer (h .n) (h .d) s (view m)) (held-view vars order first-held)
             (held-view vars order second-held)
-            ∙ step-is book result s step-at stands (view m) (o .is-model))
+            ∙ step-is book result s step-at (view m) stands (o .is-model))
 
         -- it is refused, and with it the run, at the number of the step
         pub step-refused : {x : Refusal} {y : ℕ} → r .verdict ≡ Refused x y

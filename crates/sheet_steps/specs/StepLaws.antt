@@ -1,28 +1,30 @@
--- Laws of one step: what it asks is what its operation asks, and what its code gives is what the book's step gives.
+-- Laws of one step: what it asks is what its operation asks, what its operation answers is what its code gives, and
+-- that is what the book's step gives.
 use mathlib.Core.Path.{_≡_, refl, sym, _∙_, ap, subst}
 use mathlib.Core.Bool.{Bool, true, false}
 use mathlib.Core.Option.{Option, some, none}
 use Prim.Native.Nat.{ℕ, zero, suc, _≤_}
 use native.Mathlib.Omega.{arith}
 use lib.Dec.{T, eqb}
-use lib.ListN.{getD, getElem?}
+use lib.ListN.{getElem?}
 use Rattle.calculus.specs.Model as C
 use Rattle.calculus.specs.Model.{most-degree, sound}
-use Rattle.calculus.specs.Refusal.{accepted}
+use Rattle.calculus.specs.Refusal as R
+use Rattle.calculus.specs.Refusal.{accepted, at-place}
 use Rattle.calculus.specs.Tests.{variable-sound}
 use Rattle.calculus.specs.BookLaws.{between-low, between-high}
 use Rattle.calculus.specs.Book.{Step, Book, model-of, run-step}
 use Rattle.model_types.specs.declared.Model.{Model}
-use Rattle.model_types.specs.ModelStruct.{view}
+use Rattle.model_types.specs.declared.Answer.{Answer}
+use Rattle.model_types.specs.ModelStruct.{view, pack, answer}
 use Rattle.model_types.specs.ModelStructLaws.{vars-range}
-use Rattle.model.specs.OperationContracts.{Operands}
-use Rattle.model.specs.OperationContracts.{Factors}
-use Rattle.model.specs.OperationContracts.{Substitution}
+use Rattle.model.specs.OperationContracts.{Operands, Factors, Substitution}
 use Rattle.model.specs.OperationLaws.{sound-order}
 use Rattle.format.specs.HeldBook.{Held-step, Form, forms, step-of, view-step}
 use Rattle.format.specs.Fields.{v-sound}
-use Rattle.sheet_direct.specs.Direct.{step-answers, step-answer, Direct-ready}
-use Rattle.sheet_steps.specs.Steps.{Step-ready}
+use Rattle.sheet_step_answers.specs.Answers.{accepted-answer}
+use Rattle.sheet_steps.specs.Steps.{one-model, two-results, renumbered, form-answer, code-answer, step-answer}
+use Rattle.sheet_steps.specs.Steps.{Step-ready, Direct-ready}
 
 -- ---- what the operations ask
 module _ {n d : ℕ} {s : Held-step} {m f g : Model} (r : Step-ready n d s m f g) where
@@ -78,7 +80,34 @@ module _ {n d : ℕ} {s : Held-step} {m f g : Model} (r : Step-ready n d s m f g
     operands = operands;
   }
 
--- ---- what a step gives
+-- ---- from the answer of an operation to that of the step whose code names it
+-- what opens for facts about a code
+unfoldable pub codes : Unit {0}
+unfolding forms renumbered one-model two-results form-answer code-answer run-step model-of
+codes = tt
+
+module _ (n d : ℕ) (s : Held-step) (m f g : Model) where
+  -- what the step gives
+  abbrev given : R.Answer C.Model
+  given = step-answer n d s (view m) (view f) (view g)
+
+  -- by its code
+  gives : (c : ℕ) → s .code ≡ c → given ≡ code-answer n d s (view m) (view f) (view g) c
+  unfolding step-answer
+  gives c e = ap (code-answer n d s (view m) (view f) (view g)) e
+
+  -- an operation that cannot be refused
+  pub accepted-is : {r : Answer} {h : Model} (c : ℕ) (k : C.Model) → r ≡ accepted-answer h → h ≡ pack k → s .code ≡ c
+      → code-answer n d s (view m) (view f) (view g) c ≡ accepted k → r ≡ answer (at-place 0 given)
+  unfolding answer at-place
+  accepted-is c k e q i h = e ∙ ap accepted-answer q ∙ sym (ap (λ a. answer (at-place 0 a)) (gives c i ∙ h))
+
+  -- one that can
+  pub answered-is : {r : Answer} (c : ℕ) (a : R.Answer C.Model) → r ≡ answer (at-place 0 a) → s .code ≡ c
+      → code-answer n d s (view m) (view f) (view g) c ≡ a → r ≡ answer (at-place 0 given)
+  answered-is c a e i h = e ∙ sym (ap (λ a. answer (at-place 0 a)) (gives c i ∙ h))
+
+-- ---- what the code of a step gives is what the step of the book gives
 -- a form that gives a step gives its own
 form-step : (f : Form) (t : Step) → step-of (some f) ≡ some t → f .step ≡ t
 unfolding step-of
@@ -88,35 +117,27 @@ form-step f t e = go (eqb (f .unnamed) 0) e
     go true e = cc
     go false e = let z : _≡_ {A = ℕ} 0 1 = cc in absurd (omega arith)
 
--- the model matters to an input only
-other-model : (n d : ℕ) (s : Held-step) (m k f g x : C.Model) (c : ℕ) → (c ≡ 0 → m ≡ k)
-    → getD (step-answers n d s m f g) c (accepted x) ≡ getD (step-answers n d s k f g) c (accepted x)
-unfolding step-answers
-other-model n d s m k f g x zero h = ap accepted (h refl)
-other-model n d s m k f g x (suc c) h = refl
-
-module _ (b : Book) (r : ℕ → C.Model) (s : Held-step) (t : Step) where
-  by-code : (c : ℕ) → step-of (getElem? (forms s) c) ≡ some t
-      → getD (step-answers (b .vars) (b .order) s (model-of b (s .a)) (r (s .a)) (r (s .b))) c (accepted (r (s .a)))
-      ≡ run-step b r t
-  unfolding forms step-answers run-step
-  by-code zero h = ap (run-step b r) (form-step _ t h)
-  by-code (suc zero) h = ap (run-step b r) (form-step _ t h)
-  by-code (suc (suc zero)) h = ap (run-step b r) (form-step _ t h)
-  by-code (suc (suc (suc zero))) h = ap (run-step b r) (form-step _ t h)
-  by-code (suc (suc (suc (suc zero)))) h = ap (run-step b r) (form-step _ t h)
-  by-code (suc (suc (suc (suc (suc zero))))) h = ap (run-step b r) (form-step _ t h)
-  by-code (suc (suc (suc (suc (suc (suc zero)))))) h = ap (run-step b r) (form-step _ t h)
-  by-code (suc (suc (suc (suc (suc (suc (suc zero))))))) h = ap (run-step b r) (form-step _ t h)
-  by-code (suc (suc (suc (suc (suc (suc (suc (suc zero)))))))) h = ap (run-step b r) (form-step _ t h)
-  by-code (suc (suc (suc (suc (suc (suc (suc (suc (suc c))))))))) h = no-form h
+module _ (b : Book) (r : ℕ → C.Model) (s : Held-step) (t : Step) (m : C.Model) where
+  -- the model matters to an input only
+  by-code : (c : ℕ) → step-of (getElem? (forms s) c) ≡ some t → (c ≡ 0 → m ≡ model-of b (s .a))
+      → code-answer (b .vars) (b .order) s m (r (s .a)) (r (s .b)) c ≡ run-step b r t
+  unfolding codes
+  by-code zero h e = ap accepted (e refl) ∙ ap (run-step b r) (form-step _ t h)
+  by-code (suc zero) h e = ap (run-step b r) (form-step _ t h)
+  by-code (suc (suc zero)) h e = ap (run-step b r) (form-step _ t h)
+  by-code (suc (suc (suc zero))) h e = ap (run-step b r) (form-step _ t h)
+  by-code (suc (suc (suc (suc zero)))) h e = ap (run-step b r) (form-step _ t h)
+  by-code (suc (suc (suc (suc (suc zero))))) h e = ap (run-step b r) (form-step _ t h)
+  by-code (suc (suc (suc (suc (suc (suc zero)))))) h e = ap (run-step b r) (form-step _ t h)
+  by-code (suc (suc (suc (suc (suc (suc (suc zero))))))) h e = ap (run-step b r) (form-step _ t h)
+  by-code (suc (suc (suc (suc (suc (suc (suc (suc zero)))))))) h e = ap (run-step b r) (form-step _ t h)
+  by-code (suc (suc (suc (suc (suc (suc (suc (suc (suc c))))))))) h e = no-form h
     where
       no-form : {A : Type 0} → step-of none ≡ some t → A
       no-form e = unfold step-of in let z : _≡_ {A = ℕ} 0 1 = cc in absurd (omega arith)
 
   -- what the code gives is what the step of the book gives
-  pub step-is : view-step s ≡ some t → (m : C.Model) → (s .code ≡ 0 → m ≡ model-of b (s .a))
+  pub step-is : view-step s ≡ some t → (s .code ≡ 0 → m ≡ model-of b (s .a))
       → step-answer (b .vars) (b .order) s m (r (s .a)) (r (s .b)) ≡ run-step b r t
   unfolding view-step step-answer
-  step-is e m h = other-model (b .vars) (b .order) s m (model-of b (s .a)) (r (s .a)) (r (s .b)) (r (s .a)) (s .code) h
-      ∙ by-code (s .code) e
+  step-is = by-code (s .code)

@@ -1,23 +1,71 @@
--- What one step asks.
+-- What one step gives, and what it asks.
 use mathlib.Core.Path.{_≡_}
 use mathlib.Core.Bool.{true}
+use mathlib.Core.List.{[], _∷_}
+use mathlib.Core.Option.{Option, some, none}
 use Prim.Native.Nat.{ℕ, _≤_}
 use lib.Dec.{T}
+use lib.ListN.{getD, getElem?}
+use Rattle.calculus.specs.Key.{key-width}
+use Rattle.calculus.specs.Model as C
 use Rattle.calculus.specs.Model.{most-degree, sound}
+use Rattle.calculus.specs.Refusal as R
+use Rattle.calculus.specs.Refusal.{accepted}
 use Rattle.calculus.specs.Tests.{vars-sound}
+use Rattle.calculus.specs.Book.{last-code, Book, run-step}
 use Rattle.model_types.specs.declared.Model.{Model}
 use Rattle.model_types.specs.ModelStruct.{view}
-use Rattle.format.specs.HeldBook.{Held-step}
+use Rattle.model.specs.OperationContracts.{Operands}
+use Rattle.format.specs.HeldBook.{Held-step, Form, forms}
 use Rattle.format.specs.Fields.{v-sound}
 
--- the results are sound in n variables for order d, and so is the model of an input
+-- ---- what it gives
+-- a book in n variables of order d with the one model m
+unfoldable pub one-model : (n d : ℕ) → C.Model → Book
+one-model n d m = record { vars = n; order = d; models = m ∷ []; steps = [] }
+
+-- two results
+unfoldable pub two-results : (f g : C.Model) → (a : ℕ) → C.Model
+two-results f g a = getD (f ∷ g ∷ []) a f
+
+-- a step with the same code, of which a is the first model or result, and b the second result
+unfoldable pub renumbered : Held-step → Held-step
+renumbered s = record { code = s .code; a = 0; b = 1; v = s .v; value = s .value }
+
+-- what a form of it gives; there is none above the last code
+unfoldable pub form-answer : Book → (r : ℕ → C.Model) → Option Form → R.Answer C.Model
+form-answer book r (some x) = run-step book r (x .step)
+form-answer book r none = accepted (r 0)
+
+-- what code c gives, where field a names the model m or the result f, and b the result g
+unfoldable pub code-answer : (n d : ℕ) → Held-step → (m f g : C.Model) → (c : ℕ) → R.Answer C.Model
+code-answer n d s m f g c =
+    form-answer (one-model n d m) (two-results f g) (getElem? (forms (renumbered s)) c)
+
+-- and the step's own
+unfoldable pub step-answer : (n d : ℕ) → Held-step → (m f g : C.Model) → R.Answer C.Model
+step-answer n d s m f g = code-answer n d s m f g (s .code)
+
+-- ---- what it asks
+-- any step: the results are sound in n variables for order d, and so is the model of an input
 pub record Step-ready (n d : ℕ) (s : Held-step) (m f g : Model) : Type 0 where
   pub vars : vars-sound n ≡ true
   pub order : d ≤ most-degree
-  pub code : s .code ≤ 8
+  pub code : s .code ≤ last-code
   pub variable : T (v-sound n (s .code) (s .v))
   pub input : s .code ≡ 0 → T (sound d (view m))
   pub first : T (sound d (view f))
   pub first-vars : f .n ≡ n
   pub second : T (sound d (view g))
   pub second-vars : g .n ≡ n
+
+-- one that is neither a product nor a substitution: a model that is sound, if it is an input, a variable among n, if it
+-- names one, and two sound results
+pub record Direct-ready (n : ℕ) (s : Held-step) (m f g : Model) : Type 0 where
+  pub width : n ≤ key-width
+  pub code : s .code ≤ last-code
+  pub no-product : s .code ≡ 6 → ⊥
+  pub no-substitution : s .code ≡ 7 → ⊥
+  pub input : s .code ≡ 0 → T (sound most-degree (view m))
+  pub variable : s .code ≡ 2 → (1 ≤ s .v) × (s .v ≤ n)
+  pub operands : Operands f g

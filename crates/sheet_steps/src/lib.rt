@@ -1,25 +1,44 @@
 // One step of a book: the operation that its code names, on the model or the results that its fields name.
 ghost use mathlib.Core.Path.{_≡_};
-ghost use Prim.Native.Nat.{min};
+ghost use Prim.Native.Nat.{ℕ, _-_, min};
 ghost use Rattle.calculus.specs.Refusal.{«at-place»};
+ghost use Rattle.calculus.specs.Book.{«most-models»};
 ghost use Rattle.model_types.specs.ModelStruct.{view, answer};
 ghost use Rattle.model.specs.OperationContracts.{«Lent-table»};
 ghost use Rattle.sheet_book.specs.BookStruct.{«held-step»};
-ghost use Rattle.sheet_direct.specs.Direct.{«step-answer»};
-ghost use Rattle.sheet_steps.specs.Steps.{«Step-ready»};
+ghost use Rattle.sheet_steps.specs.Steps.{«step-answer», «Step-ready», «Direct-ready»};
 use model_types::Answer;
 use model_types::Model;
 use sheet_book::Step;
 
 // Where a book has model a. A number beyond the places is that of the last: only a step that is no input has one.
 pub fn model_place(a: u8) -> usize
-    ensures { λ r. ⌜ r ≡ min a 15 ⌝ }
+    ensures { λ r. ⌜ r ≡ min a (most-models - 1) ⌝ }
 {
     let place = a as usize;
     if place < sheet_book::MOST_MODELS {
         place
     } else {
         sheet_book::MOST_MODELS - 1
+    }
+}
+
+// What a step gives whose operation needs no table, which is each but a product and a substitution, with the model that
+// its field a names and the results that a and b name: the same for every order.
+fn direct_answer(n: u8, s: Step, input: Model, f: Model, g: Model) -> Answer
+    requires { ⌜ Direct-ready n (held-step s) input f g ⌝ }
+    ensures { λ r. ⌜ ((d : ℕ)
+        → r ≡ answer (at-place 0 (step-answer n d (held-step s) (view input) (view f) (view g)))) ⌝ }
+{
+    let code = s.code;
+    match code {
+        0 => sheet_step_answers::accepted(sheet_step_answers::cleared(input)),
+        1 => sheet_step_answers::accepted(model_types::constant_of(n, s.value)),
+        2 => sheet_step_answers::accepted(model_types::variable_of(n, s.v)),
+        3 => sheet_step_answers::accepted(model::negated(f)),
+        4 => model::added(f, g),
+        5 => model::subtracted(f, g),
+        _ => sheet_step_answers::accepted(model::swept(f, fixed::magnitude(s.value))),
     }
 }
 
@@ -43,6 +62,6 @@ pub fn step_answer(
     match code {
         6 => model::multiplied(d, f, g, slots, keys, sums),
         7 => model::substituted(d, s.v, f, g, slots, keys, sums),
-        _ => sheet_direct::direct_answer(n, s, input, f, g),
+        _ => direct_answer(n, s, input, f, g),
     }
 }

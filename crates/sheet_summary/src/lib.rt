@@ -1,32 +1,15 @@
-// What a run answers: a result with its range and its integral, or a refusal.
+// The answers of a run: a result with its range and its integral, or a refusal.
 ghost use mathlib.Core.Path.{_≡_};
 ghost use lib.Dec.{T};
 ghost use Rattle.calculus.specs.Model.{«most-degree», sound};
 ghost use Rattle.calculus.specs.Refusal.{done};
 ghost use Rattle.calculus.specs.Book.{summary};
 ghost use Rattle.model_types.specs.ModelStruct.{view, pack};
-ghost use Rattle.sheet_summary.specs.Summary.{«run-answer», «refused-summary»};
+ghost use Rattle.sheet_book.specs.SummaryStruct.{«run-answer», «refused-summary»};
 use model_types::Model;
 use model_types::Verdict;
-
-// Two ends, in units of 1/U.
-pub struct Ends {
-    pub low: i64,
-    pub high: i64,
-}
-
-// The last step's result, its range and its integral; or the zero model and ends 0 beside a refusal.
-pub struct Summary {
-    pub model: Model,
-    pub range: Ends,
-    pub integral: Ends,
-    pub verdict: Verdict,
-}
-
-impl Ends {
-    // The ends beside a refusal.
-    pub const ZERO: Ends = Ends { low: 0, high: 0 };
-}
+use sheet_book::Ends;
+use sheet_book::Summary;
 
 // A refused run.
 pub fn refused(verdict: Verdict) -> Summary

@@ -7,7 +7,7 @@ use lib.ListN.{length, drop, length-append}
 use lib.Seq.{sets}
 use Rattle.format.specs.Bytes.{join}
 use Rattle.format.specs.HeldBook.{Held-book}
-use Rattle.format.specs.Format.{step-bytes, models-bytes, trailer-bytes, sheet-bytes}
+use Rattle.format.specs.Format.{step-length, step-bytes, models-bytes, trailer-bytes, sheet-bytes}
 use Rattle.format.specs.ReadBackLaws.{length-steps}
 use Rattle.format.specs.WriteLoopLaws.{sets-more, sets-front}
 
@@ -19,8 +19,8 @@ module _ (h : Held-book) where
   abbrev Q : List ℕ
   Q = join (map step-bytes (h .steps))
 
-  pub sheet-stores : (buffer : List ℕ) (offset end : ℕ) → offset ≡ length P → end ≡ offset + 8 * length (h .steps)
-      → length (sheet-bytes h) ≤ length buffer
+  pub sheet-stores : (buffer : List ℕ) (offset end : ℕ) → offset ≡ length P
+      → end ≡ offset + step-length * length (h .steps) → length (sheet-bytes h) ≤ length buffer
       → sets (sets (sets buffer 0 P) offset Q) end (trailer-bytes h)
       ≡ sheet-bytes h ++ drop (length (sheet-bytes h)) buffer
   sheet-stores buffer offset end o e r =

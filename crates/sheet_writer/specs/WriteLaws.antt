@@ -18,6 +18,7 @@ use Rattle.model_types.specs.ModelStruct.{refusal, cause}
 use Rattle.model_types.specs.ModelStructLaws.{refusal-cause}
 use Rattle.format.specs.Bytes.{join}
 use Rattle.format.specs.HeldBook.{Held-book, Held-passes}
+use Rattle.format.specs.Format.{step-length, trailer-length}
 use Rattle.format.specs.Format.{step-bytes, models-bytes, trailer-bytes, sheet-bytes, write, written}
 use Rattle.format.specs.HeldBookLaws.{held-tested-passes}
 use Rattle.format.specs.ReadBackLaws.{sheet-length}
@@ -54,9 +55,10 @@ module _ (h : Held-book) (entry : List ℕ) where
 
   -- it is long enough: models, steps and the trailer are put, each behind the one before
   pub long-enough : Held-passes h → (offset end : ℕ) (first second exit : List ℕ) → offset ≡ length (models-bytes h)
-      → end ≡ offset + 8 * length (h .steps) → end + 8 ≤ length entry → first ≡ sets entry 0 (models-bytes h)
-      → second ≡ sets first offset (join (map step-bytes (h .steps))) → exit ≡ sets second end (trailer-bytes h)
-      → Outcome h entry (record { length = end + 8; verdict = Accepted }) exit
+      → end ≡ offset + step-length * length (h .steps) → end + trailer-length ≤ length entry
+      → first ≡ sets entry 0 (models-bytes h) → second ≡ sets first offset (join (map step-bytes (h .steps)))
+      → exit ≡ sets second end (trailer-bytes h)
+      → Outcome h entry (record { length = end + trailer-length; verdict = Accepted }) exit
   unfolding write
   long-enough p offset end first second exit o e l f s t =
       rw (t, s, f, sheet-stores h entry offset end o e room, size)
@@ -65,7 +67,7 @@ module _ (h : Held-book) (entry : List ℕ) where
       ∙ require-at-passed 0 (leb (length (sheet-bytes h)) (length entry)) short-buffer _
       (le→leb (length (sheet-bytes h)) (length entry) room)))
     where
-      size : end + 8 ≡ length (sheet-bytes h)
+      size : end + trailer-length ≡ length (sheet-bytes h)
       size = omega (arith, sheet-length h p)
 
       room : length (sheet-bytes h) ≤ length entry

@@ -20,7 +20,7 @@ pub fn write(book: Book, buffer: &mut [u8]) -> Written
             verdict: v,
         };
     };
-    let offset = sheet_sections::models_size(book);
+    let offset = sheet_encode::models_size(book);
     let end = offset + format::STEP_BYTES * book.step_count;
     let size = end + format::TRAILER_BYTES;
     if buffer.len() < size {
@@ -29,9 +29,9 @@ pub fn write(book: Book, buffer: &mut [u8]) -> Written
             verdict: Verdict::Refused(Refusal::ShortBuffer, 0),
         };
     }
-    sheet_sections::put_models(buffer, book);
-    sheet_sections::put_steps(buffer, offset, book);
-    sheet_sections::put_trailer(buffer, end, book, offset);
+    sheet_encode::put_models(buffer, book);
+    sheet_encode::put_steps(buffer, offset, book);
+    sheet_encode::put_trailer(buffer, end, book, offset);
     Written {
         length: size,
         verdict: Verdict::Accepted,

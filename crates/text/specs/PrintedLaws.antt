@@ -13,9 +13,9 @@ use Rattle.model_types.specs.ModelStruct.{view, pack, refusal, cause}
 use Rattle.model_types.specs.ModelStructLaws.{view-pack-sound, cause-refusal}
 use Rattle.format.specs.Format.{run-sheet}
 use Rattle.format.specs.Lines.{refusal-line, lines, printed}
-use Rattle.sheet_summary.specs.declared.Summary.{Summary}
-use Rattle.sheet_summary.specs.Summary.{refused-summary, run-answer, summary-of}
-use Rattle.sheet_summary.specs.SummaryLaws.{summary-back}
+use Rattle.sheet_book.specs.declared.Summary.{Summary}
+use Rattle.sheet_book.specs.SummaryStruct.{refused-summary, run-answer, summary-of}
+use Rattle.sheet_book.specs.SummaryStructLaws.{summary-back}
 use Rattle.text_lines.specs.LineLaws.{refused-line}
 use Rattle.text.specs.PrintedRunLaws.{printed-run, accepted-run}
 

@@ -8,7 +8,7 @@ ghost use Rattle.model_types.specs.ModelStruct.{view};
 ghost use Rattle.format.specs.Lines.{lines, printed};
 ghost use Rattle.text_decimal.specs.Put.{Put, Room};
 ghost use Rattle.text.specs.Text.{laid};
-ghost use Rattle.sheet_summary.specs.Summary.{«summary-of»};
+ghost use Rattle.sheet_book.specs.SummaryStruct.{«summary-of»};
 use model_types::Verdict;
 use model_types::number;
 use sheet::Summary;

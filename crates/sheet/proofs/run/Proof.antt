@@ -1,7 +1,7 @@
 -- `run` reads the sheet, which makes the tests, and runs its book. What it encloses follows from its exact answer.
 use mathlib.Core.Path.{_∙_, ap}
 use borrow.Author.Needs.{needs}
-use Rattle.sheet_summary.specs.Summary.{run-answer}
+use Rattle.sheet_book.specs.SummaryStruct.{run-answer}
 use Rattle.sheet.specs.SheetLaws.{exact-encloses, read-accepted, read-refused}
 use Rattle.sheet.proofs.run.Statement.{statement}
 use Rattle.sheet.proofs.run.Tie as tie

@@ -2,7 +2,7 @@
 use mathlib.Core.Path.{sym, _∙_, ap}
 use borrow.Author.Needs.{needs}
 use Rattle.sheet_book.specs.TestedLaws.{verdict-accepted}
-use Rattle.sheet_summary.specs.Summary.{refused-summary, run-answer}
+use Rattle.sheet_book.specs.SummaryStruct.{refused-summary, run-answer}
 use Rattle.sheet.specs.SheetLaws.{exact-encloses-book, tested-accepted, tested-refused}
 use Rattle.sheet.proofs.run_book.Statement.{statement}
 use Rattle.sheet.proofs.run_book.Tie as tie

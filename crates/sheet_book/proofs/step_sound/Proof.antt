@@ -8,14 +8,15 @@ use lib.Dec.{leb, ltb}
 use mir.Facts.{toZ-ofZ}
 use mir.Syntax.{w64}
 use mir.Val.{toZ, ofZ}
+use Rattle.calculus.specs.Book.{last-code}
 use Rattle.format.specs.Fields.{limit-a, limit-b, v-sound, value-sound, fields-sound}
 use Rattle.sheet_book.specs.BookStruct.{held-step}
 use Rattle.sheet_book.proofs.step_sound.Statement.{statement}
 use Rattle.sheet_book.proofs.step_sound.Tie as tie
 
 -- ---- what the tests before have shown
-code-in : (c : tie.Else1) → leb (c .before .args .s .code) 8 ≡ true
-code-in c = le-leb _ 8 (c .if1 .left)
+code-in : (c : tie.Else1) → leb (c .before .args .s .code) last-code ≡ true
+code-in c = le-leb _ last-code (c .if1 .left)
 
 -- of a, where the code's own test comes to be known by its limit
 module _ (c : tie.After-limit-a) where
@@ -65,7 +66,7 @@ read-back c = toZ-ofZ (record { sfits = c .struct-told .given .1 .1 .1 .1 .0 .1 
 -- ---- the needs
 returns : tie.Need-returns
 unfolding fields-sound held-step
-returns c = rw (lt-leb (c .before .args .s .code) 8 (c .if1 .taken))
+returns c = rw (lt-leb (c .before .args .s .code) last-code (c .if1 .taken))
 
 limit-a-requires : tie.Need-limit-a-requires
 limit-a-requires c κs = search needs

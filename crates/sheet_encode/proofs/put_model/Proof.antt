@@ -13,7 +13,7 @@ use Rattle.model_types.specs.declared.Term.{Term}
 use Rattle.model_types.specs.declared.Model.{Model}
 use Rattle.model_types.specs.ModelStruct.{zero-term}
 use Rattle.format.specs.Bytes.{join}
-use Rattle.format.specs.Format.{term-bytes}
+use Rattle.format.specs.Format.{head-length, term-length, term-bytes}
 use Rattle.format.specs.ReadBackLaws.{length-term, length-terms}
 use Rattle.sheet_book.specs.BookStruct.{held-term, held-model}
 use Rattle.sheet_encode.specs.RecordLoopLaws.{Put, put-first, put-length, put-room, put-turn, put-end}
@@ -24,7 +24,7 @@ use Rattle.sheet_encode.proofs.put_model.Tie as tie
 
 abbrev Inv-loop : tie.InvT-loop
 Inv-loop buffer₀ at m count place₀ i₀ buffer place i =
-    Put term-bytes (held-model m .terms) buffer₀ (at + 5) buffer place i
+    Put term-bytes (held-model m .terms) buffer₀ (at + head-length) buffer place i
 
 abbrev μ-loop : tie.MeasureT-loop
 μ-loop buffer₀ at m count place₀ i₀ buffer place i = count - i
@@ -36,7 +36,7 @@ module _ (c : tie.Start Inv-loop μ-loop) where
   few : c .args .t3 .count ≤ 64
   few = omega (arith, c .pre .0 .count, count-terms (c .args .t3))
 
-  room : c .args .at + 5 + 6 * c .args .t3 .count ≤ length (c .args .buffer .now)
+  room : c .args .at + head-length + term-length * c .args .t3 .count ≤ length (c .args .buffer .now)
   room = omega (arith, c .pre .1, length-record (c .args .t3))
 
 cast-put-u32 : tie.Need-cast-put-u32 Inv-loop μ-loop
@@ -101,7 +101,7 @@ module _ (c : tie.After-struct-told Inv-loop μ-loop) where
   below : turn .loop .i < length (held-model held .terms)
   below = omega (arith, inside, count-terms held)
 
-  fits : turn .loop .place + 6 ≤ length (turn .loop .buffer)
+  fits : turn .loop .place + term-length ≤ length (turn .loop .buffer)
   fits =
       let e = put-length term-bytes _ _ _ (turn .loop .inv) in
       omega (
@@ -150,7 +150,7 @@ returns c =
     let s = start l in
     let m = s .args .t3 in
     put-end term-bytes _ _ _ (l .loop .inv) (omega (arith, c .loop-test .left, count-terms m))
-    ∙ ap (λ b. sets (set b (s .args .at + 4) (m .count)) (s .args .at + 5)
+    ∙ ap (λ b. sets (set b (s .args .at + 4) (m .count)) (s .args .at + head-length)
     (join (map term-bytes (held-model m .terms))))
     (l .before .before .before .put-u32 .ensures)
     ∙ model-stores (s .args .buffer .now) (s .args .at) (held-model m) (m .count) (sym (count-terms m))

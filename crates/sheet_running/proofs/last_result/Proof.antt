@@ -5,7 +5,7 @@ use Prim.Native.Nat.{_-_, _≤_, _<_}
 use native.Mathlib.Omega.{arith}
 use borrow.Author.Needs.{needs}
 use lib.ListN.{length, getD, length-map}
-use Rattle.calculus.specs.Book.{most-steps}
+use Rattle.calculus.specs.Book.{most-models, most-steps}
 use Rattle.format.specs.HeldBook.{Held-passes}
 use Rattle.model_types.specs.declared.Model.{Model}
 use Rattle.model_types.specs.ModelStruct.{view}
@@ -93,9 +93,11 @@ model-place-requires : tie.Need-model-place-requires Inv-loop μ-loop
 model-place-requires c κs = search needs
 
 mul-input : tie.Need-mul-input Inv-loop μ-loop
+unfolding most-models
 mul-input c = omega (arith, c .model-place .ensures)
 
 element-copy-out-input : tie.Need-element-copy-out-input Inv-loop μ-loop
+unfolding most-models
 element-copy-out-input c = omega (arith, c .model-place .ensures)
 
 cast-f : tie.Need-cast-f Inv-loop μ-loop

@@ -1,16 +1,14 @@
 -- `step_answer` goes by the code: a product and a substitution are asked and answer what the step is asked and answers.
-use mathlib.Core.Path.{_≡_, refl, _∙_}
+use mathlib.Core.Path.{_≡_, refl}
 use Prim.Native.Nat.{ℕ}
-use lib.ListN.{getD}
 use Rattle.calculus.specs.Model as C
 use Rattle.calculus.specs.Refusal as R
-use Rattle.calculus.specs.Refusal.{accepted, at-place}
+use Rattle.calculus.specs.Refusal.{at-place}
 use Rattle.model_types.specs.declared.Answer.{Answer}
 use Rattle.model_types.specs.ModelStruct.{view, answer}
 use Rattle.sheet_book.specs.BookStruct.{held-step}
-use Rattle.sheet_direct.specs.Direct.{step-answers, step-answer}
-use Rattle.sheet_direct.specs.DirectLaws.{answered-is, gives}
-use Rattle.sheet_steps.specs.StepLaws.{factors, substitution, direct-ready}
+use Rattle.sheet_steps.specs.Steps.{code-answer, step-answer}
+use Rattle.sheet_steps.specs.StepLaws.{factors, substitution, direct-ready, codes, answered-is}
 use Rattle.sheet_steps.proofs.step_answer.Statement.{statement}
 use Rattle.sheet_steps.proofs.step_answer.Tie as tie
 
@@ -40,18 +38,14 @@ direct-answer-requires c κs =
 module _ (c : tie.Start) where
   -- an operation that can be refused
   answers : {r : Answer} (i : ℕ) (a : R.Answer C.Model) → r ≡ answer (at-place 0 a) → c .args .s .code ≡ i
-      → getD
-      (step-answers (c .args .n) (c .args .d) (held-step (c .args .s)) (view (c .args .input)) (view (c .args .f))
-      (view (c .args .g)))
-      i (accepted (view (c .args .f))) ≡ a
+      → code-answer (c .args .n) (c .args .d) (held-step (c .args .s)) (view (c .args .input)) (view (c .args .f))
+      (view (c .args .g)) i ≡ a
       → r
       ≡ answer (at-place 0 (step-answer (c .args .n) (c .args .d) (held-step (c .args .s)) (view (c .args .input))
       (view (c .args .f)) (view (c .args .g))))
   unfolding held-step
-  answers i a e h g =
-      let s = held-step (c .args .s) in
-      answered-is (c .args .n) (c .args .d) s (c .args .input) (c .args .f) (c .args .g) a e
-      (gives (c .args .n) (c .args .d) s (c .args .input) (c .args .f) (c .args .g) i h ∙ g)
+  answers =
+      answered-is (c .args .n) (c .args .d) (held-step (c .args .s)) (c .args .input) (c .args .f) (c .args .g)
 
 -- where the product is made, and where the substitution
 abbrev product : tie.After-sums → tie.After-multiplied
@@ -70,7 +64,7 @@ same-length-3 : tie.Need-same-length-3
 same-length-3 c = product c .multiplied .kept .1 .1 .1 .1 .1 .0
 
 returns : tie.Need-returns
-unfolding step-answers
+unfolding codes
 returns c =
     let m = product c .before .before .before .before in
     answers (start (m .before)) 6 _ (product c .multiplied .ensures .0) (m .match .keys1) refl
@@ -85,7 +79,7 @@ same-length-6 : tie.Need-same-length-6
 same-length-6 c = substituted c .substituted .kept .1 .1 .1 .1 .1 .1 .0
 
 returns-2 : tie.Need-returns-2
-unfolding step-answers held-step
+unfolding codes held-step
 returns-2 c =
     let m = substituted c .before .before .before .before in
     answers (start (m .before)) 7 _ (substituted c .substituted .ensures .0) (m .match .keys2) refl

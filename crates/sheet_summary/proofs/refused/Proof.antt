@@ -3,7 +3,7 @@ use mathlib.Core.Path.{refl}
 use Rattle.calculus.specs.Model.{most-terms, zero-model}
 use Rattle.model_types.specs.Arrays.{padded}
 use Rattle.model_types.specs.ModelStruct.{pack}
-use Rattle.sheet_summary.specs.Summary.{refused-summary}
+use Rattle.sheet_book.specs.SummaryStruct.{refused-summary}
 use Rattle.sheet_summary.proofs.refused.Statement.{statement}
 use Rattle.sheet_summary.proofs.refused.Tie as tie
 

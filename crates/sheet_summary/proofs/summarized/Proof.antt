@@ -9,9 +9,9 @@ use Rattle.model_types.specs.ModelStruct.{bounds}
 use Rattle.model_types.specs.declared.Bounds.{Bounds}
 use Rattle.model_types.specs.declared.Model.{Model}
 use Rattle.model_types.specs.declared.Verdict.the-variants.{Accepted}
-use Rattle.sheet_summary.specs.declared.Ends.{Ends}
-use Rattle.sheet_summary.specs.declared.Summary.{Summary}
-use Rattle.sheet_summary.specs.Summary.{stored-ends, run-answer}
+use Rattle.sheet_book.specs.declared.Ends.{Ends}
+use Rattle.sheet_book.specs.declared.Summary.{Summary}
+use Rattle.sheet_book.specs.SummaryStruct.{stored-ends, run-answer}
 use Rattle.sheet_summary.proofs.summarized.Statement.{statement}
 use Rattle.sheet_summary.proofs.summarized.Tie as tie
 

@@ -4,14 +4,14 @@ use Prim.Native.Nat.{_+_, _*_, _≤_}
 use native.Mathlib.Omega.{arith}
 use borrow.Author.Needs.{needs}
 use lib.ListN.{length}
-use Rattle.format.specs.Format.{models-bytes, sheet-bytes}
+use Rattle.format.specs.Format.{step-length, trailer-length, models-bytes, sheet-bytes}
 use Rattle.format.specs.HeldBook.{Held-passes}
 use Rattle.format.specs.ReadBackLaws.{sheet-length, models-short}
 use Rattle.sheet_book.specs.declared.Book.{Book}
 use Rattle.sheet_book.specs.BookStruct.{held-book}
 use Rattle.sheet_book.specs.FailingLaws.{count-steps}
 use Rattle.sheet_book.specs.TestedLaws.{verdict-accepted}
-use Rattle.sheet_sections.specs.SectionFittingLaws.{book-limits}
+use Rattle.sheet_encode.specs.SectionFittingLaws.{book-limits}
 use Rattle.sheet_writer.specs.WriteLaws.{book-refused, too-short, long-enough}
 use Rattle.sheet_writer.proofs.write.Statement.{statement}
 use Rattle.sheet_writer.proofs.write.Tie as tie
@@ -62,7 +62,7 @@ module _ (c : tie.After-struct-known) where
     omega (arith, offset-is, models-short (held-book (held told)) (passes told)),
   )
 
-  size-is : c .before .models-size .result + 8 * held told .«step_count» + 8
+  size-is : c .before .models-size .result + step-length * held told .«step_count» + trailer-length
       ≡ length (sheet-bytes (held-book (held told)))
   size-is = omega (
     arith,
@@ -97,7 +97,7 @@ module _ (c : tie.Else1) where
   abbrev book : Book
   book = held (told known)
 
-  room : known .before .models-size .result + 8 * book .«step_count» + 8
+  room : known .before .models-size .result + step-length * book .«step_count» + trailer-length
       ≤ length (start (told known) .args .buffer .now)
   room = c .if1 .left
 
@@ -129,7 +129,7 @@ returns-3 c =
     let e = m .before .before in
     let a = start (told (known e)) .args in
     let o = long-enough (held-book (a .book)) (a .buffer .now) (passes (told (known e))) _ _ _ _ _ (offset-is (known e))
-    (ap (λ k. known e .before .models-size .result + 8 * k) (sym (count-steps (a .book)))) (room e)
+    (ap (λ k. known e .before .models-size .result + step-length * k) (sym (count-steps (a .book)))) (room e)
     (m .put-models .ensures) (s .put-steps .ensures) (t .put-trailer .ensures) in
     (o .answers, o .leaves)
 

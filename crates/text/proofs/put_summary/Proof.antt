@@ -9,7 +9,7 @@ use Rattle.calculus.specs.Book.{Summary}
 use Rattle.model_types.specs.ModelStruct.{view}
 use Rattle.format.specs.Bytes.{join}
 use Rattle.format.specs.Lines.{text, term-line, ends-line, radius-line}
-use Rattle.sheet_summary.specs.Summary.{ends-of, summary-of}
+use Rattle.sheet_book.specs.SummaryStruct.{ends-of, summary-of}
 use Rattle.text_decimal.specs.Put.{Put, Room}
 use Rattle.text_decimal.specs.PutLaws.{_then-put_, put-as, room-before, room-behind}
 use Rattle.text_lines.specs.LineParts.{ends}

@@ -6,16 +6,16 @@ use native.Mathlib.Omega.{arith}
 use borrow.Author.Needs.{needs}
 use lib.ListN.{length, getD, length-map}
 use Rattle.format.specs.Bytes.{join}
-use Rattle.format.specs.Format.{step-bytes}
+use Rattle.format.specs.Format.{step-length, step-bytes}
 use Rattle.format.specs.ReadBackLaws.{length-step, length-steps}
 use Rattle.sheet_book.specs.declared.Step.{Step}
 use Rattle.sheet_book.specs.declared.Book.{Book}
 use Rattle.sheet_book.specs.BookStruct.{no-step, held-step, held-book}
 use Rattle.sheet_book.specs.FailingLaws.{count-steps}
 use Rattle.sheet_encode.specs.RecordLoopLaws.{Put, put-first, put-length, put-room, put-turn, put-end}
-use Rattle.sheet_sections.specs.SectionFittingLaws.{book-limits, step-at, step-at-fits}
-use Rattle.sheet_sections.proofs.put_steps.Statement.{statement}
-use Rattle.sheet_sections.proofs.put_steps.Tie as tie
+use Rattle.sheet_encode.specs.SectionFittingLaws.{book-limits, step-at, step-at-fits}
+use Rattle.sheet_encode.proofs.put_steps.Statement.{statement}
+use Rattle.sheet_encode.proofs.put_steps.Tie as tie
 
 abbrev Inv-loop : tie.InvT-loop
 Inv-loop buffer₀ at b count place₀ k₀ buffer place k =
@@ -69,7 +69,7 @@ module _ (c : tie.After-s Inv-loop μ-loop) where
   below : turn .loop .k < length (held-book held .steps)
   below = omega (arith, inside, count-steps held)
 
-  fits : turn .loop .place + 8 ≤ length (turn .loop .buffer)
+  fits : turn .loop .place + step-length ≤ length (turn .loop .buffer)
   fits = omega (
     arith,
     put-room step-bytes _ _ _ (turn .loop .inv) (held-step no-step) (held-step step) below here (room start),

@@ -12,11 +12,11 @@ use Rattle.format.specs.Format.{model-bytes}
 use Rattle.sheet_book.specs.declared.Book.{Book}
 use Rattle.sheet_book.specs.BookStruct.{held-model, held-book}
 use Rattle.sheet_book.specs.FailingLaws.{count-models}
 use Rattle.sheet_encode.specs.Fitting.{Model-fits}
 use Rattle.sheet_encode.specs.RecordLoopLaws.{Put, put-first, put-length, put-room, put-turn, put-end}
-use Rattle.sheet_sections.specs.SectionFittingLaws.{models-joined, book-limits, model-at, model-at-fits}
-use Rattle.sheet_sections.proofs.put_models.Statement.{statement}
-use Rattle.sheet_sections.proofs.put_models.Tie as tie
+use Rattle.sheet_encode.specs.SectionFittingLaws.{models-joined, book-limits, model-at, model-at-fits}
+use Rattle.sheet_encode.proofs.put_models.Statement.{statement}
+use Rattle.sheet_encode.proofs.put_models.Tie as tie
 
 abbrev Inv-loop : tie.InvT-loop
 Inv-loop buffer₀ b count place₀ k₀ buffer place k =

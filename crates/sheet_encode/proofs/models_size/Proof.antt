@@ -10,10 +10,10 @@ use Rattle.format.specs.Format.{model-bytes}
 use Rattle.format.specs.ReadBackLaws.{models-short}
 use Rattle.sheet_book.specs.BookStruct.{held-model, held-book}
 use Rattle.sheet_book.specs.FailingLaws.{count-models}
 use Rattle.sheet_encode.specs.RecordLoopLaws.{front, front-none, front-all, length-more, length-front}
-use Rattle.sheet_sections.specs.SectionFittingLaws.{book-limits, model-at, model-at-fits, models-joined}
-use Rattle.sheet_sections.proofs.models_size.Statement.{statement}
-use Rattle.sheet_sections.proofs.models_size.Tie as tie
+use Rattle.sheet_encode.specs.SectionFittingLaws.{book-limits, model-at, model-at-fits, models-joined}
+use Rattle.sheet_encode.proofs.models_size.Statement.{statement}
+use Rattle.sheet_encode.proofs.models_size.Tie as tie
 
 abbrev Inv-loop : tie.InvT-loop
 Inv-loop b count size₀ k₀ size k =

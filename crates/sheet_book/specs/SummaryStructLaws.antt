@@ -10,7 +10,7 @@ use Rattle.calculus.specs.Book.{returned-summary}
 use Rattle.model_types.specs.Arrays.{first-places, padded}
 use Rattle.model_types.specs.ModelStruct.{view, pack, verdict-number, verdict-place}
 use Rattle.model_types.specs.ModelStructLaws.{cause-refusal}
-use Rattle.sheet_summary.specs.Summary.{stored-ends, ends-of, refused-summary, run-answer, summary-of}
+use Rattle.sheet_book.specs.SummaryStruct.{stored-ends, ends-of, refused-summary, run-answer, summary-of}
 
 -- the struct holds what was packed, if that was sound
 pub summary-back : (s : B.Summary) → view (pack (s .model)) ≡ s .model → summary-of (run-answer (done s)) ≡ s

@@ -6,10 +6,10 @@ use lib.ListN.{length, length-set}
 use Rattle.format.specs.ReadBackLaws.{models-short}
 use Rattle.sheet_book.specs.BookStruct.{held-book}
 use Rattle.sheet_book.specs.FailingLaws.{count-models, count-steps}
-use Rattle.sheet_sections.specs.TrailerStoreLaws.{trailer-stores}
-use Rattle.sheet_sections.specs.SectionFittingLaws.{book-limits}
-use Rattle.sheet_sections.proofs.put_trailer.Statement.{statement}
-use Rattle.sheet_sections.proofs.put_trailer.Tie as tie
+use Rattle.sheet_encode.specs.TrailerStoreLaws.{trailer-stores}
+use Rattle.sheet_encode.specs.SectionFittingLaws.{book-limits}
+use Rattle.sheet_encode.proofs.put_trailer.Statement.{statement}
+use Rattle.sheet_encode.proofs.put_trailer.Tie as tie
 
 -- the buffer keeps its length
 kept : (c : tie.After-slice-known2)

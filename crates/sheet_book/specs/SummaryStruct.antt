@@ -7,8 +7,8 @@ use Rattle.calculus.specs.Book as B
 use Rattle.model_types.specs.declared.Verdict.{Verdict}
 use Rattle.model_types.specs.declared.Verdict.the-variants.{Accepted, Refused}
 use Rattle.model_types.specs.ModelStruct.{view, pack, refusal}
-use Rattle.sheet_summary.specs.declared.Ends.{Ends}
-use Rattle.sheet_summary.specs.declared.Summary.{Summary}
+use Rattle.sheet_book.specs.declared.Ends.{Ends}
+use Rattle.sheet_book.specs.declared.Summary.{Summary}
 
 -- ---- the answer of a run
 -- two ends

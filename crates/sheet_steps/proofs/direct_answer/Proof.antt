@@ -1,11 +1,9 @@
 -- `direct_answer` goes by the code: each operation is asked and answers what the step is asked and answers.
 use mathlib.Core.Path.{_≡_, refl, _∙_, ap}
-use mathlib.Core.List.{List}
 use Prim.Native.Nat.{ℕ, _≤_}
 use native.Mathlib.Omega.{arith}
 use borrow.Author.Needs.{needs}
 use lib.IntN.{natAbs}
-use lib.ListN.{getD}
 use mir.Facts.{toZ-ofZ}
 use mir.Syntax.{w64}
 use mir.Val.{toZ, ofZ}
@@ -13,15 +11,16 @@ use Rattle.calculus.specs.Model as C
 use Rattle.calculus.specs.Refusal as R
 use Rattle.calculus.specs.Refusal.{accepted, at-place}
 use Rattle.calculus.specs.Operations as Op
+use Rattle.calculus.specs.Book.{last-code}
 use Rattle.model_types.specs.declared.Answer.{Answer}
 use Rattle.model_types.specs.declared.Model.{Model}
 use Rattle.model_types.specs.ModelStruct.{view, pack, answer}
 use Rattle.sheet_step_answers.specs.Answers.{accepted-answer}
 use Rattle.sheet_book.specs.BookStruct.{held-step}
-use Rattle.sheet_direct.specs.Direct.{step-answers, step-answer}
-use Rattle.sheet_direct.specs.DirectLaws.{accepted-is, answered-is, gives}
-use Rattle.sheet_direct.proofs.direct_answer.Statement.{statement}
-use Rattle.sheet_direct.proofs.direct_answer.Tie as tie
+use Rattle.sheet_steps.specs.Steps.{code-answer, step-answer}
+use Rattle.sheet_steps.specs.StepLaws.{codes, accepted-is, answered-is}
+use Rattle.sheet_steps.proofs.direct_answer.Statement.{statement}
+use Rattle.sheet_steps.proofs.direct_answer.Tie as tie
 
 -- ---- what the operations ask
 cleared-requires : tie.Need-cleared-requires
@@ -70,9 +69,9 @@ accepted-requires-5 c κs = search needs
 
 -- ---- what they answer
 module _ (c : tie.Start) (d : ℕ) where
-  -- what the codes give
-  abbrev given : List (R.Answer C.Model)
-  given = step-answers (c .args .n) d (held-step (c .args .s)) (view (c .args .input)) (view (c .args .f))
+  -- what a code gives
+  abbrev given : ℕ → R.Answer C.Model
+  given = code-answer (c .args .n) d (held-step (c .args .s)) (view (c .args .input)) (view (c .args .f))
       (view (c .args .g))
 
   -- what is answered
@@ -84,26 +83,24 @@ module _ (c : tie.Start) (d : ℕ) where
 
   -- by an operation that cannot be refused
   accepts : {r : Answer} {h : Model} (i : ℕ) (k : C.Model) → r ≡ accepted-answer h → h ≡ pack k
-      → c .args .s .code ≡ i → getD given i (accepted (view (c .args .f))) ≡ accepted k → Answered r
+      → c .args .s .code ≡ i → given i ≡ accepted k → Answered r
   unfolding held-step
-  accepts i k e q h g = accepted-is (c .args .n) d (held-step (c .args .s)) (c .args .input) (c .args .f) (c .args .g)
-      k e q (gives (c .args .n) d (held-step (c .args .s)) (c .args .input) (c .args .f) (c .args .g) i h ∙ g)
+  accepts = accepted-is (c .args .n) d (held-step (c .args .s)) (c .args .input) (c .args .f) (c .args .g)
 
   -- by one that can
-  answers : {r : Answer} (i : ℕ) (a : R.Answer C.Model) → r ≡ answer (at-place 0 a)
-      → c .args .s .code ≡ i → getD given i (accepted (view (c .args .f))) ≡ a → Answered r
+  answers : {r : Answer} (i : ℕ) (a : R.Answer C.Model) → r ≡ answer (at-place 0 a) → c .args .s .code ≡ i
+      → given i ≡ a → Answered r
   unfolding held-step
-  answers i a e h g = answered-is (c .args .n) d (held-step (c .args .s)) (c .args .input) (c .args .f) (c .args .g)
-      a e (gives (c .args .n) d (held-step (c .args .s)) (c .args .input) (c .args .f) (c .args .g) i h ∙ g)
+  answers = answered-is (c .args .n) d (held-step (c .args .s)) (c .args .input) (c .args .f) (c .args .g)
 
 returns : tie.Need-returns
-unfolding step-answers
+unfolding codes
 returns c = λ d.
     let m = c .before .before in
     accepts (m .before) d 0 _ (c .accepted .ensures) (c .before .cleared .ensures) (m .match .keys1) refl
 
 returns-2 : tie.Need-returns-2
-unfolding step-answers held-step
+unfolding codes held-step
 returns-2 c = λ d.
     let t = c .before .before in
     let s = t .before .before .args .s in
@@ -114,29 +111,29 @@ returns-2 c = λ d.
     (t .before .match .keys2) refl
 
 returns-3 : tie.Need-returns-3
-unfolding step-answers held-step
+unfolding codes held-step
 returns-3 c = λ d.
     let m = c .before .before in
     accepts (m .before) d 2 _ (c .accepted3 .ensures) (c .before .variable-of .ensures) (m .match .keys3) refl
 
 returns-4 : tie.Need-returns-4
-unfolding step-answers
+unfolding codes
 returns-4 c = λ d.
     let m = c .before .before in
     accepts (m .before) d 3 _ (c .accepted4 .ensures) (c .before .negated .ensures) (m .match .keys4) refl
 
 returns-5 : tie.Need-returns-5
-unfolding step-answers
+unfolding codes
 returns-5 c = λ d. answers (c .before .before) d 4 _ (c .added .ensures) (c .before .match .keys5) refl
 
 returns-6 : tie.Need-returns-6
-unfolding step-answers
+unfolding codes
 returns-6 c = λ d. answers (c .before .before) d 5 _ (c .subtracted .ensures) (c .before .match .keys6) refl
 
 -- no other code is left
-last-code : (m : tie.At-match-rest) → m .before .args .s .code ≡ 8
+is-last : (m : tie.At-match-rest) → m .before .args .s .code ≡ last-code
 unfolding held-step
-last-code m =
+is-last m =
     let r = m .match .rest in
     let p = m .before .pre in
     let low : 4 ≤ m .before .args .s .code =
@@ -144,16 +141,16 @@ last-code m =
     omega (arith, low, p .code, p .no-product, p .no-substitution, r .1, r .0 .1)
 
 returns-7 : tie.Need-returns-7
-unfolding step-answers held-step
+unfolding codes held-step
 returns-7 c = λ d.
     let t = c .before .before .before in
     let a = t .before .before .args in
     let read-back : toZ w64 (ofZ w64 (a .s .value)) ≡ a .s .value =
     toZ-ofZ (record { sfits = t .struct-told2 .given .1 .1 .1 .1 .0 .1 }) in
-    accepts (t .before .before) d 8 _ (c .accepted5 .ensures)
+    accepts (t .before .before) d last-code _ (c .accepted5 .ensures)
     (c .before .swept .ensures
     ∙ ap (λ k. pack (Op.sweep k (view (a .f)))) (c .before .before .magnitude .ensures ∙ ap natAbs read-back))
-    (last-code (t .before)) refl
+    (is-last (t .before)) refl
 
 pub direct-answer-spec : {M : Type 1} → statement M
 direct-answer-spec =

@@ -1,2 +1,0 @@
-pub mod TrailerStoreLaws
-pub mod SectionFittingLaws
