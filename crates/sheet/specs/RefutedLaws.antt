@@ -20,7 +20,7 @@ use Rattle.calculus.specs.Refusal.{_followed-by_, all-from}
 use Rattle.calculus.specs.Operations.{constant-part}
 use Rattle.calculus.specs.Book as B
 use Rattle.calculus.specs.Book.{Step, Book, model-of, result-of, run-step, last, summary, model-sound, step-sound}
-use Rattle.calculus.specs.Book.{returned-summary}
+use Rattle.calculus.specs.Book.{operands, returned-summary}
 use Rattle.calculus.specs.SoundLaws.{Sound}
 use Rattle.calculus.specs.BookLaws.{Passes, model-passes}
 use Rattle.calculus.specs.BookSoundLaws.{Good, step-good}
@@ -42,12 +42,12 @@ use Rattle.format.specs.Samples.{hex, sheet-forms}
 use Rattle.format.specs.SheetClaim.{Sheet-claim}
 use Rattle.sheet_book.specs.declared.Summary.{Summary}
 use Rattle.sheet_book.specs.SummaryStruct.{stored-ends, ends-of, summary-of, refused-summary, run-answer}
-use Rattle.sheet_summary.specs.SummaryLaws.{answer-number}
+use Rattle.sheet_book.specs.SummaryStructLaws.{answer-number}
 use Rattle.sheet_running.specs.RunLaws.{in-limits-of}
 use Rattle.sheet.specs.Sheet.{Encloses}
 use Rattle.sheet.specs.SheetLaws.{exact-result}
 use Rattle.sheet.specs.Refuted.{Program, are-bytes, Exact-program, Enclosing, model-by, Accepted-sheet, book-of}
-use Rattle.sheet.specs.Refuted.{operands, last-operands, Answers-other-radius, Hands-operand-through}
+use Rattle.sheet.specs.Refuted.{last-operands, Answers-other-radius, Hands-operand-through}
 use Rattle.sheet.specs.Refuted.{Answers-zero, Answers-input, Says-eight, Names-other-step, Refuses-accepted}
 use Rattle.sheet.specs.Refuted.{Widens, Passes-operands, Gives-zero, Hands-back, Says-eight-uncounted}
 use Rattle.sheet.specs.Refuted.{Names-always, Refuses-all, widened, widening, pass-step, pass-steps}
