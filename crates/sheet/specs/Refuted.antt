@@ -16,7 +16,8 @@ use Rattle.calculus.specs.Refusal.{Refusal, bad-length, too-many-terms, Answer,
 use Rattle.calculus.specs.Refusal.{at-place, _followed-by_}
 use Rattle.calculus.specs.Book as B
 use Rattle.calculus.specs.Book.{Step, input, constant, variable, negate, add, subtract, multiply, substitute, sweep}
-use Rattle.calculus.specs.Book.{operands, Book, model-of, result-of, run-step, run-steps, last, summary, returned-summary}
+use Rattle.calculus.specs.Book.{operands, Book, model-of, result-of, run-step, run-steps, last, summary}
+use Rattle.calculus.specs.Book.{returned-summary}
 use Rattle.model_types.specs.declared.Verdict.the-variants.{Accepted}
 use Rattle.model_types.specs.ModelStruct.{view, verdict-number, verdict-place}
 use Rattle.format.specs.HeldBook.{Held-book, view-book}
