@@ -1,8 +1,7 @@
 -- Named lists of definitions: a fact that computes opens all of them by `unfolding` one name.
 use Rattle.polynomial.specs.Polynomial as P
 use Rattle.polynomial.specs.Integral as I
-use Rattle.fixed.specs.Division as D
-use Rattle.fixed.specs.Fixed as F
+use Rattle.fixed.specs.Computing as F
 use Rattle.calculus.specs.Monomial as Mo
 use Rattle.calculus.specs.Key as K
 use Rattle.calculus.specs.Terms as T
@@ -18,8 +17,7 @@ unfoldable pub numbers : Unit {0}
 unfolding
     P.add-exponents P.exponent P.without P.replace P.product P.times
     I.even I.first I.rest I.all-even I.divisor
-    D.floor D.ceiling
-    F.U F.span-limit F.round F.residual F.round-up
+    F.numbers
 numbers = tt
 
 -- models and the rules for them

@@ -5,6 +5,7 @@ use native.Mathlib.Omega.{arith}
 use native.Mathlib.Nat as NatL
 use lib.IntN.{ℤ, pos, negsuc, negℤ, natAbs, _-ℤ_, _*ℤ_, negℤ-negℤ}
 use lib.Signed.{_≤ℤ_, yes-nonNeg, pos-natAbs}
+use Rattle.algebra.specs.Integer.{natAbs-neg}
 use Rattle.algebra.specs.Integer.{Is, is+, is-, is, is-mul, is-nat, is-sub-mul, is-parts, plus, minus, natAbs-bound}
 use Rattle.algebra.specs.RingSolver.{_⊠_, ⊝_, ring}
 use Rattle.algebra.specs.IntegerRing.{ℤR, ℤO, of-le}
@@ -39,6 +40,10 @@ pub floor-le-abs : (z : ℤ) (d : ℕ) → natAbs (floor z d) ≤ natAbs z
 unfolding floor
 floor-le-abs (pos n) d = NatL.div-le-self n d
 floor-le-abs (negsuc n) d = omega (arith, NatL.div-le-self n d)
+
+pub ceiling-le-abs : (z : ℤ) (d : ℕ) → natAbs (ceiling z d) ≤ natAbs z
+unfolding ceiling
+ceiling-le-abs z d = omega (arith, natAbs-neg (floor (negℤ z) d), natAbs-neg z, floor-le-abs (negℤ z) d)
 
 -- ---- division with remainder
 module _ (z : ℤ) (d : ℕ) (h : 0 < d) where

@@ -114,6 +114,16 @@ pub capped-sum : (s x : ℕ) → capped (capped s + x) ≡ capped (s + x)
 unfolding capped
 capped-sum s x = omega arith
 
+-- a sum known as far as the cap, and one number more
+pub capped-more : (s r x : ℕ) → capped s ≡ capped r → capped (capped (s + x)) ≡ capped (r + x)
+unfolding capped
+capped-more s r x e = omega arith
+
+-- what is above the limit stays above it
+pub capped-above : (s : ℕ) → span-limit < s → span-limit < capped s
+unfolding capped
+capped-above s h = omega arith
+
 pub capped-within : (s : ℕ) → leb (capped s) span-limit ≡ leb s span-limit
 unfolding capped
 capped-within s = go (decLe s span-limit)

@@ -10,6 +10,7 @@ use lib.IntN.{ℤ, pos, natAbs}
 use lib.ListN.{length, take, drop, getD, drop-of-length-le}
 use lib.Seq.{drop-cons, getD-take, length-take-le}
 use Rattle.fixed.specs.Fixed.{U, span-limit}
+use Rattle.fixed.specs.FixedLaws.{U-within}
 use Rattle.calculus.specs.TestLaws.{and-left, and-right}
 use Rattle.calculus.specs.Model as C
 use Rattle.calculus.specs.Model.{most-degree, sound}
@@ -88,9 +89,9 @@ module _ {m : Model} {xs : List ℤ} (s : Evaluation m xs) (l : m .n ≤ length 
       in-point = omega (arith, before, length-take-le (m .n) xs l)
 
       small : natAbs X ≤ span-limit
-      unfolding U span-limit
       small = omega (
         arith,
+        U-within,
         ap natAbs (getD-take (m .n) xs (i - 1) (pos 0) before),
         in-unit-at (point m xs) (i - 1) in-point (s .coordinates),
       )

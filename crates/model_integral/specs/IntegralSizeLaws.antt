@@ -5,11 +5,10 @@ use Prim.Native.Nat.{ℕ, _+_, _*_, _^_, _≤_, _<_}
 use native.Mathlib.Omega.{arith}
 use native.Mathlib.Nat as NatL
 use lib.Dec.{lit<}
-use lib.IntN.{ℤ, pos, natAbs, negℤ, _*ℤ_}
-use Rattle.algebra.specs.Integer.{natAbs-neg, natAbs-mul}
+use lib.IntN.{ℤ, pos, natAbs, _*ℤ_}
+use Rattle.algebra.specs.Integer.{natAbs-mul}
 use Rattle.polynomial.specs.Integral.{all-even, divisor}
-use Rattle.fixed.specs.Division.{floor, ceiling}
-use Rattle.fixed.specs.DivisionLaws.{floor-le-abs}
+use Rattle.fixed.specs.DivisionLaws.{floor-le-abs, ceiling-le-abs}
 use Rattle.fixed.specs.Fixed.{span-limit}
 use Rattle.fixed.specs.FixedLaws.{span-fits}
 use Rattle.calculus.specs.Key.{key-width}
@@ -20,8 +19,8 @@ use Rattle.model_types.specs.ModelStructLaws.{sum-abs, sum-select-le}
 use Rattle.model_integral.specs.Rounding.{rule}
 
 pub rule-abs : (up : Bool) (z : ℤ) (d : ℕ) → natAbs (rule up z d) ≤ natAbs z
-unfolding rule ceiling
-rule-abs true z d = omega (arith, natAbs-neg (floor (negℤ z) d), floor-le-abs (negℤ z) d, natAbs-neg z)
+unfolding rule
+rule-abs true z d = ceiling-le-abs z d
 rule-abs false z d = floor-le-abs z d
 
 -- the terms' shares of an integral, of which each is one of these

@@ -9,7 +9,7 @@ use lib.Dec.{T, leb}
 use lib.IntN.{natAbs}
 use lib.ListN.{length, getD}
 use Rattle.fixed.specs.Fixed.{span-limit, capped}
-use Rattle.fixed.specs.FixedLaws.{capped-within}
+use Rattle.fixed.specs.FixedLaws.{capped-same, capped-more, capped-above, capped-within}
 use Rattle.calculus.specs.Key.{key-width}
 use Rattle.calculus.specs.Terms.{Terms, every, size, sum-over}
 use Rattle.calculus.specs.Model as C
@@ -41,9 +41,12 @@ limited-capped n e p = go (decLe e span-limit)
     model r = record { vars = n; radius = r; terms = p }
 
     go : Dec (e ≤ span-limit) → limited (model (capped e)) ≡ limited (model e)
-    go (yes h) = ap (λ r. limited (model r)) (unfold capped in omega arith)
-    go (no h) = unfold limited span capped require in
-        rw (lt-leb (size p + capped e) span-limit (omega arith), lt-leb (size p + e) span-limit (omega arith))
+    go (yes h) = ap (λ r. limited (model r)) (capped-same e h)
+    go (no h) = unfold limited span require in
+        rw (
+          lt-leb (size p + capped e) span-limit (omega (arith, capped-above e (omega arith))),
+          lt-leb (size p + e) span-limit (omega arith),
+        )
 
 -- ---- the span as it is summed: known as far as the cap
 pub record Summed (m : Model) (total i : ℕ) : Type 0 where
@@ -57,10 +60,10 @@ module _ (m : Model) (w : m .count ≤ length (m .terms)) where
 
   pub summed-turn : (total i next : ℕ) → Summed m total i → i < m .count
       → next ≡ capped (total + natAbs (getD (m .terms) i zero-term .coefficient)) → Summed m next (i + 1)
-  unfolding capped
   summed-turn total i next h l e = record {
     within = omega arith;
-    sum = omega (arith, h .sum, e, size-more (m .n) i (m .terms) (omega arith));
+    sum = ap capped e ∙ capped-more total _ _ (h .sum)
+        ∙ ap capped (omega (arith, size-more (m .n) i (m .terms) (omega arith)));
   }
 
   pub summed-end : (total i : ℕ) → Summed m total i → m .count ≤ i

@@ -13,7 +13,7 @@ use Rattle.polynomial.specs.Polynomial as P
 use Rattle.calculus.specs.Monomial.{less}
 use Rattle.calculus.specs.Key.{key-width, key-limit, key-fits, monomial-of}
 use Rattle.fixed.specs.Fixed.{span-limit, capped}
-use Rattle.fixed.specs.FixedLaws.{capped-within}
+use Rattle.fixed.specs.FixedLaws.{capped-more, capped-within}
 use Rattle.calculus.specs.Terms.{Terms, every, is-nonzero, nonzero, rising-from, rising, sum-over, size}
 use Rattle.calculus.specs.Model.{most-vars, most-terms, between, span, fits, sound}
 use Rattle.calculus.specs.Tests.{vars-sound}
@@ -79,11 +79,6 @@ module _ (n d : ℕ) where
   rest-nil : (k : List ℕ) → rest-sound k [] ≡ true
   unfolding rest-sound every nonzero rising-from
   rest-nil k = refl
-
--- a sum known as far as the cap, and one number more
-capped-more : (s r x : ℕ) → capped s ≡ capped r → capped (capped (s + x)) ≡ capped (r + x)
-unfolding capped
-capped-more s r x e = omega arith
 
 -- ---- all rules of a struct
 module _ (d : ℕ) (m : Model) where
