@@ -13,7 +13,7 @@ use lib.Seq.{drop-cons}
 use Rattle.calculus.specs.Model as C
 use Rattle.calculus.specs.Model.{most-degree, zero-model, sound}
 use Rattle.calculus.specs.Refusal as R
-use Rattle.calculus.specs.Refusal.{accepted, refused, done, at-place, _followed-by_}
+use Rattle.calculus.specs.Refusal.{accepted, refused, done, stopped, at-place, _followed-by_}
 use Rattle.calculus.specs.Tests.{vars-sound}
 use Rattle.calculus.specs.TestLaws.{and-right}
 use Rattle.calculus.specs.Refusal.{all-from}
@@ -29,8 +29,8 @@ use Rattle.model_types.specs.declared.Model.{Model}
 use Rattle.model_types.specs.declared.Refusal.{Refusal}
 use Rattle.model_types.specs.declared.Verdict.the-variants.{Accepted, Refused}
 use Rattle.model_types.specs.declared.Answer.{Answer}
-use Rattle.model_types.specs.ModelStruct.{view, pack, answer}
-use Rattle.model_types.specs.ModelStructLaws.{map-++, vars-within}
+use Rattle.model_types.specs.ModelStruct.{view, pack, refusal, cause, answer}
+use Rattle.model_types.specs.ModelStructLaws.{map-++, cause-refusal, vars-within}
 use Rattle.model.specs.OperationLaws.{Holds, held-vars, held-view, held-sound, Got, got}
 use Rattle.format.specs.HeldBook.{Held-step, Held-book, view-model, view-step, view-book, outline, outline-of}
 use Rattle.format.specs.HeldBook.{held-step-sound, Held-passes}
@@ -39,7 +39,7 @@ use Rattle.format.specs.Fields.{limit-a, limit-b, v-sound}
 use Rattle.format.specs.StepFieldLaws.{Fields, fields-of}
 use Rattle.sheet_steps.specs.Steps.{step-answer, Step-ready}
 use Rattle.sheet_steps.specs.StepLaws.{step-is}
-use Rattle.sheet_step_answers.specs.Answers.{accepted-answer, refused-answer, verdict-at}
+use Rattle.sheet_step_answers.specs.Answers.{accepted-answer}
 use Rattle.sheet_running.specs.Running.{last-result}
 
 -- ---- any list
@@ -270,16 +270,18 @@ module _ {h : Held-book} (p : Held-passes h) where
 
         -- it is refused, and with it the run, at the number of the step
         pub step-refused : {x : Refusal} {y : ℕ} → r .verdict ≡ Refused x y
-            → refused-answer (verdict-at i (r .verdict)) ≡ answer (last-result book)
-        unfolding last-result answer at-place verdict-at _followed-by_
-        step-refused v = stop given is-given turn
+            → answer (stopped (cause x) i) ≡ answer (last-result book)
+        unfolding last-result answer at-place _followed-by_
+        step-refused {x = x} v = stop given is-given turn
           where
             stop : (a : R.Answer C.Model) → r ≡ answer (at-place 0 a)
                 → run-steps book [] (book .steps) ≡ (at-place i a followed-by after)
-                → refused-answer (verdict-at i (r .verdict)) ≡ answer (last-result book)
+                → answer (stopped (cause x) i) ≡ answer (last-result book)
             stop (accepted k) q t = let z : _≡_ {A = ℕ} 0 1 = cc in absurd (omega arith)
-            stop (refused k) q t = ap (λ r. refused-answer (verdict-at i (r .verdict))) q ∙ sym (ap
-                (λ s. answer (s followed-by (λ results. done (last (zero-model (book .vars)) results)))) t)
+            stop (refused k) q t =
+                let same : refusal k ≡ x = cc in
+                ap (λ k. answer (stopped k i)) (sym (ap cause same) ∙ cause-refusal k)
+                ∙ sym (ap (λ s. answer (s followed-by (λ results. done (last (zero-model (book .vars)) results)))) t)
 
         -- it is accepted, and stored behind the others
         pub step-accepted : r .verdict ≡ Accepted → Running h (i + 1) (set results i (r .model))

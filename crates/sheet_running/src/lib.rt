@@ -32,12 +32,13 @@ pub fn last_result(b: Book) -> Answer
         let g = results[s.b as usize];
         let a = sheet_steps::step_answer(n, d, s, input, f, g, &mut slots, &mut keys, &mut sums);
         let v = a.verdict;
-        let Verdict::Accepted = v else {
-            return sheet_step_answers::refused_at(v, i);
+        let Verdict::Refused(refusal, _) = v else {
+            let m = a.model;
+            results[i] = m;
+            i += 1;
+            continue;
         };
-        let m = a.model;
-        results[i] = m;
-        i += 1;
+        return model_types::refuse(refusal, i);
     }
     let last = results[count - 1];
     sheet_step_answers::accepted(last)

@@ -5,10 +5,11 @@ use Prim.Native.Nat.{_-_, _≤_, _<_}
 use native.Mathlib.Omega.{arith}
 use borrow.Author.Needs.{needs}
 use lib.ListN.{length, getD, length-map}
+use Rattle.calculus.specs.Refusal.{stopped}
 use Rattle.calculus.specs.Book.{most-models, most-steps}
 use Rattle.format.specs.HeldBook.{Held-passes}
 use Rattle.model_types.specs.declared.Model.{Model}
-use Rattle.model_types.specs.ModelStruct.{view}
+use Rattle.model_types.specs.ModelStruct.{view, cause, answer}
 use Rattle.sheet_book.specs.declared.Book.{Book}
 use Rattle.sheet_book.specs.declared.Step.{Step}
 use Rattle.sheet_book.specs.BookStruct.{no-step, held-step, held-book}
@@ -18,7 +19,6 @@ use Rattle.sheet_running.specs.RunLaws.{second-place}
 use Rattle.sheet_running.specs.RunLaws.{model-place, step-ready, step-refused, step-accepted}
 use Rattle.sheet_running.specs.RunLaws.{last-answer}
 use Rattle.sheet_running.specs.MemoryLaws.{few-steps, some-step, step-here, model-here}
-use Rattle.sheet_step_answers.specs.Answers.{refused-answer, verdict-at}
 use Rattle.sheet_running.proofs.last_result.Statement.{statement}
 use Rattle.sheet_running.proofs.last_result.Tie as tie
 
@@ -161,26 +161,11 @@ step-answer-requires c κs = (
   record { slots-room = search needs; keys-room = search needs; sums-room = search needs },
 )
 
+enum-known-v : tie.Need-enum-known-v Inv-loop μ-loop
+enum-known-v c = search needs
+
 enum-told : tie.Need-enum-told Inv-loop μ-loop
 enum-told c = search needs
-
-enum-told-2 : tie.Need-enum-told-2 Inv-loop μ-loop
-enum-told-2 c = search needs
-
-refused-at-requires : tie.Need-refused-at-requires Inv-loop μ-loop
-refused-at-requires c κs = search needs
-
--- ---- it is refused
-returns : tie.Need-returns Inv-loop μ-loop
-unfolding held-book
-returns c =
-    let a = c .before .before .before .before .before .before in
-    let s = step (a .before) in
-    let v = a .step-answer .result .verdict in
-    let place : c .refused-at .result ≡ refused-answer (verdict-at (turn s .loop .i) v) = c .refused-at .ensures in
-    place
-    ∙ step-refused (pass s) (here s) (turn s .loop .inv .1) (named (a .before)) (a .step-answer .ensures)
-    (c .before .enum-told2 .given .1)
 
 -- ---- it is accepted
 abbrev answered : tie.After-m Inv-loop μ-loop → tie.After-step-answer Inv-loop μ-loop
@@ -214,6 +199,21 @@ loop-again c =
       a .step-answer .kept .1 .1 .1 .1 .1 .1 .1 .0 ∙ l .3,
       a .step-answer .kept .1 .1 .1 .1 .1 .1 .1 .1 .0 ∙ l .4,
     )
+
+-- ---- it is refused
+refuse-requires : tie.Need-refuse-requires Inv-loop μ-loop
+refuse-requires c κs = search needs
+
+returns : tie.Need-returns Inv-loop μ-loop
+unfolding held-book
+returns c =
+    let a = c .before .before .before .before .before .before .before in
+    let s = step (a .before) in
+    let place : c .refuse .result ≡ answer (stopped (cause (c .before .before .v .given .0 .0)) (turn s .loop .i)) =
+    c .refuse .ensures in
+    place
+    ∙ step-refused (pass s) (here s) (turn s .loop .inv .1) (named (a .before)) (a .step-answer .ensures)
+    (c .before .before .v .given .1)
 
 -- ---- after the loop
 sub-last : tie.Need-sub-last Inv-loop μ-loop
@@ -273,15 +273,15 @@ last-result-spec =
     slice-aggregate-step-answer-2
     slice-aggregate-step-answer-3
     step-answer-requires
+    enum-known-v
     enum-told
-    enum-told-2
-    refused-at-requires
-    returns
     mul-results
     array-set-from-results
     add-i
     loop-less
     loop-again
+    refuse-requires
+    returns
     sub-last
     mul-last
     array-copy-out-last
