@@ -7,11 +7,11 @@ use Rattle.format.specs.Format.{read}
 use Rattle.model_types.specs.declared.Verdict.the-variants.{Accepted}
 use Rattle.sheet_book.specs.BookStruct.{read-answer}
 use Rattle.sheet_book.specs.declared.Read.{Read}
-use Rattle.sheet_records.specs.AtLaws.{has-book, accepted-long, count-accepted, value-refused}
-use Rattle.sheet_records.proofs.record_count.Statement.{statement}
-use Rattle.sheet_records.proofs.record_count.Tie as tie
-use Rattle.sheet_records.proofs.record_count.Reads as reads
-use Rattle.sheet_records.proofs.record_count.Lts as lts
+use Rattle.sheet_opening.specs.OpeningLaws.{has-book, accepted-long, count-accepted, value-refused}
+use Rattle.sheet_opening.proofs.record_count.Statement.{statement}
+use Rattle.sheet_opening.proofs.record_count.Tie as tie
+use Rattle.sheet_opening.proofs.record_count.Reads as reads
+use Rattle.sheet_opening.proofs.record_count.Lts as lts
 use Rattle.sheet_reader.proofs.read.Reads as read-reads
 
 -- what is known where the sheet is accepted: it has room for a trailer

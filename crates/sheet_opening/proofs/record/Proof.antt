@@ -2,16 +2,16 @@ use mathlib.Core.Path.{_≡_, sym, _∙_, ap}
 use Prim.Native.Nat.{_-_, _≤_}
 use native.Mathlib.Omega.{arith}
 use Rattle.sheet_record_places.specs.Places.{bytes-at}
-use Rattle.sheet_records.specs.Records.{place-after, asked}
-use Rattle.sheet_records.specs.RecordsLaws.{asked-bytes, record-none, first-place, place-more}
+use Rattle.sheet_opening.specs.Opening.{place-after, asked}
+use Rattle.sheet_opening.specs.SteppingLaws.{asked-bytes, record-none, first-place, place-more}
 use borrow.Author.Needs.{needs}
-use Rattle.sheet_records.proofs.record.Statement.{statement}
-use Rattle.sheet_records.proofs.record.Tie as tie
-use Rattle.sheet_records.proofs.record.Reads as reads
-use Rattle.sheet_records.proofs.record.Lts as lts
+use Rattle.sheet_opening.proofs.record.Statement.{statement}
+use Rattle.sheet_opening.proofs.record.Tie as tie
+use Rattle.sheet_opening.proofs.record.Reads as reads
+use Rattle.sheet_opening.proofs.record.Lts as lts
 use Rattle.sheet_record_places.proofs.bytes_at.Reads as bytes-at-reads
 use Rattle.sheet_record_places.proofs.next_at.Reads as next-at-reads
-use Rattle.sheet_records.proofs.record_count.Reads as record-count-reads
+use Rattle.sheet_opening.proofs.record_count.Reads as record-count-reads
 
 abbrev Inv-loop : tie.InvT-loop
 Inv-loop sheet i count at₀ k₀ at k = (at ≡ place-after sheet k) × (k ≤ i)

@@ -1,9 +1,8 @@
--- Laws of a place: what the record there is; laws of opening, from the verdict of a read.
+-- Laws of opening, from the verdict of a read; the number of records.
 use mathlib.Core.Path.{_≡_, refl, sym, _∙_, ap, ap₂, subst}
 use mathlib.Core.List.{List, []}
 use Prim.Native.Nat.{ℕ, zero, suc, _+_, _-_, _≤_, _<_}
 use native.Mathlib.Omega.{arith}
-use borrow.Author.Tests.{lt-ltb, le-ltb}
 use lib.ListN.{length, drop, length-append}
 use Rattle.calculus.specs.Refusal.{number, Result, done, stopped, _followed-by_, returned}
 use Rattle.model_types.specs.declared.Refusal.{Refusal}
@@ -18,23 +17,7 @@ use Rattle.format.specs.ReadLoopLaws.{byte-at}
 use Rattle.format.specs.ReadBackLaws.{sheet-shortest}
 use Rattle.format.specs.WriteBackLaws.{read-passes, read-sheet}
 use Rattle.sheet_book.specs.BookStruct.{verdict, read-answer}
-use Rattle.sheet_record_places.specs.Places.{first-step}
-use Rattle.sheet_records.specs.Records.{kind-at, start-of, start, start-answer}
-use Rattle.sheet_records.specs.declared.Kind.the-variants.{Model, Step, End}
-
--- ---- at a place
-module _ (s : List ℕ) (at : ℕ) where
-  pub kind-none : length s - 8 ≤ at → kind-at s at ≡ End
-  unfolding kind-at
-  kind-none h = rw (le-ltb at (length s - 8) h)
-
-  pub kind-model : at < length s - 8 → at < first-step s → kind-at s at ≡ Model
-  unfolding kind-at
-  kind-model h o = rw (lt-ltb at (length s - 8) h, lt-ltb at (first-step s) o)
-
-  pub kind-step : at < length s - 8 → first-step s ≤ at → kind-at s at ≡ Step
-  unfolding kind-at
-  kind-step h o = rw (lt-ltb at (length s - 8) h, le-ltb at (first-step s) o)
+use Rattle.sheet_opening.specs.Opening.{start-of, start, start-answer}
 
 -- ---- opening
 -- a read and an opening have the same verdict

@@ -1,12 +1,12 @@
 use mathlib.Core.Path.{sym, _∙_, ap}
 use lib.ListN.{length}
 use Rattle.sheet_book.specs.declared.Read.{Read}
-use Rattle.sheet_records.specs.AtLaws.{read-verdict, start-accepted, start-refused}
+use Rattle.sheet_opening.specs.OpeningLaws.{read-verdict, start-accepted, start-refused}
 use borrow.Author.Needs.{needs}
-use Rattle.sheet_records.proofs.open_at.Statement.{statement}
-use Rattle.sheet_records.proofs.open_at.Tie as tie
-use Rattle.sheet_records.proofs.open_at.Reads as reads
-use Rattle.sheet_records.proofs.open_at.Lts as lts
+use Rattle.sheet_opening.proofs.open_at.Statement.{statement}
+use Rattle.sheet_opening.proofs.open_at.Tie as tie
+use Rattle.sheet_opening.proofs.open_at.Reads as reads
+use Rattle.sheet_opening.proofs.open_at.Lts as lts
 use Rattle.sheet_reader.proofs.read.Reads as read-reads
 
 read-requires : tie.Need-read-requires
