@@ -16,18 +16,18 @@ use Rattle.format.specs.Format.{model-records, step-records, records, opened, r
 use Rattle.format.specs.ReadLoopLaws.{byte-at}
 use Rattle.format.specs.ReadBackLaws.{sheet-shortest}
 use Rattle.format.specs.WriteBackLaws.{read-passes, read-sheet}
-use Rattle.sheet_book.specs.BookStruct.{verdict, read-answer}
+use Rattle.sheet_book.specs.BookStruct.{verdict}
+use Rattle.sheet_book.specs.TestedLaws.{accepted-done, refused-stopped}
 use Rattle.sheet_opening.specs.Opening.{start-of, start, start-answer}
 
 -- ---- opening
 -- a read and an opening have the same verdict
-same-verdict : (r : Result Held-book) (l : List (List ℕ))
-    → read-answer r .verdict ≡ verdict (r followed-by (λ h. done l))
-unfolding read-answer verdict _followed-by_
+same-verdict : (r : Result Held-book) (l : List (List ℕ)) → verdict r ≡ verdict (r followed-by (λ h. done l))
+unfolding verdict _followed-by_
 same-verdict (done h) l = refl
 same-verdict (stopped r i) l = refl
 
-pub read-verdict : (s : List ℕ) → read-answer (read s) .verdict ≡ verdict (opened s)
+pub read-verdict : (s : List ℕ) → verdict (read s) ≡ verdict (opened s)
 unfolding opened
 read-verdict s = same-verdict (read s) (records s)
 
@@ -53,15 +53,13 @@ unfolding returned-records
 opening-place s = verdict-places [] (opened s)
 
 accepted-at : {A : Type 0} (r : Result A) (end : ℕ) → verdict r ≡ Accepted → start-of r end ≡ 0
-unfolding verdict start-of
-accepted-at (done a) end h = refl
-accepted-at (stopped x i) end h = absurd (let z : _≡_ {A = ℕ} 0 1 = cc in omega arith)
+unfolding start-of
+accepted-at r end h = ap (λ r. start-of r end) (accepted-done r h .is)
 
 refused-at : {A : Type 0} (r : Result A) (end : ℕ) (x : Refusal) (i : ℕ) → verdict r ≡ Refused x i
     → start-of r end ≡ end
-unfolding verdict start-of
-refused-at (done a) end x i h = absurd (let z : _≡_ {A = ℕ} 0 1 = cc in omega arith)
-refused-at (stopped y k) end x i h = refl
+unfolding start-of
+refused-at r end x i h = ap (λ r. start-of r end) (refused-stopped r x i h)
 
 module _ (s : List ℕ) where
   pub start-accepted : verdict (opened s) ≡ Accepted → record { at = 0; verdict = Accepted } ≡ start-answer s
@@ -79,13 +77,8 @@ pub record Has-book (s : List ℕ) : Type 0 where
   pub book : Held-book
   pub is-read : read s ≡ done book
 
-accepted-book : (s : List ℕ) (r : Result Held-book) → read s ≡ r → read-answer r .verdict ≡ Accepted → Has-book s
-unfolding read-answer
-accepted-book s (done h) e v = record { book = h; is-read = e }
-accepted-book s (stopped x i) e v = absurd (let z : _≡_ {A = ℕ} 0 1 = cc in omega arith)
-
-pub has-book : (s : List ℕ) → read-answer (read s) .verdict ≡ Accepted → Has-book s
-has-book s v = accepted-book s (read s) refl v
+pub has-book : (s : List ℕ) → verdict (read s) ≡ Accepted → Has-book s
+has-book s v = let d = accepted-done (read s) v in record { book = d .value; is-read = d .is }
 
 -- and is long enough for a trailer
 pub long-enough : (s : List ℕ) → All-bytes s → Has-book s → 16 ≤ length s
@@ -93,7 +86,7 @@ unfolding shortest
 long-enough s y b = subst (λ x. 16 ≤ length x) (read-sheet s (b .book) (b .is-read) y)
     (sheet-shortest (b .book) (read-passes s (b .book) (b .is-read)))
 
-pub accepted-long : (s : List ℕ) → All-bytes s → read-answer (read s) .verdict ≡ Accepted → 16 ≤ length s
+pub accepted-long : (s : List ℕ) → All-bytes s → verdict (read s) ≡ Accepted → 16 ≤ length s
 accepted-long s y v = long-enough s y (has-book s v)
 
 -- ---- the number of records
@@ -126,17 +119,11 @@ module _ (s : List ℕ) where
   unfolding returned-records opened
   value-accepted b = value-done (read s) (b .book) (b .is-read)
 
-  value-stopped : (r : Result Held-book) (x : Refusal) (i : ℕ) → read-answer r .verdict ≡ Refused x i
-      → returned [] (r followed-by (λ h. done (records s))) .value ≡ []
-  unfolding returned _followed-by_ read-answer
-  value-stopped (done h) x i v = absurd (let z : _≡_ {A = ℕ} 0 1 = cc in omega arith)
-  value-stopped (stopped y k) x i v = refl
-
   -- a refused one none
-  pub value-refused : (x : Refusal) (i : ℕ) → read-answer (read s) .verdict ≡ Refused x i
-      → returned-records s .value ≡ []
-  unfolding returned-records opened
-  value-refused x i v = value-stopped (read s) x i v
+  pub value-refused : (x : Refusal) (i : ℕ) → verdict (read s) ≡ Refused x i → returned-records s .value ≡ []
+  unfolding returned-records opened returned _followed-by_
+  value-refused x i v =
+      ap (λ r. returned [] (r followed-by (λ h. done (records s))) .value) (refused-stopped (read s) x i v)
 
   -- their number stands in the trailer
   pub count-accepted : Has-book s

@@ -10,8 +10,7 @@ use sheet_book::Start;
 pub fn open_at(sheet: &[u8]) -> Start
     ensures { λ r. ⌜ r ≡ start-answer (now (sheet .entry)) ⌝ }
 {
-    let answer = sheet_reader::read(sheet);
-    let verdict = answer.verdict;
+    let verdict = sheet_tests::tested(sheet);
     let end = sheet.len();
     match verdict {
         Verdict::Accepted => Start { at: 0, verdict },
@@ -23,8 +22,7 @@ pub fn open_at(sheet: &[u8]) -> Start
 pub fn record_count(sheet: &[u8]) -> usize
     ensures { λ r. ⌜ r ≡ length (returned-records (now (sheet .entry)) .value) ⌝ }
 {
-    let answer = sheet_reader::read(sheet);
-    let verdict = answer.verdict;
+    let verdict = sheet_tests::tested(sheet);
     match verdict {
         Verdict::Accepted => {
             let end = sheet.len() - format::TRAILER_BYTES;

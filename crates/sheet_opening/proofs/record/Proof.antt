@@ -1,3 +1,4 @@
+-- `record` goes from the start from record to record.
 use mathlib.Core.Path.{_≡_, sym, _∙_, ap}
 use Prim.Native.Nat.{_-_, _≤_}
 use native.Mathlib.Omega.{arith}
@@ -7,11 +8,6 @@ use Rattle.sheet_opening.specs.SteppingLaws.{asked-bytes, record-none, f
 use borrow.Author.Needs.{needs}
 use Rattle.sheet_opening.proofs.record.Statement.{statement}
 use Rattle.sheet_opening.proofs.record.Tie as tie
-use Rattle.sheet_opening.proofs.record.Reads as reads
-use Rattle.sheet_opening.proofs.record.Lts as lts
-use Rattle.sheet_record_places.proofs.bytes_at.Reads as bytes-at-reads
-use Rattle.sheet_record_places.proofs.next_at.Reads as next-at-reads
-use Rattle.sheet_opening.proofs.record_count.Reads as record-count-reads
 
 abbrev Inv-loop : tie.InvT-loop
 Inv-loop sheet i count at₀ k₀ at k = (at ≡ place-after sheet k) × (k ≤ i)

@@ -1,3 +1,4 @@
+-- `record_count` makes the tests, and reads the counts of a sheet that passes them.
 use mathlib.Core.Path.{_≡_, sym, _∙_, ap}
 use Prim.Native.Nat.{_+_, _-_, _≤_}
 use native.Mathlib.Omega.{arith}
@@ -5,26 +6,22 @@ use borrow.Author.Needs.{needs}
 use lib.ListN.{length}
 use Rattle.format.specs.Format.{read}
 use Rattle.model_types.specs.declared.Verdict.the-variants.{Accepted}
-use Rattle.sheet_book.specs.BookStruct.{read-answer}
-use Rattle.sheet_book.specs.declared.Read.{Read}
+use Rattle.sheet_book.specs.BookStruct.{verdict}
 use Rattle.sheet_opening.specs.OpeningLaws.{has-book, accepted-long, count-accepted, value-refused}
 use Rattle.sheet_opening.proofs.record_count.Statement.{statement}
 use Rattle.sheet_opening.proofs.record_count.Tie as tie
-use Rattle.sheet_opening.proofs.record_count.Reads as reads
-use Rattle.sheet_opening.proofs.record_count.Lts as lts
-use Rattle.sheet_reader.proofs.read.Reads as read-reads
 
 -- what is known where the sheet is accepted: it has room for a trailer
 accepted : (c : tie.After-enum-told)
-    → read-answer (read (c .before .before .before .before .args .sheet .now)) .verdict ≡ Accepted
-accepted c = sym (ap (λ (x : Read). x .verdict) (c .before .before .read .ensures)) ∙ c .enum-told .given .1
+    → verdict (read (c .before .before .before .before .args .sheet .now)) ≡ Accepted
+accepted c = sym (c .before .before .tested .ensures) ∙ c .enum-told .given .1
 
 long : (c : tie.After-enum-told) → 16 ≤ length (c .before .before .before .before .args .sheet .now)
 long c = accepted-long (c .before .before .before .before .args .sheet .now)
     (record { below = λ i. c .before .before .before .shared-slice-known .given i .fits }) (accepted c)
 
-read-requires : tie.Need-read-requires
-read-requires c κs = search needs
+tested-requires : tie.Need-tested-requires
+tested-requires c κs = search needs
 
 enum-told : tie.Need-enum-told
 enum-told c = search needs
@@ -70,14 +67,14 @@ returns c =
 returns-2 : tie.Need-returns-2
 returns-2 c =
     let s = c .before .before .before .before .args .sheet .now in
-    let v = sym (ap (λ (x : Read). x .verdict) (c .before .before .read .ensures)) ∙ c .enum-told2 .given .1 in
+    let v = sym (c .before .before .tested .ensures) ∙ c .enum-told2 .given .1 in
     sym (ap length (value-refused s _ _ v))
 
 pub record-count-spec : {M : Type 1} → statement M
 record-count-spec =
     tie.close
     (tie.spec
-    read-requires
+    tested-requires
     enum-told
     sub-end
     add-models

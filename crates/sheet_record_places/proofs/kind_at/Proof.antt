@@ -1,12 +1,10 @@
+-- `kind_at` compares the place with the trailer's and with that of the first step.
 use mathlib.Core.Path.{sym}
 use native.Mathlib.Omega.{arith}
 use Rattle.sheet_record_places.specs.PlacesLaws.{kind-none, kind-model, kind-step}
 use borrow.Author.Needs.{needs}
 use Rattle.sheet_record_places.proofs.kind_at.Statement.{statement}
 use Rattle.sheet_record_places.proofs.kind_at.Tie as tie
-use Rattle.sheet_record_places.proofs.kind_at.Reads as reads
-use Rattle.sheet_record_places.proofs.kind_at.Lts as lts
-use Rattle.sheet_record_places.proofs.first_step.Reads as first-step-reads
 
 returns : tie.Need-returns
 returns c = let a = c .before .before .args in sym (kind-none (a .s .now) (a .at) (omega arith))

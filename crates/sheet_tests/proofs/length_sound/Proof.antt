@@ -3,8 +3,8 @@ use native.Mathlib.Omega.{arith}
 use borrow.Author.Tests.{le-leb, lt-leb}
 use Rattle.calculus.specs.Model.{between}
 use Rattle.format.specs.Format.{shortest, longest}
-use Rattle.sheet_reader.proofs.length_sound.Statement.{statement}
-use Rattle.sheet_reader.proofs.length_sound.Tie as tie
+use Rattle.sheet_tests.proofs.length_sound.Statement.{statement}
+use Rattle.sheet_tests.proofs.length_sound.Tie as tie
 
 returns : tie.Need-returns
 unfolding between shortest
