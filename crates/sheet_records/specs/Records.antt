@@ -4,8 +4,11 @@ use Prim.Native.Nat.{ℕ, zero, suc}
 use denote.Ref.{RefT, now}
 use Rattle.format.specs.Format.{opened}
 use Rattle.sheet_book.specs.BookStruct.{verdict}
-use Rattle.sheet_record_places.specs.Places.{next-at, bytes-at}
+-- what the record at a place is, its bytes, and the place of the next
+unfoldable pub use Rattle.sheet_record_places.specs.Places.{kind-at, bytes-at, next-at}
 use Rattle.sheet_opening.specs.Opening.{start}
+-- where opening begins, with its verdict
+pub use Rattle.sheet_opening.specs.Opening.{start-answer}
 -- the bytes of record i, empty where there is none
 unfoldable pub use Rattle.sheet_opening.specs.Opening.{record-bytes}
 use Rattle.sheet_records.specs.declared.Records.{Records}

@@ -1,9 +1,11 @@
 // Stepping through a sheet record by record without copying it.
 ghost use mathlib.Core.Path.{_≡_};
-ghost use Rattle.sheet_record_places.specs.Places.{«kind-at»};
+ghost use Rattle.sheet_record_places.specs.Places.{«kind-at», «bytes-at», «next-at»};
+ghost use Rattle.sheet_opening.specs.Opening.{«start-answer»};
 ghost use Rattle.sheet_records.specs.Records.{opening, advanced, «at-hand»};
 use model_types::Verdict;
 pub use sheet_book::Kind;
+pub use sheet_book::Start;
 
 // ---- records by their numbers
 pub use sheet_opening::record;
@@ -60,4 +62,41 @@ impl<'a> Records<'a> {
         self.at = sheet_record_places::next_at(sheet, at);
         sheet_record_places::bytes_at(sheet, at)
     }
+}
+
+// ---- the same by a place alone, for programs that cannot hold the struct
+// Where opening begins, beside its verdict.
+pub fn opened_at(sheet: &[u8]) -> Start
+    ensures { λ r. ⌜ r ≡ start-answer (now (sheet .entry)) ⌝ }
+{
+    let opened = open(sheet);
+    Start {
+        at: opened.records.at,
+        verdict: opened.verdict,
+    }
+}
+
+// Whether the record at a place is a model or a step.
+pub fn kind_from(sheet: &[u8], at: usize) -> Kind
+    ensures { λ r. ⌜ r ≡ kind-at (now (sheet .entry)) at ⌝ }
+{
+    let records = Records { sheet, at };
+    records.kind()
+}
+
+// Its bytes.
+pub fn bytes_from(sheet: &[u8], at: usize) -> &[u8]
+    ensures { λ r. ⌜ now r ≡ bytes-at (now (sheet .entry)) at ⌝ }
+{
+    let records = Records { sheet, at };
+    records.bytes()
+}
+
+// The place of the next.
+pub fn place_behind(sheet: &[u8], at: usize) -> usize
+    ensures { λ r. ⌜ r ≡ next-at (now (sheet .entry)) at ⌝ }
+{
+    let mut records = Records { sheet, at };
+    let _bytes = records.next();
+    records.at
 }
