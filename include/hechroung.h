@@ -113,6 +113,16 @@ extern uint8_t hechroung_rewrite(const uint8_t *sheet, size_t sheet_length, uint
    none; a sheet that tests 1 to 6 refuse has none. As much of it as the slice has room for is put at its start. */
 extern size_t hechroung_record(const uint8_t *sheet, size_t sheet_length, size_t i, uint8_t *bytes, size_t bytes_length);
 
+/* Opens a sheet for stepping through it: refusals 1 to 6. Written: numbers, at least 2, hold the refusal's place and
+   the place of the first record; beside a refusal that is the sheet's length, where there is no record. */
+extern uint8_t hechroung_open(const uint8_t *sheet, size_t sheet_length, uint64_t *numbers, size_t numbers_length);
+
+/* The record at a place of an opened sheet: it returns 1 for a model, 2 for a step, 0 where there is none. As much of
+   it as the slice has room for is put at the start of bytes. Written: numbers, at least 2, hold its length and the
+   place of the next record; where there is none that is the place itself, as often as it is asked for. */
+extern uint8_t hechroung_next(const uint8_t *sheet, size_t sheet_length, size_t at,
+                              uint8_t *bytes, size_t bytes_length, uint64_t *numbers, size_t numbers_length);
+
 /* Writes a book as a sheet: refusals 3, 5, 6, 11. Read: for at least min(model_count, 16) models an entry of ns, counts
    and radii and 64 keys and coefficients each; for at least min(step_count, 64) steps four bytes of fields (code, a, b, v)
    and a value. Written: buffer and numbers as for hechroung_rewrite. */

@@ -2,3 +2,4 @@ pub mod WriteCalls
 pub mod WriteCallsLaws
 pub mod SheetCalls
 pub mod SheetCallsLaws
+pub mod StepCalls

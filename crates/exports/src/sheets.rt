@@ -1,17 +1,21 @@
-// Sheets: run to a model with its range and its integral, run to the program's lines, taken apart record by record.
+// Sheets: run to a model with its range and its integral, run to the program's lines, taken apart record by record, by
+// their numbers and one after the other.
 ghost use mathlib.Core.Path.{_≡_};
 ghost use Prim.Native.Nat.{_≤_};
 ghost use lib.Dec.{leb};
 ghost use lib.ListN.{length};
 ghost use Rattle.format.specs.Format.{«run-sheet»};
 ghost use Rattle.format.specs.Lines.{printed};
-ghost use Rattle.sheet.specs.Stepping.{«record-bytes»};
+ghost use Rattle.sheet.specs.Stepping.{«record-bytes», «start-answer», «kind-at», «bytes-at», «next-at»};
 ghost use Rattle.sheet_book.specs.SummaryStruct.{«run-answer»};
 ghost use Rattle.text.specs.Text.{laid};
 ghost use Rattle.c_models.specs.HandedModels.{«model-room»};
 ghost use Rattle.exports.specs.SheetCalls.{«four-ends», «run-state», «stored-summary», «called-run»};
+ghost use Rattle.exports.specs.StepCalls.{«kind-number», «open-state», «called-open»};
+ghost use Rattle.exports.specs.StepCalls.{«next-state», «called-next»};
 use super::MISUSED;
 use sheet::Ends;
+use sheet::Kind;
 use sheet::Summary;
 
 // The ends of a run: those of the range and those of the integral.
@@ -114,4 +118,63 @@ pub extern "C" fn hechroung_record(sheet: &[u8], i: usize, bytes: &mut [u8]) -> 
     let found = sheet::record(sheet, i);
     copy(found, bytes);
     found.len()
+}
+
+// ---- stepping
+// The numbers of an opening, and those of a step: two each.
+const STEP_NUMBERS: usize = 2;
+
+// A sheet is opened for stepping: the number of the refusal, 0 without one, or MISUSED. The refusal's place and the
+// place of the first record go into the numbers; beside a refusal that is the sheet's length, where there is no record.
+#[no_mangle]
+pub extern "C" fn hechroung_open(sheet: &[u8], numbers: &mut [u64]) -> u8
+    ensures { λ r. ⌜ open-state r (now (numbers .exit))
+        ≡ called-open (leb 2 (length (now (numbers .entry)))) (start-answer (now (sheet .entry)))
+        (now (numbers .entry)) ⌝ }
+{
+    if numbers.len() < STEP_NUMBERS {
+        return MISUSED;
+    }
+    let start = sheet::opened_at(sheet);
+    let v = start.verdict;
+    numbers[0] = c_models::verdict_place(v) as u64;
+    numbers[1] = start.at as u64;
+    c_models::verdict_number(v)
+}
+
+// What a record is, as a number.
+fn kind_number(kind: Kind) -> u8
+    ensures { λ r. ⌜ r ≡ kind-number kind ⌝ }
+{
+    match kind {
+        Kind::Model => 1,
+        Kind::Step => 2,
+        Kind::End => 0,
+    }
+}
+
+// The record at a place of a sheet: 1 for a model, 2 for a step, 0 where there is none, or MISUSED. Its length and the
+// place of the next go into the numbers, and as much of it as the slice has room for to the start of `bytes`.
+#[no_mangle]
+pub extern "C" fn hechroung_next(
+    sheet: &[u8],
+    at: usize,
+    bytes: &mut [u8],
+    numbers: &mut [u64],
+) -> u8
+    ensures { λ r. ⌜ next-state r (now (bytes .exit)) (now (numbers .exit))
+        ≡ called-next (leb 2 (length (now (numbers .entry)))) (kind-at (now (sheet .entry)) at)
+        (bytes-at (now (sheet .entry)) at) (next-at (now (sheet .entry)) at)
+        (now (bytes .entry)) (now (numbers .entry)) ⌝ }
+{
+    if numbers.len() < STEP_NUMBERS {
+        return MISUSED;
+    }
+    let kind = sheet::kind_from(sheet, at);
+    let found = sheet::bytes_from(sheet, at);
+    let next = sheet::place_behind(sheet, at);
+    copy(found, bytes);
+    numbers[0] = found.len() as u64;
+    numbers[1] = next as u64;
+    kind_number(kind)
 }

@@ -13,11 +13,12 @@ pub use model_types::Term;
 pub use model_types::Verdict;
 pub use sheet_book::Book;
 pub use sheet_book::Ends;
+pub use sheet_book::Kind;
 pub use sheet_book::Read;
+pub use sheet_book::Start;
 pub use sheet_book::Step;
 pub use sheet_book::Summary;
 pub use sheet_book::Written;
-pub use sheet_records::Kind;
 pub use sheet_records::Opened;
 pub use sheet_records::Records;
 
@@ -33,6 +34,11 @@ pub use sheet_records::open;
 pub use sheet_records::record;
 // How many records there are: none of a refused sheet.
 pub use sheet_records::record_count;
+// The same as `open` and the methods of `Records`, by a place alone: for programs that cannot hold the struct.
+pub use sheet_records::bytes_from;
+pub use sheet_records::kind_from;
+pub use sheet_records::opened_at;
+pub use sheet_records::place_behind;
 
 // ---- the run
 

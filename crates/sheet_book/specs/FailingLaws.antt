@@ -1,11 +1,13 @@
--- The first that fails decides the refusal and its place; the places in use of a book's arrays; its limits.
-use mathlib.Core.Path.{_≡_, refl, _∙_, ap, ap₂}
+-- The first that fails decides the refusal and its place; a loop that walks to it; the places in use of a book's
+-- arrays; its limits.
+use mathlib.Core.Path.{_≡_, refl, sym, _∙_, ap, ap₂}
 use mathlib.Core.Bool.{Bool, true, false, cond}
 use mathlib.Core.List.{List, [], _∷_, map}
 use Prim.Native.Nat.{ℕ, suc, _+_, _≤_, _<_}
+use native.Mathlib.Numerals.{add-one}
 use native.Mathlib.Omega.{arith}
-use lib.ListN.{length, getD, length-map, List·getD-map}
-use lib.Seq.{getD-take}
+use lib.ListN.{length, getD, drop, length-map, drop-of-length-le, List·getD-map}
+use lib.Seq.{getD-take, drop-cons}
 use Rattle.calculus.specs.Refusal as R
 use Rattle.calculus.specs.Refusal.{Result, stopped, require-at, require-each}
 use Rattle.calculus.specs.Book.{limits-sound}
@@ -42,6 +44,33 @@ module _ {A B : Type 0} (ok : ℕ → B → Bool) (q : R.Refusal) (a : Result A)
           → require-at i t q (require-each (suc i) ok l q a) ≡ a
       go true r k = r (omega arith)
       go false r k = absurd (omega arith)
+
+-- ---- a loop that walks to it: those before number i pass
+pub record Walked {A : Type 0} (ok : ℕ → A → Bool) (l : List A) (i : ℕ) : Type 0 where
+  pub within : i ≤ length l
+  pub rest : first-failing 0 ok l ≡ first-failing i ok (drop i l)
+
+pub walked-first : {A : Type 0} (ok : ℕ → A → Bool) (l : List A) → Walked ok l 0
+walked-first ok l = record { within = omega arith; rest = refl }
+
+module _ {A : Type 0} {ok : ℕ → A → Bool} {l : List A} {i : ℕ} (w : Walked ok l i) where
+  cut : (x : A) → i < length l → first-failing i ok (drop i l) ≡ first-failing i ok (getD l i x ∷ drop (suc i) l)
+  cut x h = ap (first-failing i ok) (drop-cons l i x h)
+
+  -- one that passes leaves it to the rest
+  pub walked-turn : (x : A) → i < length l → ok i (getD l i x) ≡ true → Walked ok l (i + 1)
+  unfolding first-failing
+  walked-turn x h e = record { within = omega arith; rest = w .rest ∙ cut x h ∙ rw (e, add-one) }
+
+  -- one that fails is the first
+  pub walked-found : (x : A) → i < length l → ok i (getD l i x) ≡ false → i ≡ first-failing 0 ok l
+  unfolding first-failing
+  walked-found x h e = sym (w .rest ∙ cut x h ∙ rw e)
+
+  -- behind the last
+  pub walked-end : length l ≤ i → i ≡ first-failing 0 ok l
+  unfolding first-failing
+  walked-end h = sym (w .rest ∙ ap (first-failing i ok) (drop-of-length-le l {i = i} h))
 
 -- ---- the places in use of an array
 module _ {A B : Type 0} (zeros : A) (f : A → B) (c : ℕ) (l : List A) where

@@ -52,15 +52,32 @@ pub verdict-stopped : {A : Type 0} (r : Result A) (q : R.Refusal) (i : ℕ) → 
 unfolding verdict
 verdict-stopped r q i e = rw e
 
+-- and back: what is accepted is done,
+pub record Is-done {A : Type 0} (r : Result A) : Type 0 where
+  pub value : A
+  pub is : r ≡ done value
+
+pub accepted-done : {A : Type 0} (r : Result A) → verdict r ≡ Accepted → Is-done r
+unfolding verdict
+accepted-done (done a) e = record { value = a; is = refl }
+accepted-done (stopped q i) e = let z : _≡_ {A = ℕ} 0 1 = cc in absurd (omega arith)
+
+-- and what is refused is stopped
+pub refused-stopped : {A : Type 0} (r : Result A) (x : Refusal) (y : ℕ) → verdict r ≡ Refused x y
+    → r ≡ stopped (cause x) y
+unfolding verdict
+refused-stopped (done a) x y e = let z : _≡_ {A = ℕ} 0 1 = cc in absurd (omega arith)
+refused-stopped (stopped q i) x y e =
+    let p : refusal q ≡ x = cc in
+    let o : i ≡ y = cc in
+    ap₂ stopped (sym (cause-refusal q) ∙ ap cause p) o
+
 -- a book that is accepted passes
 pub verdict-accepted : (b : Book) → book-verdict b ≡ Accepted → Held-passes (held-book b)
-unfolding book-verdict verdict
-verdict-accepted b e = go (held-tested (held-book b) (done (held-book b))) refl e
-  where
-    go : (r : Result Held-book) → held-tested (held-book b) (done (held-book b)) ≡ r → verdict r ≡ Accepted
-        → Held-passes (held-book b)
-    go (done v) p k = held-tested-done (held-book b) (done (held-book b)) v p .passes
-    go (stopped q i) p k = let z : _≡_ {A = ℕ} 0 1 = cc in absurd (omega arith)
+unfolding book-verdict
+verdict-accepted b e =
+    let d = accepted-done (held-tested (held-book b) (done (held-book b))) e in
+    held-tested-done (held-book b) (done (held-book b)) (d .value) (d .is) .passes
 
 -- so that what is asked for after the tests is what they hand on
 pub verdict-hands-on : (b : Book) → book-verdict b ≡ Accepted → {A : Type 0} (r : Result A)
@@ -70,14 +87,7 @@ verdict-hands-on b e r = held-tested-passes (held-book b) r (verdict-accepted b 
 -- a book that is refused stops it, with the refusal and the place of the verdict
 pub verdict-refused : (b : Book) (x : Refusal) (y : ℕ) → book-verdict b ≡ Refused x y → {A : Type 0} (r : Result A)
     → held-tested (held-book b) r ≡ stopped (cause x) y
-unfolding book-verdict verdict _followed-by_
-verdict-refused b x y e {A} r =
+unfolding book-verdict _followed-by_
+verdict-refused b x y e r =
     tested-first (held-book b) (done (held-book b)) (λ h. r)
-    ∙ go (held-tested (held-book b) (done (held-book b))) e
-  where
-    go : (t : Result Held-book) → verdict t ≡ Refused x y → (t followed-by (λ h. r)) ≡ stopped (cause x) y
-    go (done v) k = let z : _≡_ {A = ℕ} 0 1 = cc in absurd (omega arith)
-    go (stopped q i) k =
-        let p : refusal q ≡ x = cc in
-        let o : i ≡ y = cc in
-        ap₂ stopped (sym (cause-refusal q) ∙ ap cause p) o
+    ∙ ap (λ t. t followed-by (λ h. r)) (refused-stopped (held-tested (held-book b) (done (held-book b))) x y e)

@@ -1,5 +1,5 @@
-// The types of the sheet layer: books held in memory, and what reading, writing and a run answer; test 3, and test 6 of
-// one step.
+// The types of the sheet layer: books held in memory, what reading, writing and a run answer, and records; test 3, and
+// test 6 of one step.
 ghost use mathlib.Core.Path.{_≡_};
 ghost use Rattle.calculus.specs.Book.{«limits-sound»};
 ghost use Rattle.format.specs.HeldBook.{outline};
@@ -60,6 +60,19 @@ pub struct Summary {
     pub model: Model,
     pub range: Ends,
     pub integral: Ends,
+    pub verdict: Verdict,
+}
+
+// What a record of a sheet is; there is none from the trailer on.
+pub enum Kind {
+    Model,
+    Step,
+    End,
+}
+
+// Where stepping through a sheet begins, beside the verdict of tests 1 to 6.
+pub struct Start {
+    pub at: usize,
     pub verdict: Verdict,
 }
 

@@ -2,10 +2,10 @@
 ghost use mathlib.Core.Path.{_≡_};
 ghost use mathlib.Core.Bool.{_&&_};
 ghost use Prim.Native.Nat.{_≤_};
-ghost use lib.Dec.{eqb};
-ghost use Rattle.calculus.specs.Model.{sound};
+ghost use lib.Dec.{leb, eqb};
+ghost use lib.ListN.{length};
+ghost use Rattle.calculus.specs.Model.{«most-terms»};
 ghost use Rattle.calculus.specs.Book.{«most-models», «most-steps»};
-ghost use Rattle.model_types.specs.ModelStruct.{view};
 ghost use Rattle.sheet_book.specs.BookStruct.{«book-verdict»};
 ghost use Rattle.sheet_book_tests.specs.Unsound.{«first-unsound-model», «first-unsound-step»};
 use model_types::Model;
@@ -13,33 +13,54 @@ use model_types::Refusal;
 use model_types::Verdict;
 use sheet_book::Book;
 
-// Whether a model has the book's n and holds to the rules with its order.
-pub fn model_sound(n: u8, d: u8, m: Model) -> bool
-    ensures { λ r. ⌜ r ≡ (eqb (m .n) n && sound d (view m)) ⌝ }
+// Whether a model has the book's n, and no more than 64 terms. `whole` tells the caller that its array has all places.
+fn head_sound(n: u8, m: Model) -> bool
+    ensures { λ r. ⌜ r ≡ (eqb (m .n) n && leb (m .count) most-terms) ⌝ }
+    ensures whole { λ r. ⌜ length (m .terms) ≡ most-terms ⌝ }
 {
     if m.n != n {
         return false;
     }
-    model::sound(m, d)
+    m.count <= model_types::MOST_TERMS
 }
 
-// The number of the first model that fails test 5, or the count.
+// The number of the first model that fails test 5, or the count. A fault leaves both loops, and k is then the faulty
+// model's number.
 fn first_unsound_model(b: Book) -> usize
-    requires { ⌜ b .«model_count» ≤ most-models ⌝ }
+    requires { ⌜ (1 ≤ b .n) × (b .n ≤ 4) × (b .«model_count» ≤ most-models) ⌝ }
     ensures { λ r. ⌜ r ≡ first-unsound-model b ⌝ }
 {
     let n = b.n;
     let d = b.d;
     let count = b.model_count;
-    let mut i = 0;
-    'models: while i < count {
-        let m = b.models[i];
-        if !model_sound(n, d, m) {
+    let mut k = 0;
+    'models: while k < count {
+        let m = b.models[k];
+        let total = m.count;
+        if !head_sound(n, m) {
             break 'models;
         }
-        i += 1;
+        let mut span = m.radius;
+        let mut least: u32 = 0;
+        let mut i = 0;
+        'terms: loop {
+            if total <= i {
+                break 'terms;
+            }
+            let t = m.terms[i];
+            if !model::term_sound(n, d, least, t.key, t.coefficient) {
+                break 'models;
+            }
+            span = fixed::capped_sum(span, fixed::magnitude(t.coefficient));
+            least = t.key as u32 + 1;
+            i += 1;
+        }
+        if !fixed::within_span(span) {
+            break 'models;
+        }
+        k += 1;
     }
-    i
+    k
 }
 
 // The number of the first step that fails test 6, or the count.

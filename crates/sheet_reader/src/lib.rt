@@ -3,12 +3,11 @@ ghost use mathlib.Core.Path.{_≡_};
 ghost use Prim.Native.Nat.{_+_, _*_};
 ghost use lib.Dec.{T};
 ghost use lib.ListN.{length};
-ghost use Rattle.calculus.specs.Model.{between};
 ghost use Rattle.calculus.specs.Book.{«limits-sound»};
 ghost use Rattle.calculus.specs.Refusal.{stopped};
 ghost use Rattle.model_types.specs.ModelStruct.{cause};
 ghost use Rattle.format.specs.HeldBook.{outline};
-ghost use Rattle.format.specs.Format.{shortest, longest, «read-records», read};
+ghost use Rattle.format.specs.Format.{«read-records», read};
 ghost use Rattle.sheet_book.specs.BookStruct.{«read-answer»};
 ghost use Rattle.sheet_decode.specs.Trailer.{«held-trailer»};
 use model_types::Refusal;
@@ -22,8 +21,8 @@ use sheet_decode::Trailer;
 fn refuse(refusal: Refusal, place: usize) -> Read
     ensures { λ r. ⌜ r ≡ read-answer (stopped (cause refusal) place) ⌝ }
 {
-    let w = sheet_walk::walk_models(b"", 1, 0, 0);
-    let v = sheet_walk::walk_steps(b"", 0, 1, 0, 0);
+    let w = sheet_read_walk::read_models(b"", 1, 0, 0);
+    let v = sheet_read_walk::read_steps(b"", 0, 1, 0, 0);
     let models = w.models;
     let steps = v.steps;
     Read {
@@ -39,16 +38,6 @@ fn refuse(refusal: Refusal, place: usize) -> Read
     }
 }
 
-// Test 1.
-fn length_sound(length: usize) -> bool
-    ensures { λ r. ⌜ r ≡ between shortest longest length ⌝ }
-{
-    if length < format::SHORTEST {
-        return false;
-    }
-    length <= format::LONGEST
-}
-
 // Tests 5 and 6, and the book, for a sheet that passes the others.
 fn read_records(sheet: &[u8], t: Trailer) -> Read
     requires { ⌜ T (limits-sound (outline (t .n) (t .d) (t .models) (t .steps))) ⌝ }
@@ -60,7 +49,7 @@ fn read_records(sheet: &[u8], t: Trailer) -> Read
     let count = t.models as usize;
     let total = t.steps as usize;
     let offset = t.offset as usize;
-    let w = sheet_walk::walk_models(&sheet[..offset], n, d, count);
+    let w = sheet_read_walk::read_models(&sheet[..offset], n, d, count);
     let place = w.place;
     if place < count {
         return refuse(Refusal::BadModel, place);
@@ -69,7 +58,7 @@ fn read_records(sheet: &[u8], t: Trailer) -> Read
     if w.end < offset {
         return refuse(Refusal::BadModel, count);
     }
-    let v = sheet_walk::walk_steps(sheet, offset, n, count, total);
+    let v = sheet_read_walk::read_steps(sheet, offset, n, count, total);
     let fault = v.place;
     if fault < total {
         return refuse(Refusal::BadStep, fault);
@@ -93,24 +82,12 @@ fn read_records(sheet: &[u8], t: Trailer) -> Read
 pub fn read(sheet: &[u8]) -> Read
     ensures { λ r. ⌜ r ≡ read-answer (read (now (sheet .entry))) ⌝ }
 {
-    let length = sheet.len();
-    if !length_sound(length) {
-        return refuse(Refusal::BadLength, 0);
+    let v = sheet_tests::head_tested(sheet);
+    match v {
+        Verdict::Accepted => {
+            let t = sheet_decode::trailer_at(sheet, sheet.len() - format::TRAILER_BYTES);
+            read_records(sheet, t)
+        }
+        Verdict::Refused(refusal, place) => refuse(refusal, place),
     }
-    let t = sheet_decode::trailer_at(sheet, length - format::TRAILER_BYTES);
-    let steps = t.steps as usize;
-    let offset = t.offset as usize;
-    let marked = t.marked;
-    let within = sheet_book::limits_sound(t.n, t.d, t.models as usize, steps);
-    if !marked {
-        return refuse(Refusal::BadMark, 0);
-    }
-    if !within {
-        return refuse(Refusal::BadLimits, 0);
-    }
-    let end = offset + format::STEP_BYTES * steps + format::TRAILER_BYTES;
-    if end != length {
-        return refuse(Refusal::BadOffset, 0);
-    }
-    read_records(sheet, t)
 }

@@ -1,10 +1,12 @@
--- The record at a place of a sheet: how long it is, its bytes, and where the next one stands.
+-- The record at a place of a sheet: what it is, how long it is, its bytes, and where the next one stands.
 use mathlib.Core.Bool.{cond}
 use mathlib.Core.List.{List}
 use Prim.Native.Nat.{ℕ, _+_, _-_, min}
 use lib.Dec.{ltb}
 use lib.ListN.{length, take, drop}
 use Rattle.format.specs.Format.{model-length, trailer-of, read-trailer}
+use Rattle.sheet_book.specs.declared.Kind.{Kind}
+use Rattle.sheet_book.specs.declared.Kind.the-variants.{Model, Step, End}
 
 -- where the first step stands, by the trailer
 unfoldable pub first-step : List ℕ → ℕ
@@ -25,3 +27,7 @@ next-at s at = at + length-at s at
 -- its bytes: empty where there is none
 unfoldable pub bytes-at : List ℕ → (at : ℕ) → List ℕ
 bytes-at s at = take (length-at s at) (drop at s)
+
+-- whether it is a model or a step
+unfoldable pub kind-at : List ℕ → (at : ℕ) → Kind
+kind-at s at = cond (ltb at (length s - 8)) (cond (ltb at (first-step s)) Model Step) End

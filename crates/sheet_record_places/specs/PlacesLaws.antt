@@ -1,4 +1,4 @@
--- Laws of a place: how long the record there should be.
+-- Laws of a place: how long the record there should be, and what it is.
 use mathlib.Core.Path.{_≡_, ap}
 use mathlib.Core.Bool.{Bool, true, false, cond}
 use mathlib.Core.List.{List}
@@ -11,7 +11,8 @@ use lib.Seq.{drop-drop}
 use Rattle.format.specs.Bytes.{byte, u16}
 use Rattle.format.specs.Format.{model-length, trailer-of, read-trailer}
 use Rattle.format.specs.ReadLoopLaws.{byte-at}
-use Rattle.sheet_record_places.specs.Places.{first-step, record-size}
+use Rattle.sheet_book.specs.declared.Kind.the-variants.{Model, Step, End}
+use Rattle.sheet_record_places.specs.Places.{first-step, record-size, kind-at}
 
 module _ (s : List ℕ) where
   pub first-step-is : first-step s ≡ u16 (drop (length s - 8 + 4) s)
@@ -34,3 +35,17 @@ module _ (s : List ℕ) (at : ℕ) where
       go : (t : Bool) → 5 ≤ cond t (5 + 6 * byte 4 (drop at s)) 8
       go true = omega arith
       go false = omega arith
+
+-- ---- what it is
+module _ (s : List ℕ) (at : ℕ) where
+  pub kind-none : length s - 8 ≤ at → kind-at s at ≡ End
+  unfolding kind-at
+  kind-none h = rw (le-ltb at (length s - 8) h)
+
+  pub kind-model : at < length s - 8 → at < first-step s → kind-at s at ≡ Model
+  unfolding kind-at
+  kind-model h o = rw (lt-ltb at (length s - 8) h, lt-ltb at (first-step s) o)
+
+  pub kind-step : at < length s - 8 → first-step s ≤ at → kind-at s at ≡ Step
+  unfolding kind-at
+  kind-step h o = rw (lt-ltb at (length s - 8) h, le-ltb at (first-step s) o)

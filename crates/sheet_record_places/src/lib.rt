@@ -1,9 +1,11 @@
-// The record at a place of a sheet: how long it is, its bytes without copying them, and where the next one stands.
+// The record at a place of a sheet: what it is, how long it is, its bytes without copying them, and where the next one
+// stands.
 ghost use mathlib.Core.Path.{_≡_};
 ghost use Prim.Native.Nat.{_+_, _≤_, _<_};
 ghost use lib.ListN.{length};
 ghost use Rattle.sheet_record_places.specs.Places.{«first-step», «record-size», «length-at», «next-at»};
-ghost use Rattle.sheet_record_places.specs.Places.{«bytes-at»};
+ghost use Rattle.sheet_record_places.specs.Places.{«bytes-at», «kind-at»};
+use sheet_book::Kind;
 
 // Where the first step stands, by the trailer.
 pub fn first_step(s: &[u8]) -> usize
@@ -65,4 +67,23 @@ pub fn bytes_at(s: &[u8], at: usize) -> &[u8]
     }
     let next = at + length;
     &s[at..next]
+}
+
+// Whether it is a model or a step; from the trailer on there is none.
+pub fn kind_at(s: &[u8], at: usize) -> Kind
+    ensures { λ r. ⌜ r ≡ kind-at (now (s .entry)) at ⌝ }
+{
+    let length = s.len();
+    if length < format::TRAILER_BYTES {
+        return Kind::End;
+    }
+    let trailer = length - format::TRAILER_BYTES;
+    if trailer <= at {
+        return Kind::End;
+    }
+    let first = first_step(s);
+    if first <= at {
+        return Kind::Step;
+    }
+    Kind::Model
 }

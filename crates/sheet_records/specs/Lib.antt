@@ -1,5 +1,4 @@
 -- Definitions.
 pub mod Records
--- Laws of a place and of opening, and the theorems about stepping.
-pub mod AtLaws
+-- The theorems about stepping by the struct.
 pub mod RecordsLaws

@@ -1,28 +1,21 @@
 // Stepping through a sheet record by record without copying it.
 ghost use mathlib.Core.Path.{_≡_};
-ghost use lib.ListN.{length};
-ghost use Rattle.format.specs.Format.{«returned-records»};
-ghost use Rattle.sheet_records.specs.Records.{«kind-at», «start-answer», «record-bytes»};
+ghost use Rattle.sheet_record_places.specs.Places.{«kind-at», «bytes-at», «next-at»};
+ghost use Rattle.sheet_opening.specs.Opening.{«start-answer»};
 ghost use Rattle.sheet_records.specs.Records.{opening, advanced, «at-hand»};
 use model_types::Verdict;
+pub use sheet_book::Kind;
+pub use sheet_book::Start;
 
+// ---- records by their numbers
+pub use sheet_opening::record;
+pub use sheet_opening::record_count;
+
+// ---- one after the other
 // A sheet, and the place of the record at hand.
 pub struct Records<'a> {
     pub sheet: &'a [u8],
     pub at: usize,
-}
-
-// What the record at hand is; there is none from the trailer on.
-pub enum Kind {
-    Model,
-    Step,
-    End,
-}
-
-// Where stepping begins, beside the verdict of tests 1 to 6.
-pub struct Start {
-    pub at: usize,
-    pub verdict: Verdict,
 }
 
 // A sheet at its first record, or beside a refusal at its end.
@@ -31,80 +24,11 @@ pub struct Opened<'a> {
     pub verdict: Verdict,
 }
 
-// ---- the work, on a slice and a place
-// Whether the record at a place is a model or a step.
-pub fn kind_at(s: &[u8], at: usize) -> Kind
-    ensures { λ r. ⌜ r ≡ kind-at (now (s .entry)) at ⌝ }
-{
-    let length = s.len();
-    if length < format::TRAILER_BYTES {
-        return Kind::End;
-    }
-    let trailer = length - format::TRAILER_BYTES;
-    if trailer <= at {
-        return Kind::End;
-    }
-    let first = sheet_record_places::first_step(s);
-    if first <= at {
-        return Kind::Step;
-    }
-    Kind::Model
-}
-
-// Tests 1 to 6: stepping begins at 0, or where they refuse the sheet at its end, so that none is handed out.
-pub fn open_at(sheet: &[u8]) -> Start
-    ensures { λ r. ⌜ r ≡ start-answer (now (sheet .entry)) ⌝ }
-{
-    let answer = sheet_reader::read(sheet);
-    let verdict = answer.verdict;
-    let end = sheet.len();
-    match verdict {
-        Verdict::Accepted => Start { at: 0, verdict },
-        Verdict::Refused(_, _) => Start { at: end, verdict },
-    }
-}
-
-// ---- without a struct
-// How many records there are: none of a refused sheet.
-pub fn record_count(sheet: &[u8]) -> usize
-    ensures { λ r. ⌜ r ≡ length (returned-records (now (sheet .entry)) .value) ⌝ }
-{
-    let answer = sheet_reader::read(sheet);
-    let verdict = answer.verdict;
-    match verdict {
-        Verdict::Accepted => {
-            let end = sheet.len() - format::TRAILER_BYTES;
-            let models = sheet[end + 2] as usize;
-            let steps = sheet[end + 3] as usize;
-            models + steps
-        }
-        Verdict::Refused(_, _) => 0,
-    }
-}
-
-// Record i, counted from 0: empty where there is none.
-pub fn record(sheet: &[u8], i: usize) -> &[u8]
-    ensures { λ r. ⌜ now r ≡ record-bytes (now (sheet .entry)) i ⌝ }
-{
-    let count = record_count(sheet);
-    if count <= i {
-        return &sheet[0..0];
-    }
-    let mut at = 0;
-    let mut k = 0;
-    while k < i {
-        at = sheet_record_places::next_at(sheet, at);
-        k += 1;
-    }
-    sheet_record_places::bytes_at(sheet, at)
-}
-
-// ---- over the struct
 // Opening makes tests 1 to 6: the number and place of a refusal stand in the verdict.
 pub fn open<'a>(sheet: &'a [u8]) -> Opened<'a>
     ensures { λ r. ⌜ r ≡ opening (sheet .entry) ⌝ }
 {
-    let start = open_at(sheet);
+    let start = sheet_opening::open_at(sheet);
     Opened {
         records: Records {
             sheet,
@@ -126,7 +50,7 @@ impl<'a> Records<'a> {
     pub fn kind(self) -> Kind
         ensures { λ k. ⌜ k ≡ kind-at (now (self .entry .sheet)) (self .entry .at) ⌝ }
     {
-        kind_at(self.sheet, self.at)
+        sheet_record_places::kind_at(self.sheet, self.at)
     }
 
     // Hands out the bytes at hand, and goes one record on: after the last it hands out none, as often as it is asked.
@@ -138,4 +62,41 @@ impl<'a> Records<'a> {
         self.at = sheet_record_places::next_at(sheet, at);
         sheet_record_places::bytes_at(sheet, at)
     }
+}
+
+// ---- the same by a place alone, for programs that cannot hold the struct
+// Where opening begins, beside its verdict.
+pub fn opened_at(sheet: &[u8]) -> Start
+    ensures { λ r. ⌜ r ≡ start-answer (now (sheet .entry)) ⌝ }
+{
+    let opened = open(sheet);
+    Start {
+        at: opened.records.at,
+        verdict: opened.verdict,
+    }
+}
+
+// Whether the record at a place is a model or a step.
+pub fn kind_from(sheet: &[u8], at: usize) -> Kind
+    ensures { λ r. ⌜ r ≡ kind-at (now (sheet .entry)) at ⌝ }
+{
+    let records = Records { sheet, at };
+    records.kind()
+}
+
+// Its bytes.
+pub fn bytes_from(sheet: &[u8], at: usize) -> &[u8]
+    ensures { λ r. ⌜ now r ≡ bytes-at (now (sheet .entry)) at ⌝ }
+{
+    let records = Records { sheet, at };
+    records.bytes()
+}
+
+// The place of the next.
+pub fn place_behind(sheet: &[u8], at: usize) -> usize
+    ensures { λ r. ⌜ r ≡ next-at (now (sheet .entry)) at ⌝ }
+{
+    let mut records = Records { sheet, at };
+    let _bytes = records.next();
+    records.at
 }

@@ -1,27 +1,20 @@
 -- The loop over models: what it holds, and one law for its start, a turn, each way out and its end.
-use mathlib.Core.Path.{_≡_, refl, sym, _∙_, ap}
+use mathlib.Core.Path.{_≡_, refl, sym, _∙_, ap, ap₂}
 use mathlib.Core.Bool.{true, false}
-use mathlib.Core.List.{List, [], _∷_, _++_, map}
+use mathlib.Core.List.{List, [], _∷_, _++_}
 use Prim.Native.Nat.{ℕ, zero, suc, _+_, _*_, _-_, _≤_, _<_}
 use native.Mathlib.Omega.{arith}
 use lib.Dec.{leb}
-use lib.ListN.{length, set, drop, replicate, length-append, length-map, length-drop}
+use lib.ListN.{length, drop, length-append, length-drop}
 use lib.Seq.{drop-drop}
 use borrow.Author.Tests.{le-leb, lt-leb}
 use Rattle.calculus.specs.Model.{sound}
-use Rattle.calculus.specs.Book.{most-models}
-use Rattle.model_types.specs.declared.Model.{Model}
-use Rattle.model_types.specs.Arrays.{padded}
 use Rattle.model_types.specs.ModelStruct.{view}
-use Rattle.model_types.specs.ArrayLaws.{padded-more}
-use Rattle.model_types.specs.ModelStructLaws.{map-++}
 use Rattle.format.specs.Bytes.{byte}
 use Rattle.format.specs.HeldBook.{Held-model, view-model}
 use Rattle.format.specs.Format.{read-model, model-length}
 use Rattle.format.specs.ReadLoopLaws.{byte-at, model-at-least, and-false}
-use Rattle.sheet_book.specs.BookStruct.{no-model, stored-model}
-use Rattle.sheet_walk.specs.declared.ModelsRead.{ModelsRead}
-use Rattle.sheet_walk.specs.Walk.{record-sound, walk, models-read}
+use Rattle.sheet_walk.specs.Walk.{record-sound, Walk, walk, models-walked}
 use Rattle.sheet_walk.specs.TermWalkLaws.{view-stored, model-at, many-terms}
 
 -- ---- the record at a place
@@ -79,89 +72,65 @@ walk-end : (n d : ℕ) (before : List Held-model) (s : List ℕ)
 unfolding walk
 walk-end n d before s = refl
 
--- a walk over no records finds zeros in all places
-pub no-models-read : (n d : ℕ) (s : List ℕ) → models-read n d 0 s .models ≡ padded no-model most-models []
-unfolding models-read walk
-no-models-read n d s = refl
-
--- ---- before model k
-pub record Models-so-far (s : List ℕ) (n d count : ℕ) (models : List Model) (at k : ℕ) : Type 0 where
-  pub before : List Held-model
+-- ---- before model k: `before` are those read
+pub record Models-so-far (s : List ℕ) (n d count : ℕ) (before : List Held-model) (at k : ℕ) : Type 0 where
   pub number : length before ≡ k
   pub most : k ≤ count
   pub within : at ≤ length s
-  pub stored : models ≡ padded no-model most-models (map stored-model before)
   pub rest : walk n d before (count - k) (drop at s) ≡ walk n d [] count s
 
-pub models-first : (s : List ℕ) (n d count : ℕ) → Models-so-far s n d count (replicate most-models no-model) 0 0
-unfolding padded most-models
+pub models-first : (s : List ℕ) (n d count : ℕ) → Models-so-far s n d count [] 0 0
 models-first s n d count = record {
-  before = [];
   number = refl;
   most = omega arith;
   within = omega arith;
-  stored = refl;
   rest = let e : count - 0 ≡ count = omega arith in ap (λ c. walk n d [] c s) e;
 }
 
-module _ (s : List ℕ) (n d count : ℕ) (models : List Model) (at k : ℕ) (h : Models-so-far s n d count models at k) where
-  -- what the code answers when it leaves the loop
-  abbrev answer : ModelsRead
-  answer = record { place = k; end = at; models = models }
+module _ (s : List ℕ) (n d count : ℕ) (before : List Held-model) (at k : ℕ)
+    (h : Models-so-far s n d count before at k) where
+  -- the walk ends here
+  abbrev pub Ends : Type 0
+  Ends = walk n d [] count s ≡ record { passed = before; left = drop at s }
 
-  finish : walk n d (h .before) (count - k) (drop at s) ≡ record { passed = h .before; left = drop at s }
-      → answer ≡ models-read n d count s
-  unfolding models-read
-  finish f =
-      let e : length s - (length s - at) ≡ at = omega (arith, h .within) in
-      rw (← h .rest, f, length-drop at s, e, h .number, ← h .stored)
-
-  stop : record-sound n d (drop at s) ≡ false → answer ≡ models-read n d count s
-  stop f = finish (walk-stop n d (h .before) (count - k) (drop at s) f)
+  stop : record-sound n d (drop at s) ≡ false → Ends
+  stop f = sym (h .rest) ∙ walk-stop n d before (count - k) (drop at s) f
 
   -- at the first fault: fewer bytes than a record has at least,
-  pub models-no-head : length s - at < 5 → answer ≡ models-read n d count s
+  pub models-no-head : length s - at < 5 → Ends
   models-no-head l = stop (no-head n d at s l)
 
   -- or than this one has,
-  pub models-no-terms : (total : ℕ) → total ≡ byte (at + 4) s → length s - at < 5 + 6 * total
-      → answer ≡ models-read n d count s
+  pub models-no-terms : (total : ℕ) → total ≡ byte (at + 4) s → length s - at < 5 + 6 * total → Ends
   models-no-terms total e l = stop (no-terms n d at s total e l)
 
   -- or too many terms,
-  pub models-many : (total : ℕ) → total ≡ byte (at + 4) s → 64 < total → answer ≡ models-read n d count s
+  pub models-many : (total : ℕ) → total ≡ byte (at + 4) s → 64 < total → Ends
   models-many total e l = stop (unsound n d at s (many-terms s n d at (omega arith)))
 
   -- or a model that breaks another rule
-  pub models-unsound : sound d (view (model-at n at s)) ≡ false → answer ≡ models-read n d count s
+  pub models-unsound : sound d (view (model-at n at s)) ≡ false → Ends
   models-unsound f = stop (unsound n d at s f)
 
-  pub models-end : count ≤ k → answer ≡ models-read n d count s
+  -- behind the last
+  pub models-end : count ≤ k → Ends
   models-end l =
       let e : count - k ≡ 0 = omega arith in
-      finish (ap (λ c. walk n d (h .before) c (drop at s)) e ∙ walk-end n d (h .before) (drop at s))
+      sym (h .rest) ∙ ap (λ c. walk n d before c (drop at s)) e ∙ walk-end n d before (drop at s)
 
   -- a turn
-  pub models-turn : k < count → count ≤ 16 → (total : ℕ) → total ≡ byte (at + 4) s → 5 + 6 * total ≤ length s - at
+  pub models-turn : k < count → (total : ℕ) → total ≡ byte (at + 4) s → 5 + 6 * total ≤ length s - at
       → sound d (view (model-at n at s)) ≡ true → (next : ℕ) → next ≡ at + model-length (drop at s)
-      → (m : Model) → m ≡ model-at n at s
-      → Models-so-far s n d count (set models k m) next (k + 1)
-  unfolding most-models
-  models-turn l few total t room f next e m i = record {
-    before = h .before ++ (read ∷ []);
-    number = omega (arith, length-append (h .before) (read ∷ []), h .number);
+      → Models-so-far s n d count (before ++ (read-model n (drop at s) ∷ [])) next (k + 1)
+  models-turn l total t room f next e = record {
+    number = omega (arith, length-append before (read ∷ []), h .number);
     most = omega arith;
     within = omega (arith, length-at n d at s);
-    stored = ap (λ x. set x k m) (h .stored)
-        ∙ padded-more no-model 16 (map stored-model (h .before)) k m
-        (length-map (h .before) stored-model ∙ h .number) (omega arith)
-        ∙ ap (padded no-model 16)
-        (ap (λ x. map stored-model (h .before) ++ (x ∷ [])) i ∙ sym (map-++ stored-model (h .before) (read ∷ [])));
     rest =
         let c : count - k ≡ suc (count - (k + 1)) = omega arith in
-        ap (λ r. walk n d (h .before ++ (read ∷ [])) (count - (k + 1)) r) (behind e)
-        ∙ sym (walk-on n d (h .before) (count - (k + 1)) (drop at s) (record-passes n d at s total t room f))
-        ∙ ap (λ j. walk n d (h .before) j (drop at s)) (sym c) ∙ h .rest;
+        ap (λ r. walk n d (before ++ (read ∷ [])) (count - (k + 1)) r) (behind e)
+        ∙ sym (walk-on n d before (count - (k + 1)) (drop at s) (record-passes n d at s total t room f))
+        ∙ ap (λ j. walk n d before j (drop at s)) (sym c) ∙ h .rest;
   }
     where
       read : Held-model
@@ -169,3 +138,25 @@ module _ (s : List ℕ) (n d count : ℕ) (models : List Model) (at k : ℕ) (h 
 
       behind : next ≡ at + model-length (drop at s) → drop next s ≡ drop (model-length (drop at s)) (drop at s)
       behind e = ap (λ j. drop j s) e ∙ sym (drop-drop (model-length (drop at s)) at s)
+
+  -- how far the walk goes where it ends
+  pub walk-place : Ends → k ≡ length (walk n d [] count s .passed)
+  walk-place f = sym (ap (λ (w : Walk). length (w .passed)) f ∙ h .number)
+
+  pub walk-behind : Ends → at ≡ length s - length (walk n d [] count s .left)
+  walk-behind f =
+      let e : length s - (length s - at) ≡ at = omega (arith, h .within) in
+      sym (ap (λ (w : Walk). length s - length (w .left)) f ∙ ap (λ j. length s - j) (length-drop at s) ∙ e)
+
+-- ---- the same, of the loop that keeps nothing
+pub record Models-passed (s : List ℕ) (n d count at k : ℕ) : Type 0 where
+  pub before : List Held-model
+  pub so-far : Models-so-far s n d count before at k
+
+module _ (s : List ℕ) (n d count at k : ℕ) (h : Models-passed s n d count at k) where
+  -- what the code answers when it leaves the loop
+  pub models-answer : Ends s n d count (h .before) at k (h .so-far)
+      → record { place = k; end = at } ≡ models-walked n d count s
+  unfolding models-walked
+  models-answer f = ap₂ (λ p e. record { place = p; end = e })
+      (walk-place s n d count (h .before) at k (h .so-far) f) (walk-behind s n d count (h .before) at k (h .so-far) f)

@@ -1,13 +1,13 @@
 -- The loop over a record's terms: what it holds, and one law for its start, a turn, its way out and its end.
-use mathlib.Core.Path.{_≡_, refl, sym, _∙_, ap, subst}
+use mathlib.Core.Path.{_≡_, sym, _∙_, ap, subst}
 use mathlib.Core.Bool.{Bool, true, false}
-use mathlib.Core.List.{List, [], _∷_, _++_, map}
+use mathlib.Core.List.{List, map}
 use Prim.Native.Nat.{ℕ, _+_, _*_, _≤_, _<_}
 use native.Mathlib.Omega.{arith}
 use lib.Dec.{leb}
 use lib.IntN.{pos, natAbs}
-use lib.ListN.{length, getD, set, take, drop, replicate, length-map, List·getD-append, List·getD-map}
-use lib.Seq.{drop-drop, length-take-le, take-length}
+use lib.ListN.{length, getD, drop, length-map, List·getD-append, List·getD-map}
+use lib.Seq.{drop-drop}
 use Rattle.fixed.specs.Fixed.{span-limit, capped}
 use Rattle.calculus.specs.Key.{key-width, key-limit}
 use Rattle.calculus.specs.Model.{most-terms, sound}
@@ -15,9 +15,9 @@ use Rattle.calculus.specs.Tests.{vars-sound}
 use Rattle.model_types.specs.declared.Term.{Term}
 use Rattle.model_types.specs.declared.Model.{Model}
 use Rattle.model_types.specs.Arrays.{padded}
-use Rattle.model_types.specs.ModelStruct.{zero-term, pad, view, term-sound}
-use Rattle.model_types.specs.ArrayLaws.{take-more, padded-more, length-padded-least}
-use Rattle.model_types.specs.ModelStructLaws.{map-++, vars-within}
+use Rattle.model_types.specs.ModelStruct.{zero-term, view, term-sound}
+use Rattle.model_types.specs.ArrayLaws.{length-padded-least}
+use Rattle.model_types.specs.ModelStructLaws.{vars-within}
 use Rattle.model.specs.OperationLaws.{Passed, passed-first, passed-turn, passed-not, passed-end, many-not}
 use Rattle.format.specs.Bytes.{byte, u32}
 use Rattle.format.specs.HeldBook.{Held-term, Held-model, view-model}
@@ -40,11 +40,14 @@ model-at n at s = stored-model (read-model n (drop at s))
 abbrev pub terms-at : (at : ℕ) → List ℕ → List Held-term
 terms-at at s = read-terms (byte 4 (drop at s)) (drop 5 (drop at s))
 
+-- what a place beyond them would hold
+abbrev pub some-term : Held-term
+some-term = record { key = 0; coefficient = pos 0 }
+
 -- before term i
-pub record Terms-so-far (s : List ℕ) (n d at : ℕ) (terms : List Term) (span least place i : ℕ) : Type 0 where
+pub record Terms-so-far (s : List ℕ) (n d at : ℕ) (span least place i : ℕ) : Type 0 where
   pub passed : Passed d (model-at n at s) span least i
   pub placed : place ≡ at + 5 + 6 * i
-  pub stored : terms ≡ pad (map stored-term (take i (terms-at at s)))
 
 module _ (s : List ℕ) (n d at : ℕ) where
   abbrev m : Model
@@ -53,7 +56,7 @@ module _ (s : List ℕ) (n d at : ℕ) where
   abbrev ts : List Held-term
   ts = terms-at at s
 
-  count-is : m .count ≡ byte (at + 4) s
+  pub count-is : m .count ≡ byte (at + 4) s
   unfolding stored-model read-model
   count-is = length-read-terms (byte 4 (drop at s)) (drop 5 (drop at s)) ∙ byte-at at 4 s
 
@@ -79,33 +82,29 @@ module _ (s : List ℕ) (n d at : ℕ) where
     )
 
     pub terms-first : (radius : ℕ) → radius ≡ u32 (drop at s)
-        → Terms-so-far s n d at (replicate most-terms zero-term) radius 0 (at + 5) 0
-    unfolding stored-model read-model padded most-terms
+        → Terms-so-far s n d at radius 0 (at + 5) 0
+    unfolding stored-model read-model
     terms-first radius e = record {
       passed = subst (λ r. Passed d m r 0 0) (sym e) (passed-first d m vars few-terms whole);
       placed = omega arith;
-      stored = refl;
     }
 
-    module _ (terms : List Term) (span least place i : ℕ) (h : Terms-so-far s n d at terms span least place i) where
+    module _ (span least place i : ℕ) (h : Terms-so-far s n d at span least place i) where
       module _ (l : i < byte (at + 4) s) (t : Term) (e : t ≡ stored-term (read-term (drop place s))) where
         at-place : drop (6 * i) (drop 5 (drop at s)) ≡ drop place s
         at-place =
             let e : at + (5 + 6 * i) ≡ place = omega (arith, h .placed) in
             drop-drop (6 * i) 5 (drop at s) ∙ drop-drop (5 + 6 * i) at s ∙ ap (λ j. drop j s) e
 
-        inside : i < length ts
+        pub inside : i < length ts
         inside = omega (arith, length-read-terms (byte 4 (drop at s)) (drop 5 (drop at s)), byte-at at 4 s)
 
-        some-term : Held-term
-        some-term = record { key = 0; coefficient = pos 0 }
-
-        in-terms : t ≡ stored-term (getD ts i some-term)
+        pub in-terms : t ≡ stored-term (getD ts i some-term)
         in-terms = e ∙ ap stored-term (sym (read-term-at (byte 4 (drop at s)) i (drop 5 (drop at s)) some-term
             (omega (arith, byte-at at 4 s)) ∙ ap read-term at-place))
 
         here : getD (m .terms) i zero-term ≡ t
-        unfolding stored-model read-model stored-term padded some-term
+        unfolding stored-model read-model stored-term padded
         here = List·getD-append (map stored-term ts) _ zero-term i (omega (arith, length-map ts stored-term, inside))
             ∙ List·getD-map stored-term ts i some-term ∙ sym in-terms
 
@@ -120,28 +119,15 @@ module _ (s : List ℕ) (n d at : ℕ) where
         unfolding stored-model read-model
         tested b g = subst (λ x. term-sound n d least (x .key) (x .coefficient) ≡ b) (sym here) g
 
-        one-more : map stored-term (take i ts) ++ (t ∷ []) ≡ map stored-term (take (i + 1) ts)
-        one-more = ap (λ x. map stored-term (take i ts) ++ (x ∷ [])) in-terms
-            ∙ sym (map-++ stored-term (take i ts) (getD ts i some-term ∷ []))
-            ∙ ap (map stored-term) (sym (take-more ts i some-term inside))
-
-        room : i < most-terms
-        unfolding most-terms
-        room = omega arith
-
         pub terms-turn : t .key < key-limit → term-sound n d least (t .key) (t .coefficient) ≡ true
             → (next : ℕ) → next ≡ capped (span + natAbs (t .coefficient))
-            → Terms-so-far s n d at (set terms i t) next (t .key + 1) (place + 6) (i + 1)
+            → Terms-so-far s n d at next (t .key + 1) (place + 6) (i + 1)
         terms-turn small g next k = record {
           passed = subst (λ x. Passed d m next (x .key + 1) (i + 1)) here
               (passed-turn d m vars few-terms whole span least i (h .passed) counted
               (subst (λ x. x .key < key-limit) (sym here) small) (tested true g) next
               (k ∙ ap (λ x. capped (span + natAbs (x .coefficient))) (sym here)));
           placed = omega (arith, h .placed);
-          stored = ap (λ x. set x i t) (h .stored)
-              ∙ padded-more zero-term most-terms (map stored-term (take i ts)) i t
-              (length-map (take i ts) stored-term ∙ length-take-le i ts (omega (arith, inside))) room
-              ∙ ap pad one-more;
         }
 
         pub terms-bad : t .key < key-limit → term-sound n d least (t .key) (t .coefficient) ≡ false
@@ -152,19 +138,7 @@ module _ (s : List ℕ) (n d at : ℕ) where
       pub terms-end : byte (at + 4) s ≤ i → leb span span-limit ≡ sound d (view m)
       terms-end l = passed-end d m vars few-terms whole span least i (h .passed) (omega (arith, count-is))
 
-      -- the struct that the code makes of them
-      pub terms-stored : byte (at + 4) s ≤ i → (count radius : ℕ) → count ≡ byte (at + 4) s → radius ≡ u32 (drop at s)
-          → record { n = n; count = count; radius = radius; terms = terms } ≡ m
-      unfolding stored-model read-model
-      terms-stored l count radius e r =
-          let c = length-read-terms (byte 4 (drop at s)) (drop 5 (drop at s)) in
-          let f : i ≡ length ts = omega (arith, h .passed .within, count-is, byte-at at 4 s) in
-          let g : count ≡ length ts = e ∙ sym count-is in
-          let k : terms ≡ pad (map stored-term ts) = h .stored
-          ∙ ap (λ x. pad (map stored-term x)) (ap (λ j. take j ts) f ∙ take-length ts) in
-          rw (g, r, k)
-
-      -- and the place behind them
+      -- the place behind them
       pub terms-behind : byte (at + 4) s ≤ i → place ≡ at + model-length (drop at s)
       unfolding model-length
       terms-behind l = omega (arith, h .placed, h .passed .within, count-is, byte-at at 4 s)

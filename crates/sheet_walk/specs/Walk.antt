@@ -1,19 +1,15 @@
 -- Walking forward through a sheet: the models and the steps, up to the first fault.
 use mathlib.Core.Bool.{Bool, true, false, _&&_}
-use mathlib.Core.List.{List, [], _∷_, _++_, map}
+use mathlib.Core.List.{List, [], _∷_, _++_}
 use Prim.Native.Nat.{ℕ, zero, suc, _-_}
 use lib.Dec.{leb}
-use lib.ListN.{length, take, drop}
+use lib.ListN.{length, drop}
 use Rattle.calculus.specs.Model.{sound}
-use Rattle.calculus.specs.Book.{most-models, most-steps}
-use Rattle.model_types.specs.Arrays.{padded}
-use Rattle.format.specs.HeldBook.{Held-model, Held-step, view-model}
+use Rattle.format.specs.HeldBook.{Held-model, view-model}
 use Rattle.format.specs.Format.{read-model, model-length, read-steps}
 use Rattle.format.specs.Fields.{fields-sound}
-use Rattle.sheet_book.specs.BookStruct.{no-model, no-step, stored-model, stored-step}
 use Rattle.sheet_book.specs.Failing.{first-failing}
-use Rattle.sheet_walk.specs.declared.ModelsRead.{ModelsRead}
-use Rattle.sheet_walk.specs.declared.StepsRead.{StepsRead}
+use Rattle.sheet_walk.specs.declared.ModelsWalked.{ModelsWalked}
 
 -- ---- models
 -- the record at the head fits, and its model keeps the rules
@@ -33,23 +29,13 @@ walk n d before (suc c) s = elim (record-sound n d s) [
   | false ↦ record { passed = before; left = s }
 ]
 
--- the struct of a walk over s
-unfoldable pub models-read : (n d c : ℕ) → List ℕ → ModelsRead
-models-read n d c s =
+-- how far a walk over s goes
+unfoldable pub models-walked : (n d c : ℕ) → List ℕ → ModelsWalked
+models-walked n d c s =
     let w : Walk = walk n d [] c s in
-    record {
-      place = length (w .passed);
-      end = length s - length (w .left);
-      models = padded no-model most-models (map stored-model (w .passed));
-    }
+    record { place = length (w .passed); end = length s - length (w .left) }
 
 -- ---- steps
--- the struct of a walk over c steps
-unfoldable pub steps-read : (n models c : ℕ) → List ℕ → StepsRead
-steps-read n m c s =
-    let steps : List Held-step = read-steps c s in
-    let fault : ℕ = first-failing 0 (fields-sound n m) steps in
-    record {
-      place = fault;
-      steps = padded no-step most-steps (map stored-step (take fault steps));
-    }
+-- the number of the first of c steps that is faulty, or that of all
+unfoldable pub steps-walked : (n models c : ℕ) → List ℕ → ℕ
+steps-walked n m c s = first-failing 0 (fields-sound n m) (read-steps c s)

@@ -1,89 +1,248 @@
--- `first_unsound_model` walks forward: models before number i pass, and the loop is left at the first that does not.
-use mathlib.Core.Path.{_≡_, sym, _∙_}
-use Prim.Native.Nat.{_-_, _≤_, _<_}
+-- `first_unsound_model` walks forward, model after model and term after term, and stops at the first fault.
+use mathlib.Core.Path.{_≡_, sym, _∙_, ap}
+use mathlib.Core.Bool.{true}
+use mathlib.Core.List.{[]}
+use Prim.Native.Nat.{ℕ, _+_, _-_, _≤_, _<_}
 use native.Mathlib.Omega.{arith}
 use borrow.Author.Needs.{needs}
-use borrow.Author.Tests.{not-true, not-false}
-use lib.ListN.{length, length-map}
+use borrow.Author.Tests.{not-true, not-false, le-leb}
+use lib.IntN.{natAbs}
+use lib.ListN.{length, getD, length-map}
+use mir.Facts.{toZ-ofZ}
+use mir.Syntax.{w64}
+use mir.Val.{toZ, ofZ}
+use Rattle.fixed.specs.Fixed.{capped}
+use Rattle.calculus.specs.Model.{most-vars, most-terms, between, sound}
 use Rattle.calculus.specs.Book.{most-models}
-use Rattle.sheet_book.specs.BookStruct.{held-book}
-use Rattle.sheet_book_tests.specs.Unsound.{first-unsound-model}
-use Rattle.sheet_book_tests.specs.WalkLaws.{Models-walked, model-test}
-use Rattle.sheet_book_tests.specs.WalkLaws.{walked-first, walked-turn, walked-found, walked-end}
+use Rattle.calculus.specs.Tests.{vars-sound}
+use Rattle.model_types.specs.declared.Term.{Term}
+use Rattle.model_types.specs.declared.Model.{Model}
+use Rattle.model_types.specs.ModelStruct.{zero-term, view, term-sound}
+use Rattle.model.specs.OperationLaws.{Passed, passed-first, passed-turn, passed-not, passed-end}
+use Rattle.sheet_book.specs.FailingLaws.{walked-first}
+use Rattle.sheet_book_tests.specs.WalkLaws.{head-passes, Models-walked, models-head, models-unsound, models-turn}
+use Rattle.sheet_book_tests.specs.WalkLaws.{models-end}
 use Rattle.sheet_book_tests.proofs.first_unsound_model.Statement.{statement}
 use Rattle.sheet_book_tests.proofs.first_unsound_model.Tie as tie
 
+abbrev Inv-terms : tie.InvT-terms
+Inv-terms b n d count k m total span₀ least₀ i₀ span least i = Passed d m span least i
+
+abbrev μ-terms : tie.MeasureT-terms
+μ-terms b n d count k m total span₀ least₀ i₀ span least i = total - i
+
 abbrev Inv-models : tie.InvT-models
-Inv-models b n d count i₀ i = Models-walked b i
+Inv-models b n d count k₀ k = Models-walked b k
 
 abbrev μ-models : tie.MeasureT-models
-μ-models b n d count i₀ i = count - i
+μ-models b n d count k₀ k = count - k
 
-whole : (c : tie.Start Inv-models μ-models) → length (c .args .t1 .models) ≡ 16
+-- src/lib.rt:21:5
+-- ---- what is known of the book,
+whole : (c : tie.Start Inv-terms μ-terms Inv-models μ-models) → length (c .args .t1 .models) ≡ 16
 whole c = simp length-map at (c .good .0 .1 .1 .1 .1 .1 .1 .0 .1 .0 .1)
 
-long : (c : tie.Start Inv-models μ-models) → c .args .t1 .«model_count» ≤ length (c .args .t1 .models)
+long : (c : tie.Start Inv-terms μ-terms Inv-models μ-models) → c .args .t1 .«model_count» ≤ length (c .args .t1 .models)
 unfolding most-models
-long c = omega (arith, whole c, c .pre)
+long c = omega (arith, whole c, c .pre .2)
+
+vars-hold : (c : tie.Start Inv-terms μ-terms Inv-models μ-models) → vars-sound (c .args .t1 .n) ≡ true
+unfolding vars-sound between most-vars
+vars-hold c = rw (le-leb 1 (c .args .t1 .n) (c .pre .0), le-leb (c .args .t1 .n) 4 (c .pre .1))
 
 -- in the loop the number is that of a place
-inside : (c : tie.In-models Inv-models μ-models) → c .before .models .i < 16
+inside : (c : tie.In-models Inv-terms μ-terms Inv-models μ-models) → c .before .models .k < 16
 unfolding most-models
-inside c = omega (arith, c .models-test .taken, c .before .before .pre)
+inside c = omega (arith, c .models-test .taken, c .before .before .pre .2)
 
-models-holds : tie.Need-models-holds Inv-models μ-models
-models-holds c = walked-first _ _ _ _ _
+-- ---- of the model at hand,
+module _ (c : tie.Else1 Inv-terms μ-terms Inv-models μ-models) where
+  abbrev at : tie.At-models Inv-terms μ-terms Inv-models μ-models
+  at = c .before .before .before .before
 
-mul-m : tie.Need-mul-m Inv-models μ-models
+  abbrev start : tie.Start Inv-terms μ-terms Inv-models μ-models
+  start = at .before
+
+  abbrev m : Model
+  m = getD (start .args .t1 .models) (at .models .k) (record { n = 0; count = 0; radius = 0; terms = [] })
+
+  head : (m .n ≡ start .args .t1 .n) × (m .count ≤ most-terms)
+  head = head-passes m _ (sym (c .before .head-sound .ensures .0) ∙ not-false _ (c .if1 .left))
+
+  vars : vars-sound (m .n) ≡ true
+  vars = ap vars-sound (head .0) ∙ vars-hold start
+
+  fits : m .count ≤ length (m .terms)
+  fits = omega (arith, head .1, c .before .head-sound .ensures .1)
+
+  few : m .count ≤ 64
+  unfolding most-terms
+  few = head .1
+
+-- and of the term at hand
+module _ (c : tie.After-struct-told Inv-terms μ-terms Inv-models μ-models) where
+  abbrev inner : tie.At-terms Inv-terms μ-terms Inv-models μ-models
+  inner = c .before .before .before
+
+  abbrev outer : tie.Else1 Inv-terms μ-terms Inv-models μ-models
+  outer = inner .before
+
+  abbrev term : Term
+  term = getD (m outer .terms) (inner .terms .i) zero-term
+
+  key-small : term .key < 65536
+  key-small = c .struct-told .given .0 .1
+
+  read-back : toZ w64 (ofZ w64 (term .coefficient)) ≡ term .coefficient
+  read-back = toZ-ofZ (record { sfits = c .struct-told .given .1 .0 .1 })
+
+tested : (c : tie.After-term-sound Inv-terms μ-terms Inv-models μ-models)
+    → term-sound (m (outer (c .before)) .n) (start (outer (c .before)) .args .t1 .d) (inner (c .before) .terms .least)
+    (term (c .before) .key) (term (c .before) .coefficient)
+    ≡ c .term-sound .result
+tested c =
+    let o = outer (c .before) in
+    ap (λ n. term-sound n (start o .args .t1 .d) (inner (c .before) .terms .least) (term (c .before) .key)
+    (term (c .before) .coefficient)) (head o .0)
+    ∙ sym (c .term-sound .ensures ∙ ap (term-sound _ _ _ _) (read-back (c .before)))
+
+-- behind the terms the span decides
+span-decides : (c : tie.After-within-span Inv-terms μ-terms Inv-models μ-models)
+    → sound (start (c .before .before .before) .args .t1 .d) (view (m (c .before .before .before)))
+    ≡ c .within-span .result
+span-decides c =
+    let o = c .before .before .before in
+    sym (c .within-span .ensures
+    ∙ passed-end _ _ (vars o) (head o .1) (fits o) _ _ _ (c .before .before .terms .inv) (c .before .terms-test .taken))
+
+models-holds : tie.Need-models-holds Inv-terms μ-terms Inv-models μ-models
+models-holds c = walked-first _ _
+
+mul-m : tie.Need-mul-m Inv-terms μ-terms Inv-models μ-models
 mul-m c = omega (arith, inside c)
 
-element-copy-out-m : tie.Need-element-copy-out-m Inv-models μ-models
+element-copy-out-m : tie.Need-element-copy-out-m Inv-terms μ-terms Inv-models μ-models
 element-copy-out-m c = inside c
 
-model-sound-requires : tie.Need-model-sound-requires Inv-models μ-models
-model-sound-requires c κs = search needs
+head-sound-requires : tie.Need-head-sound-requires Inv-terms μ-terms Inv-models μ-models
+head-sound-requires c κs = search needs
 
-add-i : tie.Need-add-i Inv-models μ-models
-add-i c = omega (arith, inside (c .before .before .before))
+terms-holds : tie.Need-terms-holds Inv-terms μ-terms Inv-models μ-models
+terms-holds c = passed-first _ _ (vars c) (head c .1) (fits c)
 
-models-less : tie.Need-models-less Inv-models μ-models
-models-less c = let t = c .before .before .before .models-test .taken in omega arith
+mul-t : tie.Need-mul-t Inv-terms μ-terms Inv-models μ-models
+mul-t c = omega (arith, c .terms-test .left, few (c .before .before))
 
-models-again : tie.Need-models-again Inv-models μ-models
+element-copy-out-t : tie.Need-element-copy-out-t Inv-terms μ-terms Inv-models μ-models
+element-copy-out-t c = omega (arith, c .terms-test .left, few (c .before .before))
+
+term-sound-requires : tie.Need-term-sound-requires Inv-terms μ-terms Inv-models μ-models
+term-sound-requires c κs = start (outer c) .pre .0
+
+magnitude-requires : tie.Need-magnitude-requires Inv-terms μ-terms Inv-models μ-models
+magnitude-requires c κs = search needs
+
+capped-sum-requires : tie.Need-capped-sum-requires Inv-terms μ-terms Inv-models μ-models
+capped-sum-requires c κs = search needs
+
+cast-least : tie.Need-cast-least Inv-terms μ-terms Inv-models μ-models
+cast-least c = omega (arith, key-small (c .before .before .before .before .before .before))
+
+add-least : tie.Need-add-least Inv-terms μ-terms Inv-models μ-models
+add-least c = omega (arith, key-small (c .before .before .before .before .before .before))
+
+add-i : tie.Need-add-i Inv-terms μ-terms Inv-models μ-models
+add-i c =
+    let t = c .before .before .before .before .before .before in
+    omega (arith, t .before .before .terms-test .left, few (outer t))
+
+terms-less : tie.Need-terms-less Inv-terms μ-terms Inv-models μ-models
+terms-less c =
+    let t = c .before .before .before .before .before .before in
+    omega (arith, t .before .before .terms-test .left)
+
+terms-again : tie.Need-terms-again Inv-terms μ-terms Inv-models μ-models
+terms-again c =
+    let added = c .before in
+    let branch = added .before .before .before in
+    let t = branch .before .before in
+    let o = outer t in
+    passed-turn _ _ (vars o) (head o .1) (fits o) _ _ _ (inner t .terms .inv) (t .before .before .terms-test .left)
+    (key-small t) (tested (branch .before) ∙ not-false _ (branch .if2 .left)) _
+    (added .capped-sum .ensures
+    ∙ ap (λ x. capped (inner t .terms .span + x)) (added .before .magnitude .ensures ∙ ap natAbs (read-back t)))
+
+within-span-requires : tie.Need-within-span-requires Inv-terms μ-terms Inv-models μ-models
+within-span-requires c κs = search needs
+
+add-k : tie.Need-add-k Inv-terms μ-terms Inv-models μ-models
+add-k c = omega (arith, inside (c .before .before .before .before .before .before .before))
+
+models-less : tie.Need-models-less Inv-terms μ-terms Inv-models μ-models
+models-less c =
+    let t = c .before .before .before .before .before .before .before .models-test .taken in omega arith
+
+models-again : tie.Need-models-again Inv-terms μ-terms Inv-models μ-models
 models-again c =
-    let turn = c .before .before .before in
-    let at = turn .before in
-    walked-turn (long (at .before)) (at .models .inv) _ (turn .models-test .taken)
-    (model-test (at .before .args .t1) _
-    ∙ sym (c .before .model-sound .ensures)
-    ∙ not-false _ (c .if1 .left))
+    let o = c .before .before .before .before in
+    models-turn (start o .args .t1) (at o .models .k) (long (start o)) (at o .models .inv)
+    (o .before .before .before .models-test .taken) _ (head o .0)
+    (span-decides (c .before) ∙ not-false _ (c .if3 .left))
 
-returns : tie.Need-returns Inv-models μ-models
-unfolding first-unsound-model held-book
-returns c = walked-end (long (c .before .before)) (c .before .models .inv) (c .models-test .left)
+returns : tie.Need-returns Inv-terms μ-terms Inv-models μ-models
+returns c = models-end _ _ (long (c .before .before)) (c .before .models .inv) (c .models-test .left)
 
-returns-2 : tie.Need-returns-2 Inv-models μ-models
-unfolding first-unsound-model held-book
+returns-2 : tie.Need-returns-2 Inv-terms μ-terms Inv-models μ-models
 returns-2 c =
-    let turn = c .before .before .before in
-    let at = turn .before in
-    walked-found (long (at .before)) (at .models .inv) _ (turn .models-test .taken)
-    (model-test (at .before .args .t1) _
-    ∙ sym (c .before .model-sound .ensures)
-    ∙ not-true _ (c .if1 .taken))
+    let a = c .before .before .before .before in
+    models-head (a .before .args .t1) (a .models .k) (long (a .before)) (a .models .inv)
+    (c .before .before .before .models-test .taken) _
+    (sym (c .before .head-sound .ensures .0) ∙ not-true _ (c .if1 .taken))
+
+returns-3 : tie.Need-returns-3 Inv-terms μ-terms Inv-models μ-models
+returns-3 c =
+    let t = c .before .before in
+    let o = outer t in
+    models-unsound (start o .args .t1) (at o .models .k) (long (start o)) (at o .models .inv)
+    (o .before .before .before .models-test .taken) _ (head o .0)
+    (passed-not _ _ (vars o) (head o .1) (fits o) _ _ _ (inner t .terms .inv) (t .before .before .terms-test .left)
+    (key-small t) (tested (c .before) ∙ not-true _ (c .if2 .taken)))
+
+returns-4 : tie.Need-returns-4 Inv-terms μ-terms Inv-models μ-models
+returns-4 c =
+    let o = c .before .before .before .before in
+    models-unsound (start o .args .t1) (at o .models .k) (long (start o)) (at o .models .inv)
+    (o .before .before .before .models-test .taken) _ (head o .0)
+    (span-decides (c .before) ∙ not-true _ (c .if3 .taken))
 
 pub first-unsound-model-spec : {M : Type 1} → statement M
 first-unsound-model-spec =
     tie.close
     (tie.spec
+    Inv-terms
+    μ-terms
     Inv-models
     μ-models
     models-holds
     mul-m
     element-copy-out-m
-    model-sound-requires
+    head-sound-requires
+    terms-holds
+    mul-t
+    element-copy-out-t
+    term-sound-requires
+    magnitude-requires
+    capped-sum-requires
+    cast-least
+    add-least
     add-i
+    terms-less
+    terms-again
+    within-span-requires
+    add-k
     models-less
     models-again
     returns
-    returns-2)
+    returns-2
+    returns-3
+    returns-4)

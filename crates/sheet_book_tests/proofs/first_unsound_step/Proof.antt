@@ -1,15 +1,13 @@
 -- `first_unsound_step` walks forward: steps before number i pass, and the loop is left at the first that does not.
-use mathlib.Core.Path.{_≡_, sym, _∙_}
+use mathlib.Core.Path.{_≡_}
 use Prim.Native.Nat.{_-_, _≤_, _<_}
 use native.Mathlib.Omega.{arith}
 use borrow.Author.Needs.{needs}
 use borrow.Author.Tests.{not-true, not-false}
 use lib.ListN.{length, length-map}
 use Rattle.calculus.specs.Book.{most-steps}
-use Rattle.sheet_book.specs.BookStruct.{held-book}
-use Rattle.sheet_book_tests.specs.Unsound.{first-unsound-step}
-use Rattle.sheet_book_tests.specs.WalkLaws.{Steps-walked, step-test}
-use Rattle.sheet_book_tests.specs.WalkLaws.{walked-first, walked-turn, walked-found, walked-end}
+use Rattle.sheet_book.specs.FailingLaws.{walked-first}
+use Rattle.sheet_book_tests.specs.WalkLaws.{Steps-walked, steps-turn, steps-bad, steps-end}
 use Rattle.sheet_book_tests.proofs.first_unsound_step.Statement.{statement}
 use Rattle.sheet_book_tests.proofs.first_unsound_step.Tie as tie
 
@@ -32,7 +30,7 @@ unfolding most-steps
 inside c = omega (arith, c .steps-test .taken, c .before .before .pre)
 
 steps-holds : tie.Need-steps-holds Inv-steps μ-steps
-steps-holds c = walked-first _ _ _ _ _
+steps-holds c = walked-first _ _
 
 mul-s : tie.Need-mul-s Inv-steps μ-steps
 mul-s c = omega (arith, inside c)
@@ -53,24 +51,18 @@ steps-again : tie.Need-steps-again Inv-steps μ-steps
 steps-again c =
     let turn = c .before .before .before in
     let at = turn .before in
-    walked-turn (long (at .before)) (at .steps .inv) _ (turn .steps-test .taken)
-    (step-test (at .before .args .t1) (at .steps .i) _
-    ∙ sym (c .before .step-sound .ensures)
-    ∙ not-false _ (c .if1 .left))
+    steps-turn (at .before .args .t1) (at .steps .i) (long (at .before)) (at .steps .inv) (turn .steps-test .taken) _ _
+    (c .before .step-sound .ensures) (not-false _ (c .if1 .left))
 
 returns : tie.Need-returns Inv-steps μ-steps
-unfolding first-unsound-step held-book
-returns c = walked-end (long (c .before .before)) (c .before .steps .inv) (c .steps-test .left)
+returns c = steps-end _ _ (long (c .before .before)) (c .before .steps .inv) (c .steps-test .left)
 
 returns-2 : tie.Need-returns-2 Inv-steps μ-steps
-unfolding first-unsound-step held-book
 returns-2 c =
     let turn = c .before .before .before in
     let at = turn .before in
-    walked-found (long (at .before)) (at .steps .inv) _ (turn .steps-test .taken)
-    (step-test (at .before .args .t1) (at .steps .i) _
-    ∙ sym (c .before .step-sound .ensures)
-    ∙ not-true _ (c .if1 .taken))
+    steps-bad (at .before .args .t1) (at .steps .i) (long (at .before)) (at .steps .inv) (turn .steps-test .taken) _ _
+    (c .before .step-sound .ensures) (not-true _ (c .if1 .taken))
 
 pub first-unsound-step-spec : {M : Type 1} → statement M
 first-unsound-step-spec =

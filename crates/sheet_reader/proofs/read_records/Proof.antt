@@ -10,7 +10,8 @@ use Rattle.model_types.specs.ModelStruct.{cause}
 use Rattle.format.specs.HeldBookLaws.{In-limits, in-limits}
 use Rattle.sheet_book.specs.BookStruct.{read-answer}
 use Rattle.sheet_decode.specs.declared.Trailer.{Trailer}
-use Rattle.sheet_reader.specs.ReadLaws.{model-fault, bytes-left, step-fault, whole-answer}
+use Rattle.sheet_tests.specs.RecordTestLaws.{model-fault, bytes-left, step-fault}
+use Rattle.sheet_reader.specs.ReadLaws.{models-far, steps-far, whole-answer}
 use Rattle.sheet_reader.proofs.read_records.Statement.{statement}
 use Rattle.sheet_reader.proofs.read_records.Tie as tie
 
@@ -28,7 +29,7 @@ module _ (c : tie.Start) where
   steps-fit : trailer .offset + 8 * trailer .steps ≤ length sheet
   steps-fit = omega (arith, c .pre .1)
 
-abbrev start : tie.After-walk-models → tie.Start
+abbrev start : tie.After-read-models → tie.Start
 start w = w .before .before .before .before .before .before
 
 cast-count : tie.Need-cast-count
@@ -40,12 +41,12 @@ cast-total c = search needs
 cast-offset : tie.Need-cast-offset
 cast-offset c = search needs
 
-slice-aggregate-walk-models : tie.Need-slice-aggregate-walk-models
-slice-aggregate-walk-models c =
+slice-aggregate-read-models : tie.Need-slice-aggregate-read-models
+slice-aggregate-read-models c =
     sym (length-take-le _ _ (omega (arith, c .before .before .before .before .before .pre .1)))
 
-walk-models-requires : tie.Need-walk-models-requires
-walk-models-requires c κs =
+read-models-requires : tie.Need-read-models-requires
+read-models-requires c κs =
     let l = limits (c .before .before .before .before .before) in
     (l .n-low, l .n-high, l .models)
 
@@ -58,7 +59,8 @@ returns c =
     let w = c .before .before in
     let p = start w .pre in
     c .refuse .ensures
-    ∙ ap read-answer (sym (model-fault _ _ (p .0) (p .1) _ (w .walk-models .ensures) (c .before .if1 .taken)))
+    ∙ ap read-answer (sym (model-fault _ _ (p .0) (p .1) _ (models-far _ _ _ _ _ (w .read-models .ensures))
+    (c .before .if1 .taken)))
 
 refuse-requires-2 : tie.Need-refuse-requires-2
 refuse-requires-2 c κs = search needs
@@ -71,10 +73,11 @@ returns-2 c =
     let p = start w .pre in
     c .refuse2 .ensures
     ∙ ap read-answer
-    (sym (bytes-left _ _ (p .0) (p .1) _ (w .walk-models .ensures) (e .if1 .left) (c .before .if2 .taken)))
+    (sym (bytes-left _ _ (p .0) (p .1) _ (models-far _ _ _ _ _ (w .read-models .ensures)) (e .if1 .left)
+    (c .before .if2 .taken)))
 
-walk-steps-requires : tie.Need-walk-steps-requires
-walk-steps-requires c κs =
+read-steps-requires : tie.Need-read-steps-requires
+read-steps-requires c κs =
     let b = start (c .before .before .before) in
     (limits b .steps-high, steps-fit b)
 
@@ -90,8 +93,8 @@ returns-3 c =
     let p = start w .pre in
     c .refuse3 .ensures
     ∙ ap read-answer
-    (sym (step-fault _ _ (p .0) (p .1) _ (w .walk-models .ensures) (e .if1 .left) (v .before .if2 .left) _
-    (v .walk-steps .ensures) (c .before .if3 .taken)))
+    (sym (step-fault _ _ (p .0) (p .1) _ (models-far _ _ _ _ _ (w .read-models .ensures)) (e .if1 .left)
+    (v .before .if2 .left) _ (steps-far _ _ _ _ _ (v .read-steps .ensures)) (c .before .if3 .taken)))
 
 returns-4 : tie.Need-returns-4
 returns-4 c =
@@ -99,8 +102,8 @@ returns-4 c =
     let e = v .before .before .before in
     let w = e .before in
     let p = start w .pre in
-    whole-answer _ _ (p .0) (p .1) _ (w .walk-models .ensures) (e .if1 .left) (v .before .if2 .left) _
-    (v .walk-steps .ensures) (c .before .before .if3 .left)
+    whole-answer _ _ (p .0) (p .1) _ (w .read-models .ensures) (e .if1 .left) (v .before .if2 .left) _
+    (v .read-steps .ensures) (c .before .before .if3 .left)
 
 pub read-records-spec : {M : Type 1} → statement M
 read-records-spec =
@@ -109,13 +112,13 @@ read-records-spec =
     cast-count
     cast-total
     cast-offset
-    slice-aggregate-walk-models
-    walk-models-requires
+    slice-aggregate-read-models
+    read-models-requires
     refuse-requires
     returns
     refuse-requires-2
     returns-2
-    walk-steps-requires
+    read-steps-requires
     refuse-requires-3
     returns-3
     returns-4)

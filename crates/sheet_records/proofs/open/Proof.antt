@@ -1,4 +1,4 @@
--- `records::open` meets its contract: a walk of its MIR, by hand. `open_at` is called on the slice; of its answer the
+-- `open` meets its contract: a walk of its MIR, by hand. `open_at` is called on the slice; of its answer the
 -- place goes beside the slice into a `Records`, and that beside the verdict into the `Opened`.
 use mathlib.Core.Path.{_≡_, refl, ap}
 use Prim.Native.Nat.{ℕ, _<_, _^_}
@@ -43,20 +43,20 @@ use denote.Triple.Table.{entered, cited}
 use denote.Triple.Walked.{says, Stays, stay-none-slice, walkOf, goes-none-slice, Walks, ends-at, walked, walk-meets}
 use denote.Exit.{yes}
 use denote.Triple.Clauses.{ensured, lasts}
-use Rattle.sheet_records.specs.Records.{start-answer}
+use Rattle.sheet_opening.specs.Opening.{start-answer}
 use Rattle.sheet_records.specs.declared.Records.{Records}
-use Rattle.sheet_records.specs.declared.Start.{Start}
+use Rattle.sheet_book.specs.declared.Start.{Start}
 use Rattle.sheet_records.specs.declared.Opened.{Opened}
 use Rattle.sheet_records.proofs.Records as T
 use Rattle.sheet_records.proofs.Records.Laws as T′
-use Rattle.sheet_records.proofs.Start as S
-use Rattle.sheet_records.proofs.Start.Laws as S′
+use Rattle.sheet_book.proofs.Start as S
+use Rattle.sheet_book.proofs.Start.Laws as S′
 use Rattle.sheet_records.proofs.Opened as O
 use Rattle.sheet_records.proofs.Opened.Laws as O′
-use Rattle.sheet_records.proofs.open_at as step
-use Rattle.sheet_records.proofs.open_at.Symbol as step-def
-use Rattle.sheet_records.proofs.open_at.Symbol.{name as #records·open-at}
-use Rattle.sheet_records.proofs.open_at.Met as step-thm
+use Rattle.sheet_opening.proofs.open_at as step
+use Rattle.sheet_opening.proofs.open_at.Symbol as step-def
+use Rattle.sheet_opening.proofs.open_at.Symbol.{name as #opening·open-at}
+use Rattle.sheet_opening.proofs.open_at.Met as step-thm
 use Rattle.sheet_records.proofs.open.Key.{name as #records·open}
 use Rattle.sheet_records.proofs.open as opens
 use Rattle.sheet_records.proofs.open.Statement as stated
@@ -166,7 +166,7 @@ module _ {M : Type 1} (𝓤 : URA M) (H : Heap 𝓤) (A : Atoms 𝓤) (W : Given
   sliced p = shr-slice-lawful 𝓤 H A W (named 0) κ u8 .typed s (v ∷ []) p .0 .1
 
   module _ (C : Calls 𝓤 H) (Λ : Loops 𝓤 H) (fm : FmC 𝓤 H (W .laws) C)
-      (known : Triple 𝓤 (C #records·open-at) (StepAt 𝓤 H A mem run)) where
+      (known : Triple 𝓤 (C #opening·open-at) (StepAt 𝓤 H A mem run)) where
     walk : Is (ShrSlice (named 0) κ u8) s (v ∷ [])
         → ent 𝓤 (onEntry 𝓤 H A opens.signature (κ, tt) (q, tt) (s, tt) (v ∷ [], tt))
         (WpFn 𝓤 H C Λ code.function (v ∷ []) Post)
@@ -205,7 +205,7 @@ module _ {M : Type 1} (𝓤 : URA M) (H : Heap 𝓤) (A : Atoms 𝓤) (W : Given
 module _ {M : Type 1} (𝓤 : URA M) (H : Heap 𝓤) (A : Atoms 𝓤) (W : Given 𝓤 H A) (mem : Memory → SProp 𝓤)
     (run : Routine → Fun 𝓤) where
   open-walks : (C : Calls 𝓤 H) (Λ : Loops 𝓤 H) → FmC 𝓤 H (W .laws) C
-      → Triple 𝓤 (C #records·open-at) (StepAt 𝓤 H A mem run)
+      → Triple 𝓤 (C #opening·open-at) (StepAt 𝓤 H A mem run)
       → Walks 𝓤 H A opens.ended stayed (WpFn 𝓤 H C Λ code.function) (opens.clauses 𝓤 H A mem run)
   open-walks C Λ fm known =
       walked 𝓤 H A opens.ended stayed (opens.clauses 𝓤 H A mem run) (WpFn 𝓤 H C Λ code.function)
@@ -215,7 +215,7 @@ module _ {M : Type 1} (𝓤 : URA M) (H : Heap 𝓤) (A : Atoms 𝓤) (W : Given
 
 open-meets : {M : Type 1} (𝓤 : URA M) (H : Heap 𝓤) (A : Atoms 𝓤) (W : Given 𝓤 H A) (mem : Memory → SProp 𝓤)
     (run : Routine → Fun 𝓤) (𝓣 : Tables 𝓤 H)
-    → Triple 𝓤 (𝓣 .C #records·open-at) (StepAt 𝓤 H A mem run)
+    → Triple 𝓤 (𝓣 .C #opening·open-at) (StepAt 𝓤 H A mem run)
     → Meets 𝓤 H A opens.signature (WpFn 𝓤 H (𝓣 .C) (𝓣 .Λ) code.function) (opens.spec 𝓤 H A mem run)
 open-meets 𝓤 H A W mem run 𝓣 known =
     walk-meets 𝓤 H A opens.ended stayed W (goes-none-slice 𝓤 H A W 1 (0 ∷ []) tt (plain (λ _. u8)) yes, tt)
@@ -230,5 +230,5 @@ open-spec 𝓤 H 𝓜 𝓖 𝓡 =
     (tables 𝓤 H 𝓜 𝓡 code.env .C) (tables 𝓤 H 𝓜 𝓡 code.env .Λ) #records·open code.function
     (code.unfolded 𝓤 H 𝓜 𝓡)
     (open-meets 𝓤 H (𝓖 .A) (givenOf 𝓤 H 𝓜 𝓖) (𝓜 .mem) (𝓡 .run) (tablesOf 𝓤 H 𝓜 (tables 𝓤 H 𝓜 𝓡 code.env))
-    (cited 𝓤 H (StepAt 𝓤 H (𝓖 .A) (𝓜 .mem) (𝓡 .run)) 𝓜 𝓡 code.env #records·open-at step-def.routine
-    code.calls-sheet-records·open-at (step-thm.met 𝓤 H 𝓜 𝓖 𝓡)))
+    (cited 𝓤 H (StepAt 𝓤 H (𝓖 .A) (𝓜 .mem) (𝓡 .run)) 𝓜 𝓡 code.env #opening·open-at step-def.routine
+    code.calls-sheet-opening·open-at (step-thm.met 𝓤 H 𝓜 𝓖 𝓡)))

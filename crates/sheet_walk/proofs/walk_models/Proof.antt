@@ -1,6 +1,6 @@
--- `walk_models` reads model after model and term after term, and stops at the first fault.
+-- `walk_models` tests model after model and term after term, and stops at the first fault.
 use mathlib.Core.Path.{_≡_, sym, _∙_, ap}
-use mathlib.Core.List.{List}
+use mathlib.Core.List.{List, []}
 use Prim.Native.Nat.{ℕ, _+_, _*_, _-_, _≤_, _<_}
 use native.Mathlib.Omega.{arith}
 use borrow.Author.Needs.{needs}
@@ -12,32 +12,31 @@ use mir.Syntax.{w64}
 use mir.Val.{Fits, toZ, ofZ}
 use Rattle.fixed.specs.Fixed.{capped}
 use Rattle.calculus.specs.Key.{key-limit}
+use Rattle.calculus.specs.Model.{sound}
 use Rattle.calculus.specs.MonomialKeyLaws.{word-key}
-use Rattle.calculus.specs.Model.{most-terms, sound}
-use Rattle.calculus.specs.Book.{most-models}
 use Rattle.model_types.specs.declared.Term.{Term}
 use Rattle.model_types.specs.ModelStruct.{view, term-sound}
 use Rattle.format.specs.Bytes.{byte}
 use Rattle.sheet_walk.specs.TermWalkLaws.{Terms-so-far, terms-first, terms-turn, terms-bad, terms-end}
-use Rattle.sheet_walk.specs.TermWalkLaws.{model-at, terms-stored, terms-behind}
-use Rattle.sheet_walk.specs.ModelWalkLaws.{Models-so-far, models-first, models-turn, models-end}
+use Rattle.sheet_walk.specs.TermWalkLaws.{model-at, terms-behind}
+use Rattle.sheet_walk.specs.ModelWalkLaws.{Models-passed, models-answer, models-first, models-turn, models-end}
 use Rattle.sheet_walk.specs.ModelWalkLaws.{models-no-head, models-no-terms, models-many, models-unsound}
 use Rattle.sheet_walk.proofs.walk_models.Statement.{statement}
 use Rattle.sheet_walk.proofs.walk_models.Tie as tie
 
 abbrev Inv-terms : tie.InvT-terms
-Inv-terms s n d count models at k left total radius terms₀ span₀ least₀ place₀ i₀ terms span least place i =
-    Terms-so-far s n d at terms span least place i
+Inv-terms s n d count at k left total span₀ least₀ place₀ i₀ span least place i =
+    Terms-so-far s n d at span least place i
 
 abbrev μ-terms : tie.MeasureT-terms
-μ-terms s n d count models at k left total radius terms₀ span₀ least₀ place₀ i₀ terms span least place i =
+μ-terms s n d count at k left total span₀ least₀ place₀ i₀ span least place i =
     total - i
 
 abbrev Inv-models : tie.InvT-models
-Inv-models s n d count models₀ at₀ k₀ models at k = Models-so-far s n d count models at k
+Inv-models s n d count at₀ k₀ at k = Models-passed s n d count at k
 
 abbrev μ-models : tie.MeasureT-models
-μ-models s n d count models₀ at₀ k₀ models at k = count - k
+μ-models s n d count at₀ k₀ at k = count - k
 
 -- ---- what is known of the sheet,
 short : (c : tie.Start Inv-terms μ-terms Inv-models μ-models) → Fits w64 (length (c .args .s .now))
@@ -87,7 +86,7 @@ tested c = sym (c .term-sound .ensures ∙ ap (term-sound _ _ _ _) (read-back (c
 -- behind the terms the span decides
 module _ (c : tie.After-terms Inv-terms μ-terms Inv-models μ-models) where
   behind-all : byte (outer (c .before .before) .models .at + 4) (sheet (c .before .before)) ≤ c .before .terms .i
-  behind-all = omega (arith, counted (c .before .before), c .terms-test .left)
+  behind-all = omega (arith, counted (c .before .before), c .terms-test .taken)
 
 span-decides : (c : tie.After-within-span Inv-terms μ-terms Inv-models μ-models)
     → sound (outer (c .before .before .before) .before .before .args .d)
@@ -98,14 +97,13 @@ span-decides c =
     let u = c .before .before .before in
     let p = outer u .before .before .pre in
     sym (c .within-span .ensures
-    ∙ terms-end _ _ _ _ (p .0) (p .1) (few u) _ _ _ _ _ (c .before .before .terms .inv) (behind-all (c .before)))
+    ∙ terms-end _ _ _ _ (p .0) (p .1) (few u) _ _ _ _ (c .before .before .terms .inv) (behind-all (c .before)))
 
 models-holds : tie.Need-models-holds Inv-terms μ-terms Inv-models μ-models
-unfolding most-terms most-models
-models-holds c = models-first _ _ _ _
+models-holds c = record { before = []; so-far = models-first _ _ _ _ }
 
 sub-left : tie.Need-sub-left Inv-terms μ-terms Inv-models μ-models
-sub-left c = c .before .models .inv .within
+sub-left c = c .before .models .inv .so-far .within
 
 add-byte-at : tie.Need-add-byte-at Inv-terms μ-terms Inv-models μ-models
 add-byte-at c = search needs
@@ -125,14 +123,13 @@ add-if2 c = search needs
 u32-at-requires : tie.Need-u32-at-requires Inv-terms μ-terms Inv-models μ-models
 u32-at-requires c κs = search needs
 
-cast-radius : tie.Need-cast-radius Inv-terms μ-terms Inv-models μ-models
-cast-radius c = search needs
+cast-span : tie.Need-cast-span Inv-terms μ-terms Inv-models μ-models
+cast-span c = search needs
 
 add-place : tie.Need-add-place Inv-terms μ-terms Inv-models μ-models
 add-place c = search needs
 
 terms-holds : tie.Need-terms-holds Inv-terms μ-terms Inv-models μ-models
-unfolding most-terms
 terms-holds c =
     let p = outer c .before .before .pre in
     terms-first _ _ _ _ (p .0) (p .1) (few c) _ (c .u32-at .ensures)
@@ -140,16 +137,10 @@ terms-holds c =
 term-at-requires : tie.Need-term-at-requires Inv-terms μ-terms Inv-models μ-models
 term-at-requires c κs =
     let u = c .before .before in
-    omega (arith, c .before .terms .inv .placed, c .terms-test .taken, room u)
+    omega (arith, c .before .terms .inv .placed, c .terms-test .left, room u)
 
 term-sound-requires : tie.Need-term-sound-requires Inv-terms μ-terms Inv-models μ-models
 term-sound-requires c κs = outer (inner c .before) .before .before .pre .0
-
-mul-terms : tie.Need-mul-terms Inv-terms μ-terms Inv-models μ-models
-mul-terms c = search needs
-
-array-set-from-terms : tie.Need-array-set-from-terms Inv-terms μ-terms Inv-models μ-models
-array-set-from-terms c = search needs
 
 magnitude-requires : tie.Need-magnitude-requires Inv-terms μ-terms Inv-models μ-models
 magnitude-requires c κs = search needs
@@ -169,7 +160,7 @@ add-place-2 c =
     omega (
       arith,
       inner t .terms .inv .placed,
-      t .before .before .terms-test .taken,
+      t .before .before .terms-test .left,
       room (inner t .before),
       short (outer (inner t .before) .before .before),
     )
@@ -177,12 +168,12 @@ add-place-2 c =
 add-i : tie.Need-add-i Inv-terms μ-terms Inv-models μ-models
 add-i c =
     let t = c .before .before .before .before .before .before in
-    omega (arith, t .before .before .terms-test .taken, few (inner t .before), counted (inner t .before))
+    omega (arith, t .before .before .terms-test .left, few (inner t .before), counted (inner t .before))
 
 terms-less : tie.Need-terms-less Inv-terms μ-terms Inv-models μ-models
 terms-less c =
     let t = c .before .before .before .before .before .before in
-    omega (arith, t .before .before .terms-test .taken)
+    omega (arith, t .before .before .terms-test .left)
 
 terms-again : tie.Need-terms-again Inv-terms μ-terms Inv-models μ-models
 terms-again c =
@@ -191,20 +182,14 @@ terms-again c =
     let t = branch .before .before in
     let u = inner t .before in
     let p = outer u .before .before .pre in
-    terms-turn _ _ _ _ (p .0) (p .1) (few u) _ _ _ _ _ (inner t .terms .inv)
-    (omega (arith, counted u, t .before .before .terms-test .taken)) _ (t .before .term-at .ensures) (key-small t)
-    (tested (branch .before) ∙ not-false _ (branch .if4 .left)) _
+    let h = inner t .terms .inv in
+    terms-turn _ _ _ _ (p .0) (p .1) (few u) _ _ _ _ h (omega (arith, counted u, t .before .before .terms-test .left)) _
+    (t .before .term-at .ensures) (key-small t) (tested (branch .before) ∙ not-false _ (branch .if4 .left)) _
     (added .capped-sum .ensures
     ∙ ap (λ x. capped (inner t .terms .span + x)) (added .before .magnitude .ensures ∙ ap natAbs (read-back t)))
 
 within-span-requires : tie.Need-within-span-requires Inv-terms μ-terms Inv-models μ-models
 within-span-requires c κs = search needs
-
-mul-models : tie.Need-mul-models Inv-terms μ-terms Inv-models μ-models
-mul-models c = search needs
-
-array-set-from-models : tie.Need-array-set-from-models Inv-terms μ-terms Inv-models μ-models
-array-set-from-models c = search needs
 
 add-k : tie.Need-add-k Inv-terms μ-terms Inv-models μ-models
 add-k c = search needs
@@ -217,44 +202,56 @@ models-again c =
     let l = c .before .before in
     let u = l .before .before in
     let p = outer u .before .before .pre in
-    let i = l .before .terms .inv in
+    let h = l .before .terms .inv in
+    let m = outer u .models .inv in
     let w = behind-all l in
-    models-turn _ _ _ _ _ _ _ (outer u .models .inv) (u .before .before .before .before .before .models-test .taken)
-    (p .2) _ (counted u) (room u) (span-decides (c .before) ∙ not-false _ (c .if5 .left)) _
-    (terms-behind _ _ _ _ (p .0) (p .1) (few u) _ _ _ _ _ i w) _
-    (terms-stored _ _ _ _ (p .0) (p .1) (few u) _ _ _ _ _ i w _ _ (counted u) (u .u32-at .ensures))
+    record {
+      before = _;
+      so-far = models-turn _ _ _ _ _ _ _ (m .so-far) (u .before .before .before .before .before .models-test .taken) _
+          (counted u) (room u) (span-decides (c .before) ∙ not-false _ (c .if5 .left)) _
+          (terms-behind _ _ _ _ (p .0) (p .1) (few u) _ _ _ _ h w);
+    }
 
 returns : tie.Need-returns Inv-terms μ-terms Inv-models μ-models
-returns c = models-end _ _ _ _ _ _ _ (c .before .models .inv) (c .models-test .left)
+returns c =
+    let h = c .before .models .inv in
+    models-answer _ _ _ _ _ _ h (models-end _ _ _ _ _ _ _ (h .so-far) (c .models-test .left))
 
 returns-2 : tie.Need-returns-2 Inv-terms μ-terms Inv-models μ-models
 returns-2 c =
-    models-no-head _ _ _ _ _ _ _ (c .before .before .models .inv) (c .if1 .taken)
+    let h = c .before .before .models .inv in
+    models-answer _ _ _ _ _ _ h (models-no-head _ _ _ _ _ _ _ (h .so-far) (c .if1 .taken))
 
 returns-3 : tie.Need-returns-3 Inv-terms μ-terms Inv-models μ-models
 returns-3 c =
-    models-no-terms _ _ _ _ _ _ _ (c .before .before .before .before .models .inv) _ (c .before .byte-at .ensures)
-    (c .if2 .taken)
+    let h = c .before .before .before .before .models .inv in
+    models-answer _ _ _ _ _ _ h
+    (models-no-terms _ _ _ _ _ _ _ (h .so-far) _ (c .before .byte-at .ensures) (c .if2 .taken))
 
 returns-4 : tie.Need-returns-4 Inv-terms μ-terms Inv-models μ-models
 returns-4 c =
-    models-many _ _ _ _ _ _ _ (c .before .before .before .before .before .models .inv) _
-    (c .before .before .byte-at .ensures) (c .if3 .taken)
+    let h = c .before .before .before .before .before .models .inv in
+    models-answer _ _ _ _ _ _ h
+    (models-many _ _ _ _ _ _ _ (h .so-far) _ (c .before .before .byte-at .ensures) (c .if3 .taken))
 
 returns-5 : tie.Need-returns-5 Inv-terms μ-terms Inv-models μ-models
 returns-5 c =
     let t = c .before .before in
     let u = inner t .before in
     let p = outer u .before .before .pre in
-    models-unsound _ _ _ _ _ _ _ (outer u .models .inv)
-    (terms-bad _ _ _ _ (p .0) (p .1) (few u) _ _ _ _ _ (inner t .terms .inv)
-    (omega (arith, counted u, t .before .before .terms-test .taken)) _ (t .before .term-at .ensures) (key-small t)
-    (tested (c .before) ∙ not-true _ (c .if4 .taken)))
+    let h = outer u .models .inv in
+    models-answer _ _ _ _ _ _ h
+    (models-unsound _ _ _ _ _ _ _ (h .so-far)
+    (terms-bad _ _ _ _ (p .0) (p .1) (few u) _ _ _ _ (inner t .terms .inv)
+    (omega (arith, counted u, t .before .before .terms-test .left)) _ (t .before .term-at .ensures) (key-small t)
+    (tested (c .before) ∙ not-true _ (c .if4 .taken))))
 
 returns-6 : tie.Need-returns-6 Inv-terms μ-terms Inv-models μ-models
 returns-6 c =
     let u = c .before .before .before .before in
-    models-unsound _ _ _ _ _ _ _ (outer u .models .inv) (span-decides (c .before) ∙ not-true _ (c .if5 .taken))
+    let h = outer u .models .inv in
+    models-answer _ _ _ _ _ _ h
+    (models-unsound _ _ _ _ _ _ _ (h .so-far) (span-decides (c .before) ∙ not-true _ (c .if5 .taken)))
 
 pub walk-models-spec : {M : Type 1} → statement M
 walk-models-spec =
@@ -272,13 +269,11 @@ walk-models-spec =
     mul-if2
     add-if2
     u32-at-requires
-    cast-radius
+    cast-span
     add-place
     terms-holds
     term-at-requires
     term-sound-requires
-    mul-terms
-    array-set-from-terms
     magnitude-requires
     capped-sum-requires
     cast-least
@@ -288,8 +283,6 @@ walk-models-spec =
     terms-less
     terms-again
     within-span-requires
-    mul-models
-    array-set-from-models
     add-k
     models-less
     models-again

@@ -1,21 +1,19 @@
--- `walk_steps` reads step after step, and stops at the first fault.
+-- `walk_steps` tests step after step, and stops at the first fault.
 use mathlib.Core.Path.{sym, _∙_}
 use Prim.Native.Nat.{_-_}
 use borrow.Author.Needs.{needs}
 use borrow.Author.Tests.{not-true, not-false}
-use Rattle.calculus.specs.Book.{most-steps}
 use Rattle.sheet_walk.specs.StepWalkLaws.{Steps-so-far, steps-first, steps-turn, steps-bad, steps-end}
 use Rattle.sheet_walk.proofs.walk_steps.Statement.{statement}
 use Rattle.sheet_walk.proofs.walk_steps.Tie as tie
 
 abbrev Inv-steps : tie.InvT-steps
-Inv-steps s offset n models count steps₀ at₀ k₀ steps at k = Steps-so-far s offset n models count steps at k
+Inv-steps s offset n models count at₀ k₀ at k = Steps-so-far s offset n models count at k
 
 abbrev μ-steps : tie.MeasureT-steps
-μ-steps s offset n models count steps₀ at₀ k₀ steps at k = count - k
+μ-steps s offset n models count at₀ k₀ at k = count - k
 
 steps-holds : tie.Need-steps-holds Inv-steps μ-steps
-unfolding most-steps
 steps-holds c = steps-first _ _ _ _ _
 
 step-at-requires : tie.Need-step-at-requires Inv-steps μ-steps
@@ -23,12 +21,6 @@ step-at-requires c κs = search needs
 
 step-sound-requires : tie.Need-step-sound-requires Inv-steps μ-steps
 step-sound-requires c κs = search needs
-
-mul-steps : tie.Need-mul-steps Inv-steps μ-steps
-mul-steps c = search needs
-
-array-set-from-steps : tie.Need-array-set-from-steps Inv-steps μ-steps
-array-set-from-steps c = search needs
 
 add-at : tie.Need-add-at Inv-steps μ-steps
 add-at c = search needs
@@ -43,17 +35,17 @@ steps-again : tie.Need-steps-again Inv-steps μ-steps
 steps-again c =
     let t = c .before .before in
     let l = t .before .before in
-    steps-turn _ _ _ _ _ _ _ _ (l .steps .inv) (t .before .steps-test .taken) _ (t .step-at .ensures)
-    (l .before .before .pre .0) (sym (c .before .step-sound .ensures) ∙ not-false _ (c .if1 .left))
+    steps-turn _ _ _ _ _ _ _ (l .steps .inv) (t .before .steps-test .taken) _ (t .step-at .ensures)
+    (sym (c .before .step-sound .ensures) ∙ not-false _ (c .if1 .left))
 
 returns : tie.Need-returns Inv-steps μ-steps
-returns c = steps-end _ _ _ _ _ _ _ _ (c .before .steps .inv) (c .steps-test .left)
+returns c = steps-end _ _ _ _ _ _ _ (c .before .steps .inv) (c .steps-test .left)
 
 returns-2 : tie.Need-returns-2 Inv-steps μ-steps
 returns-2 c =
     let t = c .before .before in
     let l = t .before .before in
-    steps-bad _ _ _ _ _ _ _ _ (l .steps .inv) (t .before .steps-test .taken) _ (t .step-at .ensures)
+    steps-bad _ _ _ _ _ _ _ (l .steps .inv) (t .before .steps-test .taken) _ (t .step-at .ensures)
     (sym (c .before .step-sound .ensures) ∙ not-true _ (c .if1 .taken))
 
 pub walk-steps-spec : {M : Type 1} → statement M
@@ -65,8 +57,6 @@ walk-steps-spec =
     steps-holds
     step-at-requires
     step-sound-requires
-    mul-steps
-    array-set-from-steps
     add-at
     add-k
     steps-less

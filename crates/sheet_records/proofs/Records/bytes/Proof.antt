@@ -1,4 +1,4 @@
--- `records::Records::bytes` meets its contract: a walk of its MIR, by hand. The struct is taken apart, and `bytes_at`
+-- `Records::bytes` meets its contract: a walk of its MIR, by hand. The struct is taken apart, and `bytes_at`
 -- is called on the slice and the place.
 use mathlib.Core.Path.{_≡_, refl}
 use Prim.Native.Nat.{ℕ}

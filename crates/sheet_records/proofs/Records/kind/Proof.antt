@@ -1,4 +1,4 @@
--- `records::Records::kind` meets its contract: a walk of its MIR, by hand. The struct is taken apart, and `kind_at` is
+-- `Records::kind` meets its contract: a walk of its MIR, by hand. The struct is taken apart, and `kind_at` is
 -- called on the slice and the place.
 use mathlib.Core.Path.{_≡_, refl}
 use mathlib.Core.List.{[], _∷_}
@@ -38,18 +38,18 @@ use denote.Triple.Table.{entered, cited}
 use denote.Triple.Walked.{says, Stays, stay-none, walkOf, goes-none, Walks, ends-at, walked, walk-meets}
 use denote.Exit.{yes}
 use denote.Triple.Clauses.{ensured, lasts}
-use Rattle.sheet_records.specs.Records.{kind-at}
+use Rattle.sheet_record_places.specs.Places.{kind-at}
 use Rattle.sheet_records.specs.declared.Records.{Records}
-use Rattle.sheet_records.specs.declared.Kind.{Kind}
-use Rattle.sheet_records.proofs.Kind as S
-use Rattle.sheet_records.proofs.Kind.Laws as S′
+use Rattle.sheet_book.specs.declared.Kind.{Kind}
+use Rattle.sheet_book.proofs.Kind as S
+use Rattle.sheet_book.proofs.Kind.Laws as S′
 use Rattle.sheet_records.proofs.Apart.{D, L, Own, passed, Handed, apart}
 use Rattle.sheet_records.proofs.Records as T
 use Rattle.sheet_records.proofs.Records.Laws as T′
-use Rattle.sheet_records.proofs.kind_at as step
-use Rattle.sheet_records.proofs.kind_at.Symbol as step-def
-use Rattle.sheet_records.proofs.kind_at.Symbol.{name as #records·kind-at}
-use Rattle.sheet_records.proofs.kind_at.Met as step-thm
+use Rattle.sheet_record_places.proofs.kind_at as step
+use Rattle.sheet_record_places.proofs.kind_at.Symbol as step-def
+use Rattle.sheet_record_places.proofs.kind_at.Symbol.{name as #places·kind-at}
+use Rattle.sheet_record_places.proofs.kind_at.Met as step-thm
 use Rattle.sheet_records.proofs.Records.kind.Key.{name as #records·kind}
 use Rattle.sheet_records.proofs.Records.kind as kind
 use Rattle.sheet_records.proofs.Records.kind.Statement as stated
@@ -108,7 +108,7 @@ module _ {M : Type 1} (𝓤 : URA M) (H : Heap 𝓤) (A : Atoms 𝓤) (W : Given
       move ! (1 ∷ []) $ frame ! $ nothing ! $ move ! (2 ∷ 0 ∷ []) $ fjoin ! $ frame ! $ done !
 
   module _ (C : Calls 𝓤 H) (Λ : Loops 𝓤 H) (fm : FmC 𝓤 H (W .laws) C)
-      (known : Triple 𝓤 (C #records·kind-at) (StepAt 𝓤 H A mem run)) where
+      (known : Triple 𝓤 (C #places·kind-at) (StepAt 𝓤 H A mem run)) where
     walk : Holds (hasTy (T′.mir (named 0)) mach) × WT mach
         → ent 𝓤 (onEntry 𝓤 H A kind.signature (κ, tt) (q, tt) (d, tt) (mach ∷ [], tt))
         (WpFn 𝓤 H C Λ code.function (mach ∷ []) Post)
@@ -143,7 +143,7 @@ module _ {M : Type 1} (𝓤 : URA M) (H : Heap 𝓤) (A : Atoms 𝓤) (W : Given
 module _ {M : Type 1} (𝓤 : URA M) (H : Heap 𝓤) (A : Atoms 𝓤) (W : Given 𝓤 H A) (mem : Memory → SProp 𝓤)
     (run : Routine → Fun 𝓤) where
   kind-walks : (C : Calls 𝓤 H) (Λ : Loops 𝓤 H) → FmC 𝓤 H (W .laws) C
-      → Triple 𝓤 (C #records·kind-at) (StepAt 𝓤 H A mem run)
+      → Triple 𝓤 (C #places·kind-at) (StepAt 𝓤 H A mem run)
       → Walks 𝓤 H A kind.ended stayed (WpFn 𝓤 H C Λ code.function) (kind.clauses 𝓤 H A mem run)
   kind-walks C Λ fm known =
       walked 𝓤 H A kind.ended stayed (kind.clauses 𝓤 H A mem run) (WpFn 𝓤 H C Λ code.function)
@@ -155,7 +155,7 @@ module _ {M : Type 1} (𝓤 : URA M) (H : Heap 𝓤) (A : Atoms 𝓤) (W : Given
 
 kind-meets : {M : Type 1} (𝓤 : URA M) (H : Heap 𝓤) (A : Atoms 𝓤) (W : Given 𝓤 H A) (mem : Memory → SProp 𝓤)
     (run : Routine → Fun 𝓤) (𝓣 : Tables 𝓤 H)
-    → Triple 𝓤 (𝓣 .C #records·kind-at) (StepAt 𝓤 H A mem run)
+    → Triple 𝓤 (𝓣 .C #places·kind-at) (StepAt 𝓤 H A mem run)
     → Meets 𝓤 H A kind.signature (WpFn 𝓤 H (𝓣 .C) (𝓣 .Λ) code.function) (kind.spec 𝓤 H A mem run)
 kind-meets 𝓤 H A W mem run 𝓣 known =
     walk-meets 𝓤 H A kind.ended stayed W (goes-none 𝓤 H A W 1 B yes (λ κs x f. refl), tt)
@@ -170,5 +170,5 @@ kind-spec 𝓤 H 𝓜 𝓖 𝓡 =
     (tables 𝓤 H 𝓜 𝓡 code.env .C) (tables 𝓤 H 𝓜 𝓡 code.env .Λ) #records·kind code.function
     (code.unfolded 𝓤 H 𝓜 𝓡)
     (kind-meets 𝓤 H (𝓖 .A) (givenOf 𝓤 H 𝓜 𝓖) (𝓜 .mem) (𝓡 .run) (tablesOf 𝓤 H 𝓜 (tables 𝓤 H 𝓜 𝓡 code.env))
-    (cited 𝓤 H (StepAt 𝓤 H (𝓖 .A) (𝓜 .mem) (𝓡 .run)) 𝓜 𝓡 code.env #records·kind-at step-def.routine
-    code.calls-sheet-records·kind-at (step-thm.met 𝓤 H 𝓜 𝓖 𝓡)))
+    (cited 𝓤 H (StepAt 𝓤 H (𝓖 .A) (𝓜 .mem) (𝓡 .run)) 𝓜 𝓡 code.env #places·kind-at step-def.routine
+    code.calls-sheet-record-places·kind-at (step-thm.met 𝓤 H 𝓜 𝓖 𝓡)))

@@ -1,4 +1,4 @@
--- `records::Records::next` meets its contract: a walk of its MIR, by hand. The borrow is opened, the slice and the
+-- `Records::next` meets its contract: a walk of its MIR, by hand. The borrow is opened, the slice and the
 -- place are read, `next_at` is called and its answer stored as the new place, `bytes_at` is called, and the borrow is
 -- closed.
 use mathlib.Core.Path.{_≡_, refl, ap}

@@ -1,0 +1,105 @@
+// The walk over a sheet's records that also keeps them: its models, then its steps, up to the first fault.
+ghost use mathlib.Core.Path.{_≡_};
+ghost use Prim.Native.Nat.{_+_, _*_, _≤_};
+ghost use lib.ListN.{length, drop};
+ghost use Rattle.calculus.specs.Key.{«key-width»};
+ghost use Rattle.sheet_read_walk.specs.Kept.{«models-read», «steps-read»};
+use model_types::Model;
+use model_types::Term;
+use sheet_book::Step;
+
+// How far the records of models go: the number of the first faulty one or that of all, the place behind the others, and
+// these.
+pub struct ModelsRead {
+    pub place: usize,
+    pub end: usize,
+    pub models: [Model; sheet_book::MOST_MODELS],
+}
+
+// How far steps go: the number of the first faulty one or that of all, and the others.
+pub struct StepsRead {
+    pub place: usize,
+    pub steps: [Step; sheet_book::MOST_STEPS],
+}
+
+// The models in `s`, which ends at the first step. A fault leaves both loops, and k is then the faulty model's number.
+pub fn read_models(s: &[u8], n: u8, d: u8, count: usize) -> ModelsRead
+    requires { ⌜ (1 ≤ n) × (n ≤ key-width) × (count ≤ 16) ⌝ }
+    ensures { λ r. ⌜ r ≡ models-read n d count (now (s .entry)) ⌝ }
+{
+    let mut models = [sheet_book::NO_MODEL; sheet_book::MOST_MODELS];
+    let mut at = 0;
+    let mut k = 0;
+    'models: while k < count {
+        let left = s.len() - at;
+        if left < format::MODEL_BYTES {
+            break 'models;
+        }
+        let total = sheet_decode::byte_at(s, at + format::COUNT_AT) as usize;
+        if left < format::MODEL_BYTES + format::TERM_BYTES * total {
+            break 'models;
+        }
+        if model_types::MOST_TERMS < total {
+            break 'models;
+        }
+        let radius = sheet_decode::u32_at(s, at) as u64;
+        let mut terms = [Term::ZERO; model_types::MOST_TERMS];
+        let mut span = radius;
+        let mut least: u32 = 0;
+        let mut place = at + format::MODEL_BYTES;
+        let mut i = 0;
+        'terms: loop {
+            if total <= i {
+                break 'terms;
+            }
+            let t = sheet_decode::term_at(s, place);
+            if !model::term_sound(n, d, least, t.key, t.coefficient) {
+                break 'models;
+            }
+            terms[i] = t;
+            span = fixed::capped_sum(span, fixed::magnitude(t.coefficient));
+            least = t.key as u32 + 1;
+            place += format::TERM_BYTES;
+            i += 1;
+        }
+        if !fixed::within_span(span) {
+            break 'models;
+        }
+        models[k] = Model {
+            n: n,
+            count: total,
+            radius: radius,
+            terms: terms,
+        };
+        at = place;
+        k += 1;
+    }
+    ModelsRead {
+        place: k,
+        end: at,
+        models: models,
+    }
+}
+
+// The steps from `offset` on. A fault leaves the loop, and k is then the faulty step's number.
+pub fn read_steps(s: &[u8], offset: usize, n: u8, models: usize, count: usize) -> StepsRead
+    requires { ⌜ (count ≤ 64) × (offset + 8 * count ≤ length (now s)) ⌝ }
+    ensures { λ r. ⌜ r ≡ steps-read n models count (drop offset (now (s .entry))) ⌝ }
+{
+    let mut steps = [Step::ZERO; sheet_book::MOST_STEPS];
+    let mut at = offset;
+    let mut k = 0;
+    'steps: while k < count {
+        let step = sheet_decode::step_at(s, at);
+        if !sheet_book::step_sound(n, models, k, step) {
+            break 'steps;
+        }
+        steps[k] = step;
+        at += format::STEP_BYTES;
+        k += 1;
+    }
+    StepsRead {
+        place: k,
+        steps: steps,
+    }
+}
