@@ -4,6 +4,7 @@ ghost use mathlib.Core.Bool.{_&&_};
 ghost use Prim.Native.Nat.{_≤_};
 ghost use lib.Dec.{leb, eqb};
 ghost use lib.ListN.{length};
+ghost use Rattle.calculus.specs.Key.{«key-width»};
 ghost use Rattle.calculus.specs.Model.{«most-terms»};
 ghost use Rattle.calculus.specs.Book.{«most-models», «most-steps»};
 ghost use Rattle.sheet_book.specs.BookStruct.{«book-verdict»};
@@ -27,7 +28,7 @@ fn head_sound(n: u8, m: Model) -> bool
 // The number of the first model that fails test 5, or the count. A fault leaves both loops, and k is then the faulty
 // model's number.
 fn first_unsound_model(b: Book) -> usize
-    requires { ⌜ (1 ≤ b .n) × (b .n ≤ 4) × (b .«model_count» ≤ most-models) ⌝ }
+    requires { ⌜ (1 ≤ b .n) × (b .n ≤ key-width) × (b .«model_count» ≤ most-models) ⌝ }
     ensures { λ r. ⌜ r ≡ first-unsound-model b ⌝ }
 {
     let n = b.n;

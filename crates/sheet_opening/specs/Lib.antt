@@ -2,4 +2,4 @@
 pub mod Opening
 -- Laws of opening, and the theorems about stepping.
 pub mod OpeningLaws
-pub mod SteppingLaws
+pub mod HandedOutLaws

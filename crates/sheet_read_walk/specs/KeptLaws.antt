@@ -28,7 +28,7 @@ use Rattle.sheet_walk.specs.ModelWalkLaws.{Models-so-far, Ends, walk-place, wal
 use Rattle.sheet_walk.specs.StepWalkLaws.{Steps-so-far, steps-first, steps-here, steps-inside}
 use Rattle.sheet_read_walk.specs.declared.ModelsRead.{ModelsRead}
 use Rattle.sheet_read_walk.specs.declared.StepsRead.{StepsRead}
-use Rattle.sheet_read_walk.specs.Kept.{models-read, steps-read}
+use Rattle.sheet_read_walk.specs.KeptRecords.{models-read, steps-read}
 
 -- ---- terms: before term i of the record at a place
 abbrev pub Terms-kept : List ℕ → (at : ℕ) (terms : List Term) (i : ℕ) → Type 0

@@ -3,7 +3,7 @@ ghost use mathlib.Core.Path.{_≡_};
 ghost use Prim.Native.Nat.{_+_, _*_, _≤_};
 ghost use lib.ListN.{length, drop};
 ghost use Rattle.calculus.specs.Key.{«key-width»};
-ghost use Rattle.sheet_read_walk.specs.Kept.{«models-read», «steps-read»};
+ghost use Rattle.sheet_read_walk.specs.KeptRecords.{«models-read», «steps-read»};
 use model_types::Model;
 use model_types::Term;
 use sheet_book::Step;

@@ -20,7 +20,7 @@ use Rattle.sheet_walk.specs.Walk.{models-walked, steps-walked}
 use Rattle.sheet_tests.specs.RecordTestLaws.{gone, all-passed, whole-sheet}
 use Rattle.sheet_read_walk.specs.declared.ModelsRead.{ModelsRead}
 use Rattle.sheet_read_walk.specs.declared.StepsRead.{StepsRead}
-use Rattle.sheet_read_walk.specs.Kept.{models-read, steps-read}
+use Rattle.sheet_read_walk.specs.KeptRecords.{models-read, steps-read}
 
 -- ---- how far the walks go that keep the records
 -- over models

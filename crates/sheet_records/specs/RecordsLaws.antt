@@ -13,10 +13,10 @@ use Rattle.sheet_book.specs.declared.Kind.the-variants.{End}
 use Rattle.sheet_record_places.specs.Places.{next-at, kind-at}
 use Rattle.sheet_record_places.specs.PlacesLaws.{kind-none}
 use Rattle.sheet_opening.specs.Opening.{place-after, asked, if-any, kind-of}
-use Rattle.sheet_opening.specs.SteppingLaws.{kind-walked, asked-hands-out, place-end}
+use Rattle.sheet_opening.specs.HandedOutLaws.{kind-walked, asked-hands-out, place-end}
 -- the verdict says the number of document 01's table, and the place; no record is empty
 pub use Rattle.sheet_opening.specs.OpeningLaws.{opening-number, opening-place}
-pub use Rattle.sheet_opening.specs.SteppingLaws.{not-empty}
+pub use Rattle.sheet_opening.specs.HandedOutLaws.{not-empty}
 use Rattle.sheet_records.specs.declared.Records.{Records}
 use Rattle.sheet_records.specs.Records.{opening, advanced, at-hand, stepped}
 

@@ -5,19 +5,21 @@ use mathlib.Core.List.{[]}
 use Prim.Native.Nat.{ℕ, _+_, _-_, _≤_, _<_}
 use native.Mathlib.Omega.{arith}
 use borrow.Author.Needs.{needs}
-use borrow.Author.Tests.{not-true, not-false, le-leb}
+use borrow.Author.Tests.{not-true, not-false}
 use lib.IntN.{natAbs}
 use lib.ListN.{length, getD, length-map}
 use mir.Facts.{toZ-ofZ}
 use mir.Syntax.{w64}
 use mir.Val.{toZ, ofZ}
 use Rattle.fixed.specs.Fixed.{capped}
-use Rattle.calculus.specs.Model.{most-vars, most-terms, between, sound}
+use Rattle.calculus.specs.MonomialKeyLaws.{word-key}
+use Rattle.calculus.specs.Model.{most-terms, sound}
 use Rattle.calculus.specs.Book.{most-models}
 use Rattle.calculus.specs.Tests.{vars-sound}
 use Rattle.model_types.specs.declared.Term.{Term}
 use Rattle.model_types.specs.declared.Model.{Model}
 use Rattle.model_types.specs.ModelStruct.{zero-term, view, term-sound}
+use Rattle.model_types.specs.ModelStructLaws.{vars-within}
 use Rattle.model.specs.OperationLaws.{Passed, passed-first, passed-turn, passed-not, passed-end}
 use Rattle.sheet_book.specs.FailingLaws.{walked-first}
 use Rattle.sheet_book_tests.specs.WalkLaws.{head-passes, Models-walked, models-head, models-unsound, models-turn}
@@ -47,8 +49,7 @@ unfolding most-models
 long c = omega (arith, whole c, c .pre .2)
 
 vars-hold : (c : tie.Start Inv-terms μ-terms Inv-models μ-models) → vars-sound (c .args .t1 .n) ≡ true
-unfolding vars-sound between most-vars
-vars-hold c = rw (le-leb 1 (c .args .t1 .n) (c .pre .0), le-leb (c .args .t1 .n) 4 (c .pre .1))
+vars-hold c = vars-within (c .args .t1 .n) (c .pre .0) (c .pre .1)
 
 -- in the loop the number is that of a place
 inside : (c : tie.In-models Inv-terms μ-terms Inv-models μ-models) → c .before .models .k < 16
@@ -168,7 +169,7 @@ terms-again c =
     let t = branch .before .before in
     let o = outer t in
     passed-turn _ _ (vars o) (head o .1) (fits o) _ _ _ (inner t .terms .inv) (t .before .before .terms-test .left)
-    (key-small t) (tested (branch .before) ∙ not-false _ (branch .if2 .left)) _
+    (word-key _ (key-small t)) (tested (branch .before) ∙ not-false _ (branch .if2 .left)) _
     (added .capped-sum .ensures
     ∙ ap (λ x. capped (inner t .terms .span + x)) (added .before .magnitude .ensures ∙ ap natAbs (read-back t)))
 
@@ -206,7 +207,7 @@ returns-3 c =
     models-unsound (start o .args .t1) (at o .models .k) (long (start o)) (at o .models .inv)
     (o .before .before .before .models-test .taken) _ (head o .0)
     (passed-not _ _ (vars o) (head o .1) (fits o) _ _ _ (inner t .terms .inv) (t .before .before .terms-test .left)
-    (key-small t) (tested (c .before) ∙ not-true _ (c .if2 .taken)))
+    (word-key _ (key-small t)) (tested (c .before) ∙ not-true _ (c .if2 .taken)))
 
 returns-4 : tie.Need-returns-4 Inv-terms μ-terms Inv-models μ-models
 returns-4 c =

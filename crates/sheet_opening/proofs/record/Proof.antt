@@ -4,7 +4,7 @@ use Prim.Native.Nat.{_-_, _≤_}
 use native.Mathlib.Omega.{arith}
 use Rattle.sheet_record_places.specs.Places.{bytes-at}
 use Rattle.sheet_opening.specs.Opening.{place-after, asked}
-use Rattle.sheet_opening.specs.SteppingLaws.{asked-bytes, record-none, first-place, place-more}
+use Rattle.sheet_opening.specs.HandedOutLaws.{asked-bytes, record-none, first-place, place-more}
 use borrow.Author.Needs.{needs}
 use Rattle.sheet_opening.proofs.record.Statement.{statement}
 use Rattle.sheet_opening.proofs.record.Tie as tie
