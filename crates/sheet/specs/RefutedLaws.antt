@@ -356,3 +356,8 @@ module _ (W : Program) (c : Enclosing W) where
   pub handing-back-not-enclosing : Hands-back W → ⊥
   unfolding answers at-one-beside accepted-at one-step
   handing-back-not-enclosing w = radius-refutes _ 1 _ _ (claimed-of at-one-beside _ (w at-one-beside _ refl))
+
+-- so neither does the program that refuses every sheet, with the zero model beside the refusal
+pub refusing-not-enclosing : Enclosing refusing → ⊥
+unfolding refusing run-answer refused-summary view pack zero-model first-places padded
+refusing-not-enclosing c = zero-not-enclosing refusing c (λ at. refl)
