@@ -63,7 +63,7 @@ fn rows() -> Vec<(&'static str, Measure)> {
         ("run, largest", run(|random| largest(random, STEPS))),
         ("run, largest, 1 step", run(|random| largest(random, 1))),
         ("run, largest, 8 steps", run(|random| largest(random, 8))),
-        ("read, largest", Box::new(read)),
+        ("tests 1 to 6, largest", Box::new(tests)),
     ]
 }
 
@@ -98,7 +98,7 @@ fn run(sheet: impl Fn(&mut Random) -> Vec<u8> + 'static) -> Measure {
 }
 
 /// A record that there is none of is asked for, which makes all tests and copies nothing.
-fn read(builds: &Builds, random: &mut Random) -> Times {
+fn tests(builds: &Builds, random: &mut Random) -> Times {
     let sheets: Vec<_> = (0..SHEETS).map(|_| largest(random, STEPS)).collect();
     for sheet in &sheets {
         let [new, old] = builds.each_ref().map(|build| records(build, sheet));
