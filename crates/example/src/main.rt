@@ -2,6 +2,9 @@
 use io::print_decimal;
 use model::Model;
 
+// 1/2 in units of 1/U.
+const HALF: i64 = (fixed::UNIT / 2) as i64;
+
 // A number in decimal, with its sign.
 fn print_signed(z: i64) {
     if z < 0 {
@@ -13,7 +16,7 @@ fn print_signed(z: i64) {
 fn main() {
     // A call answers a struct: the model, and beside it a verdict that names the refusal, if there is one.
     let x = Model::variable(1, 1);
-    let half = Model::constant(1, fixed::floor_divided(fixed::unit(), 2));
+    let half = Model::constant(1, HALF);
     let sum = model::add(x.model, half.model);
     let square = model::multiply(2, sum.model, sum.model);
     let ends = model::range(square.model);

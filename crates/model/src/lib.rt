@@ -17,6 +17,9 @@ pub use model_types::Verdict;
 // Whether a struct holds a model by the rules, with degrees up to d.
 pub use model_soundness::sound;
 
+// Document 01's number of a refusal: 1 to 11.
+pub use model_types::number;
+
 // ---- the named models
 // `Model::ZERO` is the zero model.
 pub fn zero_model() -> Model

@@ -4,7 +4,7 @@ ghost use Prim.Native.Nat.{ℕ, _-_, min};
 ghost use Rattle.calculus.specs.Refusal.{«at-place»};
 ghost use Rattle.calculus.specs.Book.{«most-models»};
 ghost use Rattle.model_types.specs.ModelStruct.{view, answer};
-ghost use Rattle.model.specs.OperationContracts.{«Lent-table»};
+ghost use Rattle.model.specs.OperationContracts.{«Lent-table», «Free-table»};
 ghost use Rattle.sheet_book.specs.BookStruct.{«held-step»};
 ghost use Rattle.sheet_steps.specs.Steps.{«step-answer», «Step-ready», «Direct-ready»};
 use model_types::Answer;
@@ -42,7 +42,8 @@ fn direct_answer(n: u8, s: Step, input: Model, f: Model, g: Model) -> Answer
     }
 }
 
-// What a step gives, with the model that its field a names and the results that a and b name.
+// What a step gives, with the model that its field a names and the results that a and b name. A product and a
+// substitution use the table that is lent.
 pub fn step_answer(
     n: u8,
     d: u8,
@@ -56,7 +57,9 @@ pub fn step_answer(
 ) -> Answer
     requires { ⌜ Step-ready n d (held-step s) input f g ⌝ }
     requires { ⌜ Lent-table (now slots) (now keys) (now sums) ⌝ }
-    ensures { λ r. ⌜ r ≡ answer (at-place 0 (step-answer n d (held-step s) (view input) (view f) (view g))) ⌝ }
+    ensures exact { λ r. ⌜ r ≡ answer (at-place 0 (step-answer n d (held-step s) (view input) (view f) (view g))) ⌝ }
+    ensures table { λ r. ⌜ Free-table (now (slots .entry)) (now (keys .entry)) (now (sums .entry))
+        (now (slots .exit)) (now (keys .exit)) (now (sums .exit)) ⌝ }
 {
     let code = s.code;
     match code {

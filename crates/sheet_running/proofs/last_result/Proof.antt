@@ -193,7 +193,7 @@ loop-again c =
     let s = stepped c in
     let l = turn s .loop .inv in (
       omega (arith, inside s),
-      step-accepted (pass s) (here s) (l .1) (named (a .before)) (a .step-answer .ensures)
+      step-accepted (pass s) (here s) (l .1) (named (a .before)) (a .step-answer .ensures .0)
           (c .before .enum-told .given .1),
       a .step-answer .kept .1 .1 .1 .1 .1 .1 .0 ∙ l .2,
       a .step-answer .kept .1 .1 .1 .1 .1 .1 .1 .0 ∙ l .3,
@@ -212,7 +212,7 @@ returns c =
     let place : c .refuse .result ≡ answer (stopped (cause (c .before .before .v .given .0 .0)) (turn s .loop .i)) =
     c .refuse .ensures in
     place
-    ∙ step-refused (pass s) (here s) (turn s .loop .inv .1) (named (a .before)) (a .step-answer .ensures)
+    ∙ step-refused (pass s) (here s) (turn s .loop .inv .1) (named (a .before)) (a .step-answer .ensures .0)
     (c .before .before .v .given .1)
 
 -- ---- after the loop

@@ -66,8 +66,10 @@ same-length-3 c = product c .multiplied .kept .1 .1 .1 .1 .1 .0
 returns : tie.Need-returns
 unfolding codes
 returns c =
-    let m = product c .before .before .before .before in
-    answers (start (m .before)) 6 _ (product c .multiplied .ensures .0) (m .match .keys1) refl
+    let m = product c .before .before .before .before in (
+      answers (start (m .before)) 6 _ (product c .multiplied .ensures .0) (m .match .keys1) refl,
+      product c .multiplied .ensures .1,
+    )
 
 same-length-4 : tie.Need-same-length-4
 same-length-4 c = substituted c .substituted .kept .1 .1 .1 .1 .0
@@ -81,11 +83,16 @@ same-length-6 c = substituted c .substituted .kept .1 .1 .1 .1 .1 .1 .0
 returns-2 : tie.Need-returns-2
 unfolding codes held-step
 returns-2 c =
-    let m = substituted c .before .before .before .before in
-    answers (start (m .before)) 7 _ (substituted c .substituted .ensures .0) (m .match .keys2) refl
+    let m = substituted c .before .before .before .before in (
+      answers (start (m .before)) 7 _ (substituted c .substituted .ensures .0) (m .match .keys2) refl,
+      substituted c .substituted .ensures .1,
+    )
 
 returns-3 : tie.Need-returns-3
-returns-3 c = c .direct-answer .ensures (start (c .before .before) .args .d)
+returns-3 c = (
+  c .direct-answer .ensures (start (c .before .before) .args .d),
+  record { slots-length = refl; keys-length = refl; sums-length = refl },
+)
 
 pub step-answer-spec : {M : Type 1} → statement M
 step-answer-spec =
