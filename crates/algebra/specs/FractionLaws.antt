@@ -1,12 +1,12 @@
 -- Cross-multiplying is an equivalence, and the comparison and the operations of fractions respect it.
 use mathlib.Core.Path.{_≡_, refl, sym, _∙_, ap, ap₂}
-use mathlib.Core.Bool.{Bool, true, false}
 use mathlib.Core.Logic.{Equivalence}
 use Prim.Native.Nat.{ℕ, zero, suc, _+_, _*_}
 use native.Mathlib.Omega.{arith}
 use lib.Dec.{T, le→leb}
 use lib.IntN.{ℤ, pos, negsuc, negℤ, _*ℤ_, ℤ-set}
 use lib.Signed.{_≤ℤ_, leZ-yes}
+use Rattle.algebra.specs.BooleanLaws.{same-tests}
 use Rattle.algebra.specs.Integer.{Is, is-mul, is-neg, is-nat}
 use Rattle.algebra.specs.Ring.{Ring}
 use Rattle.algebra.specs.RingSolver.{_⊞_, _⊠_, ⊝_, ring}
@@ -122,12 +122,6 @@ unfolding Same negation
 negation-respects p q h = negation-cross ℤR (p .numerator) (denominator p) (q .numerator) (denominator q) h
 
 -- ---- so does the comparison
-same-tests : (a b : Bool) → (T a → T b) → (T b → T a) → a ≡ b
-same-tests true true f g = refl
-same-tests true false f g = absurd (f tt)
-same-tests false true f g = absurd (g tt)
-same-tests false false f g = refl
-
 at-most-moves : (p q p′ q′ : Frac) → Same p p′ → Same q q′ → T (at-most p q) → T (at-most p′ q′)
 unfolding Same at-most
 at-most-moves p q p′ q′ h k t = one-more-cancel x y (p .denominator-1)

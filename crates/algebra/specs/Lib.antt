@@ -1,3 +1,4 @@
+pub mod BooleanLaws
 pub mod Lexicographic
 pub mod LexicographicLaws
 pub mod Integer

@@ -5,18 +5,14 @@ use mathlib.Core.Logic.{_⊎_, inl, inr}
 use Prim.Native.Nat.{ℕ, zero, suc}
 use Prim.Native.Nat as N
 use native.Mathlib.Omega.{arith}
-use lib.IntN.{ℤ, pos, negsuc, natAbs}
-use lib.Signed.{_≤ℤ_}
-use Rattle.algebra.specs.Integer.{is, plus, minus}
-use Rattle.algebra.specs.Ring.{Ring, nat, int, pow}
-use Rattle.algebra.specs.RingLaws.{zero-+, nat-zero, nat-suc, nat-add, int-is}
+use Rattle.algebra.specs.Ring.{Ring, nat, pow}
+use Rattle.algebra.specs.RingLaws.{zero-+, nat-zero, nat-suc, nat-add}
 use Rattle.algebra.specs.RingSolver.{𝟎, _⊞_, _⊟_, _⊠_, ⊝_, ring}
 use Rattle.algebra.specs.Ordered.{Ordered, abs}
-use Rattle.algebra.specs.IntegerRing.{le-of}
 
 module _ (O : Ordered) where
   open Ordered O using (ring as R, _≤_, ≤-refl, ≤-trans, ≤-antisym, ≤-total, ≤-add, ≤-mul)
-  open Ring R using (Carrier, 0#, 1#, _+_, _*_, neg, +-assoc, +-comm, +-neg, *-one)
+  open Ring R using (Carrier, 0#, 1#, _+_, _*_, neg, +-comm, +-neg, *-one)
 
   infixl 60 _+_ _-_
   infixl 70 _*_
@@ -48,10 +44,6 @@ module _ (O : Ordered) where
   pub +-mono : {a b c d : Carrier} → a ≤ b → c ≤ d → a + c ≤ b + d
   +-mono {a} {b} {c} {d} h k = le-by (b - a + (d - c)) (add-nonneg (sub-nonneg h) (sub-nonneg k))
       (ring 4 R (λ a b c d. a ⊞ c ⊞ (b ⊟ a ⊞ (d ⊟ c))) (λ a b c d. b ⊞ d) refl a b c d)
-
-  +-cancel-≤ : (a b c : Carrier) → a + c ≤ b + c → a ≤ b
-  +-cancel-≤ a b c h = le-by _ (sub-nonneg h)
-      (ring 3 R (λ a b c. a ⊞ (b ⊞ c ⊟ (a ⊞ c))) (λ a b c. b) refl a b c)
 
   pub *-mono : {a b c : Carrier} → 0# ≤ c → a ≤ b → a * c ≤ b * c
   *-mono {a} {b} {c} h k = le-by ((b - a) * c) (≤-mul (sub-nonneg k) h)
@@ -170,19 +162,3 @@ module _ (O : Ordered) where
   pub nat-mono : (m n : ℕ) → N._≤_ m n → nat R m ≤ nat R n
   nat-mono m n h = le-by (nat R (N._-_ n m)) (nat-nonneg (N._-_ n m))
       (sym (nat-add R m (N._-_ n m)) ∙ ap (nat R) (omega arith))
-
-  pub int-≤ : {x y : ℤ} → x ≤ℤ y → int R x ≤ int R y
-  int-≤ {x} {y} h = +-cancel-≤ _ _ (nat R (minus x) + nat R (minus y))
-      (≤-trans (≤-reflexive left) (≤-trans (nat-mono _ _ (le-of (is x) (is y) h)) (≤-reflexive (sym right))))
-    where
-      left : int R x + (nat R (minus x) + nat R (minus y)) ≡ nat R (N._+_ (plus x) (minus y))
-      left = sym (+-assoc _ _ _) ∙ ap (λ z. z + nat R (minus y)) (int-is R (is x)) ∙ sym (nat-add R _ _)
-
-      right : int R y + (nat R (minus x) + nat R (minus y)) ≡ nat R (N._+_ (plus y) (minus x))
-      right = ring 3 R (λ y m n. y ⊞ (m ⊞ n)) (λ y m n. y ⊞ n ⊞ m) refl _ _ _
-          ∙ ap (λ z. z + nat R (minus x)) (int-is R (is y)) ∙ sym (nat-add R _ _)
-
-  pub int-abs : (z : ℤ) → ∣ int R z ∣ ≡ nat R (natAbs z)
-  unfolding int
-  int-abs (pos n) = abs-is (nat-nonneg n) refl
-  int-abs (negsuc n) = abs-is⁻ (nat-nonneg (suc n)) refl

@@ -7,7 +7,7 @@ use native.Mathlib.Omega.{arith}
 use lib.IntN.{ℤ, pos, negsuc, negℤ, _+ℤ_, _*ℤ_, zero-*ℤ}
 use lib.Signed.{_≤ℤ_}
 use Rattle.algebra.specs.Integer.{is-nat}
-use Rattle.algebra.specs.Ring.{nat, int}
+use Rattle.algebra.specs.Ring.{nat}
 use Rattle.algebra.specs.RingLaws.{nat-zero, nat-suc, one-*}
 use Rattle.algebra.specs.RingSolver.{𝟏, _⊞_, _⊠_, ⊝_, ring}
 use Rattle.algebra.specs.IntegerRing.{ℤR, ℤO, eq-of}
@@ -54,11 +54,6 @@ pub nat-whole : (n : ℕ) → nat ℚR n ≡ whole (pos n)
 nat-whole zero = nat-zero ℚR
 nat-whole (suc n) = nat-suc ℚR n ∙ ap (λ x. whole (pos 1) +ℚ x) (nat-whole n) ∙ sym (whole-+ (pos 1) (pos n))
     ∙ ap (λ k. whole (pos k)) (omega arith)
-
-pub int-whole : (z : ℤ) → int ℚR z ≡ whole z
-unfolding int
-int-whole (pos n) = nat-whole n
-int-whole (negsuc n) = ap negℚ (nat-whole (suc n)) ∙ sym (whole-neg (pos (suc n)))
 
 -- ---- inverses and division
 -- a fraction times its inverse, by the sign of the numerator

@@ -1,7 +1,6 @@
--- Commutative rings with 1, and in each of them the natural numbers, the integers and powers.
+-- Commutative rings with 1, and in each of them the natural numbers and powers.
 use mathlib.Core.Path.{_≡_}
 use Prim.Native.Nat.{ℕ, zero, suc}
-use lib.IntN.{ℤ, pos, negsuc}
 
 -- a commutative ring with 1
 pub record Ring : Type 1 where
@@ -31,11 +30,6 @@ module _ (R : Ring) where
   unfoldable pub nat : ℕ → Carrier
   nat zero = 0#
   nat (suc n) = 1# + nat n
-
-  -- an integer in the ring
-  unfoldable pub int : ℤ → Carrier
-  int (pos n) = nat n
-  int (negsuc n) = neg (nat (suc n))
 
   -- x multiplied n times
   unfoldable pub pow : Carrier → ℕ → Carrier

@@ -3,9 +3,7 @@ use mathlib.Core.Path.{_≡_, refl, sym, _∙_, ap, ap₂}
 use Prim.Native.Nat.{ℕ, zero, suc}
 use Prim.Native.Nat as N
 use native.Mathlib.Nat as NatL
-use lib.IntN.{ℤ, pos, negℤ, _+ℤ_, _*ℤ_}
-use Rattle.algebra.specs.Integer.{Is, is+, is-, is, is-add, is-mul, is-neg}
-use Rattle.algebra.specs.Ring.{Ring, nat, int, pow}
+use Rattle.algebra.specs.Ring.{Ring, nat, pow}
 
 module _ (R : Ring) where
   open Ring R using (Carrier, 0#, 1#, _+_, _*_, neg, +-assoc, +-comm, +-zero, +-neg, *-assoc, *-comm, *-one, dist)
@@ -41,9 +39,6 @@ module _ (R : Ring) where
   one-* a = *-comm 1# a ∙ *-one a
 
   -- ---- differences: x is p − n where x + n is p
-  difference-unique : (x y n p : Carrier) → x + n ≡ p → y + n ≡ p → x ≡ y
-  difference-unique x y n p h k = +-cancel x y n (h ∙ sym k)
-
   pub difference-add : (x y n m p q : Carrier) → x + n ≡ p → y + m ≡ q → (x + y) + (n + m) ≡ p + q
   difference-add x y n m p q h k = rw (← h, ← k) (simp (+-assoc, +-lcomm))
 
@@ -75,27 +70,6 @@ module _ (R : Ring) where
   unfolding nat
   nat-mul zero n = rw NatL.zero-mul (sym (zero-* (nat R n)))
   nat-mul (suc m) n = rw (NatL.suc-mul, nat-add) (simp (nat-mul m n, dist, one-*, +-comm))
-
-  -- ---- integers
-  pub int-pos : (n : ℕ) → int R (pos n) ≡ nat R n
-  unfolding int
-  int-pos n = refl
-
-  pub int-is : {z : ℤ} {a b : ℕ} → Is z a b → int R z + nat R b ≡ nat R a
-  unfolding int
-  int-is (is+ {n = n} {b = b} h) = sym (nat-add n b) ∙ ap (nat R) h
-  int-is (is- {n = n} {a = a} h) = difference-neg _ _ _ (sym (nat-add (suc n) a) ∙ ap (nat R) h)
-
-  pub int-+ : (x y : ℤ) → int R (x +ℤ y) ≡ int R x + int R y
-  int-+ x y = difference-unique _ _ _ _ (simp nat-add at (int-is (is-add (is x) (is y))))
-      (difference-add _ _ _ _ _ _ (int-is (is x)) (int-is (is y)))
-
-  pub int-* : (x y : ℤ) → int R (x *ℤ y) ≡ int R x * int R y
-  int-* x y = difference-unique _ _ _ _ (simp (nat-add, nat-mul) at (int-is (is-mul (is x) (is y))))
-      (difference-mul _ _ _ _ _ _ (int-is (is x)) (int-is (is y)))
-
-  pub int-neg : (x : ℤ) → int R (negℤ x) ≡ neg (int R x)
-  int-neg x = difference-unique _ _ _ _ (int-is (is-neg (is x))) (difference-neg _ _ _ (int-is (is x)))
 
   -- ---- powers
   pub pow-add : (x : Carrier) (m n : ℕ) → pow R x (N._+_ m n) ≡ pow R x m * pow R x n

@@ -1,7 +1,7 @@
 -- One more term of two slices, and one more place of a slice overwritten.
 use mathlib.Core.Path.{_≡_, refl, sym, _∙_, ap, subst}
 use mathlib.Core.Bool.{true, _&&_}
-use mathlib.Core.List.{List, [], _∷_, _++_, map, append-assoc}
+use mathlib.Core.List.{List, [], _∷_, _++_, map, append-assoc, map-append}
 use Prim.Native.Nat.{ℕ, zero, suc, _+_, _≤_, _<_, min}
 use native.Mathlib.Numerals.{add-one}
 use native.Mathlib.Omega.{arith}
@@ -13,7 +13,7 @@ use Rattle.calculus.specs.Model.{most-terms}
 use Rattle.calculus.specs.TestLaws.{and-left, and-right}
 use Rattle.model_types.specs.declared.Term.{Term}
 use Rattle.model_types.specs.ModelStruct.{zero-term, pad}
-use Rattle.model_types.specs.ModelStructLaws.{pad-more, take-more, map-++}
+use Rattle.model_types.specs.ModelStructLaws.{pad-more, take-more}
 use Rattle.c_models.specs.HandedModels.{terms-of, over, model-room}
 
 -- ---- terms of two slices
@@ -70,7 +70,7 @@ module _ {A : Type 0} (d : A) where
       → set (over (map f (take i ts)) k) i (f (getD ts i zero-term)) ≡ over (map f (take (i + 1) ts)) k
   stored-more f ts k i h l =
       over-more (map f (take i ts)) k i _ (length-map (take i ts) f ∙ length-take-le i ts (omega arith)) l
-      ∙ ap (λ r. over r k) (sym (ap (map f) (take-more ts i zero-term h) ∙ map-++ f (take i ts) _))
+      ∙ ap (λ r. over r k) (sym (ap (map f) (take-more ts i zero-term h) ∙ map-append f (take i ts) _))
 
 -- two stores
 pub over-two : {A : Type 0} (l : List A) (a b : A) → 2 ≤ length l → set (set l 0 a) 1 b ≡ over (a ∷ b ∷ []) l

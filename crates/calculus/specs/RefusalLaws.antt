@@ -106,3 +106,10 @@ passed-each {A} i ok (x ∷ l) r a v h = go (passed-at i (ok i x) r _ v h) (pass
     go : Passed (ok i x) later v → (later ≡ done v → Passed (all-from (suc i) ok l) a v)
         → Passed (ok i x && all-from (suc i) ok l) a v
     go p f = record { test = both (ok i x) _ (p .test) (f (p .result) .test); result = f (p .result) .result }
+
+-- what follows a test follows what comes after it
+pub at-followed : {A B : Type 0} (i : ℕ) (b : Bool) (r : Refusal) (t : Result A) (f : A → Result B)
+    → (require-at i b r t followed-by f) ≡ require-at i b r (t followed-by f)
+unfolding require-at _followed-by_
+at-followed i true r t f = refl
+at-followed i false r t f = refl

@@ -1,7 +1,8 @@
 -- Tests that pass: conjunctions taken apart and put together, two tests that pass together.
-use mathlib.Core.Path.{_≡_, refl}
 use mathlib.Core.Bool.{Bool, true, false, _&&_}
 use lib.Dec.{T}
+-- tests that pass together are one
+pub use Rattle.algebra.specs.BooleanLaws.{same-tests}
 
 pub and-left : (a b : Bool) → T (a && b) → T a
 and-left true b h = tt
@@ -14,10 +15,3 @@ and-right false b h = absurd h
 pub both : (a b : Bool) → T a → T b → T (a && b)
 both true b h k = k
 both false b h k = h
-
--- tests that pass together are one
-pub same-tests : (a b : Bool) → (T a → T b) → (T b → T a) → a ≡ b
-same-tests true true f g = refl
-same-tests true false f g = absurd (f tt)
-same-tests false true f g = absurd (g tt)
-same-tests false false f g = refl

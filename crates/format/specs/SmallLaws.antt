@@ -72,9 +72,9 @@ pub record Step-facts (s : Held-step) : Type 0 where
   pub value : natAbs (s .value) ≤ span-limit
 
 -- the limits of its fields are small
-at-most : (t : Bool) (x y k : ℕ) → x ≤ k → y ≤ k → cond t x y ≤ k
-at-most true x y k p q = p
-at-most false x y k p q = q
+pub under-cond : (t : Bool) (x y k : ℕ) → x ≤ k → y ≤ k → cond t x y ≤ k
+under-cond true x y k p q = p
+under-cond false x y k p q = q
 
 v-small : (t : Bool) (n v : ℕ) → T (cond t (variable-sound n v) (eqb v 0)) → v ≤ n
 unfolding variable-sound
@@ -94,10 +94,10 @@ unfolding limit-a limit-b v-sound value-sound key-width
 step-facts b i s li lm ln h = record {
   code = leb→le (s .code) last-code (p .in-code);
   a = let l = ltb→lt (s .a) _ (p .in-a) in
-      let k = at-most (eqb (s .code) 0) (length (b .models)) (cond (leb 3 (s .code)) i 1) 64 (omega arith)
-      (at-most (leb 3 (s .code)) i 1 64 li (omega arith)) in omega arith;
+      let k = under-cond (eqb (s .code) 0) (length (b .models)) (cond (leb 3 (s .code)) i 1) 64 (omega arith)
+      (under-cond (leb 3 (s .code)) i 1 64 li (omega arith)) in omega arith;
   b = let l = ltb→lt (s .b) _ (p .in-b) in
-      let k = at-most (leb 4 (s .code) && leb (s .code) 7) i 1 64 li (omega arith) in omega arith;
+      let k = under-cond (leb 4 (s .code) && leb (s .code) 7) i 1 64 li (omega arith) in omega arith;
   v = let l = v-small (eqb (s .code) 2 || eqb (s .code) 7) (b .vars) (s .v) (p .in-v) in omega arith;
   value = value-small (eqb (s .code) 1) (eqb (s .code) 8) (s .value) (p .in-value);
 }

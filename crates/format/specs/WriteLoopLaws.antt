@@ -1,6 +1,6 @@
 -- Writing by loops that walk forward: records joined one by one, and stores behind one another.
-use mathlib.Core.Path.{_≡_, refl, _∙_, ap}
-use mathlib.Core.List.{List, [], _∷_, _++_, map, append-nil}
+use mathlib.Core.Path.{_≡_, _∙_, ap}
+use mathlib.Core.List.{List, [], _∷_, _++_, map, append-nil, map-append}
 use Prim.Native.Nat.{ℕ, suc, _+_, _≤_, _<_}
 use native.Mathlib.Omega.{arith}
 use lib.ListN.{length, getD, drop, take, set}
@@ -8,16 +8,12 @@ use lib.Seq.{sets, sets-eq, take-suc}
 use Rattle.format.specs.Bytes.{join}
 use Rattle.format.specs.BytesLaws.{join-++}
 
-map-++ : {A : Type 0} (f : A → List ℕ) (l m : List A) → map f (l ++ m) ≡ map f l ++ map f m
-map-++ f [] m = refl
-map-++ f (x ∷ l) m = ap (λ r. f x ∷ r) (map-++ f l m)
-
 -- one record more
 pub join-more : {A : Type 0} (f : A → List ℕ) (l : List A) (i : ℕ) (x : A) → i < length l
     → join (map f (take (suc i) l)) ≡ join (map f (take i l)) ++ f (getD l i x)
 unfolding join
 join-more f l i x h =
-    ap (λ k. join (map f k)) (take-suc l i x h) ∙ ap join (map-++ f (take i l) (getD l i x ∷ []))
+    ap (λ k. join (map f k)) (take-suc l i x h) ∙ ap join (map-append f (take i l) (getD l i x ∷ []))
     ∙ join-++ (map f (take i l)) (f (getD l i x) ∷ [])
     ∙ ap (λ r. join (map f (take i l)) ++ r) (append-nil (f (getD l i x)))
 

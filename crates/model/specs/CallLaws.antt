@@ -11,7 +11,8 @@ use Rattle.calculus.specs.Tests.{order-sound}
 use Rattle.calculus.specs.Calls.{require-two, call-negate, call-sweep, call-range, call-integral, call-evaluate}
 use Rattle.calculus.specs.Calls.{call-add, call-subtract, call-multiply, call-substitute}
 use Rattle.model_call_tests.specs.Admission.{single-model, sweeping, at-point, two-models, ordered, substituting}
-use Rattle.model_call_tests.specs.AdmissionLaws.{at-followed, two-followed}
+use Rattle.calculus.specs.RefusalLaws.{at-followed}
+use Rattle.model_call_tests.specs.AdmissionLaws.{two-followed}
 
 -- ---- of one model
 module _ (f : Model) where

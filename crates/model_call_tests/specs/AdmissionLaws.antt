@@ -1,6 +1,5 @@
 -- What verdicts of tests say: which tests have passed, and what a call is that makes them first.
 use mathlib.Core.Path.{_≡_, refl, sym, _∙_, ap}
-use mathlib.Core.Bool.{Bool, true, false}
 use mathlib.Core.List.{List}
 use Prim.Native.Nat.{ℕ, _≤_}
 use native.Mathlib.Omega.{arith}
@@ -11,7 +10,7 @@ use Rattle.calculus.specs.Model.{Model, most-degree, sound}
 use Rattle.calculus.specs.BookLaws.{between-low, between-high}
 use Rattle.calculus.specs.Refusal as R
 use Rattle.calculus.specs.Refusal.{Result, done, stopped, require-at, _followed-by_}
-use Rattle.calculus.specs.RefusalLaws.{passed-at}
+use Rattle.calculus.specs.RefusalLaws.{passed-at, at-followed}
 use Rattle.calculus.specs.Tests.{order-sound, variable-sound, all-in-unit}
 use Rattle.calculus.specs.Calls.{require-two}
 use Rattle.model_types.specs.declared.Refusal.{Refusal}
@@ -45,14 +44,7 @@ module _ {A : Type 0} (t : Tests) (a : Result A) where
   unfolding _followed-by_
   is-refused x y e = ap (λ t. t followed-by (λ u. a)) (refused-stopped t x y e)
 
--- what follows a test follows what comes after it
-pub at-followed : {A B : Type 0} (i : ℕ) (b : Bool) (r : R.Refusal) (t : Result A) (f : A → Result B)
-    → (require-at i b r t followed-by f) ≡ require-at i b r (t followed-by f)
-unfolding require-at _followed-by_
-at-followed i true r t f = refl
-at-followed i false r t f = refl
-
--- and the tests of two models
+-- what follows the tests of two models follows what comes after them
 pub two-followed : {A B : Type 0} (d : ℕ) (m n : Model) (t : Result A) (f : A → Result B)
     → (require-two d m n t followed-by f) ≡ require-two d m n (t followed-by f)
 unfolding require-two

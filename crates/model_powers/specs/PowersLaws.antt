@@ -1,7 +1,7 @@
 -- The largest exponent of a variable, and the terms of one of its powers: one turn of each loop over a model's terms.
 use mathlib.Core.Path.{_≡_, refl, sym, _∙_, ap, ap₂, subst}
 use mathlib.Core.Bool.{Bool}
-use mathlib.Core.List.{List, [], _∷_, _++_, map}
+use mathlib.Core.List.{List, [], _∷_, _++_, map, map-append}
 use Prim.Native.Nat.{ℕ, _+_, _≤_, _<_, max}
 use native.Mathlib.Omega.{arith}
 use lib.Dec.{T, not-T, eqb, eqb→eq, eqb-refl}
@@ -21,7 +21,7 @@ use Rattle.calculus.specs.SoundLaws.{Sound, part-canonical}
 use Rattle.model_types.specs.declared.Term.{Term}
 use Rattle.model_types.specs.declared.Model.{Model}
 use Rattle.model_types.specs.ModelStruct.{zero-term, places, view-term, view, pack-term, pad, pack}
-use Rattle.model_types.specs.ModelStructLaws.{map-++, read, term-at, length-read, view-terms, read-more}
+use Rattle.model_types.specs.ModelStructLaws.{read, term-at, length-read, view-terms, read-more}
 use Rattle.model_types.specs.ModelStructLaws.{select-more, select-same}
 use Rattle.model_types.specs.ModelStructLaws.{sum-select-le, packed-more, limits, key-fits-at}
 use Rattle.model_keys.specs.Keys.{key-exponent, key-without, Slot}
@@ -69,7 +69,7 @@ module _ (i k : ℕ) where
         → part-terms i k (read n (j + 1) ts) ≡ part-terms i k (read n j ts) ++ (freed (term-at n j ts) ∷ [])
     unfolding part-terms map-monomials
     part-more e = ap (map freed) (select-more n j ts h of-power (subst (λ x. T (eqb x k)) (sym e) (eqb-refl k)))
-        ∙ map-++ freed (select of-power (read n j ts)) (term-at n j ts ∷ [])
+        ∙ map-append freed (select of-power (read n j ts)) (term-at n j ts ∷ [])
 
     part-same : (exponent (index-of i) (term-at n j ts .exponents) ≡ k → ⊥)
         → part-terms i k (read n (j + 1) ts) ≡ part-terms i k (read n j ts)

@@ -1,7 +1,7 @@
 -- Laws of models in memory: what views and packed models say of each other, and one turn of a loop over terms.
 use mathlib.Core.Path.{_≡_, refl, sym, _∙_, ap, ap₂, subst}
 use mathlib.Core.Bool.{Bool, true, false, not, _&&_}
-use mathlib.Core.List.{List, [], _∷_, _++_, map, append-nil}
+use mathlib.Core.List.{List, [], _∷_, _++_, map, append-nil, map-append}
 use Prim.Native.Nat.{ℕ, zero, suc, _+_, _-_, _^_, _≤_, _<_}
 use native.Mathlib.Numerals.{add-one}
 use native.Mathlib.Omega.{arith}
@@ -44,11 +44,6 @@ use Rattle.model_types.specs.ModelStruct.{pack-term, pad, pack}
 use Rattle.calculus.specs.MonomialKeyLaws.{key-monomial, monomial-key, fits-key, fits-below}
 use Rattle.calculus.specs.MonomialKeyLaws.{monomial-zero, monomial-variable}
 use Rattle.model_keys.specs.Keys.{key-raised}
-
--- ---- any list
-pub map-++ : {A B : Type 0} (f : A → B) (k l : List A) → map f (k ++ l) ≡ map f k ++ map f l
-map-++ f [] l = refl
-map-++ f (x ∷ k) l = ap (λ r. f x ∷ r) (map-++ f k l)
 
 -- ---- terms selected, one more at the end
 pub select-in : (f : List ℕ → ℤ → Bool) (p : Terms) (t : P.Term ℤ) → T (f (t .exponents) (t .coefficient))
@@ -186,7 +181,7 @@ pack-view d m s h w = ap₂
 module _ (n i : ℕ) (ts : List Term) (h : i < length ts) where
   pub read-more : read n (i + 1) ts ≡ read n i ts ++ (term-at n i ts ∷ [])
   read-more = ap (map (view-term n)) (take-more ts i zero-term h)
-      ∙ map-++ (view-term n) (take i ts) (getD ts i zero-term ∷ [])
+      ∙ map-append (view-term n) (take i ts) (getD ts i zero-term ∷ [])
 
   pub sum-more : {A : Type 0} (N : Addition A) (g : List ℕ → ℤ → A)
       → sum-over (N .plus) (N .nothing) g (read n (i + 1) ts)
@@ -217,7 +212,7 @@ module _ (n i : ℕ) (ts : List Term) (h : i < length ts) where
   -- their images
   pub map-more : {A : Type 0} (f : P.Term ℤ → A)
       → map f (read n (i + 1) ts) ≡ map f (read n i ts) ++ (f (term-at n i ts) ∷ [])
-  map-more f = ap (map f) read-more ∙ map-++ f (read n i ts) (term-at n i ts ∷ [])
+  map-more f = ap (map f) read-more ∙ map-append f (read n i ts) (term-at n i ts ∷ [])
 
 -- ---- the terms that are left, of the first c
 module _ (n c : ℕ) (ts : List Term) (w : c ≤ length ts) where
@@ -233,7 +228,7 @@ module _ (n c : ℕ) (ts : List Term) (w : c ≤ length ts) where
 pub packed-more : (p : Terms) (i : ℕ) (t : P.Term ℤ) → length p ≡ i → i < most-terms
     → set (pad (map pack-term p)) i (pack-term t) ≡ pad (map pack-term (p ++ (t ∷ [])))
 packed-more p i t e h = pad-more (map pack-term p) i (pack-term t) (length-map p pack-term ∙ e) h
-    ∙ ap pad (sym (map-++ pack-term p (t ∷ [])))
+    ∙ ap pad (sym (map-append pack-term p (t ∷ [])))
 
 -- a turn of a loop that maps: the next term's image goes to the next place
 pub map-turn : (f : P.Term ℤ → P.Term ℤ) (n i : ℕ) (ts out : List Term) (t : Term) → i < length ts → i < most-terms

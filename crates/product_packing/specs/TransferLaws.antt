@@ -1,6 +1,6 @@
 -- Terms between a struct and arrays of wide keys: one turn of each loop, and its end.
 use mathlib.Core.Path.{_≡_, refl, sym, _∙_, ap, ap₂, subst}
-use mathlib.Core.List.{List, [], _∷_, _++_, map}
+use mathlib.Core.List.{List, [], _∷_, _++_, map, map-append}
 use Prim.Native.Nat.{ℕ, zero, suc, _+_, _≤_, _<_}
 use native.Mathlib.Numerals.{add-one}
 use native.Mathlib.Omega.{arith}
@@ -19,7 +19,7 @@ use Rattle.model_keys.specs.WideKeyLaws.{widened-monomial, narrowed-key, expone
 use Rattle.model_types.specs.declared.Term.{Term}
 use Rattle.model_types.specs.declared.Model.{Model}
 use Rattle.model_types.specs.ModelStruct.{zero-term, view-term, pack-term, pad, pack}
-use Rattle.model_types.specs.ModelStructLaws.{map-++, pad-more, read, view-terms, size-more, map-more}
+use Rattle.model_types.specs.ModelStructLaws.{pad-more, read, view-terms, size-more, map-more}
 use Rattle.product_table.specs.Table.{at-key, none, terms}
 use Rattle.product_table.specs.TermArrayLaws.{terms-length, terms-at, terms-push}
 use Rattle.product_gathering.specs.Wide.{wide, wide-terms}
@@ -97,7 +97,7 @@ module _ (keys : List ℕ) (coefficients : List ℤ) (i : ℕ) where
       ap (λ l. set l i (narrowed-term t)) e
       ∙ pad-more (map narrowed-term p) i (narrowed-term t)
       (length-map p narrowed-term ∙ terms-length i keys coefficients (omega arith) (omega arith)) few
-      ∙ ap pad (sym (map-++ narrowed-term p (t ∷ [])))
+      ∙ ap pad (sym (map-append narrowed-term p (t ∷ [])))
       ∙ ap (λ q. pad (map narrowed-term q))
       (sym (terms-more i keys coefficients lk lc) ∙ ap (λ j. terms j keys coefficients) (sym (add-one i)))
 

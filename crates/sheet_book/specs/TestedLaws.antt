@@ -1,12 +1,13 @@
 -- What a verdict says: an accepted book passes tests 3, 5 and 6, a refused one stops all that is asked after them.
 use mathlib.Core.Path.{_≡_, refl, sym, _∙_, ap, ap₂}
-use mathlib.Core.Bool.{Bool, true, false}
+use mathlib.Core.Bool.{Bool}
 use mathlib.Core.List.{List, [], _∷_}
 use Prim.Native.Nat.{ℕ, suc}
 use native.Mathlib.Omega.{arith}
 use Rattle.calculus.specs.Refusal as R
 use Rattle.calculus.specs.Refusal.{Result, done, stopped, require-at, require-each, _followed-by_}
 use Rattle.calculus.specs.Refusal.{bad-limits, bad-model, bad-step}
+use Rattle.calculus.specs.RefusalLaws.{at-followed}
 use Rattle.calculus.specs.Book.{limits-sound}
 use Rattle.model_types.specs.declared.Refusal.{Refusal}
 use Rattle.model_types.specs.declared.Verdict.the-variants.{Accepted, Refused}
@@ -18,18 +19,12 @@ use Rattle.sheet_book.specs.declared.Book.{Book}
 use Rattle.sheet_book.specs.BookStruct.{held-book, verdict, book-verdict}
 
 -- ---- tests before a result are made before what follows it
-at-first : {A B : Type 0} (i : ℕ) (t : Bool) (q : R.Refusal) (a : Result A) (f : A → Result B)
-    → require-at i t q (a followed-by f) ≡ (require-at i t q a followed-by f)
-unfolding require-at _followed-by_
-at-first i true q a f = refl
-at-first i false q a f = refl
-
 each-first : {A B C : Type 0} (i : ℕ) (ok : ℕ → C → Bool) (l : List C) (q : R.Refusal) (a : Result A) (f : A → Result B)
     → require-each i ok l q (a followed-by f) ≡ (require-each i ok l q a followed-by f)
 unfolding require-each
 each-first i ok [] q a f = refl
 each-first i ok (x ∷ l) q a f =
-    ap (require-at i (ok i x) q) (each-first (suc i) ok l q a f) ∙ at-first i (ok i x) q _ f
+    ap (require-at i (ok i x) q) (each-first (suc i) ok l q a f) ∙ sym (at-followed i (ok i x) q _ f)
 
 pub tested-first : {A B : Type 0} (h : Held-book) (a : Result A) (f : A → Result B)
     → held-tested h (a followed-by f) ≡ (held-tested h a followed-by f)
@@ -40,7 +35,7 @@ tested-first h a f =
     (each-first 0 (held-step-sound (outline-of h)) (h .steps) bad-step a f)
     ∙ ap (require-at 0 (limits-sound (outline-of h)) bad-limits)
     (each-first 0 (λ i. held-model-sound (outline-of h)) (h .models) bad-model _ f)
-    ∙ at-first 0 (limits-sound (outline-of h)) bad-limits _ f
+    ∙ sym (at-followed 0 (limits-sound (outline-of h)) bad-limits _ f)
 
 -- ---- the two cases of a verdict
 pub verdict-done : {A : Type 0} (r : Result A) (a : A) → r ≡ done a → verdict r ≡ Accepted

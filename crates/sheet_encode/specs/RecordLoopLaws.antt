@@ -1,12 +1,11 @@
 -- A loop that puts records one behind the other into a buffer: what it has put after i of them.
 use mathlib.Core.Path.{_≡_, refl, sym, _∙_, ap}
-use mathlib.Core.List.{List, [], _++_, map}
+use mathlib.Core.List.{List, [], _++_, map, map-append}
 use Prim.Native.Nat.{ℕ, _+_, _≤_, _<_}
 use native.Mathlib.Numerals.{add-one}
 use native.Mathlib.Omega.{arith}
 use lib.ListN.{length, getD, drop, take, length-append, take-append-drop}
 use lib.Seq.{sets, length-sets, take-all}
-use Rattle.model_types.specs.ModelStructLaws.{map-++}
 use Rattle.format.specs.Bytes.{join}
 use Rattle.format.specs.BytesLaws.{join-++}
 use Rattle.format.specs.WriteLoopLaws.{join-more, sets-more}
@@ -34,7 +33,7 @@ module _ {A : Type 0} (f : A → List ℕ) (l : List A) where
   length-front i =
       let e : length (join (map f (take i l ++ drop i l)))
       ≡ length (join (map f (take i l))) + length (join (map f (drop i l))) =
-      ap (λ k. length (join k)) (map-++ f (take i l) (drop i l))
+      ap (λ k. length (join k)) (map-append f (take i l) (drop i l))
       ∙ ap length (join-++ (map f (take i l)) (map f (drop i l)))
       ∙ length-append (front i) (join (map f (drop i l))) in
       omega (arith, e, ap (λ k. length (join (map f k))) (take-append-drop i l))

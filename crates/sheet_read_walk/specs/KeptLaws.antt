@@ -1,6 +1,6 @@
 -- What the loops over models, their terms and steps keep of what they read: one law for the start, a turn and the end.
 use mathlib.Core.Path.{_≡_, refl, sym, _∙_, ap, ap₂}
-use mathlib.Core.List.{List, [], _∷_, _++_, map}
+use mathlib.Core.List.{List, [], _∷_, _++_, map, map-append}
 use Prim.Native.Nat.{ℕ, _+_, _*_, _-_, _≤_, _<_}
 use native.Mathlib.Omega.{arith}
 use lib.ListN.{length, getD, set, take, drop, replicate, length-map}
@@ -13,7 +13,6 @@ use Rattle.model_types.specs.declared.Model.{Model}
 use Rattle.model_types.specs.Arrays.{padded}
 use Rattle.model_types.specs.ModelStruct.{zero-term, pad}
 use Rattle.model_types.specs.ArrayLaws.{take-more, padded-more}
-use Rattle.model_types.specs.ModelStructLaws.{map-++}
 use Rattle.format.specs.Bytes.{byte, u32}
 use Rattle.format.specs.HeldBook.{Held-term, Held-model, Held-step}
 use Rattle.format.specs.Format.{read-term, read-model, read-step, read-steps}
@@ -54,7 +53,7 @@ module _ (s : List ℕ) (n d at : ℕ) (low : 1 ≤ n) (high : n ≤ key-width) 
       (length-map (take i ts) stored-term ∙ length-take-le i ts (omega (arith, within))) (omega arith)
       ∙ ap pad (ap (λ x. map stored-term (take i ts) ++ (x ∷ []))
       (in-terms s n d at low high few span least place i h l t e)
-      ∙ sym (map-++ stored-term (take i ts) (getD ts i some-term ∷ []))
+      ∙ sym (map-append stored-term (take i ts) (getD ts i some-term ∷ []))
       ∙ ap (map stored-term)
       (sym (take-more ts i some-term within)))
 
@@ -93,7 +92,7 @@ module _ (s : List ℕ) (n d count : ℕ) (models : List Model) (at k : ℕ) (h 
         (length-map (h .before) stored-model ∙ h .so-far .number) (omega arith)
         ∙ ap (padded no-model 16)
         (ap (λ x. map stored-model (h .before) ++ (x ∷ [])) e
-        ∙ sym (map-++ stored-model (h .before) (read-model n (drop at s) ∷ [])));
+        ∙ sym (map-append stored-model (h .before) (read-model n (drop at s) ∷ [])));
   }
 
   -- what the code answers when it leaves the loop
@@ -152,7 +151,7 @@ module _ (s : List ℕ) (offset n m count : ℕ) (steps : List Step) (at k : ℕ
             (length-map (take k all) stored-step ∙ length-take-le k all (omega (arith, within))) (omega arith)
             ∙ ap (padded no-step 64)
             (ap (λ x. map stored-step (take k all) ++ (x ∷ [])) (e ∙ ap stored-step (sym here))
-            ∙ sym (map-++ stored-step (take k all) (getD all k (read-step (drop at s)) ∷ []))
+            ∙ sym (map-append stored-step (take k all) (getD all k (read-step (drop at s)) ∷ []))
             ∙ ap (map stored-step) (sym (take-more all k (read-step (drop at s)) within)));
       }
 

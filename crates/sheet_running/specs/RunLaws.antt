@@ -1,7 +1,7 @@
 -- The run of a book that passed the tests: one turn of its loop, with each way out.
 use mathlib.Core.Path.{_≡_, refl, sym, _∙_, ap, ap₂, subst}
-use mathlib.Core.Bool.{Bool, true, false, cond, _&&_}
-use mathlib.Core.List.{List, [], _∷_, _++_, map}
+use mathlib.Core.Bool.{Bool, true, cond, _&&_}
+use mathlib.Core.List.{List, [], _∷_, _++_, map, map-append}
 use mathlib.Core.Option.{some}
 use Prim.Native.Nat.{ℕ, zero, suc, _+_, _-_, _<_, _≤_}
 use native.Mathlib.Numerals.{add-one}
@@ -30,8 +30,9 @@ use Rattle.model_types.specs.declared.Refusal.{Refusal}
 use Rattle.model_types.specs.declared.Verdict.the-variants.{Accepted, Refused}
 use Rattle.model_types.specs.declared.Answer.{Answer}
 use Rattle.model_types.specs.ModelStruct.{view, pack, refusal, cause, answer}
-use Rattle.model_types.specs.ModelStructLaws.{map-++, cause-refusal, vars-within}
+use Rattle.model_types.specs.ModelStructLaws.{cause-refusal, vars-within}
 use Rattle.model.specs.OperationLaws.{Holds, held-vars, held-view, held-sound, Got, got}
+use Rattle.format.specs.SmallLaws.{under-cond}
 use Rattle.format.specs.HeldBook.{Held-step, Held-book, view-model, view-step, view-book, outline, outline-of}
 use Rattle.format.specs.HeldBook.{held-step-sound, Held-passes}
 use Rattle.format.specs.HeldBookLaws.{In-limits, in-limits, steps-pass, view-at, view-passes}
@@ -59,10 +60,6 @@ last-at : {A : Type 0} (x y : A) (l : List A) → last y l ≡ getD (y ∷ l) (l
 unfolding last
 last-at x y [] = refl
 last-at x y (z ∷ l) = last-at x z l
-
-under-cond : (b : Bool) (x y k : ℕ) → x ≤ k → y ≤ k → cond b x y ≤ k
-under-cond true x y k p q = p
-under-cond false x y k p q = q
 
 -- each test of a list, numbered from 0
 passes-at : {A : Type 0} (ok : ℕ → A → Bool) (l : List A) (d : A) → T (all-from 0 ok l)
@@ -293,7 +290,7 @@ module _ {h : Held-book} (p : Held-passes h) where
           stored = ap₂ (λ r m. set r i m) (l .stored) (q .holds .packed)
               ∙ padded-more (pack (zero-model (h .n))) 64 (map pack (l .models)) i (pack (q .model))
               (length-map (l .models) pack ∙ l .count) (omega (arith, at .within, in-limits-of .steps-high))
-              ∙ ap (padded (pack (zero-model (h .n))) 64) (sym (map-++ pack (l .models) (q .model ∷ [])));
+              ∙ ap (padded (pack (zero-model (h .n))) 64) (sym (map-append pack (l .models) (q .model ∷ [])));
           rest = sym (turn ∙ ap (λ a. at-place i a followed-by after) (q .is));
         }
           where

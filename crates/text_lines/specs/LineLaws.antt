@@ -1,7 +1,7 @@
 -- The lines as pieces that are put one behind another, and loops that put one piece a turn.
 use mathlib.Core.Path.{_≡_, refl, sym, _∙_, ap, ap₂}
-use mathlib.Core.List.{List, [], _∷_, _++_, map, append-assoc, append-nil}
-use Prim.Native.Nat.{ℕ, _+_, _^_, _≤_, _<_}
+use mathlib.Core.List.{List, [], _∷_, _++_, map, append-assoc, map-append}
+use Prim.Native.Nat.{ℕ, suc, _+_, _^_, _≤_, _<_}
 use native.Mathlib.Omega.{arith}
 use lib.IntN.{ℤ}
 use lib.ListN.{length, take, drop, getD, length-append, take-append-drop, List·getD-map}
@@ -16,10 +16,10 @@ use Rattle.calculus.specs.Operations.{Ends}
 use Rattle.calculus.specs.Book.{Summary}
 use Rattle.model_types.specs.declared.Model.{Model}
 use Rattle.model_types.specs.ModelStruct.{zero-term, view-term, view}
-use Rattle.model_types.specs.ArrayLaws.{take-more}
-use Rattle.model_types.specs.ModelStructLaws.{map-++, term-at, view-terms}
+use Rattle.model_types.specs.ModelStructLaws.{term-at, view-terms}
 use Rattle.format.specs.BytesLaws.{join-++}
 use Rattle.format.specs.Bytes.{join}
+use Rattle.format.specs.WriteLoopLaws.{join-more}
 use Rattle.format.specs.Lines.{text, decimal, signed-decimal, line, term-line, ends-line, radius-line, refusal-line}
 use Rattle.format.specs.Lines.{lines}
 use Rattle.text_decimal.specs.Put.{Put, Room, natural, integer}
@@ -91,17 +91,14 @@ term-of m i w h = ap (λ p. getD p i (term-at (m .n) 0 [])) (view-terms m w)
 -- ---- a loop that puts a piece for each element
 module _ {A : Type 0} (f : A → List ℕ) (l : List A) where
   joined : (i : ℕ) → join (map f l) ≡ join (map f (take i l)) ++ join (map f (drop i l))
-  joined i = ap (λ k. join (map f k)) (sym (take-append-drop i l)) ∙ ap join (map-++ f (take i l) (drop i l))
+  joined i = ap (λ k. join (map f k)) (sym (take-append-drop i l)) ∙ ap join (map-append f (take i l) (drop i l))
       ∙ join-++ (map f (take i l)) (map f (drop i l))
 
   module _ (d : A) where
     joined-more : (i : ℕ) → i < length l
         → join (map f (take (i + 1) l)) ≡ join (map f (take i l)) ++ f (getD l i d)
-    unfolding join
-    joined-more i h = ap (λ k. join (map f k)) (take-more l i d h)
-        ∙ ap join (map-++ f (take i l) (getD l i d ∷ []))
-        ∙ join-++ (map f (take i l)) (f (getD l i d) ∷ [])
-        ∙ ap (λ k. join (map f (take i l)) ++ k) (append-nil (f (getD l i d)))
+    joined-more i h = ap (λ k. join (map f (take k l))) (let e : i + 1 ≡ suc i = omega arith in e)
+        ∙ join-more f l i d h
 
   -- the pieces of the first i elements are put
   pub record Listed (before : List ℕ) (at : ℕ) (after : List ℕ) (next i : ℕ) : Type 0 where
