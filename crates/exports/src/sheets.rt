@@ -16,7 +16,8 @@ pub extern "C" fn hechroung_print(sheet: &[u8], lines: &mut [u8]) -> usize
     ensures { λ r. ⌜ (r ≡ length (printed (now (sheet .entry))))
         × (now (lines .exit) ≡ laid (printed (now (sheet .entry))) (now (lines .entry))) ⌝ }
 {
-    text::print(sheet, lines)
+    let length = text::print(sheet, lines);
+    length
 }
 
 // Bytes are copied to the start of a slice, as many as it has room for.
