@@ -10,12 +10,14 @@
      HECHROUNG_MISUSED   no call was made and nothing was written: a pointer is null, a slice is too short, or a code
                          names no call
 
-   Memory. The caller owns everything. Nothing is kept after a call, nothing is allocated, and there is no state, so that
-   any number of threads may call at once. A call needs up to 160 KB of stack, the run of a sheet up to 400 KB.
+   Memory. The caller owns everything. Nothing is kept after a call, nothing is allocated, and there is no state, so
+   that any number of threads may call at once. A call needs up to 160 KB of stack, the run of a sheet or a book up to
+   400 KB, writing and writing back up to 160 KB, opening, a step and a record up to 4 KB (a KB is 1,024 bytes; the
+   functions written out here add what they say). These figures are tested, not proved.
 
    Slices. A slice is a pointer and a length in elements. The functions declared extern never read or write outside the
-   lengths they are given; a pointer must be to that many elements, aligned, and a slice that is written must not overlap
-   another one. A null pointer must not be handed to them; the functions written out here test for it. */
+   lengths they are given; a pointer must be to that many elements, aligned, and a slice that is written must not
+   overlap another one. A null pointer must not be handed to them; the functions written out here test for it. */
 #ifndef HECHROUNG_H
 #define HECHROUNG_H
 
@@ -35,9 +37,9 @@ extern "C" {
 #define HECHROUNG_LONGEST_TEXT 2048
 #define HECHROUNG_MISUSED 255
 
-/* A model: the first `count` of its terms, with keys strictly rising, and a radius. A key has four exponents of four bits
-   each, that of variable 1 in the highest bits. Any field may hold anything: a call tests the model and refuses with 5
-   what breaks a rule. Places beyond the count are not looked at; in an answer they hold zeros. */
+/* A model: the first `count` of its terms, with keys strictly rising, and a radius. A key has four exponents of four
+   bits each, that of variable 1 in the highest bits. Any field may hold anything: a call tests the model and refuses
+   with 5 what breaks a rule. Places beyond the count are not looked at; in an answer they hold zeros. */
 struct hechroung_model {
     uint8_t n;
     size_t count;
@@ -71,8 +73,8 @@ struct hechroung_step {
    value the constant or the threshold; what a call does not name is not looked at, but the slices of both models are.
    constant and variable take the n of the first model.
    Read: for each model at least min(count, 64) keys and as many coefficients.
-   Written: keys and coefficients, at least 64 each, hold the answer's 64 places; numbers, at least 4, hold the refusal's
-   place, n, the count and the radius. What lies behind stays. */
+   Written: keys and coefficients, at least 64 each, hold the answer's 64 places; numbers, at least 4, hold the
+   refusal's place, n, the count and the radius. What lies behind stays. */
 extern uint8_t hechroung_call(uint8_t code, uint8_t d, uint8_t i, int64_t value,
                               uint8_t n1, size_t count1, uint64_t radius1,
                               const uint16_t *keys1, size_t keys1_length,
@@ -93,8 +95,8 @@ extern uint8_t hechroung_ends(uint8_t code, uint8_t n, size_t count, uint64_t ra
                               int64_t x1, int64_t x2, int64_t x3, int64_t x4,
                               int64_t *ends, size_t ends_length);
 
-/* Runs a sheet: refusals 1 to 9. Read: the sheet, of any length. Written: keys, coefficients and numbers as above; ends, at
-   least 4, hold the low and high end of the range, then those of the integral. */
+/* Runs a sheet: refusals 1 to 9. Read: the sheet, of any length. Written: keys, coefficients and numbers as above;
+   ends, at least 4, hold the low and high end of the range, then those of the integral. */
 extern uint8_t hechroung_run(const uint8_t *sheet, size_t sheet_length,
                              uint16_t *keys, size_t keys_length, int64_t *coefficients, size_t coefficients_length,
                              uint64_t *numbers, size_t numbers_length, int64_t *ends, size_t ends_length);
@@ -104,14 +106,15 @@ extern uint8_t hechroung_run(const uint8_t *sheet, size_t sheet_length,
 extern size_t hechroung_print(const uint8_t *sheet, size_t sheet_length, uint8_t *lines, size_t lines_length);
 
 /* Reads a sheet and writes what was read: refusals 1 to 6, 11 (the buffer is too short). Written: numbers, at least 2,
-   hold the refusal's place and the length, 0 with a refusal. The buffer holds the sheet; bytes beyond the length stay, and
-   a refused call changes none. */
+   hold the refusal's place and the length, 0 with a refusal. The buffer holds the sheet; bytes beyond the length stay,
+   and a refused call changes none. */
 extern uint8_t hechroung_rewrite(const uint8_t *sheet, size_t sheet_length, uint8_t *buffer, size_t buffer_length,
                                  uint64_t *numbers, size_t numbers_length);
 
-/* Record i of a sheet, from 0: each model's bytes, then each step's 8. It returns the record's length, or 0 where there is
-   none; a sheet that tests 1 to 6 refuse has none. As much of it as the slice has room for is put at its start. */
-extern size_t hechroung_record(const uint8_t *sheet, size_t sheet_length, size_t i, uint8_t *bytes, size_t bytes_length);
+/* Record i of a sheet, from 0: each model's bytes, then each step's 8. It returns the record's length, or 0 where there
+   is none; a sheet that tests 1 to 6 refuse has none. As much of it as the slice has room for is put at its start. */
+extern size_t hechroung_record(const uint8_t *sheet, size_t sheet_length, size_t i,
+                               uint8_t *bytes, size_t bytes_length);
 
 /* Opens a sheet for stepping through it: refusals 1 to 6. Written: numbers, at least 2, hold the refusal's place and
    the place of the first record; beside a refusal that is the sheet's length, where there is no record. */
@@ -124,14 +127,26 @@ extern uint8_t hechroung_next(const uint8_t *sheet, size_t sheet_length, size_t 
                               uint8_t *bytes, size_t bytes_length, uint64_t *numbers, size_t numbers_length);
 
 /* Writes a book as a sheet: refusals 3, 5, 6, 11. Read: for at least min(model_count, 16) models an entry of ns, counts
-   and radii and 64 keys and coefficients each; for at least min(step_count, 64) steps four bytes of fields (code, a, b, v)
-   and a value. Written: buffer and numbers as for hechroung_rewrite. */
+   and radii and 64 keys and coefficients each; for at least min(step_count, 64) steps four bytes of fields (code, a, b,
+   v) and a value. Written: buffer and numbers as for hechroung_rewrite. */
 extern uint8_t hechroung_write(uint8_t n, uint8_t d, size_t model_count, size_t step_count,
                                const uint8_t *ns, size_t ns_length, const size_t *counts, size_t counts_length,
                                const uint64_t *radii, size_t radii_length, const uint16_t *keys, size_t keys_length,
                                const int64_t *coefficients, size_t coefficients_length,
                                const uint8_t *fields, size_t fields_length, const int64_t *values, size_t values_length,
                                uint8_t *buffer, size_t buffer_length, uint64_t *numbers, size_t numbers_length);
+
+/* Runs a book: refusals 3, 5 to 9. Read: as for hechroung_write, the models' keys and coefficients as book_keys and
+   book_coefficients. Written: keys, coefficients, numbers and ends as for hechroung_run. */
+extern uint8_t hechroung_run_book(uint8_t n, uint8_t d, size_t model_count, size_t step_count,
+                                  const uint8_t *ns, size_t ns_length, const size_t *counts, size_t counts_length,
+                                  const uint64_t *radii, size_t radii_length,
+                                  const uint16_t *book_keys, size_t book_keys_length,
+                                  const int64_t *book_coefficients, size_t book_coefficients_length,
+                                  const uint8_t *fields, size_t fields_length,
+                                  const int64_t *values, size_t values_length,
+                                  uint16_t *keys, size_t keys_length, int64_t *coefficients, size_t coefficients_length,
+                                  uint64_t *numbers, size_t numbers_length, int64_t *ends, size_t ends_length);
 
 /* ---- the same for structs. The answer may be one of the models that are read. A place of null is not written. ---- */
 
@@ -243,6 +258,18 @@ static inline uint8_t hechroung_evaluate(const struct hechroung_model *f, const 
     return hechroung_ended_(3, f, point, answer);
 }
 
+static inline void hechroung_summed_(const uint64_t numbers[4], const int64_t ends[4], struct hechroung_summary *answer,
+                                     size_t *place) {
+    answer->model.n = (uint8_t)numbers[1];
+    answer->model.count = (size_t)numbers[2];
+    answer->model.radius = numbers[3];
+    answer->range.low = ends[0];
+    answer->range.high = ends[1];
+    answer->integral.low = ends[2];
+    answer->integral.high = ends[3];
+    if (place != NULL) *place = (size_t)numbers[0];
+}
+
 /* Runs a sheet. Refusals 1 to 9. */
 static inline uint8_t hechroung_run_sheet(const uint8_t *sheet, size_t length, struct hechroung_summary *answer,
                                           size_t *place) {
@@ -252,51 +279,83 @@ static inline uint8_t hechroung_run_sheet(const uint8_t *sheet, size_t length, s
     if (sheet == NULL || answer == NULL) return HECHROUNG_MISUSED;
     number = hechroung_run(sheet, length, answer->model.keys, HECHROUNG_MOST_TERMS,
                            answer->model.coefficients, HECHROUNG_MOST_TERMS, numbers, 4, ends, 4);
-    answer->model.n = (uint8_t)numbers[1];
-    answer->model.count = (size_t)numbers[2];
-    answer->model.radius = numbers[3];
-    answer->range.low = ends[0];
-    answer->range.high = ends[1];
-    answer->integral.low = ends[2];
-    answer->integral.high = ends[3];
+    hechroung_summed_(numbers, ends, answer, place);
+    return number;
+}
+
+/* The slices of a book, some 12 KB; hechroung_flat_ fills them, and answers 0 where a pointer is null that must not
+   be. */
+struct hechroung_flat_ {
+    uint8_t ns[HECHROUNG_MOST_MODELS], fields[4 * HECHROUNG_MOST_STEPS];
+    size_t counts[HECHROUNG_MOST_MODELS];
+    uint64_t radii[HECHROUNG_MOST_MODELS];
+    uint16_t keys[HECHROUNG_MOST_MODELS * HECHROUNG_MOST_TERMS];
+    int64_t coefficients[HECHROUNG_MOST_MODELS * HECHROUNG_MOST_TERMS], values[HECHROUNG_MOST_STEPS];
+};
+
+static inline int hechroung_flat_(const struct hechroung_model *models, size_t model_count,
+                                  const struct hechroung_step *steps, size_t step_count, struct hechroung_flat_ *flat) {
+    size_t k, i;
+    if ((models == NULL && model_count != 0) || (steps == NULL && step_count != 0)) return 0;
+    memset(flat, 0, sizeof *flat);
+    for (k = 0; k < model_count && k < HECHROUNG_MOST_MODELS; k++) {
+        flat->ns[k] = models[k].n;
+        flat->counts[k] = models[k].count;
+        flat->radii[k] = models[k].radius;
+        memcpy(flat->keys + k * HECHROUNG_MOST_TERMS, models[k].keys, sizeof models[k].keys);
+        memcpy(flat->coefficients + k * HECHROUNG_MOST_TERMS, models[k].coefficients, sizeof models[k].coefficients);
+    }
+    for (i = 0; i < step_count && i < HECHROUNG_MOST_STEPS; i++) {
+        flat->fields[4 * i] = steps[i].code;
+        flat->fields[4 * i + 1] = steps[i].a;
+        flat->fields[4 * i + 2] = steps[i].b;
+        flat->fields[4 * i + 3] = steps[i].v;
+        flat->values[i] = steps[i].value;
+    }
+    return 1;
+}
+
+/* Writes a book of these models and steps as a sheet; a buffer of HECHROUNG_LONGEST_SHEET bytes is always enough. Its
+   length is stored where `length` points. Refusals 3, 5, 6, 11; a refused write changes no byte and stores the length
+   0. It takes some 12 KB of stack itself. */
+static inline uint8_t hechroung_write_sheet(uint8_t n, uint8_t d,
+                                            const struct hechroung_model *models, size_t model_count,
+                                            const struct hechroung_step *steps, size_t step_count,
+                                            uint8_t *buffer, size_t buffer_length, size_t *length, size_t *place) {
+    struct hechroung_flat_ flat;
+    uint64_t numbers[2] = {0, 0};
+    uint8_t number;
+    if (buffer == NULL || length == NULL || !hechroung_flat_(models, model_count, steps, step_count, &flat))
+        return HECHROUNG_MISUSED;
+    number = hechroung_write(n, d, model_count, step_count, flat.ns, HECHROUNG_MOST_MODELS,
+                             flat.counts, HECHROUNG_MOST_MODELS, flat.radii, HECHROUNG_MOST_MODELS,
+                             flat.keys, HECHROUNG_MOST_MODELS * HECHROUNG_MOST_TERMS,
+                             flat.coefficients, HECHROUNG_MOST_MODELS * HECHROUNG_MOST_TERMS,
+                             flat.fields, 4 * HECHROUNG_MOST_STEPS, flat.values, HECHROUNG_MOST_STEPS,
+                             buffer, buffer_length, numbers, 2);
+    *length = (size_t)numbers[1];
     if (place != NULL) *place = (size_t)numbers[0];
     return number;
 }
 
-/* Writes a book of these models and steps as a sheet; a buffer of HECHROUNG_LONGEST_SHEET bytes is always enough. Its
-   length is stored where `length` points. Refusals 3, 5, 6, 11; a refused write changes no byte and stores the length 0.
-   It takes some 12 KB of stack itself. */
-static inline uint8_t hechroung_write_sheet(uint8_t n, uint8_t d, const struct hechroung_model *models, size_t model_count,
-                                            const struct hechroung_step *steps, size_t step_count,
-                                            uint8_t *buffer, size_t buffer_length, size_t *length, size_t *place) {
-    uint8_t ns[HECHROUNG_MOST_MODELS] = {0}, fields[4 * HECHROUNG_MOST_STEPS] = {0}, number;
-    size_t counts[HECHROUNG_MOST_MODELS] = {0}, k, i;
-    uint64_t radii[HECHROUNG_MOST_MODELS] = {0}, numbers[2] = {0, 0};
-    uint16_t keys[HECHROUNG_MOST_MODELS * HECHROUNG_MOST_TERMS] = {0};
-    int64_t coefficients[HECHROUNG_MOST_MODELS * HECHROUNG_MOST_TERMS] = {0}, values[HECHROUNG_MOST_STEPS] = {0};
-    if ((models == NULL && model_count != 0) || (steps == NULL && step_count != 0) || buffer == NULL || length == NULL)
-        return HECHROUNG_MISUSED;
-    for (k = 0; k < model_count && k < HECHROUNG_MOST_MODELS; k++) {
-        ns[k] = models[k].n;
-        counts[k] = models[k].count;
-        radii[k] = models[k].radius;
-        memcpy(keys + k * HECHROUNG_MOST_TERMS, models[k].keys, sizeof models[k].keys);
-        memcpy(coefficients + k * HECHROUNG_MOST_TERMS, models[k].coefficients, sizeof models[k].coefficients);
-    }
-    for (i = 0; i < step_count && i < HECHROUNG_MOST_STEPS; i++) {
-        fields[4 * i] = steps[i].code;
-        fields[4 * i + 1] = steps[i].a;
-        fields[4 * i + 2] = steps[i].b;
-        fields[4 * i + 3] = steps[i].v;
-        values[i] = steps[i].value;
-    }
-    number = hechroung_write(n, d, model_count, step_count, ns, HECHROUNG_MOST_MODELS, counts, HECHROUNG_MOST_MODELS,
-                             radii, HECHROUNG_MOST_MODELS, keys, HECHROUNG_MOST_MODELS * HECHROUNG_MOST_TERMS,
-                             coefficients, HECHROUNG_MOST_MODELS * HECHROUNG_MOST_TERMS,
-                             fields, 4 * HECHROUNG_MOST_STEPS, values, HECHROUNG_MOST_STEPS,
-                             buffer, buffer_length, numbers, 2);
-    *length = (size_t)numbers[1];
-    if (place != NULL) *place = (size_t)numbers[0];
+/* Runs a book of these models and steps. Refusals 3, 5 to 9. It takes some 12 KB of stack itself. */
+static inline uint8_t hechroung_run_models(uint8_t n, uint8_t d,
+                                           const struct hechroung_model *models, size_t model_count,
+                                           const struct hechroung_step *steps, size_t step_count,
+                                           struct hechroung_summary *answer, size_t *place) {
+    struct hechroung_flat_ flat;
+    uint64_t numbers[4] = {0, 0, 0, 0};
+    int64_t ends[4] = {0, 0, 0, 0};
+    uint8_t number;
+    if (answer == NULL || !hechroung_flat_(models, model_count, steps, step_count, &flat)) return HECHROUNG_MISUSED;
+    number = hechroung_run_book(n, d, model_count, step_count, flat.ns, HECHROUNG_MOST_MODELS,
+                                flat.counts, HECHROUNG_MOST_MODELS, flat.radii, HECHROUNG_MOST_MODELS,
+                                flat.keys, HECHROUNG_MOST_MODELS * HECHROUNG_MOST_TERMS,
+                                flat.coefficients, HECHROUNG_MOST_MODELS * HECHROUNG_MOST_TERMS,
+                                flat.fields, 4 * HECHROUNG_MOST_STEPS, flat.values, HECHROUNG_MOST_STEPS,
+                                answer->model.keys, HECHROUNG_MOST_TERMS,
+                                answer->model.coefficients, HECHROUNG_MOST_TERMS, numbers, 4, ends, 4);
+    hechroung_summed_(numbers, ends, answer, place);
     return number;
 }
 

@@ -1,12 +1,12 @@
-//! Sheets: run, and read with tests 1 to 6 only. Each answer is compared with the second implementation's.
+//! Sheets: run, opened with tests 1 to 6 only, stepped through and read. Each answer is compared with the second implementation's.
 
 use crate::inputs::{largest, typical, ORDER, STEPS};
 use crate::timing::best;
-use hechroung::Model;
+use hechroung::{raw, Model};
 use reference::book::INPUT;
 use reference::generate::Random;
 use reference::stored::StoredModel;
-use reference::{run::run_sheet, sheet, text};
+use reference::{records, run::run_sheet, sheet, text};
 use std::hint::black_box;
 
 const INPUTS: usize = 16;
@@ -27,9 +27,48 @@ pub fn print(random: &mut Random) {
         STEPS,
         &largest,
     );
-    read_row("read, largest", STEPS, &largest);
+    open_row("opened, largest (tests 1 to 6)", STEPS, &largest);
     println!();
+    stepping_row(&largest);
     products_row(&largest);
+}
+
+/// Opening, opening and stepping through all records, and reading, on the same sheets. Each is a call of the C
+/// interface. Reading is not exported alone: the sheet is read, and its book tested for a buffer that is too short.
+fn stepping_row(sheets: &[Vec<u8>]) {
+    for sheet in sheets {
+        let records = records::open(sheet).reader;
+        let expected: Vec<_> = records.map(|record| record.bytes().to_vec()).collect();
+        let stepped = hechroung::open(sheet).records.map(|record| record.bytes);
+        assert!(stepped.eq(expected), "both implementations step alike");
+    }
+    let mut numbers = [0; 2];
+    let mut bytes = [0; hechroung::LONGEST_RECORD];
+    let [opened, stepped, read] = best(ROUNDS, sheets.len(), |way, input| {
+        let sheet = &sheets[input];
+        match way {
+            0 => {
+                let _ = black_box(raw::open(sheet, &mut numbers));
+            }
+            1 => {
+                raw::open(sheet, &mut numbers);
+                while raw::next(sheet, numbers[1] as usize, &mut bytes, &mut numbers) != 0 {
+                    black_box(&bytes);
+                }
+            }
+            _ => {
+                let _ = black_box(raw::rewrite(sheet, &mut [], &mut numbers));
+            }
+        }
+    });
+    println!("| Largest sheet: opened, µs | Opened and its 80 records stepped through, µs | Read, µs | Opened / read | Stepped / read |");
+    println!("|---|---|---|---|---|");
+    println!(
+        "| {opened:.1} | {stepped:.1} | {read:.1} | {:.2} | {:.2} |",
+        opened / read,
+        stepped / read
+    );
+    println!();
 }
 
 /// The largest run beside the sum of its products, each made again by a single call on the same operands.
@@ -115,16 +154,16 @@ fn run_row(name: &str, steps: usize, sheets: &[Vec<u8>]) {
     row(name, steps, sheets, times);
 }
 
-/// Ours asks for a record that there is none of, which makes all tests and copies nothing.
-fn read_row(name: &str, steps: usize, sheets: &[Vec<u8>]) {
+/// All tests, and nothing kept.
+fn open_row(name: &str, steps: usize, sheets: &[Vec<u8>]) {
     let times = best(ROUNDS, sheets.len(), |way, input| {
         let sheet = &sheets[input];
         match way {
             0 => {
-                let _ = black_box(hechroung::raw::record(sheet, usize::MAX, &mut []));
+                let _ = black_box(hechroung::open(sheet));
             }
             _ => {
-                let _ = black_box(sheet::read(sheet));
+                let _ = black_box(records::open(sheet));
             }
         }
     });

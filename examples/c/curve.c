@@ -30,6 +30,22 @@ int main(void) {
     printf("sheet of %zu bytes\n", length);
     fwrite(lines, 1, hechroung_print(sheet, length, lines, sizeof lines), stdout);
 
+    /* the same book is run as it is, and the sheet stepped through */
+    struct hechroung_summary of_book, of_sheet;
+    if (hechroung_run_models(1, 2, NULL, 0, steps, 4, &of_book, NULL) ||
+        hechroung_run_sheet(sheet, length, &of_sheet, NULL) || of_book.integral.low != of_sheet.integral.low ||
+        of_book.model.coefficients[1] != square.coefficients[1])
+        return 1;
+    uint64_t numbers[2];
+    uint8_t record[8];
+    int kind, count = 0;
+    if (hechroung_open(sheet, length, numbers, 2)) return 1;
+    while ((kind = hechroung_next(sheet, length, numbers[1], record, sizeof record, numbers, 2)) != 0) {
+        if (kind != 2 || record[0] != steps[count].code) return 1;
+        count++;
+    }
+    if (count != 4) return 1;
+
     /* the second model is no model of one variable */
     half.n = 7;
     uint8_t number = hechroung_add(&x, &half, &sum, &place);

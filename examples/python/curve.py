@@ -2,7 +2,7 @@
 misuse."""
 
 from hechroung import UNIT, Misused, Model, Refused
-from hechroung import add, constant, evaluate, lines, multiply, range_of, records, variable
+from hechroung import add, constant, evaluate, lines, multiply, range_of, records, run_book, stepped, variable
 
 x = variable(1, 1)
 half = constant(1, UNIT // 2)
@@ -23,6 +23,9 @@ sheet = bytes.fromhex(
     "01 02 00 04 00 00 4D 4B"
 )
 assert b"".join(records(sheet)) == sheet[:-8]
+assert list(stepped(sheet)) == [("step", record) for record in records(sheet)]
+result, ends, _ = run_book(1, 2, [], [(2, 0, 0, 1, 0), (1, 0, 0, 0, UNIT // 2), (4, 0, 1, 0, 0), (6, 2, 2, 0, 0)])
+assert (result.terms, ends) == (square.terms, range_of(square))
 print("sheet of", len(sheet), "bytes")
 print(lines(sheet), end="")
 

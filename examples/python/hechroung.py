@@ -8,6 +8,7 @@ import os
 
 UNIT = 1 << 20
 MOST_TERMS = 64
+LONGEST_RECORD = 5 + 6 * MOST_TERMS
 MISUSED = 255
 
 _FOLDER = os.path.join(os.path.dirname(os.path.abspath(__file__)), "..", "..", "target", "lib")
@@ -30,6 +31,19 @@ _print.argtypes = [ctypes.c_char_p, _size, ctypes.c_char_p, _size]
 _record = _library.hechroung_record
 _record.restype = _size
 _record.argtypes = [ctypes.c_char_p, _size, _size, ctypes.c_char_p, _size]
+_open = _library.hechroung_open
+_open.restype = _u8
+_open.argtypes = [ctypes.c_char_p, _size, ctypes.POINTER(_u64), _size]
+_next = _library.hechroung_next
+_next.restype = _u8
+_next.argtypes = [ctypes.c_char_p, _size, _size, ctypes.c_char_p, _size, ctypes.POINTER(_u64), _size]
+_run_book = _library.hechroung_run_book
+_run_book.restype = _u8
+_run_book.argtypes = [_u8, _u8, _size, _size, ctypes.c_char_p, _size, ctypes.POINTER(_size), _size,
+                      ctypes.POINTER(_u64), _size, ctypes.POINTER(ctypes.c_uint16), _size, ctypes.POINTER(_i64), _size,
+                      ctypes.c_char_p, _size, ctypes.POINTER(_i64), _size,
+                      ctypes.POINTER(ctypes.c_uint16), _size, ctypes.POINTER(_i64), _size,
+                      ctypes.POINTER(_u64), _size, ctypes.POINTER(_i64), _size]
 
 
 class Refused(Exception):
@@ -145,3 +159,35 @@ def records(sheet):
         _record(sheet, len(sheet), i, record, length)
         yield record.raw
         i += 1
+
+
+def stepped(sheet):
+    """Opens a sheet and steps through it: pairs of "model" or "step" and the record's bytes."""
+    numbers = (_u64 * 2)()
+    number = _open(sheet, len(sheet), numbers, 2)
+    place, at = numbers
+    _check(number, place)
+    record = ctypes.create_string_buffer(LONGEST_RECORD)
+    while kind := _next(sheet, len(sheet), at, record, LONGEST_RECORD, numbers, 2):
+        length, at = numbers
+        yield {1: "model", 2: "step"}[kind], record.raw[:length]
+
+
+def run_book(n, d, models, steps):
+    """Runs models and steps, each step its code, a, b, v and value: the result, the ends of its range and integral."""
+    if not all(isinstance(model, Model) for model in models):
+        raise Misused()
+    padded = [[*model.terms[:MOST_TERMS], *[(0, 0)] * (MOST_TERMS - len(model.terms))] for model in models]
+    terms = [term for places in padded for term in places]
+    fields = bytes(field for step in steps for field in step[:4])
+    keys, coefficients, numbers, ends = _Keys(), _Coefficients(), (_u64 * 4)(), (_i64 * 4)()
+    number = _run_book(n, d, len(models), len(steps), bytes(model.n for model in models), len(models),
+                       (_size * len(models))(*(len(model.terms) for model in models)), len(models),
+                       (_u64 * len(models))(*(model.radius for model in models)), len(models),
+                       (ctypes.c_uint16 * len(terms))(*(key for key, _ in terms)), len(terms),
+                       (_i64 * len(terms))(*(coefficient for _, coefficient in terms)), len(terms),
+                       fields, len(fields), (_i64 * len(steps))(*(step[4] for step in steps)), len(steps),
+                       keys, MOST_TERMS, coefficients, MOST_TERMS, numbers, 4, ends, 4)
+    place, n, count, radius = numbers
+    _check(number, place)
+    return Model(n, radius, zip(keys[:count], coefficients[:count])), tuple(ends[:2]), tuple(ends[2:])

@@ -1,6 +1,6 @@
 //! Polynomial models in 1 to 4 variables on the box [-1, 1]^n, with an error radius: a safe wrapper over the proved
-//! library of this repository. Every call takes anything whatever; what is unfit gets the refusal that document 01 lists
-//! for it.
+//! library of this repository. Every call takes anything whatever; what is unfit gets the refusal that document 01
+//! lists for it.
 //!
 //! Coefficients, radii and ends are whole numbers in units of 1/[`UNIT`].
 //!
@@ -23,7 +23,8 @@
 pub mod raw;
 mod sheets;
 
-pub use sheets::{lines, records, rewrite, run, write, Book, Step, Summary, Written};
+pub use sheets::{lines, open, records, rewrite, run, run_book, write};
+pub use sheets::{Book, Kind, Opened, Record, Records, Step, Summary, Written};
 
 use raw::{Handed, MISUSED};
 use std::error::Error;
@@ -38,9 +39,11 @@ pub const MOST_MODELS: usize = 16;
 pub const MOST_STEPS: usize = 64;
 /// The length of the longest sheet.
 pub const LONGEST_SHEET: usize = 6_744;
+/// The length of the longest record, that of a model with 64 terms.
+pub const LONGEST_RECORD: usize = 5 + 6 * MOST_TERMS;
 
-/// A model: the first `count` of its terms, with keys strictly rising, and a radius. Any field may hold anything; a call
-/// refuses what is no model. A key has four exponents of four bits each, that of variable 1 in the highest bits.
+/// A model: the first `count` of its terms, with keys strictly rising, and a radius. Any field may hold anything; a
+/// call refuses what is no model. A key has four exponents of four bits each, that of variable 1 in the highest bits.
 #[derive(Clone, Copy, Debug, PartialEq, Eq)]
 pub struct Model {
     pub n: u8,

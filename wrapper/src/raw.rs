@@ -110,6 +110,52 @@ extern "C" {
         bytes_length: usize,
     ) -> usize;
 
+    fn hechroung_open(
+        sheet: *const u8,
+        sheet_length: usize,
+        numbers: *mut u64,
+        numbers_length: usize,
+    ) -> u8;
+
+    fn hechroung_next(
+        sheet: *const u8,
+        sheet_length: usize,
+        at: usize,
+        bytes: *mut u8,
+        bytes_length: usize,
+        numbers: *mut u64,
+        numbers_length: usize,
+    ) -> u8;
+
+    fn hechroung_run_book(
+        n: u8,
+        d: u8,
+        model_count: usize,
+        step_count: usize,
+        ns: *const u8,
+        ns_length: usize,
+        counts: *const usize,
+        counts_length: usize,
+        radii: *const u64,
+        radii_length: usize,
+        book_keys: *const u16,
+        book_keys_length: usize,
+        book_coefficients: *const i64,
+        book_coefficients_length: usize,
+        fields: *const u8,
+        fields_length: usize,
+        values: *const i64,
+        values_length: usize,
+        keys: *mut u16,
+        keys_length: usize,
+        coefficients: *mut i64,
+        coefficients_length: usize,
+        numbers: *mut u64,
+        numbers_length: usize,
+        ends: *mut i64,
+        ends_length: usize,
+    ) -> u8;
+
     fn hechroung_write(
         n: u8,
         d: u8,
@@ -274,7 +320,8 @@ pub fn rewrite(sheet: &[u8], buffer: &mut [u8], numbers: &mut [u64]) -> u8 {
     }
 }
 
-/// Record i of a sheet, from 0: its length, or 0 where there is none. As much of it as `bytes` has room for is put there.
+/// Record i of a sheet, from 0: its length, or 0 where there is none. As much of it as `bytes` has room for is put
+/// there.
 pub fn record(sheet: &[u8], i: usize, bytes: &mut [u8]) -> usize {
     // SAFETY: as in `call`.
     unsafe {
@@ -315,6 +362,78 @@ pub fn write(book: HandedBook<'_>, buffer: &mut [u8], numbers: &mut [u64]) -> u8
             buffer.len(),
             numbers.as_mut_ptr(),
             numbers.len(),
+        )
+    }
+}
+
+/// Opens a sheet for stepping: the refusal's number, 0 without one. Its place and the place of the first record go into
+/// `numbers`.
+pub fn open(sheet: &[u8], numbers: &mut [u64]) -> u8 {
+    // SAFETY: as in `call`.
+    unsafe {
+        hechroung_open(
+            sheet.as_ptr(),
+            sheet.len(),
+            numbers.as_mut_ptr(),
+            numbers.len(),
+        )
+    }
+}
+
+/// The record at a place of a sheet: 1 for a model, 2 for a step, 0 where there is none. As much of it as `bytes` has
+/// room for is put there; its length and the place of the next go into `numbers`.
+pub fn next(sheet: &[u8], at: usize, bytes: &mut [u8], numbers: &mut [u64]) -> u8 {
+    // SAFETY: as in `call`.
+    unsafe {
+        hechroung_next(
+            sheet.as_ptr(),
+            sheet.len(),
+            at,
+            bytes.as_mut_ptr(),
+            bytes.len(),
+            numbers.as_mut_ptr(),
+            numbers.len(),
+        )
+    }
+}
+
+/// Runs a book: the refusal's number, 0 without one. The result goes into the slices as in [`run`].
+pub fn run_book(
+    book: HandedBook<'_>,
+    keys: &mut [u16],
+    coefficients: &mut [i64],
+    numbers: &mut [u64],
+    ends: &mut [i64],
+) -> u8 {
+    // SAFETY: as in `call`.
+    unsafe {
+        hechroung_run_book(
+            book.n,
+            book.d,
+            book.model_count,
+            book.step_count,
+            book.ns.as_ptr(),
+            book.ns.len(),
+            book.counts.as_ptr(),
+            book.counts.len(),
+            book.radii.as_ptr(),
+            book.radii.len(),
+            book.keys.as_ptr(),
+            book.keys.len(),
+            book.coefficients.as_ptr(),
+            book.coefficients.len(),
+            book.fields.as_ptr(),
+            book.fields.len(),
+            book.values.as_ptr(),
+            book.values.len(),
+            keys.as_mut_ptr(),
+            keys.len(),
+            coefficients.as_mut_ptr(),
+            coefficients.len(),
+            numbers.as_mut_ptr(),
+            numbers.len(),
+            ends.as_mut_ptr(),
+            ends.len(),
         )
     }
 }

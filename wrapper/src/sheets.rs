@@ -1,7 +1,8 @@
 //! Sheets and books.
 
 use crate::raw::{self, HandedBook};
-use crate::{narrowed, refusal, Ends, Model, Refusal, MOST_MODELS, MOST_STEPS, MOST_TERMS};
+use crate::{narrowed, refusal, Ends, Model, Refusal};
+use crate::{LONGEST_RECORD, MOST_MODELS, MOST_STEPS, MOST_TERMS};
 
 /// What a run gives: the last step's model, its range and its integral; beside a refusal the zero model and ends 0.
 #[derive(Clone, Copy, Debug, PartialEq, Eq)]
@@ -77,16 +78,37 @@ impl Book {
 
 /// Runs a sheet. Refusals 1 to 9.
 pub fn run(sheet: &[u8]) -> Summary {
+    summary(|model, numbers, ends| {
+        raw::run(
+            sheet,
+            &mut model.keys,
+            &mut model.coefficients,
+            numbers,
+            ends,
+        )
+    })
+}
+
+/// Runs a book in memory. Refusals 3, 5 to 9.
+pub fn run_book(book: &Book) -> Summary {
+    let flat = Flat::of(book);
+    summary(|model, numbers, ends| {
+        raw::run_book(
+            flat.handed(book),
+            &mut model.keys,
+            &mut model.coefficients,
+            numbers,
+            ends,
+        )
+    })
+}
+
+/// What a run stored.
+fn summary(run: impl FnOnce(&mut Model, &mut [u64], &mut [i64]) -> u8) -> Summary {
     let mut model = Model::ZERO;
     let mut numbers = [0; 4];
     let mut ends = [0; 4];
-    let number = raw::run(
-        sheet,
-        &mut model.keys,
-        &mut model.coefficients,
-        &mut numbers,
-        &mut ends,
-    );
+    let number = run(&mut model, &mut numbers, &mut ends);
     let [place, n, count, radius] = numbers;
     model.n = narrowed(n);
     model.count = narrowed(count);
@@ -110,13 +132,85 @@ pub fn lines(sheet: &[u8]) -> String {
     String::from_utf8(text).expect("the lines are ASCII")
 }
 
-/// The records of a sheet in order, each model's bytes and then each step's 8. A sheet that tests 1 to 6 refuse has none.
+/// The records of a sheet in order, each model's bytes and then each step's 8. A sheet that tests 1 to 6 refuse has
+/// none.
 pub fn records(sheet: &[u8]) -> impl Iterator<Item = Vec<u8>> + '_ {
     (0..).map_while(|i| {
         let mut bytes = vec![0; raw::record(sheet, i, &mut [])];
         raw::record(sheet, i, &mut bytes);
         (!bytes.is_empty()).then_some(bytes)
     })
+}
+
+/// What a record is.
+#[derive(Clone, Copy, Debug, PartialEq, Eq)]
+pub enum Kind {
+    Model,
+    Step,
+}
+
+/// A record of a sheet.
+#[derive(Clone, Debug, PartialEq, Eq)]
+pub struct Record {
+    pub kind: Kind,
+    pub bytes: Vec<u8>,
+}
+
+/// A sheet that is stepped through, at a place.
+#[derive(Clone, Debug)]
+pub struct Records<'sheet> {
+    sheet: &'sheet [u8],
+    at: usize,
+}
+
+/// What an opening gives; beside a refusal there are no records.
+#[derive(Clone, Debug)]
+pub struct Opened<'sheet> {
+    pub records: Records<'sheet>,
+    pub refusal: Option<Refusal>,
+}
+
+/// Opens a sheet for stepping through it. Refusals 1 to 6.
+pub fn open(sheet: &[u8]) -> Opened<'_> {
+    let mut numbers = [0; 2];
+    let number = raw::open(sheet, &mut numbers);
+    let [place, at] = numbers;
+    Opened {
+        records: Records {
+            sheet,
+            at: narrowed(at),
+        },
+        refusal: refusal(number, narrowed(place)),
+    }
+}
+
+impl Records<'_> {
+    /// The place of the record at hand; behind the last one it stays where it is.
+    pub fn place(&self) -> usize {
+        self.at
+    }
+}
+
+impl Iterator for Records<'_> {
+    type Item = Record;
+
+    /// The record at hand, and on to the next; none behind the last, as often as it is asked for.
+    fn next(&mut self) -> Option<Record> {
+        let mut bytes = [0; LONGEST_RECORD];
+        let mut numbers = [0; 2];
+        let number = raw::next(self.sheet, self.at, &mut bytes, &mut numbers);
+        let [length, next] = numbers;
+        self.at = narrowed(next);
+        let kind = match number {
+            0 => return None,
+            1 => Kind::Model,
+            2 => Kind::Step,
+            _ => unreachable!("every slice is long enough"),
+        };
+        let length: usize = narrowed(length);
+        let bytes = bytes[..length].to_vec();
+        Some(Record { kind, bytes })
+    }
 }
 
 /// Reads a sheet and writes what was read into the buffer. Refusals 1 to 6, 11; a refused call changes no byte.
@@ -126,8 +220,8 @@ pub fn rewrite(sheet: &[u8], buffer: &mut [u8]) -> Written {
     written(number, numbers)
 }
 
-/// Writes a book as a sheet into the buffer. Refusals 3, 5, 6, 11; a refused write changes no byte, and bytes beyond the
-/// length stay.
+/// Writes a book as a sheet into the buffer. Refusals 3, 5, 6, 11; a refused write changes no byte, and bytes beyond
+/// the length stay.
 pub fn write(book: &Book, buffer: &mut [u8]) -> Written {
     let mut numbers = [0; 2];
     let number = raw::write(Flat::of(book).handed(book), buffer, &mut numbers);

@@ -43,6 +43,16 @@ impl Room {
             &mut self.ends,
         )
     }
+
+    fn run_book(&mut self, book: HandedBook<'_>) -> u8 {
+        raw::run_book(
+            book,
+            &mut self.keys,
+            &mut self.coefficients,
+            &mut self.numbers,
+            &mut self.ends,
+        )
+    }
 }
 
 #[test]
@@ -75,54 +85,94 @@ fn a_rewrite_needs_2_numbers() {
     assert_eq!((buffer, numbers), (SHEET, [0, 16]));
 }
 
-#[test]
-fn a_write_needs_every_model_every_step_and_2_numbers() {
-    // one model without terms, and one step that takes it
-    let (ns, counts, radii) = ([1u8], [0usize], [0u64]);
-    let (keys, coefficients) = ([0u16; 64], [0i64; 64]);
-    let (fields, values) = ([0u8; 4], [0i64]);
-    let whole = HandedBook {
-        n: 1,
-        d: 1,
-        model_count: 1,
-        step_count: 1,
-        ns: &ns,
-        counts: &counts,
-        radii: &radii,
-        keys: &keys,
-        coefficients: &coefficients,
-        fields: &fields,
-        values: &values,
-    };
-    let short = [
-        HandedBook { ns: &[], ..whole },
+/// One model of the constant 1 / U, and one step that takes it.
+const BOOK: HandedBook<'static> = HandedBook {
+    n: 1,
+    d: 1,
+    model_count: 1,
+    step_count: 1,
+    ns: &[1],
+    counts: &[1],
+    radii: &[0],
+    keys: &[0; 64],
+    coefficients: &[1; 64],
+    fields: &[0; 4],
+    values: &[0],
+};
+
+/// The same with one slice a place too short.
+fn short_books() -> [HandedBook<'static>; 7] {
+    [
+        HandedBook { ns: &[], ..BOOK },
         HandedBook {
             counts: &[],
-            ..whole
+            ..BOOK
+        },
+        HandedBook { radii: &[], ..BOOK },
+        HandedBook {
+            keys: &BOOK.keys[1..],
+            ..BOOK
         },
         HandedBook {
-            radii: &[],
-            ..whole
+            coefficients: &BOOK.coefficients[1..],
+            ..BOOK
         },
         HandedBook {
-            keys: &keys[1..],
-            ..whole
-        },
-        HandedBook {
-            coefficients: &coefficients[1..],
-            ..whole
-        },
-        HandedBook {
-            fields: &fields[1..],
-            ..whole
+            fields: &BOOK.fields[1..],
+            ..BOOK
         },
         HandedBook {
             values: &[],
-            ..whole
+            ..BOOK
         },
-    ];
-    for (k, book) in short.into_iter().enumerate() {
-        let mut buffer = [MARK; 21];
+    ]
+}
+
+#[test]
+fn a_run_of_a_book_needs_every_model_every_step_and_room() {
+    const ENOUGH: [usize; 4] = [64, 64, 4, 4];
+    for (k, book) in short_books().into_iter().enumerate() {
+        let mut room = Room::new(ENOUGH);
+        assert_eq!(room.run_book(book), MISUSED, "slice {k}");
+        assert!(room.unchanged(), "slice {k}");
+    }
+    for short in 0..4 {
+        let mut lengths = ENOUGH;
+        lengths[short] -= 1;
+        let mut room = Room::new(lengths);
+        assert_eq!(room.run_book(BOOK), MISUSED, "slice {short}");
+        assert!(room.unchanged(), "slice {short}");
+    }
+    let mut room = Room::new(ENOUGH);
+    assert_eq!(room.run_book(BOOK), 0);
+    assert_eq!(room.numbers, [0, 1, 1, 0]);
+    assert_eq!((room.keys[0], room.coefficients[0]), (0, 1));
+    assert_eq!(room.coefficients[1..], [0; 63]);
+    assert_eq!(room.ends, [1, 1, 2, 2]);
+}
+
+#[test]
+fn an_opening_and_a_step_need_2_numbers() {
+    let mut bytes = [MARK; 8];
+    let mut numbers = [u64::from(MARK)];
+    assert_eq!(raw::open(&SHEET, &mut numbers), MISUSED);
+    assert_eq!(raw::next(&SHEET, 0, &mut bytes, &mut numbers), MISUSED);
+    assert_eq!((bytes, numbers), ([MARK; 8], [u64::from(MARK)]));
+    let mut numbers = [u64::from(MARK); 2];
+    assert_eq!(raw::open(&SHEET, &mut numbers), 0);
+    assert_eq!(numbers, [0, 0]);
+    assert_eq!(raw::next(&SHEET, 0, &mut bytes[..3], &mut numbers), 2);
+    assert_eq!((&bytes[..4], numbers), (&[1, 0, 0, MARK][..], [8, 8]));
+    assert_eq!(raw::next(&SHEET, 8, &mut bytes, &mut numbers), 0);
+    assert_eq!((bytes[0], numbers), (1, [0, 8]));
+}
+
+#[test]
+fn a_write_needs_every_model_every_step_and_2_numbers() {
+    // eleven bytes of the model, eight of the step, eight of the trailer
+    const LENGTH: usize = 27;
+    for (k, book) in short_books().into_iter().enumerate() {
+        let mut buffer = [MARK; LENGTH];
         let mut numbers = [u64::from(MARK); 2];
         assert_eq!(
             raw::write(book, &mut buffer, &mut numbers),
@@ -131,18 +181,18 @@ fn a_write_needs_every_model_every_step_and_2_numbers() {
         );
         assert_eq!(
             (buffer, numbers),
-            ([MARK; 21], [u64::from(MARK); 2]),
+            ([MARK; LENGTH], [u64::from(MARK); 2]),
             "slice {k}"
         );
     }
-    let mut buffer = [MARK; 21];
+    let mut buffer = [MARK; LENGTH];
     let mut numbers = [u64::from(MARK)];
-    assert_eq!(raw::write(whole, &mut buffer, &mut numbers), MISUSED);
-    assert_eq!((buffer, numbers), ([MARK; 21], [u64::from(MARK)]));
+    assert_eq!(raw::write(BOOK, &mut buffer, &mut numbers), MISUSED);
+    assert_eq!((buffer, numbers), ([MARK; LENGTH], [u64::from(MARK)]));
     let mut numbers = [u64::from(MARK); 2];
-    assert_eq!(raw::write(whole, &mut buffer, &mut numbers), 0);
-    assert_eq!(numbers, [0, 21]);
-    assert_eq!(buffer[..5], [0; 5]);
+    assert_eq!(raw::write(BOOK, &mut buffer, &mut numbers), 0);
+    assert_eq!(numbers, [0, LENGTH as u64]);
+    assert_eq!(buffer[..11], [0, 0, 0, 0, 1, 0, 0, 1, 0, 0, 0]);
 }
 
 #[test]

@@ -2,7 +2,9 @@
 // coefficients; for each step the four bytes of its code, a, b and v, and a value.
 ghost use mathlib.Core.Path.{_≡_};
 ghost use Rattle.c_books.specs.HandedBooks.{«step-places», «handed-steps», «model-places», «handed-models»};
+ghost use Rattle.c_books.specs.HandedBooks.{«handed-book»};
 use model_types::Model;
+use sheet_book::Book;
 use sheet_book::Step;
 
 // The bytes of a step beside its value.
@@ -91,4 +93,33 @@ pub fn handed_models(
         k += 1;
     }
     out
+}
+
+// The book that is handed over.
+pub fn handed_book(
+    n: u8,
+    d: u8,
+    modelcount: usize,
+    stepcount: usize,
+    ns: &[u8],
+    counts: &[usize],
+    radii: &[u64],
+    keys: &[u16],
+    coefficients: &[i64],
+    fields: &[u8],
+    values: &[i64],
+) -> Book
+    ensures { λ r. ⌜ r ≡ handed-book n d modelcount stepcount
+        (handed-models (now (ns .entry)) (now (counts .entry)) (now (radii .entry)) (now (keys .entry))
+        (now (coefficients .entry)))
+        (handed-steps (now (fields .entry)) (now (values .entry))) ⌝ }
+{
+    Book {
+        n: n,
+        d: d,
+        model_count: modelcount,
+        step_count: stepcount,
+        models: handed_models(ns, counts, radii, keys, coefficients),
+        steps: handed_steps(fields, values),
+    }
 }

@@ -11,14 +11,13 @@ ghost use Rattle.exports.specs.WriteCalls.{«book-fits», «written-stat
 ghost use Rattle.exports.specs.WriteCalls.{«write-state», «called-write», «called-rewrite»};
 use super::MISUSED;
 use model_types::Verdict;
-use sheet_book::Book;
 use sheet_book::Written;
 
 // The numbers of a write's answer: the refusal's place and the length.
 const NUMBERS: usize = 2;
 
 // Whether there are as many models and steps as the counts name, and room for the numbers.
-fn book_fits(
+pub fn book_fits(
     model_count: usize,
     models: usize,
     step_count: usize,
@@ -88,14 +87,19 @@ pub extern "C" fn hechroung_write(
     if !book_fits(modelcount, models, stepcount, steps, numbers.len()) {
         return MISUSED;
     }
-    let b = Book {
-        n: n,
-        d: d,
-        model_count: modelcount,
-        step_count: stepcount,
-        models: c_books::handed_models(ns, counts, radii, keys, coefficients),
-        steps: c_books::handed_steps(fields, values),
-    };
+    let b = c_books::handed_book(
+        n,
+        d,
+        modelcount,
+        stepcount,
+        ns,
+        counts,
+        radii,
+        keys,
+        coefficients,
+        fields,
+        values,
+    );
     let w = sheet::write(b, buffer);
     store_written(w, numbers)
 }

@@ -3,7 +3,8 @@
 // and nothing is changed then; every other answer is document 01's, its number 0 where nothing is refused.
 pub mod calls; // calls.rt: the single calls
 pub mod books; // books.rt: books written
-pub mod sheets; // sheets.rt: sheets run and taken apart
+pub mod runs; // runs.rt: sheets and books run
+pub mod sheets; // sheets.rt: sheets printed and taken apart
 
 // The answer to a call that is not one: a slice is too short, or no call has this code.
 pub const MISUSED: u8 = 255;

@@ -1,91 +1,14 @@
-// Sheets: run to a model with its range and its integral, run to the program's lines, taken apart record by record, by
-// their numbers and one after the other.
+// Sheets: run to the program's lines, taken apart record by record, by their numbers and one after the other.
 ghost use mathlib.Core.Path.{_≡_};
-ghost use Prim.Native.Nat.{_≤_};
 ghost use lib.Dec.{leb};
 ghost use lib.ListN.{length};
-ghost use Rattle.format.specs.Format.{«run-sheet»};
 ghost use Rattle.format.specs.Lines.{printed};
 ghost use Rattle.sheet.specs.Stepping.{«record-bytes», «start-answer», «kind-at», «bytes-at», «next-at»};
-ghost use Rattle.sheet_book.specs.SummaryStruct.{«run-answer»};
 ghost use Rattle.text.specs.Text.{laid};
-ghost use Rattle.c_models.specs.HandedModels.{«model-room»};
-ghost use Rattle.exports.specs.SheetCalls.{«four-ends», «run-state», «stored-summary», «called-run»};
 ghost use Rattle.exports.specs.StepCalls.{«kind-number», «open-state», «called-open»};
 ghost use Rattle.exports.specs.StepCalls.{«next-state», «called-next»};
 use super::MISUSED;
-use sheet::Ends;
 use sheet::Kind;
-use sheet::Summary;
-
-// The ends of a run: those of the range and those of the integral.
-const ENDS: usize = 4;
-
-// Two pairs of ends go into a slice.
-fn store_ends(range: Ends, integral: Ends, ends: &mut [i64])
-    requires { ⌜ 4 ≤ length (now ends) ⌝ }
-    ensures { λ r. ⌜ now (ends .exit) ≡ four-ends range integral (now (ends .entry)) ⌝ }
-{
-    let low = range.low;
-    let high = range.high;
-    let least = integral.low;
-    let most = integral.high;
-    ends[0] = low;
-    ends[1] = high;
-    ends[2] = least;
-    ends[3] = most;
-}
-
-// What a run answers goes into the slices; the refusal's number.
-fn store_summary(
-    s: Summary,
-    keys: &mut [u16],
-    coefficients: &mut [i64],
-    numbers: &mut [u64],
-    ends: &mut [i64],
-) -> u8
-    requires { ⌜ (64 ≤ length (now keys)) × (64 ≤ length (now coefficients)) × (4 ≤ length (now numbers))
-        × (4 ≤ length (now ends)) ⌝ }
-    ensures { λ r. ⌜ run-state r (now (keys .exit)) (now (coefficients .exit)) (now (numbers .exit)) (now (ends .exit))
-        ≡ stored-summary s (now (keys .entry)) (now (coefficients .entry)) (now (numbers .entry))
-        (now (ends .entry)) ⌝ }
-{
-    let m = s.model;
-    let v = s.verdict;
-    let range = s.range;
-    let integral = s.integral;
-    c_models::store_terms(m, keys, coefficients);
-    c_models::store_numbers(c_models::verdict_place(v), m, numbers);
-    store_ends(range, integral, ends);
-    c_models::verdict_number(v)
-}
-
-// A sheet is run: the refusal's number, 0 without one, or MISUSED. The result's 64 keys and coefficients go into two
-// slices, the refusal's place, n, the count and the radius into the third, the ends of the range and of the integral
-// into the fourth.
-#[no_mangle]
-pub extern "C" fn hechroung_run(
-    sheet: &[u8],
-    keys: &mut [u16],
-    coefficients: &mut [i64],
-    numbers: &mut [u64],
-    ends: &mut [i64],
-) -> u8
-    ensures { λ r. ⌜ run-state r (now (keys .exit)) (now (coefficients .exit)) (now (numbers .exit)) (now (ends .exit))
-        ≡ called-run (model-room (length (now (keys .entry))) (length (now (coefficients .entry)))
-        (length (now (numbers .entry)))) (leb 4 (length (now (ends .entry))))
-        (run-answer (run-sheet (now (sheet .entry))))
-        (now (keys .entry)) (now (coefficients .entry)) (now (numbers .entry)) (now (ends .entry)) ⌝ }
-{
-    if !c_models::model_room(keys.len(), coefficients.len(), numbers.len()) {
-        return MISUSED;
-    }
-    if ends.len() < ENDS {
-        return MISUSED;
-    }
-    let s = sheet::run(sheet);
-    store_summary(s, keys, coefficients, numbers, ends)
-}
 
 // A sheet is run to the program's lines: their length. As much of them as the slice has room for stands at its start.
 #[no_mangle]
@@ -93,7 +16,8 @@ pub extern "C" fn hechroung_print(sheet: &[u8], lines: &mut [u8]) -> usize
     ensures { λ r. ⌜ (r ≡ length (printed (now (sheet .entry))))
         × (now (lines .exit) ≡ laid (printed (now (sheet .entry))) (now (lines .entry))) ⌝ }
 {
-    text::print(sheet, lines)
+    let length = text::print(sheet, lines);
+    length
 }
 
 // Bytes are copied to the start of a slice, as many as it has room for.

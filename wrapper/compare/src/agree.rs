@@ -1,7 +1,7 @@
 //! One case fed to both implementations.
 
 use crate::case::Case;
-use crate::{shaped, sheets};
+use crate::{shaped, sheets, stepping};
 use hechroung::{Answer, Bounds, Ends, Model};
 use reference::calls::{Call, CallAnswer};
 use reference::refusal::Refusal;
@@ -47,6 +47,8 @@ pub fn compare(case: &Case) -> Result<Seen, String> {
         Case::Sheet(sheet) => sheets::compare(sheet),
         Case::Rewrite(sheet, length) => sheets::compare_rewrite(sheet, *length),
         Case::Book(book, length) => sheets::compare_write(book, *length),
+        Case::RunBook(book) => sheets::compare_run_book(book),
+        Case::Stepped(sheet, room) => stepping::compare(sheet, *room),
     };
     found.map_err(|difference| format!("{}: {difference}\n{}", case.kind(), case.line()))
 }

@@ -20,6 +20,10 @@ pub enum Case {
     Rewrite(Vec<u8>, usize),
     /// A book in memory, written into a buffer of a length.
     Book(Box<Book>, usize),
+    /// A book in memory, run.
+    RunBook(Box<Book>),
+    /// A sheet opened and stepped through, with room for so many bytes of a record.
+    Stepped(Vec<u8>, usize),
 }
 
 impl Case {
@@ -31,6 +35,8 @@ impl Case {
             Case::Sheet(_) => "sheet",
             Case::Rewrite(..) => "sheet written back",
             Case::Book(..) => "book written",
+            Case::RunBook(_) => "book run",
+            Case::Stepped(..) => "sheet stepped through",
         }
     }
 
@@ -61,6 +67,15 @@ impl Case {
                 push_book(&mut bytes, book);
                 "book"
             }
+            Case::RunBook(book) => {
+                push_book(&mut bytes, book);
+                "runbook"
+            }
+            Case::Stepped(sheet, room) => {
+                bytes.extend((*room as u64).to_le_bytes());
+                bytes.extend(sheet);
+                "stepped"
+            }
         };
         format!("{word} {}", hex(&bytes))
     }
@@ -84,6 +99,11 @@ impl Case {
             "book" => {
                 let length = bytes.number()? as usize;
                 Case::Book(take_book(&mut bytes)?, length)
+            }
+            "runbook" => Case::RunBook(take_book(&mut bytes)?),
+            "stepped" => {
+                let room = bytes.number()? as usize;
+                Case::Stepped(bytes.rest(), room)
             }
             _ => return None,
         };

@@ -5,6 +5,14 @@ use std::collections::{BTreeMap, BTreeSet};
 
 /// The refusals of document 01's table.
 const REFUSALS: std::ops::RangeInclusive<u8> = 1..=11;
+/// Those that a kind of case has to reach.
+const REACHED: [(&str, &[u8]); 5] = [
+    ("sheet", &[1, 2, 3, 4, 5, 6, 7, 8, 9]),
+    ("sheet written back", &[1, 2, 3, 4, 5, 6, 11]),
+    ("sheet stepped through", &[1, 2, 3, 4, 5, 6]),
+    ("book written", &[3, 5, 6, 11]),
+    ("book run", &[3, 5, 6, 7, 8, 9]),
+];
 
 #[derive(Default)]
 pub struct Counts {
@@ -60,14 +68,22 @@ impl Counts {
         self.kinds.values().map(|kind| kind.cases).sum()
     }
 
-    /// The refusals that no case reached.
-    pub fn unreached(&self) -> Vec<u8> {
-        let reached = |number| {
-            self.kinds
-                .values()
-                .any(|kind| kind.refused.contains_key(&number))
+    /// The refusals that no case reached, each with its kind of case.
+    pub fn unreached(&self) -> Vec<(&'static str, u8)> {
+        let reached = |kind: &Kind, number| kind.refused.contains_key(&number);
+        let by_any = |number: &u8| self.kinds.values().any(|kind| reached(kind, *number));
+        let by_kind = |name, number: &u8| {
+            let kind = self.kinds.get(name);
+            kind.is_some_and(|kind| reached(kind, *number))
         };
-        REFUSALS.filter(|&number| !reached(number)).collect()
+        let of_kinds = REACHED.into_iter().flat_map(|(name, numbers)| {
+            let missing = numbers.iter().filter(move |number| !by_kind(name, number));
+            missing.map(move |&number| (name, number))
+        });
+        let of_all = REFUSALS.filter(|number| !by_any(number));
+        of_kinds
+            .chain(of_all.map(|number| ("all", number)))
+            .collect()
     }
 
     /// A line for each kind, and one for all: refusals as number: times at so many places.

@@ -2,6 +2,8 @@
 //!
 //!     compare [CASES [SEED]]    so many generated cases; another seed gives others
 //!     compare --cases           the cases that standard input names, one a line, as a failure prints them
+//!     compare --program PATH [SHEETS [SEED]]
+//!                               so many generated sheets, each handed to the program by its standard input
 //!
 //! The exit status is 0 only if all answers agree and every refusal that can be reached was reached.
 
@@ -11,10 +13,13 @@ mod agree;
 mod case;
 mod counts;
 mod limits;
+mod program;
 mod shaped;
 mod sheets;
+mod stepping;
 mod stream;
 
+use agree::Seen;
 use case::Case;
 use counts::Counts;
 use std::io::{self, BufRead};
@@ -23,7 +28,8 @@ use std::thread;
 use std::time::Instant;
 
 /// What the gate runs.
-const CASES: u64 = 250_000;
+const CASES: u64 = 300_000;
+const SHEETS: u64 = 10_000;
 const SEED: u64 = 1;
 /// Failures that are printed; all are counted.
 const MOST_PRINTED: usize = 20;
@@ -34,6 +40,9 @@ fn main() -> ExitCode {
     let words: Vec<String> = std::env::args().skip(1).collect();
     match words.iter().map(String::as_str).collect::<Vec<_>>()[..] {
         ["--cases"] => named_cases(),
+        ["--program", path] => program_sheets(path, SHEETS, SEED),
+        ["--program", path, sheets] => program_numbers(path, sheets, "1"),
+        ["--program", path, sheets, seed] => program_numbers(path, sheets, seed),
         [] => generated_cases(CASES, SEED),
         [cases] => numbers(cases, "1"),
         [cases, seed] => numbers(cases, seed),
@@ -42,13 +51,20 @@ fn main() -> ExitCode {
 }
 
 fn usage() -> ExitCode {
-    eprintln!("usage: compare [CASES [SEED]] | compare --cases < LINES");
+    eprintln!("usage: compare [CASES [SEED]] | --cases < LINES | --program PATH [SHEETS [SEED]]");
     ExitCode::from(2)
 }
 
 fn numbers(cases: &str, seed: &str) -> ExitCode {
     match (cases.parse(), seed.parse()) {
         (Ok(cases), Ok(seed)) => generated_cases(cases, seed),
+        _ => usage(),
+    }
+}
+
+fn program_numbers(path: &str, sheets: &str, seed: &str) -> ExitCode {
+    match (sheets.parse(), seed.parse()) {
+        (Ok(sheets), Ok(seed)) => program_sheets(path, sheets, seed),
         _ => usage(),
     }
 }
@@ -73,15 +89,66 @@ fn named_cases() -> ExitCode {
     ExitCode::from(u8::from(failed))
 }
 
-/// Compares generated cases, on every processor.
+/// Compares generated cases and named ones, on every processor.
 fn generated_cases(cases: u64, seed: u64) -> ExitCode {
     let started = Instant::now();
-    let workers = thread::available_parallelism().map_or(1, usize::from) as u64;
-    let parts: Vec<_> = (0..workers)
+    let compare = |case: Case| {
+        let found = agree::compare(&case);
+        (case.kind(), found)
+    };
+    let (counts, failures) = on_every_processor(move |first, step| {
+        let named = (first == 0).then(stream::named).unwrap_or_default();
+        let generated = (first..cases).step_by(step);
+        let generated = generated.map(move |number| stream::case(seed, number));
+        noted(named.into_iter().chain(generated).map(compare))
+    });
+    counts.print();
+    println!(
+        "{cases} generated cases and {} named ones with seed {seed}: {} differ, {} s",
+        counts.cases() - cases,
+        failures.len(),
+        started.elapsed().as_secs()
+    );
+    let unreached = counts.unreached();
+    if !unreached.is_empty() {
+        println!("not reached: refusals {unreached:?}");
+    }
+    ended(&failures, unreached.is_empty())
+}
+
+/// Compares what the program writes for generated sheets and for the named ones.
+fn program_sheets(path: &str, sheets: u64, seed: u64) -> ExitCode {
+    let started = Instant::now();
+    let owned = path.to_owned();
+    let (counts, failures) = on_every_processor(move |first, step| {
+        let named = (first == 0).then(program::named).unwrap_or_default();
+        let generated = (first..sheets).step_by(step);
+        let generated = generated.map(move |number| program::sheet(seed, number));
+        let all = named.into_iter().chain(generated);
+        noted(all.map(|sheet| ("the program", program::compare(&owned, &sheet))))
+    });
+    counts.print();
+    println!(
+        "{sheets} generated sheets and {} named ones with seed {seed} by the program's standard input: {} differ, {} s",
+        counts.cases() - sheets,
+        failures.len(),
+        started.elapsed().as_secs()
+    );
+    ended(&failures, true)
+}
+
+/// One thread for each processor: it is told its number and how many there are.
+fn on_every_processor<F>(work: F) -> (Counts, Vec<String>)
+where
+    F: Fn(u64, usize) -> (Counts, Vec<String>) + Clone + Send + 'static,
+{
+    let workers = thread::available_parallelism().map_or(1, usize::from);
+    let parts: Vec<_> = (0..workers as u64)
         .map(|first| {
-            let work = move || part(cases, seed, first, workers);
+            let work = work.clone();
             let builder = thread::Builder::new().stack_size(STACK);
-            builder.spawn(work).expect("a thread can be started")
+            let part = builder.spawn(move || work(first, workers));
+            part.expect("a thread can be started")
         })
         .collect();
     let mut counts = Counts::default();
@@ -91,38 +158,30 @@ fn generated_cases(cases: u64, seed: u64) -> ExitCode {
         counts.add(part_counts);
         failures.extend(part_failures);
     }
-    counts.print();
-    println!(
-        "{cases} generated cases and {} named ones with seed {seed}: {} differ, {} s",
-        counts.cases() - cases,
-        failures.len(),
-        started.elapsed().as_secs()
-    );
+    (counts, failures)
+}
+
+/// What was seen, counted by kind, and every difference.
+fn noted(
+    found: impl Iterator<Item = (&'static str, Result<Seen, String>)>,
+) -> (Counts, Vec<String>) {
+    let mut counts = Counts::default();
+    let mut failures = Vec::new();
+    for (kind, seen) in found {
+        match seen {
+            Ok(seen) => counts.note(kind, &seen),
+            Err(difference) => {
+                counts.note_failure(kind);
+                failures.push(difference);
+            }
+        }
+    }
+    (counts, failures)
+}
+
+fn ended(failures: &[String], complete: bool) -> ExitCode {
     for failure in failures.iter().take(MOST_PRINTED) {
         println!("{failure}");
     }
-    let unreached = counts.unreached();
-    if !unreached.is_empty() {
-        println!("not reached: refusals {unreached:?}");
-    }
-    ExitCode::from(u8::from(!failures.is_empty() || !unreached.is_empty()))
-}
-
-/// Every so-manieth case from the first on.
-fn part(cases: u64, seed: u64, first: u64, step: u64) -> (Counts, Vec<String>) {
-    let mut counts = Counts::default();
-    let mut failures = Vec::new();
-    let named = (first == 0).then(stream::named).unwrap_or_default();
-    let mut compare = |case: Case| match agree::compare(&case) {
-        Ok(seen) => counts.note(case.kind(), &seen),
-        Err(difference) => {
-            counts.note_failure(case.kind());
-            failures.push(difference);
-        }
-    };
-    named.into_iter().for_each(&mut compare);
-    for number in (first..cases).step_by(step as usize) {
-        compare(stream::case(seed, number));
-    }
-    (counts, failures)
+    ExitCode::from(u8::from(!failures.is_empty() || !complete))
 }

@@ -8,7 +8,7 @@ use reference::generate::{functions, Random};
 use reference::model::{monomial_of_key, Model};
 use reference::operations::Ends;
 use reference::records;
-use reference::run::{run_sheet, RunResult};
+use reference::run::{run_book, run_sheet, RunAnswer, RunResult};
 use reference::text;
 use reference::write::write;
 use reference::{sheet, write::WriteAnswer};
@@ -20,13 +20,7 @@ const TRIED: u64 = 16;
 pub fn compare(bytes: &[u8]) -> Result<Seen, String> {
     let expected = run_sheet(bytes);
     let summary = hechroung::run(bytes);
-    let translated = Summary {
-        model: to_model(&expected.model),
-        range: to_ends(expected.range),
-        integral: to_ends(expected.integral),
-        refusal: expected.refusal.map(to_refusal),
-    };
-    same(&summary, &translated)?;
+    same(&summary, &translated(&expected))?;
     same(&hechroung::lines(bytes), &text::lines(&expected))?;
     compare_records(bytes)?;
     let mut seen = Seen::of(expected.refusal.map(pair));
@@ -37,6 +31,23 @@ pub fn compare(bytes: &[u8]) -> Result<Seen, String> {
         seen.tried = enclosed(bytes, &summary, mark)?;
     }
     Ok(seen)
+}
+
+/// A book in memory, run.
+pub fn compare_run_book(book: &Book) -> Result<Seen, String> {
+    let expected = run_book(book);
+    same(&hechroung::run_book(&to_book(book)), &translated(&expected))?;
+    Ok(Seen::of(expected.refusal.map(pair)))
+}
+
+/// The second implementation's answer in the wrapper's types.
+fn translated(expected: &RunAnswer) -> Summary {
+    Summary {
+        model: to_model(&expected.model),
+        range: to_ends(expected.range),
+        integral: to_ends(expected.integral),
+        refusal: expected.refusal.map(to_refusal),
+    }
 }
 
 fn compare_records(bytes: &[u8]) -> Result<(), String> {
@@ -122,7 +133,7 @@ fn compare_written(
 }
 
 /// A buffer in which any change is seen.
-fn patterned(length: usize) -> Vec<u8> {
+pub fn patterned(length: usize) -> Vec<u8> {
     (0..length).map(|i| (i * 151 + 7) as u8).collect()
 }
 

@@ -3,13 +3,15 @@
 use crate::case::Case;
 use crate::limits;
 use crate::shaped::Shape;
+use hechroung::LONGEST_RECORD;
+use reference::book::Book;
 use reference::generate::{self, books, hostile, Random};
-use reference::sheet::LONGEST_SHEET;
+use reference::sheet::{self, LONGEST_SHEET};
 
 /// The case of a number.
 pub fn case(seed: u64, number: u64) -> Case {
     let mut random = Random::new(seed ^ number.wrapping_mul(0x2545_F491_4F6C_DD1D));
-    match random.below(20) {
+    match random.below(24) {
         0..=4 => Case::Call(hostile::call(seed, number)),
         5..=7 => Case::Call(limits::call(&mut random)),
         8 => Case::Shaped(hostile::call(seed, number), Shape::random(&mut random)),
@@ -19,10 +21,17 @@ pub fn case(seed: u64, number: u64) -> Case {
             let length = buffer_length(&mut random, sheet.len());
             Case::Rewrite(sheet, length)
         }
-        _ => {
+        18 | 19 => {
             let book = books::book(seed, number);
             let length = buffer_length(&mut random, length_of(&book));
             Case::Book(Box::new(book), length)
+        }
+        20 => Case::RunBook(Box::new(books::book(seed, number))),
+        21 => Case::RunBook(Box::new(sheet_book(seed, number))),
+        _ => {
+            let sheet = generate::sheet(seed, number).bytes;
+            let room = *random.pick(&[0, 1, 7, 8, 100, LONGEST_RECORD, LONGEST_RECORD + 9]);
+            Case::Stepped(sheet, room)
         }
     }
 }
@@ -34,9 +43,23 @@ pub fn named() -> Vec<Case> {
         .map(|sample| sample.bytes);
     let both = sheets.flat_map(|sheet| {
         let length = sheet.len();
-        [Case::Sheet(sheet.clone()), Case::Rewrite(sheet, length)]
+        [
+            Case::Sheet(sheet.clone()),
+            Case::RunBook(Box::new(sheet::read(&sheet).book)),
+            Case::Stepped(sheet.clone(), LONGEST_RECORD),
+            Case::Rewrite(sheet, length),
+        ]
     });
     both.collect()
+}
+
+/// The book of a generated sheet, for runs that a limit ends; any book where the sheet is refused before.
+fn sheet_book(seed: u64, number: u64) -> Book {
+    let read = sheet::read(&generate::sheet(seed, number).bytes);
+    if read.refusal.is_some() {
+        return books::book(seed, number);
+    }
+    read.book
 }
 
 /// Mostly enough; at times exactly so, one short, or anything.
@@ -52,7 +75,7 @@ fn buffer_length(random: &mut Random, needed: usize) -> usize {
 }
 
 /// The length that a book's counts name, if they name one.
-fn length_of(book: &reference::book::Book) -> usize {
+fn length_of(book: &Book) -> usize {
     let models = book.models.iter().take(book.model_count);
     let terms: usize = models.map(|model| 5 + 6 * model.count.min(64)).sum();
     terms + 8 * book.step_count.min(64) + 8

@@ -3,7 +3,6 @@ use mathlib.Core.Path.{sym, _∙_, ap}
 use borrow.Author.Needs.{needs}
 use borrow.Author.Tests.{not-true, not-false}
 use Rattle.exports.specs.WriteCalls.{Written-numbers, written-state, answered-write, write-book}
-use Rattle.c_books.specs.HandedBooks.{handed-book}
 use Rattle.exports.specs.WriteCalls.{called-write}
 use Rattle.exports.specs.WriteCallsLaws.{fits-numbers}
 use Rattle.exports.proofs.books.hechroung_write.Statement.{statement}
@@ -29,18 +28,15 @@ returns c =
       sym (f .book-fits .ensures) ∙ not-true _ (c .if1 .taken),
     )
 
-handed-models-requires : tie.Need-handed-models-requires
-handed-models-requires c κs = search needs
-
-handed-steps-requires : tie.Need-handed-steps-requires
-handed-steps-requires c κs = search needs
+handed-book-requires : tie.Need-handed-book-requires
+handed-book-requires c κs = search needs
 
 write-requires : tie.Need-write-requires
 write-requires c κs = search needs
 
 store-written-requires : tie.Need-store-written-requires
 store-written-requires c κs =
-    let e = c .before .before .before .before .before .before .before in
+    let e = c .before .before .before .before .before .before in
     fits-numbers _ _ _ _ _ (sym (e .before .book-fits .ensures) ∙ not-false _ (e .if1 .left))
 
 same-length : tie.Need-same-length
@@ -50,21 +46,19 @@ same-length-2 : tie.Need-same-length-2
 same-length-2 c = search needs
 
 returns-2 : tie.Need-returns-2
-unfolding written-state answered-write write-book called-write handed-book
+unfolding written-state answered-write write-book called-write
 returns-2 c =
     let s = c .before .before in
     let w = s .before .before .before .before in
-    let steps = w .before .before in
-    let models = steps .before in
-    let e = models .before in
+    let b = w .before .before in
+    let e = b .before in
     let f = e .before in
     let p = f .before in
     ap (λ (z : Written-numbers). answered-write z (w .write .last .1 .0)) (s .store-written .ensures)
     ∙ rw (
       w .write .ensures .0,
       w .write .ensures .1,
-      steps .handed-steps .ensures,
-      models .handed-models .ensures,
+      b .handed-book .ensures,
       sym (p .before .model-places .ensures),
       sym (p .step-places .ensures),
       sym (f .book-fits .ensures) ∙ not-false _ (e .if1 .left),
@@ -78,8 +72,7 @@ hechroung-write-spec =
     step-places-requires
     book-fits-requires
     returns
-    handed-models-requires
-    handed-steps-requires
+    handed-book-requires
     write-requires
     store-written-requires
     same-length

@@ -4,8 +4,8 @@ use borrow.Author.Needs.{needs}
 use borrow.Author.Tests.{le-leb, lt-leb, not-true, not-false}
 use Rattle.c_models.specs.HandedModelsLaws.{room}
 use Rattle.exports.specs.SheetCalls.{called-run}
-use Rattle.exports.proofs.sheets.hechroung_run.Statement.{statement}
-use Rattle.exports.proofs.sheets.hechroung_run.Tie as tie
+use Rattle.exports.proofs.runs.hechroung_run.Statement.{statement}
+use Rattle.exports.proofs.runs.hechroung_run.Tie as tie
 
 model-room-requires : tie.Need-model-room-requires
 model-room-requires c κs = search needs

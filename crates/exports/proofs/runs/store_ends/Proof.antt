@@ -8,8 +8,8 @@ use mir.Val.{toZ, ofZ}
 use borrow.Author.Needs.{needs}
 use Rattle.exports.specs.SheetCalls.{four-ends}
 use Rattle.c_models.specs.HandedModelsLaws.{over-four}
-use Rattle.exports.proofs.sheets.store_ends.Statement.{statement}
-use Rattle.exports.proofs.sheets.store_ends.Tie as tie
+use Rattle.exports.proofs.runs.store_ends.Statement.{statement}
+use Rattle.exports.proofs.runs.store_ends.Tie as tie
 
 -- the ends that are stored are those of the structs
 low-back : (c : tie.After-struct-told) → toZ w64 (ofZ w64 (c .before .args .range .low)) ≡ c .before .args .range .low

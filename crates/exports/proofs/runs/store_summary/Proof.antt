@@ -1,8 +1,8 @@
 -- `store_summary` stores the model, the numbers and the ends.
 use borrow.Author.Needs.{needs}
 use Rattle.exports.specs.SheetCalls.{stored-summary}
-use Rattle.exports.proofs.sheets.store_summary.Statement.{statement}
-use Rattle.exports.proofs.sheets.store_summary.Tie as tie
+use Rattle.exports.proofs.runs.store_summary.Statement.{statement}
+use Rattle.exports.proofs.runs.store_summary.Tie as tie
 
 store-terms-requires : tie.Need-store-terms-requires
 store-terms-requires c κs = search needs

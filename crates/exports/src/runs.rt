@@ -1,0 +1,156 @@
+// Sheets and books in memory, run to a model with its range and its integral.
+ghost use mathlib.Core.Path.{_≡_};
+ghost use mathlib.Core.Bool.{_&&_};
+ghost use Prim.Native.Nat.{_≤_};
+ghost use lib.Dec.{leb};
+ghost use lib.ListN.{length};
+ghost use Rattle.format.specs.Format.{«run-sheet»};
+ghost use Rattle.sheet_book.specs.BookStruct.{«held-book»};
+ghost use Rattle.sheet_book.specs.SummaryStruct.{«run-answer»};
+ghost use Rattle.sheet.specs.Sheet.{«run-held»};
+ghost use Rattle.c_models.specs.HandedModels.{«model-room»};
+ghost use Rattle.c_books.specs.HandedBooks.{«step-places», «handed-steps», «model-places», «handed-models»};
+ghost use Rattle.c_books.specs.HandedBooks.{«handed-book»};
+ghost use Rattle.exports.specs.WriteCalls.{«book-fits»};
+ghost use Rattle.exports.specs.SheetCalls.{«four-ends», «run-state», «stored-summary», «called-run»};
+use super::MISUSED;
+use super::books::book_fits;
+use sheet::Ends;
+use sheet::Summary;
+
+// The ends of a run: those of the range and those of the integral.
+const ENDS: usize = 4;
+
+// Two pairs of ends go into a slice.
+fn store_ends(range: Ends, integral: Ends, ends: &mut [i64])
+    requires { ⌜ 4 ≤ length (now ends) ⌝ }
+    ensures { λ r. ⌜ now (ends .exit) ≡ four-ends range integral (now (ends .entry)) ⌝ }
+{
+    let low = range.low;
+    let high = range.high;
+    let least = integral.low;
+    let most = integral.high;
+    ends[0] = low;
+    ends[1] = high;
+    ends[2] = least;
+    ends[3] = most;
+}
+
+// What a run answers goes into the slices; the refusal's number.
+fn store_summary(
+    s: Summary,
+    keys: &mut [u16],
+    coefficients: &mut [i64],
+    numbers: &mut [u64],
+    ends: &mut [i64],
+) -> u8
+    requires { ⌜ (64 ≤ length (now keys)) × (64 ≤ length (now coefficients)) × (4 ≤ length (now numbers))
+        × (4 ≤ length (now ends)) ⌝ }
+    ensures { λ r. ⌜ run-state r (now (keys .exit)) (now (coefficients .exit)) (now (numbers .exit)) (now (ends .exit))
+        ≡ stored-summary s (now (keys .entry)) (now (coefficients .entry)) (now (numbers .entry))
+        (now (ends .entry)) ⌝ }
+{
+    let m = s.model;
+    let v = s.verdict;
+    let range = s.range;
+    let integral = s.integral;
+    c_models::store_terms(m, keys, coefficients);
+    c_models::store_numbers(c_models::verdict_place(v), m, numbers);
+    store_ends(range, integral, ends);
+    c_models::verdict_number(v)
+}
+
+// A sheet is run: the refusal's number, 0 without one, or MISUSED. The result's 64 keys and coefficients go into two
+// slices, the refusal's place, n, the count and the radius into the third, the ends of the range and of the integral
+// into the fourth.
+#[no_mangle]
+pub extern "C" fn hechroung_run(
+    sheet: &[u8],
+    keys: &mut [u16],
+    coefficients: &mut [i64],
+    numbers: &mut [u64],
+    ends: &mut [i64],
+) -> u8
+    ensures { λ r. ⌜ run-state r (now (keys .exit)) (now (coefficients .exit)) (now (numbers .exit)) (now (ends .exit))
+        ≡ called-run (model-room (length (now (keys .entry))) (length (now (coefficients .entry)))
+        (length (now (numbers .entry)))) (leb 4 (length (now (ends .entry))))
+        (run-answer (run-sheet (now (sheet .entry))))
+        (now (keys .entry)) (now (coefficients .entry)) (now (numbers .entry)) (now (ends .entry)) ⌝ }
+{
+    if !c_models::model_room(keys.len(), coefficients.len(), numbers.len()) {
+        return MISUSED;
+    }
+    if ends.len() < ENDS {
+        return MISUSED;
+    }
+    let s = sheet::run(sheet);
+    store_summary(s, keys, coefficients, numbers, ends)
+}
+
+// A book in memory is run: the refusal's number, 0 without one, or MISUSED. The result goes into the slices as a sheet's.
+#[no_mangle]
+pub extern "C" fn hechroung_run_book(
+    n: u8,
+    d: u8,
+    modelcount: usize,
+    stepcount: usize,
+    ns: &[u8],
+    counts: &[usize],
+    radii: &[u64],
+    bookkeys: &[u16],
+    bookcoefficients: &[i64],
+    fields: &[u8],
+    values: &[i64],
+    keys: &mut [u16],
+    coefficients: &mut [i64],
+    numbers: &mut [u64],
+    ends: &mut [i64],
+) -> u8
+    ensures { λ r. ⌜ run-state r (now (keys .exit)) (now (coefficients .exit)) (now (numbers .exit)) (now (ends .exit))
+        ≡ called-run
+        (book-fits modelcount (model-places (length (now (ns .entry))) (length (now (counts .entry)))
+        (length (now (radii .entry))) (length (now (bookkeys .entry))) (length (now (bookcoefficients .entry))))
+        stepcount (step-places (length (now (fields .entry))) (length (now (values .entry))))
+        (length (now (numbers .entry)))
+        && model-room (length (now (keys .entry))) (length (now (coefficients .entry)))
+        (length (now (numbers .entry))))
+        (leb 4 (length (now (ends .entry))))
+        (run-answer (run-held (held-book (handed-book n d modelcount stepcount
+        (handed-models (now (ns .entry)) (now (counts .entry)) (now (radii .entry)) (now (bookkeys .entry))
+        (now (bookcoefficients .entry)))
+        (handed-steps (now (fields .entry)) (now (values .entry)))))))
+        (now (keys .entry)) (now (coefficients .entry)) (now (numbers .entry)) (now (ends .entry)) ⌝ }
+{
+    let models = c_books::model_places(
+        ns.len(),
+        counts.len(),
+        radii.len(),
+        bookkeys.len(),
+        bookcoefficients.len(),
+    );
+    let steps = c_books::step_places(fields.len(), values.len());
+    if !book_fits(modelcount, models, stepcount, steps, numbers.len()) {
+        return MISUSED;
+    }
+    if !c_models::model_room(keys.len(), coefficients.len(), numbers.len()) {
+        return MISUSED;
+    }
+    if ends.len() < ENDS {
+        return MISUSED;
+    }
+    let b = c_books::handed_book(
+        n,
+        d,
+        modelcount,
+        stepcount,
+        ns,
+        counts,
+        radii,
+        bookkeys,
+        bookcoefficients,
+        fields,
+        values,
+    );
+    let s = sheet::run_book(b);
+    store_summary(s, keys, coefficients, numbers, ends)
+}

@@ -1,0 +1,440 @@
+//! The header's figures of stack, at their values: every exported function is entered on a stack of exactly so many
+//! bytes. What lies below the stack may not be touched: a call that needs more ends the test by a signal. The few words
+//! that the test itself needs to hand over the arguments count as the call's.
+
+use hechroung::raw::{self, Handed, HandedBook};
+use hechroung::{LONGEST_RECORD, LONGEST_SHEET, MOST_MODELS, MOST_STEPS, MOST_TERMS};
+use reference::book::{Book, Step, INPUT, MULTIPLY, SUBSTITUTE};
+use reference::generate::{self, books, Draft, DraftModel, Random};
+use reference::sheet;
+use reference::stored::StoredModel;
+use std::arch::asm;
+use std::ffi::{c_int, c_void};
+use std::process::Command;
+
+/// What the header says, in bytes: a single call; a run of a sheet or a book; reading and writing; stepping.
+const CALL: usize = 160 << 10;
+const RUN: usize = 400 << 10;
+const WRITE: usize = 160 << 10;
+const STEP: usize = 4 << 10;
+/// Generated sheets and books, and pairs of models.
+const GENERATED: u64 = 1_000;
+
+/// What may not be touched below a stack: more than any frame.
+const BELOW: usize = 4 << 20;
+/// What a stack holds before a call, so that its deepest place is seen.
+const MARK: u8 = 0xA5;
+
+extern "C" {
+    fn mmap(
+        at: *mut c_void,
+        length: usize,
+        access: c_int,
+        flags: c_int,
+        file: c_int,
+        from: i64,
+    ) -> *mut c_void;
+    fn mprotect(at: *mut c_void, length: usize, access: c_int) -> c_int;
+    fn munmap(at: *mut c_void, length: usize) -> c_int;
+}
+
+/// A stack of so many bytes, to the page above what is asked; its top is moved down so that exactly so many are left.
+struct Stack {
+    map: *mut u8,
+    length: usize,
+    room: usize,
+}
+
+impl Stack {
+    fn new(room: usize) -> Stack {
+        let room = room / 16 * 16;
+        let pages = room.div_ceil(4096) * 4096;
+        let length = BELOW + pages;
+        // SAFETY: a private mapping of its own, of which the lower part is closed.
+        let map = unsafe {
+            let map = mmap(std::ptr::null_mut(), length, 3, 0x22, -1, 0);
+            assert!(map as isize != -1, "there is room for a stack");
+            assert_eq!(mprotect(map, BELOW, 0), 0);
+            map.cast::<u8>()
+        };
+        Stack { map, length, room }
+    }
+
+    fn bytes(&mut self) -> &mut [u8] {
+        // SAFETY: the open part of the mapping, which nothing else uses between calls.
+        unsafe { std::slice::from_raw_parts_mut(self.map.add(BELOW), self.room) }
+    }
+
+    /// Runs the work on this stack; how many bytes of it were used.
+    fn run<F: FnMut()>(&mut self, mut work: F) -> usize {
+        extern "C" fn entered<F: FnMut()>(work: *mut c_void) {
+            // SAFETY: the pointer is to the work below, which lives until this returns.
+            let work = unsafe { &mut *work.cast::<F>() };
+            work();
+        }
+        self.bytes().fill(MARK);
+        // SAFETY: the top is aligned to 16 bytes, and the work does not unwind (a panic aborts at the border to C).
+        unsafe {
+            let top = self.map.add(BELOW + self.room);
+            let enter: extern "C" fn(*mut c_void) = entered::<F>;
+            asm!(
+                "mov r12, rsp",
+                "mov rsp, {top}",
+                "call {enter}",
+                "mov rsp, r12",
+                top = in(reg) top,
+                enter = in(reg) enter,
+                in("rdi") std::ptr::from_mut(&mut work).cast::<c_void>(),
+                out("r12") _,
+                clobber_abi("C"),
+            );
+        }
+        let room = self.room;
+        let untouched = self
+            .bytes()
+            .iter()
+            .take_while(|byte| **byte == MARK)
+            .count();
+        room - untouched
+    }
+}
+
+impl Drop for Stack {
+    fn drop(&mut self) {
+        // SAFETY: the mapping of `new`, which nothing uses any more.
+        unsafe { munmap(self.map.cast(), self.length) };
+    }
+}
+
+/// A model's slices.
+struct Lent {
+    n: u8,
+    count: usize,
+    radius: u64,
+    keys: [u16; MOST_TERMS],
+    coefficients: [i64; MOST_TERMS],
+}
+
+impl Lent {
+    fn new(model: &StoredModel) -> Lent {
+        Lent {
+            n: model.n,
+            count: model.count,
+            radius: model.radius,
+            keys: model.terms.map(|term| term.key),
+            coefficients: model.terms.map(|term| term.coefficient),
+        }
+    }
+
+    fn handed(&self) -> Handed<'_> {
+        Handed {
+            n: self.n,
+            count: self.count,
+            radius: self.radius,
+            keys: &self.keys,
+            coefficients: &self.coefficients,
+        }
+    }
+}
+
+/// What a call or a run stores.
+struct Answer {
+    number: u8,
+    keys: [u16; MOST_TERMS],
+    coefficients: [i64; MOST_TERMS],
+    numbers: [u64; 4],
+    ends: [i64; 4],
+}
+
+impl Answer {
+    const NONE: Answer = Answer {
+        number: 0,
+        keys: [0; MOST_TERMS],
+        coefficients: [0; MOST_TERMS],
+        numbers: [0; 4],
+        ends: [0; 4],
+    };
+
+    fn call(&mut self, code: u8, d: u8, i: u8, f: &Lent, g: &Lent) {
+        self.number = raw::call(
+            code,
+            d,
+            i,
+            1,
+            f.handed(),
+            g.handed(),
+            &mut self.keys,
+            &mut self.coefficients,
+            &mut self.numbers,
+        );
+    }
+
+    fn run(&mut self, sheet: &[u8]) {
+        self.number = raw::run(
+            sheet,
+            &mut self.keys,
+            &mut self.coefficients,
+            &mut self.numbers,
+            &mut self.ends,
+        );
+    }
+
+    fn run_book(&mut self, book: HandedBook<'_>) {
+        self.number = raw::run_book(
+            book,
+            &mut self.keys,
+            &mut self.coefficients,
+            &mut self.numbers,
+            &mut self.ends,
+        );
+    }
+}
+
+/// A book's slices.
+struct LentBook {
+    book: Box<Book>,
+    ns: Vec<u8>,
+    counts: Vec<usize>,
+    radii: Vec<u64>,
+    keys: Vec<u16>,
+    coefficients: Vec<i64>,
+    fields: Vec<u8>,
+    values: Vec<i64>,
+}
+
+impl LentBook {
+    fn new(book: Book) -> LentBook {
+        let models = &book.models;
+        let terms = || models.iter().flat_map(|model| model.terms.iter());
+        let steps = &book.steps;
+        assert_eq!((models.len(), steps.len()), (MOST_MODELS, MOST_STEPS));
+        LentBook {
+            ns: models.iter().map(|model| model.n).collect(),
+            counts: models.iter().map(|model| model.count).collect(),
+            radii: models.iter().map(|model| model.radius).collect(),
+            keys: terms().map(|term| term.key).collect(),
+            coefficients: terms().map(|term| term.coefficient).collect(),
+            fields: steps
+                .iter()
+                .flat_map(|step| [step.code, step.a, step.b, step.v])
+                .collect(),
+            values: steps.iter().map(|step| i64::from(step.value)).collect(),
+            book: Box::new(book),
+        }
+    }
+
+    fn handed(&self) -> HandedBook<'_> {
+        HandedBook {
+            n: self.book.n,
+            d: self.book.d,
+            model_count: self.book.model_count,
+            step_count: self.book.step_count,
+            ns: &self.ns,
+            counts: &self.counts,
+            radii: &self.radii,
+            keys: &self.keys,
+            coefficients: &self.coefficients,
+            fields: &self.fields,
+            values: &self.values,
+        }
+    }
+}
+
+/// 64 terms in 4 variables, with all powers of one variable up to 15.
+fn heaviest_keys() -> Vec<u16> {
+    let mut keys: Vec<u16> = (0..16).map(|power| power << 12).collect();
+    let low = (1..).filter(|key| key >> 12 == 0 && (key & 15) + (key >> 4 & 15) + (key >> 8) < 16);
+    keys.extend(low.take(MOST_TERMS - 16));
+    keys.sort_unstable();
+    keys
+}
+
+/// At these keys coefficients so small that no step leaves the box and that results keep their terms.
+fn heaviest_model() -> DraftModel {
+    DraftModel {
+        radius: 5,
+        terms: heaviest_keys()
+            .into_iter()
+            .map(|key| (key, if key == 0 { 1 << 19 } else { 3 }))
+            .collect(),
+    }
+}
+
+/// Sixteen such models; inputs, and then products and substitutions in turn up to 64 steps.
+fn heaviest_sheet() -> Vec<u8> {
+    let models = vec![heaviest_model(); MOST_MODELS];
+    let mut steps = vec![Step::one(INPUT, 0), Step::one(INPUT, 1)];
+    while steps.len() < MOST_STEPS {
+        let v = steps.len() as u8 % 4 + 1;
+        steps.push(if v % 2 == 0 {
+            Step::two(MULTIPLY, 0, 1)
+        } else {
+            Step::substitute(0, 1, v)
+        });
+        assert!(matches!(
+            steps.last().map(|step| step.code),
+            Some(MULTIPLY | SUBSTITUTE)
+        ));
+    }
+    Draft::new(4, 15, models, steps).bytes()
+}
+
+fn sheets() -> Vec<Vec<u8>> {
+    let named = generate::named_sheets().into_iter();
+    let generated = (0..GENERATED).map(|number| generate::sheet(7, number));
+    let mut all: Vec<_> = named.chain(generated).map(|sample| sample.bytes).collect();
+    all.push(heaviest_sheet());
+    all
+}
+
+fn books_of(sheets: &[Vec<u8>]) -> Vec<LentBook> {
+    let read = sheets.iter().map(|bytes| sheet::read(bytes).book);
+    let generated = (0..GENERATED).map(|number| books::book(7, number));
+    read.chain(generated).map(LentBook::new).collect()
+}
+
+/// The most that was used, for a line that the test prints.
+fn most(name: &str, figure: usize, used: impl Iterator<Item = usize>) -> usize {
+    let most = used.max().expect("there are inputs");
+    println!("{name}: {most} of {figure} bytes");
+    most
+}
+
+#[test]
+fn a_call_stays_within_its_figure() {
+    let mut stack = Stack::new(CALL);
+    let heaviest = sheet::read(&heaviest_sheet());
+    assert_eq!(heaviest.refusal, None);
+    let heavy = &heaviest.book.models[..2];
+    let mut pairs = vec![(Lent::new(&heavy[0]), Lent::new(&heavy[1]))];
+    for number in 0..GENERATED {
+        let book = books::sound_book(&mut Random::new(number));
+        let last = book.model_count.saturating_sub(1);
+        pairs.push((Lent::new(&book.models[0]), Lent::new(&book.models[last])));
+    }
+    for code in 1..=8 {
+        let mut accepted = 0;
+        let used = pairs.iter().enumerate().map(|(k, (f, g))| {
+            let (d, i) = (15 - (k % 15) as u8, 1 + (k % 4) as u8);
+            let mut answer = Answer::NONE;
+            let used = stack.run(|| answer.call(code, d, i, f, g));
+            accepted += u64::from(answer.number == 0);
+            assert!(k > 0 || answer.number == 0, "the heaviest is accepted");
+            used
+        });
+        most(&format!("call {code}"), CALL, used);
+        assert!(accepted > 10, "call {code}: {accepted} accepted");
+    }
+    for code in 1..=3 {
+        let used = pairs.iter().map(|(f, _)| {
+            let point = [1 << 19, -3, 7, 1 << 20].map(|x| if code == 3 { x } else { 0 });
+            let point = [0, 1, 2, 3].map(|v| if v < f.n { point[usize::from(v)] } else { 0 });
+            let mut ends = [0; 2];
+            stack.run(|| {
+                raw::ends(code, f.handed(), point, &mut ends);
+            })
+        });
+        most(&format!("ends {code}"), CALL, used);
+    }
+}
+
+#[test]
+fn a_run_stays_within_its_figure() {
+    let mut stack = Stack::new(RUN);
+    let sheets = sheets();
+    let mut answer = Answer::NONE;
+    let used = sheets.iter().map(|sheet| stack.run(|| answer.run(sheet)));
+    most("run", RUN, used);
+    assert_eq!(answer.number, 0, "the heaviest is accepted");
+    let mut lines = [0; 2048];
+    let used = sheets.iter().map(|sheet| {
+        stack.run(|| {
+            raw::print(sheet, &mut lines);
+        })
+    });
+    most("print", RUN, used);
+    let books = books_of(&sheets);
+    let used = books
+        .iter()
+        .map(|book| stack.run(|| answer.run_book(book.handed())));
+    most("run_book", RUN, used);
+}
+
+#[test]
+fn writing_stays_within_its_figure() {
+    let mut stack = Stack::new(WRITE);
+    let sheets = sheets();
+    let (mut buffer, mut numbers) = ([0; LONGEST_SHEET], [0; 2]);
+    let used = sheets.iter().map(|sheet| {
+        stack.run(|| {
+            raw::rewrite(sheet, &mut buffer, &mut numbers);
+        })
+    });
+    most("rewrite", WRITE, used);
+    let books = books_of(&sheets);
+    let used = books.iter().map(|book| {
+        stack.run(|| {
+            raw::write(book.handed(), &mut buffer, &mut numbers);
+        })
+    });
+    most("write", WRITE, used);
+}
+
+#[test]
+fn stepping_stays_within_its_figure() {
+    let mut stack = Stack::new(STEP);
+    let sheets = sheets();
+    let (mut bytes, mut numbers) = ([0; LONGEST_RECORD], [0; 2]);
+    let used = sheets.iter().map(|sheet| {
+        stack.run(|| {
+            raw::open(sheet, &mut numbers);
+        })
+    });
+    most("open", STEP, used);
+    let used = sheets.iter().map(|sheet| {
+        stack.run(|| {
+            raw::next(sheet, 0, &mut bytes, &mut numbers);
+        })
+    });
+    most("next", STEP, used);
+    let used = sheets.iter().map(|sheet| {
+        stack.run(|| {
+            raw::record(sheet, sheet.len() % 20, &mut bytes);
+        })
+    });
+    most("record", STEP, used);
+}
+
+/// The run of the heaviest sheet on a stack of so many bytes, in a process of its own: whether it ends by itself.
+fn ends_within(room: usize) -> bool {
+    let test = std::env::current_exe().expect("this test is a file");
+    let status = Command::new(test)
+        .args(["--ignored", "--exact", "the_heaviest_run"])
+        .env("STACK_ROOM", room.to_string())
+        .output()
+        .expect("this test can be started")
+        .status;
+    assert!(status.success() || status.code().is_none(), "{status}");
+    status.success()
+}
+
+#[test]
+#[ignore = "run by the test below, in a process of its own"]
+fn the_heaviest_run() {
+    let room = std::env::var("STACK_ROOM").expect("the test below sets it");
+    let mut stack = Stack::new(room.parse().expect("it is a number"));
+    let mut answer = Answer::NONE;
+    let sheet = heaviest_sheet();
+    stack.run(|| answer.run(&sheet));
+    assert_eq!(answer.number, 0);
+}
+
+#[test]
+fn a_stack_that_is_a_page_too_short_is_seen() {
+    let mut answer = Answer::NONE;
+    let sheet = heaviest_sheet();
+    let used = Stack::new(RUN).run(|| answer.run(&sheet));
+    let pages = used.div_ceil(4096) * 4096;
+    assert!(ends_within(pages));
+    assert!(!ends_within(pages - 4096));
+}
