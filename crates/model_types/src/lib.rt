@@ -232,6 +232,41 @@ pub fn without_terms(n: u8) -> Model
     zero
 }
 
+impl Model {
+    // The call for a constant, from -2^30 to 2^30.
+    pub fn constant(n: u8, value: i64) -> Answer
+        ensures { λ r. ⌜ r ≡ answer (call-constant n value) ⌝ }
+    {
+        if !vars_sound(n) {
+            return refuse(Refusal::BadLimits, 0);
+        }
+        if !fixed::constant_within_limits(value) {
+            return refuse(Refusal::BadStep, 0);
+        }
+        Answer {
+            model: constant_of(n, value),
+            verdict: Verdict::Accepted,
+        }
+    }
+
+    // The call for a variable, from 1 to n.
+    pub fn variable(n: u8, i: u8) -> Answer
+        ensures { λ r. ⌜ r ≡ answer (call-variable n i) ⌝ }
+    {
+        if !vars_sound(n) {
+            return refuse(Refusal::BadLimits, 0);
+        }
+        if !from_one(n, i) {
+            return refuse(Refusal::BadStep, 0);
+        }
+        Answer {
+            model: variable_of(n, i),
+            verdict: Verdict::Accepted,
+        }
+    }
+}
+
+// ---- for the layer above: numbers that are known to be within their limits
 // A model of one term.
 fn of_one_term(n: u8, key: u16, coefficient: i64) -> Model
     requires { ⌜ n ≤ key-width ⌝ }
@@ -268,38 +303,4 @@ pub fn variable_of(n: u8, i: u8) -> Model
     ensures { λ r. ⌜ r ≡ pack (variable n i) ⌝ }
 {
     of_one_term(n, model_keys::raised(0, i), fixed::unit())
-}
-
-impl Model {
-    // The call for a constant, from -2^30 to 2^30.
-    pub fn constant(n: u8, value: i64) -> Answer
-        ensures { λ r. ⌜ r ≡ answer (call-constant n value) ⌝ }
-    {
-        if !vars_sound(n) {
-            return refuse(Refusal::BadLimits, 0);
-        }
-        if !fixed::constant_within_limits(value) {
-            return refuse(Refusal::BadStep, 0);
-        }
-        Answer {
-            model: constant_of(n, value),
-            verdict: Verdict::Accepted,
-        }
-    }
-
-    // The call for a variable, from 1 to n.
-    pub fn variable(n: u8, i: u8) -> Answer
-        ensures { λ r. ⌜ r ≡ answer (call-variable n i) ⌝ }
-    {
-        if !vars_sound(n) {
-            return refuse(Refusal::BadLimits, 0);
-        }
-        if !from_one(n, i) {
-            return refuse(Refusal::BadStep, 0);
-        }
-        Answer {
-            model: variable_of(n, i),
-            verdict: Verdict::Accepted,
-        }
-    }
 }
