@@ -87,7 +87,7 @@ pub extern "C" fn hechroung_run(
     store_summary(s, keys, coefficients, numbers, ends)
 }
 
-// A book in memory is run: the refusal's number, 0 without one, or MISUSED. The result goes into the slices as a sheet's.
+// A book in memory is run: the refusal's number, 0 without one, or MISUSED. The result is stored as that of a sheet.
 #[no_mangle]
 pub extern "C" fn hechroung_run_book(
     n: u8,
