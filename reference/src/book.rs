@@ -28,6 +28,7 @@ pub const SUBTRACT: u8 = 5;
 pub const MULTIPLY: u8 = 6;
 pub const SUBSTITUTE: u8 = 7;
 pub const SWEEP: u8 = 8;
+pub const QUOTIENT: u8 = 9;
 
 impl Step {
     const ZEROS: Step = Step {
@@ -88,6 +89,16 @@ impl Step {
         }
     }
 
+    /// Step a over step b, from the proposal of steps h and w, which stand in
+    /// the fields v and value.
+    pub fn quotient(a: u8, b: u8, h: u8, w: u8) -> Step {
+        Step {
+            v: h,
+            value: i32::from(w),
+            ..Step::two(QUOTIENT, a, b)
+        }
+    }
+
     pub fn to_bytes(self) -> [u8; 8] {
         let [v0, v1, v2, v3] = self.value.to_le_bytes();
         [self.code, self.a, self.b, self.v, v0, v1, v2, v3]
@@ -121,6 +132,11 @@ impl Step {
             NEGATE => earlier(self.a) && no_b && no_v && no_value,
             ADD | SUBTRACT | MULTIPLY => earlier(self.a) && earlier(self.b) && no_v && no_value,
             SUBSTITUTE => earlier(self.a) && earlier(self.b) && variable && no_value,
+            QUOTIENT => {
+                // All four operands are steps; a value is one only from 0.
+                let step_w = usize::try_from(self.value).is_ok_and(|w| w < number);
+                earlier(self.a) && earlier(self.b) && earlier(self.v) && step_w
+            }
             SWEEP => earlier(self.a) && (0..=LARGEST_SPAN).contains(&value) && no_b && no_v,
             _ => false,
         }

@@ -1,7 +1,7 @@
 //! The single calls: models in memory and arguments that may be anything.
 //!
-//! The order of tests is the paper's: 3, 5 at place 0, 5 at place 1, 10, 6, 9,
-//! and then what the operation itself gives.
+//! The order of tests is the paper's: 3, 5 at place 0, 5 at place 1 (a quotient
+//! has places up to 3), 10, 6, 9, and then what the operation itself gives.
 
 use crate::model::{Model, LARGEST_DEGREE, LARGEST_SPAN, MOST_VARIABLES, UNIT};
 use crate::operations::{self, Ends};
@@ -87,6 +87,19 @@ pub fn sweep(f: &StoredModel, threshold: i64) -> ModelAnswer {
     ModelAnswer::from(try_sweep(f, threshold))
 }
 
+/// f / g, from a proposal h for it and w for 1 / g. Tests 3 (the order), 5 of f,
+/// g, h and w in this order, 10, then 8 and 7 of each inner product and
+/// difference in turn, 12, and 7 of the result.
+pub fn quotient(
+    f: &StoredModel,
+    g: &StoredModel,
+    h: &StoredModel,
+    w: &StoredModel,
+    order: u8,
+) -> ModelAnswer {
+    ModelAnswer::from(try_quotient([f, g, h, w], order))
+}
+
 /// Tests 5.
 pub fn range(f: &StoredModel) -> EndsAnswer {
     EndsAnswer::from(only_model(f).map(|f| operations::range(&f)))
@@ -137,6 +150,20 @@ fn try_substitute(f: &StoredModel, g: &StoredModel, i: u8, order: u8) -> Result<
     let (f, g) = two_models(f, g, order)?;
     let i = handed_variable(i, f.n)?;
     operations::substitute(&f, &g, i, order).map_err(|cause| cause.at(0))
+}
+
+fn try_quotient(models: [&StoredModel; 4], order: u8) -> Result<Model, Refusal> {
+    let order = handed_order(order)?;
+    let mut sound = Vec::new();
+    for (place, model) in models.into_iter().enumerate() {
+        sound.push(model.sound(order).ok_or(Refusal::Model(place))?);
+    }
+    let same_n = sound.iter().all(|model| model.n == sound[0].n);
+    require(same_n, Refusal::Variables)?;
+    let [f, g, h, w] = &sound[..] else {
+        unreachable!("four models were handed over");
+    };
+    operations::quotient(f, g, h, w, order).map_err(|cause| cause.at(0))
 }
 
 fn try_sweep(f: &StoredModel, threshold: i64) -> Result<Model, Refusal> {
@@ -238,6 +265,13 @@ pub enum Call {
         f: Box<StoredModel>,
         threshold: i64,
     },
+    Quotient {
+        f: Box<StoredModel>,
+        g: Box<StoredModel>,
+        h: Box<StoredModel>,
+        w: Box<StoredModel>,
+        order: u8,
+    },
     Range {
         f: Box<StoredModel>,
     },
@@ -289,6 +323,7 @@ impl Call {
             Call::Multiply { .. } => "multiply",
             Call::Substitute { .. } => "substitute",
             Call::Sweep { .. } => "sweep",
+            Call::Quotient { .. } => "quotient",
             Call::Range { .. } => "range",
             Call::Integral { .. } => "integral",
             Call::Evaluate { .. } => "evaluate",
@@ -306,6 +341,7 @@ impl Call {
             Call::Multiply { f, g, order } => multiply(f, g, *order).into(),
             Call::Substitute { f, g, i, order } => substitute(f, g, *i, *order).into(),
             Call::Sweep { f, threshold } => sweep(f, *threshold).into(),
+            Call::Quotient { f, g, h, w, order } => quotient(f, g, h, w, *order).into(),
             Call::Range { f } => range(f).into(),
             Call::Integral { f } => integral(f).into(),
             Call::Evaluate { f, point } => evaluate(f, point).into(),

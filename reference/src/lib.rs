@@ -1,13 +1,14 @@
-//! A second implementation of document 01, "Polynomial models for milk meter curves".
+//! A second implementation of document 01, "Polynomial models for milk meter
+//! curves", and of the requests of document 02 that README.md names.
 //!
 //! It exists to be compared with another implementation, so it follows the
-//! sentences of the paper one by one and prefers the obvious to the fast:
+//! sentences of the papers one by one and prefers the obvious to the fast:
 //! polynomials are ordered maps from exponents to 128-bit coefficients.
 //!
 //! The layers, from the bottom:
 //! - [`model`]: sound models, as mathematics sees them, and [`stored`]: models in
 //!   memory, whose fields may hold anything;
-//! - [`operations`]: what document 01 computes with sound models, and [`calls`]:
+//! - [`operations`]: what the papers compute with sound models, and [`calls`]:
 //!   the single calls, which first test what they are handed;
 //! - [`book`], [`sheet`], [`mod@write`], [`run`], [`records`], [`text`]: sheets;
 //! - [`exact`]: exact fractions and the check of the enclosure statement;

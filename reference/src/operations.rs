@@ -1,4 +1,4 @@
-//! The operations of document 01 on sound models with equal n.
+//! The operations of documents 01 and 02 on sound models with equal n.
 //!
 //! Arguments are already tested here; what can still happen is a [`Cause`].
 
@@ -16,6 +16,7 @@ pub enum Cause {
     Span,
     Terms,
     OutsideBox,
+    Uncertified,
 }
 
 impl Cause {
@@ -24,6 +25,7 @@ impl Cause {
             Cause::Span => Refusal::Span(place),
             Cause::Terms => Refusal::Terms(place),
             Cause::OutsideBox => Refusal::OutsideBox(place),
+            Cause::Uncertified => Refusal::Uncertified(place),
         }
     }
 }
@@ -167,6 +169,42 @@ fn split(f: &Model, i: usize) -> BTreeMap<u8, Polynomial> {
         parts.entry(k).or_default().insert(rest, c);
     }
     parts
+}
+
+/// f / g, from a proposal: h should be near f / g, and w near 1 / g. Both are
+/// taken without their radii.
+///
+/// Where |1 - w × g| is at most mu / U, which is below 1, neither w nor g is
+/// zero, and h differs from f / g by |w × (g × h - f)| over |w × g|, which is
+/// at most beta / (U - mu).
+pub fn quotient(f: &Model, g: &Model, h: &Model, w: &Model, order: u32) -> Result<Model, Cause> {
+    let h = without_radius(h);
+    let w = without_radius(w);
+    let defect = subtract(&multiply(g, &h, order)?, f)?;
+    let weighted_defect = multiply(&w, &defect, order)?;
+    let weighted_divisor = multiply(&w, g, order)?;
+    let distance_from_one = subtract(&constant(f.n, UNIT), &weighted_divisor)?;
+    let beta = largest_size(range(&weighted_defect));
+    let mu = largest_size(range(&distance_from_one));
+    if mu >= UNIT {
+        return Err(Cause::Uncertified);
+    }
+    tested(Model {
+        radius: divided_up(beta * UNIT, UNIT - mu),
+        ..h
+    })
+}
+
+fn without_radius(f: &Model) -> Model {
+    Model {
+        radius: 0,
+        ..f.clone()
+    }
+}
+
+/// The largest size of the two ends.
+fn largest_size(ends: Ends) -> i128 {
+    ends.low.abs().max(ends.high.abs())
 }
 
 /// Drops every term but the constant one with |c| at most the threshold and

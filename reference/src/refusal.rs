@@ -1,4 +1,4 @@
-//! The refusals of document 01, "What a refused call gives".
+//! The refusals of document 01, "What a refused call gives", and of document 02.
 
 /// Why a call is refused. A variant holds a place where the table has one
 /// other than 0.
@@ -26,6 +26,8 @@ pub enum Refusal {
     Variables,
     /// 11: the writer's buffer is too short.
     Buffer,
+    /// 12: mu of a quotient is U or more, so that nothing is known of it.
+    Uncertified(usize),
 }
 
 impl Refusal {
@@ -43,6 +45,7 @@ impl Refusal {
             Refusal::OutsideBox(_) => 9,
             Refusal::Variables => 10,
             Refusal::Buffer => 11,
+            Refusal::Uncertified(_) => 12,
         }
     }
 
@@ -53,7 +56,8 @@ impl Refusal {
             | Refusal::Step(place)
             | Refusal::Span(place)
             | Refusal::Terms(place)
-            | Refusal::OutsideBox(place) => place,
+            | Refusal::OutsideBox(place)
+            | Refusal::Uncertified(place) => place,
             Refusal::Length
             | Refusal::Mark
             | Refusal::Limits

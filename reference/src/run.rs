@@ -1,8 +1,8 @@
 //! Running a sheet or a book.
 
 use crate::book::{
-    Book, SoundBook, Step, ADD, CONSTANT, INPUT, MULTIPLY, NEGATE, SUBSTITUTE, SUBTRACT, SWEEP,
-    VARIABLE,
+    Book, SoundBook, Step, ADD, CONSTANT, INPUT, MULTIPLY, NEGATE, QUOTIENT, SUBSTITUTE, SUBTRACT,
+    SWEEP, VARIABLE,
 };
 use crate::model::Model;
 use crate::operations::{self, Cause, Ends};
@@ -95,6 +95,11 @@ pub fn perform(step: &Step, book: &SoundBook, earlier: &[Model]) -> Result<Model
         MULTIPLY => operations::multiply(&earlier[a], &earlier[b], book.order),
         SUBSTITUTE => operations::substitute(&earlier[a], &earlier[b], v, book.order),
         SWEEP => Ok(operations::sweep(&earlier[a], value)),
+        QUOTIENT => {
+            let w = usize::try_from(step.value).expect("test 6 leaves only earlier steps");
+            let (f, g) = (&earlier[a], &earlier[b]);
+            operations::quotient(f, g, &earlier[v], &earlier[w], book.order)
+        }
         _ => unreachable!("test 6 leaves only the codes above"),
     }
 }

@@ -145,7 +145,7 @@ fn the_writer_tests_3_5_6_11() {
     assert_eq!(refusal_of(|book| book.steps[2].b = 2), Some((6, 2)));
     assert_eq!(refusal_of(|book| book.steps[1].value = 1), Some((6, 1)));
     let broken_step_and_model = |book: &mut Book| {
-        book.steps[0].code = 9;
+        book.steps[0].code = 10;
         book.models[1].radius = u64::MAX;
     };
     assert_eq!(refusal_of(broken_step_and_model), Some((5, 1)));

@@ -202,7 +202,8 @@ fn every_call_reaches_its_refusals() {
     let sum = [(5, 0), (5, 1), (7, 0), (8, 0), (10, 0)];
     let product = [(3, 0), (5, 0), (5, 1), (7, 0), (8, 0), (10, 0)];
     let substitution = [(6, 0), (9, 0)];
-    let expected: [(&str, Vec<(u8, usize)>); 11] = [
+    let quotient = [(5, 2), (5, 3), (12, 0)];
+    let expected: [(&str, Vec<(u8, usize)>); 12] = [
         ("constant", vec![(3, 0), (6, 0)]),
         ("variable", vec![(3, 0), (6, 0)]),
         ("negate", vec![(5, 0)]),
@@ -210,6 +211,7 @@ fn every_call_reaches_its_refusals() {
         ("subtract", sum.to_vec()),
         ("multiply", product.to_vec()),
         ("substitute", [product.as_slice(), &substitution].concat()),
+        ("quotient", [product.as_slice(), &quotient].concat()),
         ("sweep", vec![(5, 0), (6, 0)]),
         ("range", vec![(5, 0)]),
         ("integral", vec![(5, 0)]),

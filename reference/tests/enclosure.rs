@@ -7,7 +7,7 @@ use reference::book::{SoundBook, Step, ADD, MULTIPLY, NEGATE, SUBTRACT};
 use reference::exact::{check_result, check_sheet, Checked, ExactPolynomial, InputFunction};
 use reference::exact::{Fraction, Point, Violation};
 use reference::generate::sound::{self, Shape};
-use reference::generate::{self, faults, functions, Draft, DraftModel, Random};
+use reference::generate::{self, faults, functions, quotients, Draft, DraftModel, Random};
 use reference::model::UNIT as ONE;
 use reference::run::{run, RunResult};
 use reference::sheet::sound_book;
@@ -197,6 +197,112 @@ fn the_check_sees_a_point_outside_the_box() {
     let functions = shifted(&book, &Fraction::zero());
     let found = check_result(&book, &result, &functions, &[functions::middle()]);
     assert!(matches!(found, Err(Violation::LeftBox(step, _)) if step == place));
+}
+
+/// Accepted quotients at every corner and at random points, with functions at
+/// the ends of their models too.
+#[test]
+fn quotients_are_enclosed() {
+    let mut random = Random::new(57);
+    let mut total = Total::default();
+    for number in 0..2_500 {
+        let operands = quotients::accepted(&mut random);
+        let steps = vec![
+            input(0),
+            input(1),
+            input(2),
+            input(3),
+            Step::quotient(0, 1, 2, 3),
+        ];
+        let draft = Draft::new(operands.n, operands.d, operands.models.to_vec(), steps);
+        let (book, result) = ran(&draft);
+        let part = Fraction::of([-1, 1, 0][number % 3], 1);
+        let mut points = corners(book.n);
+        points.push(functions::any_point(&mut random, book.n));
+        let checked = check_result(&book, &result, &shifted(&book, &part), &points);
+        total.note(checked.expect("enclosed"));
+        check(&mut random, &draft.bytes(), &mut total);
+    }
+    total.print("quotients");
+    assert!(total.points > 20_000);
+    assert_eq!(total.integrals, 0, "no integral is claimed");
+}
+
+/// 5 units over 1 unit, with h = 0 and w = 1: the radius 5 U is reached.
+fn tight_quotient() -> Draft {
+    let constants = [5, 1, 0, UNIT].map(Step::constant);
+    let steps = [constants.as_slice(), &[Step::quotient(0, 1, 2, 3)]].concat();
+    Draft::new(1, 1, Vec::new(), steps)
+}
+
+#[test]
+fn the_check_finds_a_quotient_whose_radius_is_too_small() {
+    let (book, mut result) = ran(&tight_quotient());
+    assert!(check_result(&book, &result, &[], &corners(1)).is_ok());
+    result.model.radius -= 1;
+    let found = check_result(&book, &result, &[], &corners(1));
+    assert!(matches!(found, Err(Violation::Radius(_))));
+}
+
+/// Only the bands at points are claimed of a sheet with a quotient, also where
+/// its result does not come from the quotient.
+#[test]
+fn the_check_claims_no_integral_of_a_quotient() {
+    let mut draft = tight_quotient();
+    for _ in 0..2 {
+        let (book, mut result) = ran(&draft);
+        result.integral.high = result.integral.low;
+        let checked = check_result(&book, &result, &[], &corners(1));
+        let checked = checked.expect("points only");
+        assert_eq!((checked.points, checked.integral), (2, false));
+        draft.push(Step::variable(1));
+        draft.push(Step::two(MULTIPLY, 5, 5));
+    }
+}
+
+/// A divisor of zero is seen by the outcome itself, also of a quotient that the
+/// result does not use.
+#[test]
+fn the_check_sees_a_divisor_of_zero() {
+    let (mut book, result) = ran(&tight_quotient());
+    book.steps[1] = Step::variable(1);
+    let middle = [functions::middle()];
+    let found = check_result(&book, &result, &[], &middle);
+    assert!(matches!(found, Err(Violation::ZeroDivisor(4, _))));
+    book.steps.push(Step::constant(0));
+    let found = check_result(&book, &result, &[], &middle);
+    assert!(matches!(found, Err(Violation::ZeroDivisor(4, _))));
+}
+
+/// A quotient is put in at the point where it leads: x/4 over 1 + x/4, put into
+/// itself, is x over 16 + 5 x.
+#[test]
+fn outcomes_of_quotients_put_in_are_exact() {
+    use reference::exact::outcome::outcome_at;
+    use reference::exact::SizeLimit;
+    let steps = vec![
+        Step::variable(1),
+        Step::constant(UNIT / 4),
+        Step::two(MULTIPLY, 0, 1),
+        Step::constant(UNIT),
+        Step::two(ADD, 3, 2),
+        Step::quotient(2, 4, 2, 3),
+        Step::substitute(5, 5, 1),
+    ];
+    let (book, _) = ran(&Draft::new(1, 2, Vec::new(), steps));
+    for (numerator, denominator) in [(1, 1), (-1, 1), (1, 3), (-2, 7), (0, 1)] {
+        let x = Fraction::of(numerator, denominator);
+        let point = [
+            x.clone(),
+            Fraction::zero(),
+            Fraction::zero(),
+            Fraction::zero(),
+        ];
+        let found = outcome_at(&book, &[], &point, &SizeLimit::default());
+        // q = (x/4) / (1 + x/4) = x / (4 + x), and q / (4 + q) = x / (16 + 5 x).
+        let expected = Fraction::of(numerator, 16 * denominator + 5 * numerator);
+        assert_eq!(found, Ok(expected));
+    }
 }
 
 /// Every corner and many fractions, on one sheet with all operations.

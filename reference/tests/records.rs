@@ -74,7 +74,7 @@ fn sheets_whose_run_is_refused_are_walked() {
     for kind in &faults::KINDS {
         let sample = kind.sample(&mut random);
         let (number, _) = pair(run_sheet(&sample.bytes).refusal).expect("a refused run");
-        assert!((7..=9).contains(&number));
+        assert!([7, 8, 9, 12].contains(&number));
         let opening = open(&sample.bytes);
         assert_eq!(opening.refusal, None);
         assert!(opening.reader.count() > 0);

@@ -4,7 +4,7 @@
 mod common;
 
 use common::pair;
-use reference::book::Book;
+use reference::book::{Book, Step, ADD, MULTIPLY, NEGATE, QUOTIENT, SUBSTITUTE, SUBTRACT, SWEEP};
 use reference::generate::{self, books, damage, faults, hostile, noise, sound};
 use reference::generate::{Expected, Random, Sample};
 use reference::operations::Ends;
@@ -183,6 +183,65 @@ impl Tally {
     }
 }
 
+/// What accepted sheets do with their quotients.
+#[derive(Debug, Default)]
+struct Uses {
+    sheets: usize,
+    quotients: usize,
+    /// The outcome comes from a quotient.
+    in_the_result: usize,
+    put_in: usize,
+    put_into: usize,
+    over_a_quotient: usize,
+    of_a_quotient: usize,
+}
+
+impl Uses {
+    fn note(&mut self, steps: &[Step]) {
+        let is_quotient = |number: u8| steps[usize::from(number)].code == QUOTIENT;
+        self.sheets += 1;
+        let mut from_quotient = Vec::new();
+        for step in steps {
+            let uses = |number: u8| from_quotient[usize::from(number)];
+            let comes_from_one = match step.code {
+                NEGATE | SWEEP => uses(step.a),
+                ADD | SUBTRACT | MULTIPLY | SUBSTITUTE => uses(step.a) || uses(step.b),
+                code => code == QUOTIENT,
+            };
+            from_quotient.push(comes_from_one);
+            match step.code {
+                SUBSTITUTE => {
+                    self.put_into += usize::from(is_quotient(step.a));
+                    self.put_in += usize::from(is_quotient(step.b));
+                }
+                QUOTIENT => {
+                    self.quotients += 1;
+                    self.of_a_quotient += usize::from(is_quotient(step.a));
+                    self.over_a_quotient += usize::from(is_quotient(step.b));
+                }
+                _ => {}
+            }
+        }
+        self.in_the_result += usize::from(from_quotient.last() == Some(&true));
+    }
+}
+
+#[test]
+fn quotients_stand_in_the_middle() {
+    let mut uses = Uses::default();
+    for number in 0..6_000 {
+        let bytes = generate::sheet(29, number).bytes;
+        if run_sheet(&bytes).refusal.is_none() {
+            let book = sheet::sound_book(&bytes).expect("accepted");
+            uses.note(&book.steps);
+        }
+    }
+    println!("{uses:?}");
+    assert!(uses.quotients > 1_000 && uses.in_the_result > 200);
+    assert!(uses.put_in > 50 && uses.put_into > 100);
+    assert!(uses.of_a_quotient > 100 && uses.over_a_quotient > 30);
+}
+
 fn write_tally() -> Tally {
     let mut tally = Tally::default();
     for number in 0..4_000 {
@@ -200,8 +259,8 @@ fn every_refusal_is_reached() {
         sheets.note(run_sheet(&generate::sheet(27, number).bytes).refusal);
     }
     sheets.print("sheets");
-    sheets.assert_reached(0..=9, 100);
-    for number in 5..=9 {
+    sheets.assert_reached((0..=9).chain([12]), 100);
+    for number in (5..=9).chain([12]) {
         let places = sheets.places[&number].len();
         assert!(places > 15, "{number} is reached at {places} places only");
     }
@@ -211,8 +270,8 @@ fn every_refusal_is_reached() {
         calls.note(hostile::call(27, number).answer().refusal());
     }
     calls.print("single calls");
-    calls.assert_reached([0, 3, 5, 6, 7, 8, 9, 10], 100);
-    assert_eq!(calls.places[&5], BTreeSet::from([0, 1]));
+    calls.assert_reached([0, 3, 5, 6, 7, 8, 9, 10, 12], 100);
+    assert_eq!(calls.places[&5], BTreeSet::from([0, 1, 2, 3]));
 
     let writes = write_tally();
     writes.print("writes");

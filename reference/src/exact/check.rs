@@ -2,7 +2,7 @@
 
 use super::fraction::Fraction;
 use super::function::InputFunction;
-use super::outcome::{outcome_at, outcome_polynomial, NoOutcome, Point};
+use super::outcome::{has_quotient, outcome_at, outcome_polynomial, NoOutcome, Point};
 use super::polynomial::{ExactPolynomial, SizeLimit};
 use crate::book::SoundBook;
 use crate::model::UNIT;
@@ -27,6 +27,8 @@ pub enum Violation {
     Range(Box<Point>),
     /// The substitution of this step left the box.
     LeftBox(usize, Box<Point>),
+    /// The divisor of this step's quotient was zero.
+    ZeroDivisor(usize, Box<Point>),
     /// The integral is outside its ends.
     Integral,
     /// The outcome at the point and the outcome as a polynomial differ, which
@@ -46,7 +48,8 @@ pub fn check_sheet(
     Some(check_result(&book, &result, functions, points))
 }
 
-/// Checks a claimed result, wherever it came from.
+/// Checks a claimed result, wherever it came from. Of a sheet with a quotient the
+/// integral is not claimed.
 pub fn check_result(
     book: &SoundBook,
     result: &RunResult,
@@ -67,9 +70,13 @@ pub fn check_result(
             Err(NoOutcome::LeftBox(step)) => {
                 return Err(Violation::LeftBox(step, Box::new(point.clone())));
             }
+            Err(NoOutcome::ZeroDivisor(step)) => {
+                return Err(Violation::ZeroDivisor(step, Box::new(point.clone())));
+            }
         }
     }
-    if let Some(polynomial) = polynomial {
+    let with_integral = polynomial.filter(|_| !has_quotient(book));
+    if let Some(polynomial) = with_integral {
         check_integral(book.n, result, &polynomial)?;
         checked.integral = true;
     }

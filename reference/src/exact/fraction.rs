@@ -56,6 +56,22 @@ impl Fraction {
         }
     }
 
+    /// The quotient, or none if the divisor is 0.
+    pub fn divided_by(&self, divisor: &Fraction) -> Option<Fraction> {
+        if divisor.numerator.is_zero() {
+            return None;
+        }
+        let numerator = &self.numerator * &divisor.denominator;
+        let denominator = &self.denominator * &divisor.numerator;
+        // The sign stands above, as a denominator is from 1.
+        let numerator = if denominator.is_negative() {
+            -&numerator
+        } else {
+            numerator
+        };
+        Some(Fraction::new(numerator, denominator.abs()))
+    }
+
     /// How many bits the larger of the two numbers takes.
     pub fn bits(&self) -> usize {
         self.numerator.bits().max(self.denominator.bits())
@@ -147,6 +163,11 @@ mod tests {
         assert_eq!(&third + &half, Fraction::of(5, 6));
         assert_eq!(&third - &half, Fraction::of(-1, 6));
         assert_eq!(&third * &half, Fraction::of(1, 6));
+        let minus = Fraction::of(-1, 6);
+        assert_eq!(third.divided_by(&half), Some(Fraction::of(2, 3)));
+        assert_eq!(half.divided_by(&minus), Some(Fraction::of(-3, 1)));
+        assert_eq!(minus.divided_by(&minus), Some(Fraction::one()));
+        assert_eq!(half.divided_by(&Fraction::zero()), None);
         assert!(third < half && -&third > -&half);
         assert!(Fraction::of(-1, 1).is_in_box() && !Fraction::of(-8, 7).is_in_box());
     }

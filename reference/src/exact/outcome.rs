@@ -1,10 +1,11 @@
-//! The exact outcome of a sheet, at a point and as a polynomial.
+//! The exact outcome of a sheet: at a point, and as a polynomial where it is one.
 
 use super::fraction::Fraction;
 use super::function::InputFunction;
 use super::polynomial::{ExactPolynomial, SizeLimit};
 use crate::book::{
-    SoundBook, Step, ADD, CONSTANT, INPUT, MULTIPLY, NEGATE, SUBSTITUTE, SUBTRACT, SWEEP, VARIABLE,
+    SoundBook, Step, ADD, CONSTANT, INPUT, MULTIPLY, NEGATE, QUOTIENT, SUBSTITUTE, SUBTRACT, SWEEP,
+    VARIABLE,
 };
 use crate::model::{MOST_VARIABLES, UNIT};
 
@@ -19,9 +20,12 @@ pub enum NoOutcome {
     /// The substitution of this step left the box, which an accepted sheet
     /// must not do.
     LeftBox(usize),
+    /// The divisor of this step is zero, which an accepted sheet's never is.
+    ZeroDivisor(usize),
 }
 
-/// The outcome of the last step at a point.
+/// The outcome of the last step at a point. Quotients that it does not use must
+/// have one as well: their divisors are never zero either.
 pub fn outcome_at(
     book: &SoundBook,
     functions: &[InputFunction],
@@ -35,7 +39,28 @@ pub fn outcome_at(
         visited: Vec::new(),
     };
     let here = outcomes.visit(point)?;
-    outcomes.of_step(book.steps.len() - 1, here)
+    let outcome = outcomes.of_step(book.steps.len() - 1, here)?;
+    for number in quotients(book) {
+        match outcomes.of_step(number, here) {
+            Ok(_) | Err(NoOutcome::TooLarge) => {}
+            Err(no_outcome) => return Err(no_outcome),
+        }
+    }
+    Ok(outcome)
+}
+
+/// The numbers of the quotient steps.
+fn quotients(book: &SoundBook) -> Vec<usize> {
+    let steps = book.steps.iter().enumerate();
+    steps
+        .filter(|(_, step)| step.code == QUOTIENT)
+        .map(|(number, _)| number)
+        .collect()
+}
+
+/// Whether the sheet has a quotient, so that nothing is said of its integral.
+pub fn has_quotient(book: &SoundBook) -> bool {
+    !quotients(book).is_empty()
 }
 
 /// Outcomes by point and step. Each point is visited once, however often
@@ -110,12 +135,19 @@ impl Outcomes<'_> {
                 self.of_step(a, there)
             }
             SWEEP => self.of_step(a, here),
+            QUOTIENT => {
+                let dividend = self.of_step(a, here)?;
+                let divisor = self.of_step(b, here)?;
+                let quotient = dividend.divided_by(&divisor);
+                quotient.ok_or(NoOutcome::ZeroDivisor(number))
+            }
             _ => unreachable!("test 6 leaves only the codes above"),
         }
     }
 }
 
-/// The outcome as a polynomial, or none if it is above the limit.
+/// The outcome as a polynomial, or none if it is above the limit or comes from
+/// a quotient.
 pub fn outcome_polynomial(
     book: &SoundBook,
     inputs: &[&ExactPolynomial],
@@ -149,6 +181,7 @@ fn polynomial_of_step(
         MULTIPLY => outcome(a)?.times(outcome(b)?, limit),
         SUBSTITUTE => outcome(a)?.substituted(v, outcome(b)?, limit),
         SWEEP => outcome(a).cloned(),
+        QUOTIENT => None,
         _ => unreachable!("test 6 leaves only the codes above"),
     }
 }

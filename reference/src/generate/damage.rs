@@ -6,10 +6,12 @@ use super::models::{self, LARGEST_SPAN};
 use super::random::Random;
 use super::sound::{self, Shape};
 use super::{Expected, Kind};
-use crate::book::{Step, ADD, CONSTANT, INPUT, MULTIPLY, NEGATE, SUBSTITUTE, SUBTRACT, SWEEP};
+use crate::book::{
+    Step, ADD, CONSTANT, INPUT, MULTIPLY, NEGATE, QUOTIENT, SUBSTITUTE, SUBTRACT, SWEEP,
+};
 use crate::sheet::{LONGEST_SHEET, SHORTEST_SHEET, TRAILER_LENGTH};
 
-pub const KINDS: [Kind; 36] = [
+pub const KINDS: [Kind; 37] = [
     kind("1: too short", too_short),
     kind("1: too long", too_long),
     kind("2: another mark", other_mark),
@@ -41,6 +43,7 @@ pub const KINDS: [Kind; 36] = [
     kind("5 and 6 together", model_and_step),
     kind("6: a field that is not named", unnamed_field),
     kind("6: an operand not earlier", operand_not_earlier),
+    kind("6: a quotient's operand not earlier", quotient_not_earlier),
     kind("6: a model number not below the count", model_number),
     kind("6: a constant beyond", constant_beyond),
     kind("6: a threshold beyond", threshold_beyond),
@@ -433,7 +436,7 @@ fn model_and_step(random: &mut Random) -> Made {
     let (mut draft, number) = base_with_terms(random, n, d);
     draft.models[number].terms[0].1 = 0;
     let step = random.size(0, draft.steps.len() - 1);
-    draft.steps[step].code = random.byte(9, 255);
+    draft.steps[step].code = random.byte(QUOTIENT + 1, 255);
     broken_model(&draft, number)
 }
 
@@ -458,6 +461,10 @@ fn kept_step(random: &mut Random, draft: &Draft, number: usize) -> Step {
 fn unnamed_field(random: &mut Random) -> Made {
     broken_step(random, |random, draft, number| {
         let mut step = kept_step(random, draft, number);
+        while step.code == QUOTIENT {
+            // A quotient names every field.
+            step = kept_step(random, draft, number);
+        }
         let fields: &[u8] = match step.code {
             INPUT | NEGATE => b"bvw",
             CONSTANT => b"abv",
@@ -505,6 +512,30 @@ fn operand_not_earlier(random: &mut Random) -> Made {
     })
 }
 
+/// One of the four operands is the step itself or a later one. The fourth is a
+/// whole number, of which the lowest byte alone may name an earlier step.
+fn quotient_not_earlier(random: &mut Random) -> Made {
+    broken_step(random, |random, _, number| {
+        let own = number as u8;
+        let late = random.byte(own, 255);
+        let late = *random.pick(&[own, late]);
+        let early = random.byte(0, own.saturating_sub(1));
+        let mut step = Step::quotient(early, early, early, early);
+        match random.below(4) {
+            0 => step.a = late,
+            1 => step.b = late,
+            2 => step.v = late,
+            _ => {
+                let wrapped = i32::from(early) + (1 << random.size(8, 30));
+                let beyond = i32::from(early) - (1 << random.size(8, 30));
+                let below = -1 - i32::from(early);
+                step.value = *random.pick(&[late.into(), wrapped, beyond, below, i32::MIN]);
+            }
+        }
+        step
+    })
+}
+
 fn model_number(random: &mut Random) -> Made {
     broken_step(random, |random, draft, _| {
         let count = draft.models.len() as u8;
@@ -541,9 +572,9 @@ fn unknown_code(random: &mut Random) -> Made {
     broken_step(random, |random, draft, number| {
         let mut step = kept_step(random, draft, number);
         step.code = if random.one_in(3) {
-            9
+            QUOTIENT + 1
         } else {
-            random.byte(9, 255)
+            random.byte(QUOTIENT + 1, 255)
         };
         step
     })

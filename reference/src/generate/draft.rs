@@ -1,6 +1,7 @@
 //! Sheets before they are bytes. A draft may break any rule: nothing is tested.
 
 use crate::book::Step;
+use crate::model::{key_of_monomial, monomial_of_key, Model};
 
 /// A model as its record will say it. The count byte follows the terms.
 #[derive(Clone, Debug, Default, PartialEq, Eq)]
@@ -25,6 +26,29 @@ impl DraftModel {
             record.extend(coefficient.to_le_bytes());
         }
         record
+    }
+
+    /// The record of a sound model.
+    pub fn of(model: &Model) -> DraftModel {
+        let terms = model.polynomial.iter();
+        DraftModel {
+            radius: model.radius as u32,
+            terms: terms
+                .map(|(monomial, &c)| (key_of_monomial(monomial), c as i32))
+                .collect(),
+        }
+    }
+
+    /// The sound model in n variables that the record stands for.
+    pub fn model(&self, n: u8) -> Model {
+        let terms = self.terms.iter();
+        Model {
+            n: usize::from(n),
+            polynomial: terms
+                .map(|&(key, c)| (monomial_of_key(key), i128::from(c)))
+                .collect(),
+            radius: i128::from(self.radius),
+        }
     }
 
     /// The sum of all |c| plus the radius.

@@ -1,14 +1,15 @@
 //! Sheets that pass tests 1 to 6 and whose run is refused at a known step: with
-//! 7, 8 or 9. Random accepted steps stand before, random steps after.
+//! 7, 8, 9 or 12. Random accepted steps stand before, random steps after.
 
 use super::draft::{Draft, DraftModel};
 use super::models::{self, LARGEST_SPAN, UNIT};
+use super::quotients::{self, Operands};
 use super::random::Random;
 use super::sound::{self, Shape};
 use super::{Expected, Kind};
 use crate::book::{Step, ADD, MOST_STEPS, MULTIPLY, SUBTRACT};
 
-pub const KINDS: [Kind; 16] = [
+pub const KINDS: [Kind; 18] = [
     kind("7 by a sum of constants", span_by_sum),
     kind("7 by a difference", span_by_difference),
     kind("7 by radii added", span_by_radii),
@@ -28,6 +29,8 @@ pub const KINDS: [Kind; 16] = [
     kind("9 by a constant", leaves_by_constant),
     kind("9 by a radius only", leaves_by_radius),
     kind("9 where the variable is missing", leaves_without_variable),
+    kind("7, 8 or 12 by a quotient", refused_quotient),
+    kind("12 by a quotient", uncertified_quotient),
 ];
 
 type Made = (Vec<u8>, Expected);
@@ -300,4 +303,26 @@ fn leaves_without_variable(random: &mut Random) -> Made {
     let g = draft.push(Step::two(ADD, x, one));
     draft.push(Step::substitute(f, g, v));
     refused(random, draft, 9)
+}
+
+/// A quotient of four inputs, refused by any of its forms.
+fn refused_quotient(random: &mut Random) -> Made {
+    let way = *random.pick(&quotients::REFUSED);
+    let operands = (way.make)(random);
+    quotient_of(random, &operands, way.refusal)
+}
+
+fn uncertified_quotient(random: &mut Random) -> Made {
+    let uncertified = quotients::REFUSED.iter().filter(|way| way.refusal == 12);
+    let ways: Vec<_> = uncertified.collect();
+    let operands = (random.pick(&ways).make)(random);
+    quotient_of(random, &operands, 12)
+}
+
+/// A sheet whose quotient of these operands is refused.
+pub fn quotient_of(random: &mut Random, operands: &Operands, number: u8) -> Made {
+    let mut draft = sound::accepted_of(random, operands.n, operands.d, BEFORE);
+    let [a, b, h, w] = operands.models.clone().map(|model| draft.push_input(model));
+    draft.push(Step::quotient(a, b, h, w));
+    refused(random, draft, number)
 }

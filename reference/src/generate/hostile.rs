@@ -2,12 +2,13 @@
 
 use super::draft::DraftModel;
 use super::models::{self, Scale, LARGEST_SPAN, UNIT};
+use super::quotients::{self, Operands};
 use super::random::Random;
 use crate::calls::Call;
 use crate::stored::{StoredModel, StoredTerm};
 
 /// How many kinds of single calls there are.
-pub const CALLS: u64 = 11;
+pub const CALLS: u64 = 12;
 
 /// A single call of any kind, one for each number from 0; numbers are
 /// independent of each other.
@@ -40,7 +41,8 @@ fn call_of_kind(random: &mut Random, kind: u64) -> Call {
         },
         8 => Call::Range { f: one(random) },
         9 => Call::Integral { f: one(random) },
-        _ => evaluate(random),
+        10 => evaluate(random),
+        _ => quotient(random),
     }
 }
 
@@ -82,6 +84,45 @@ fn evaluate(random: &mut Random) -> Call {
         }
     });
     Call::Evaluate { f, point }
+}
+
+/// Accepted, refused by some form, or four models of any kind; at times a model
+/// or two are replaced, broken or have another n, so that places 0 to 3 and a
+/// difference between any two of them are reached.
+fn quotient(random: &mut Random) -> Call {
+    let operands = match random.below(5) {
+        0 | 1 => quotients::accepted(random),
+        2 | 3 => (random.pick(&quotients::REFUSED).make)(random),
+        _ => any_operands(random),
+    };
+    let mut order = operands.d;
+    let mut models = operands
+        .models
+        .map(|draft| stored(random, operands.n, &draft));
+    for _ in 0..random.below(3) {
+        let place = random.size(0, 3);
+        match random.below(8) {
+            0 => models[place].n = random.byte(1, 4),
+            1 => spoil(random, &mut models[place], order),
+            2 => models[place] = model(random, operands.n, order),
+            3 => models[place] = model(random, other_n(operands.n), order),
+            4 => order = small_number(random, 1, 15),
+            _ => {}
+        }
+    }
+    let [f, g, h, w] = models.map(Box::new);
+    Call::Quotient { f, g, h, w, order }
+}
+
+/// Another n, so that models differ in it while each is sound.
+fn other_n(n: u8) -> u8 {
+    n % 4 + 1
+}
+
+fn any_operands(random: &mut Random) -> Operands {
+    let (n, d) = (random.byte(1, 4), random.byte(1, 15));
+    let models = std::array::from_fn(|_| models::model(random, n, d, 12));
+    Operands { n, d, models }
 }
 
 /// Mostly from the low to the high end, at times outside.
@@ -190,7 +231,8 @@ pub fn noise(random: &mut Random) -> StoredModel {
     model
 }
 
-/// Breaks one rule (or, where the model has no terms, perhaps none).
+/// Breaks one rule (or, where the model has no terms, perhaps none). The model
+/// and the order may be broken before.
 fn spoil(random: &mut Random, model: &mut StoredModel, order: u8) {
     let last = model.count.clamp(1, 64) - 1;
     let place = random.size(0, last);
@@ -204,9 +246,9 @@ fn spoil(random: &mut Random, model: &mut StoredModel, order: u8) {
         5 => model.terms[place].key ^= 1 << random.below(16),
         6 => model.terms[place].key = model.terms[place.saturating_sub(1)].key,
         7 => model.terms.swap(place, place.saturating_sub(1)),
-        8 => model.terms[last].key = u16::from(order + 1) << 12,
+        8 => model.terms[last].key = u16::from(order.min(14) + 1) << 12,
         9 => model.terms[last].key = 0xF000 | 1 << (4 * random.below(3)),
-        10 => model.radius += largest + 1 - model.radius.min(largest),
-        _ => model.count = (model.count + 1).min(64),
+        10 => model.radius = model.radius.max(largest + 1),
+        _ => model.count = model.count.saturating_add(1).min(64),
     }
 }

@@ -14,6 +14,8 @@ pub mod limits;
 pub mod models;
 pub mod noise;
 pub mod pitfalls;
+pub mod proposals;
+pub mod quotients;
 pub mod random;
 pub mod samples;
 pub mod sound;

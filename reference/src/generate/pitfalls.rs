@@ -14,6 +14,8 @@ pub fn samples() -> Vec<Sample> {
     orders_in_substitutions(&mut list);
     room_in_substitutions(&mut list);
     chains(&mut list);
+    quotients(&mut list);
+    quotients_in_chains(&mut list);
     two_faults(&mut list);
     faults_not_used(&mut list);
     list.into_vec()
@@ -158,6 +160,100 @@ fn variables_in_a_circle() -> Draft {
         }
     }
     draft
+}
+
+/// A quotient of four constants, in units.
+fn quotient(values: [i32; 4]) -> Draft {
+    constants(&values, Step::quotient(0, 1, 2, 3))
+}
+
+/// mu next to U, radii next to 2^30, and which fault comes first.
+fn quotients(list: &mut Samples) {
+    list.accept("mu at U - 1", &quotient([5, 1, 0, UNIT]));
+    list.accept("mu at U - 1 below", &quotient([5, 2 * UNIT - 1, 0, UNIT]));
+    list.refuse("mu at U", &quotient([5, 0, 0, UNIT]), (12, 4));
+    list.refuse("mu at U below", &quotient([5, 2 * UNIT, 0, UNIT]), (12, 4));
+    list.accept("beta of 0", &quotient([3 * HALF, 3 * UNIT, HALF, 349_525]));
+    list.accept(
+        "a quotient's radius is rounded up",
+        &quotient([1, UNIT, 0, UNIT - 1]),
+    );
+    list.accept("a quotient of radius 2^30", &quotient([1024, 1, 0, UNIT]));
+    list.refuse(
+        "a quotient's radius above",
+        &quotient([1025, 1, 0, UNIT]),
+        (7, 4),
+    );
+    let largest = |g: i32| quotient([LARGEST, g, 0, UNIT]);
+    list.refuse("2^30 over 0", &largest(0), (12, 4));
+    list.refuse("2^30 over 1 unit", &largest(1), (7, 4));
+    list.accept("2^30 over 1", &largest(UNIT));
+    let span = |f: i32| quotient([f, UNIT, LARGEST - 10, UNIT]);
+    list.accept("a quotient of a full span", &span(LARGEST - 20));
+    list.refuse(
+        "a quotient of a full span and 1",
+        &span(LARGEST - 21),
+        (7, 4),
+    );
+    let first = |w: i32| quotient([-1, UNIT, LARGEST, w]);
+    list.refuse("7 by g h - f and a good w", &first(UNIT), (7, 4));
+    list.refuse("7 by g h - f before 12", &first(0), (7, 4));
+    let minus = |w: i32| quotient([0, UNIT, 0, w]);
+    list.refuse("7 by 1 - w g before 12", &minus(UNIT - LARGEST - 1), (7, 4));
+    list.refuse("12 with a full 1 - w g", &minus(UNIT - LARGEST), (12, 4));
+    let kept = quotient([UNIT, UNIT, UNIT, UNIT]);
+    list.accept("1 over 1", &kept);
+    for value in [-1, 4, 5, 255, 256, 1 << 24, i32::MIN] {
+        let mut draft = kept.clone();
+        draft.steps[4].value = value;
+        list.refuse(&format!("step w of {value}"), &draft, (6, 4));
+    }
+    for (name, field) in [("a", 1), ("b", 2), ("h", 3)] {
+        let mut bytes = kept.bytes();
+        // The fifth step stands at 32.
+        bytes[32 + field] = 4;
+        list.refuse_bytes(&format!("step {name} is the step itself"), bytes, (6, 4));
+    }
+}
+
+/// x/4 over 1 + x/4, with h = x/4 and w = 1.
+fn quarters_quotient(d: u8) -> Draft {
+    let x = DraftModel::new(0, &[(0x1000, UNIT / 4)]);
+    let g = DraftModel::new(3, &[(0, UNIT), (0x1000, UNIT / 4)]);
+    with_inputs(
+        1,
+        d,
+        &[x.clone(), g, x, constant(77, UNIT)],
+        Step::quotient(0, 1, 2, 3),
+    )
+}
+
+/// Quotients put in, put into, and divided again.
+fn quotients_in_chains(list: &mut Samples) {
+    for d in [1, 2, 15] {
+        let mut draft = quarters_quotient(d);
+        list.accept(&format!("a quotient, order {d}"), &draft);
+        let put_in = draft.push(Step::substitute(0, 4, 1));
+        list.accept(&format!("a quotient put in, order {d}"), &draft);
+        let both = draft.push(Step::substitute(4, 4, 1));
+        list.accept(&format!("a quotient put into itself, order {d}"), &draft);
+        let again = draft.push(Step::quotient(both, 1, put_in, 3));
+        list.accept(&format!("a quotient divided again, order {d}"), &draft);
+        let itself = Step::quotient(again, again, 3, 3);
+        draft.push(itself);
+        let name = format!("over a quotient that may be zero, order {d}");
+        list.refuse(&name, &draft, (12, 8));
+    }
+    // 1 over 1 + x/4 with h = w = 1, over and over: each is the divisor of the
+    // next. The radii are about 1/3, 1/2 and 1, and the last leaves mu no room.
+    let mut draft = quarters_quotient(2);
+    let mut last = 1;
+    for _ in 0..3 {
+        last = draft.push(Step::quotient(3, last, 3, 3));
+    }
+    list.accept("quotients over quotients", &draft);
+    draft.push(Step::quotient(3, last, 3, 3));
+    list.refuse("one quotient too many", &draft, (12, 8));
 }
 
 /// Two faults at once: the first test decides.

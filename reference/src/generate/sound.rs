@@ -1,12 +1,15 @@
 //! Sheets that pass tests 1 to 6, and mostly run to their end.
 
-use super::draft::Draft;
+use super::draft::{Draft, DraftModel};
 use super::models::{self, LARGEST_SPAN, UNIT};
+use super::proposals::{self, Proposal};
+use super::quotients;
 use super::random::Random;
 use crate::book::{
     SoundBook, Step, ADD, INPUT, MOST_MODELS, MOST_STEPS, MULTIPLY, NEGATE, SUBTRACT,
 };
 use crate::model::Model;
+use crate::operations::{self, Cause};
 use crate::{run, sheet};
 
 /// How large sheets may become.
@@ -38,34 +41,44 @@ pub const SHAPES: [Shape; 3] = [SMALL, MIDDLE, LARGE];
 /// runs get far; now and then one stays.
 pub fn sheet(random: &mut Random, shape: Shape) -> Draft {
     let draft = start(random, shape);
-    let steps = random.size(1, shape.steps);
-    grown(random, draft, steps, Some(40))
+    grown(random, draft, shape, Some(40))
 }
 
 /// A random sheet that runs to its end.
 pub fn accepted(random: &mut Random, shape: Shape) -> Draft {
     let draft = start(random, shape);
-    let steps = random.size(1, shape.steps);
-    grown(random, draft, steps, None)
+    grown(random, draft, shape, None)
 }
 
 /// A random sheet of a given n and order that runs to its end.
 pub fn accepted_of(random: &mut Random, n: u8, d: u8, shape: Shape) -> Draft {
     let draft = start_of(random, n, d, shape);
-    let steps = random.size(1, shape.steps);
-    grown(random, draft, steps, None)
+    grown(random, draft, shape, None)
 }
 
-/// Adds steps up to a number of them. A step that would be refused stays once
-/// in `refused_one_in` tries, or never.
+/// Adds steps up to a number that the shape allows, and models for proposals.
+/// A step that would be refused stays once in `refused_one_in` tries, or never.
 fn grown(
     random: &mut Random,
     mut draft: Draft,
-    steps: usize,
+    shape: Shape,
     refused_one_in: Option<u64>,
 ) -> Draft {
     let mut runner = Runner::new(&draft);
+    let steps = random.size(1, shape.steps);
+    // Some sheets have many quotients, and some have none.
+    let quotient_one_in = *random.pick(&[2, 6, 15, u64::MAX]);
     while draft.steps.len() < steps {
+        if random.one_in(quotient_one_in) {
+            let room = Room {
+                models: shape.models.saturating_sub(draft.models.len()),
+                steps: steps - draft.steps.len(),
+            };
+            runner.add_quotient(random, &mut draft, room);
+            if draft.steps.len() == steps {
+                break;
+            }
+        }
         let keep_refused = refused_one_in.is_some_and(|times| random.one_in(times));
         let step = runner.next_step(random, &draft, keep_refused);
         draft.push(step);
@@ -95,8 +108,8 @@ pub fn well_formed_step(random: &mut Random, draft: &Draft) -> Step {
         (0, 0) => random.byte(1, 2),
         (0, _) => random.byte(0, 2),
         // Operations come more often than the steps that feed them.
-        (_, 0) => random.byte(1, 11),
-        (_, _) => random.byte(0, 11),
+        (_, 0) => random.byte(1, 12),
+        (_, _) => random.byte(0, 12),
     };
     let earlier = |random: &mut Random| random.size(0, number - 1) as u8;
     let v = random.byte(1, draft.n);
@@ -109,6 +122,11 @@ pub fn well_formed_step(random: &mut Random, draft: &Draft) -> Step {
         5 => Step::two(SUBTRACT, recent(random, number), earlier(random)),
         6 | 9 => Step::two(MULTIPLY, recent(random, number), earlier(random)),
         7 | 10 | 11 => Step::substitute(recent(random, number), earlier(random), v),
+        // Without a proposal, mostly refused.
+        12 => {
+            let (a, b) = (recent(random, number), earlier(random));
+            Step::quotient(a, b, earlier(random), earlier(random))
+        }
         _ => Step::sweep(recent(random, number), threshold(random)),
     }
 }
@@ -141,6 +159,13 @@ fn threshold(random: &mut Random) -> i32 {
         _ => LARGEST_SPAN - random.between(0, 1),
     };
     threshold as i32
+}
+
+/// What may still be added to a draft.
+#[derive(Clone, Copy, Debug)]
+struct Room {
+    models: usize,
+    steps: usize,
 }
 
 /// Runs a draft along, to see which steps would be refused.
@@ -184,6 +209,96 @@ impl Runner {
             }
         }
         self.plain_step(random, draft)
+    }
+
+    /// Adds a quotient that is accepted, with its divisor and its proposal, if
+    /// one is found that fits the room. The proposal comes from input models, or
+    /// from a constant for w and a product of f and w for h.
+    fn add_quotient(&mut self, random: &mut Random, draft: &mut Draft, room: Room) {
+        let mut room = room;
+        if self.ended || self.results.is_empty() || room.steps < 4 {
+            return;
+        }
+        let a = recent(random, self.results.len());
+        let Some(b) = self.divisor(random, draft, &mut room) else {
+            return;
+        };
+        if room.models >= 2 && !random.one_in(4) {
+            self.add_quotient_of_inputs(random, draft, a, b);
+        } else {
+            self.add_quotient_of_steps(draft, a, b);
+        }
+    }
+
+    /// An earlier step that is nowhere zero, or a new one.
+    fn divisor(&mut self, random: &mut Random, draft: &mut Draft, room: &mut Room) -> Option<u8> {
+        let order = self.book.order;
+        let nonzero = |f: &Model| 2 * f.constant_coefficient().abs() > f.span();
+        let earlier: Vec<usize> = (0..self.results.len())
+            .filter(|&number| nonzero(&self.results[number]))
+            .collect();
+        if !earlier.is_empty() && random.one_in(2) {
+            return Some(*random.pick(&earlier) as u8);
+        }
+        if room.models == 0 || random.one_in(8) {
+            let size = random.between(1 << 16, 1 << 24);
+            let constant = Step::constant((random.sign() * size) as i32);
+            return self.add(draft, constant).ok();
+        }
+        room.models -= 1;
+        let model = quotients::divisor(random, draft.n, order as u8, 5);
+        Some(self.add_input(draft, model))
+    }
+
+    fn add_quotient_of_inputs(&mut self, random: &mut Random, draft: &mut Draft, a: u8, b: u8) {
+        let order = self.book.order;
+        let (f, g) = (self.result(a).clone(), self.result(b).clone());
+        let Some(Proposal { h, w }) = proposals::proposal(random, &f, &g, order) else {
+            return;
+        };
+        if operations::quotient(&f, &g, &h, &w, order).is_ok() {
+            let h = self.add_input(draft, DraftModel::of(&h));
+            let w = self.add_input(draft, DraftModel::of(&w));
+            self.add(draft, Step::quotient(a, b, h, w))
+                .expect("it was tried before");
+        }
+    }
+
+    fn add_quotient_of_steps(&mut self, draft: &mut Draft, a: u8, b: u8) {
+        let order = self.book.order;
+        let (f, g) = (self.result(a).clone(), self.result(b).clone());
+        let Some(w) = proposals::middle_inverse(&g) else {
+            return;
+        };
+        let h = operations::multiply(&f, &w, order);
+        let found = h.and_then(|h| operations::quotient(&f, &g, &h, &w, order));
+        if found.is_ok() {
+            let constant = Step::constant(w.constant_coefficient() as i32);
+            let w = self.add(draft, constant).expect("a constant");
+            let h = self.add(draft, Step::two(MULTIPLY, a, w));
+            let h = h.expect("it was tried before");
+            self.add(draft, Step::quotient(a, b, h, w))
+                .expect("it was tried before");
+        }
+    }
+
+    fn result(&self, number: u8) -> &Model {
+        &self.results[usize::from(number)]
+    }
+
+    /// Adds a step to the draft if it is not refused, and gives its number.
+    fn add(&mut self, draft: &mut Draft, step: Step) -> Result<u8, Cause> {
+        let result = run::perform(&step, &self.book, &self.results)?;
+        self.results.push(result);
+        Ok(draft.push(step))
+    }
+
+    /// Adds a sound model and a step that names it, and gives the step's number.
+    fn add_input(&mut self, draft: &mut Draft, model: DraftModel) -> u8 {
+        let sound = model.model(draft.n);
+        self.book.models.push(sound.clone());
+        self.results.push(sound);
+        draft.push_input(model)
     }
 
     /// A step that is never refused.
