@@ -1,4 +1,5 @@
 -- The single calls: their tests in order, then the operation. The numbers are those of the refusals, in order.
+use mathlib.Core.Bool.{_&&_}
 use mathlib.Core.List.{List}
 use Prim.Native.Nat.{ℕ}
 use lib.Dec.{eqb}
@@ -83,6 +84,21 @@ call-substitute d i f g =
     (require-two d f g
     (require-at 0 (variable-sound (f .vars) i) bad-step
     (at-place 0 (Op.substitute d i f g))))
+
+-- ---- the call of four models
+-- 5 at places 0 to 3, 10
+unfoldable pub require-four : {A : Type 0} → (d : ℕ) (f g h w : Model) → Result A → Result A
+require-four d f g h w a =
+    require-at 0 (sound d f) bad-model
+    (require-at 1 (sound d g) bad-model
+    (require-at 2 (sound d h) bad-model
+    (require-at 3 (sound d w) bad-model
+    (require-at 0 (eqb (f .vars) (g .vars) && eqb (f .vars) (h .vars) && eqb (f .vars) (w .vars)) variables-differ a))))
+
+-- 3, 5 four times, 10, then the first 8 or 7 of the forms, 12, 7
+unfoldable pub call-quotient : (d : ℕ) (f g h w : Model) → Result Model
+call-quotient d f g h w =
+    require-at 0 (order-sound d) bad-limits (require-four d f g h w (at-place 0 (Op.quotient d f g h w)))
 
 -- ---- what a call hands back
 -- with a refusal the zero model with n = 1

@@ -2,20 +2,21 @@
 use mathlib.Core.Bool.{Bool, not, _&&_}
 use mathlib.Core.List.{List, [], _∷_, _++_}
 use Prim.Native.Nat.{ℕ, zero, suc, _+_, _-_, _*_, _^_, max}
-use lib.Dec.{eqb, leb}
+use lib.Dec.{eqb, leb, ltb}
 use lib.IntN.{ℤ, pos, negℤ, _+ℤ_, _-ℤ_, _*ℤ_, natAbs}
 use lib.ListN.{length}
 use lib.Signed.{leZ}
 use Rattle.algebra.specs.IntegerRing.{ℤR}
 use Rattle.polynomial.specs.Polynomial.{product, exponent, without}
 use Rattle.polynomial.specs.Integral.{all-even, divisor}
-use Rattle.fixed.specs.Division.{floor, ceiling}
+use Rattle.fixed.specs.Division.{floor, ceiling, divided-up}
 use Rattle.fixed.specs.Fixed.{U, span-limit, round, residual, round-up}
 use Rattle.calculus.specs.Monomial.{degree, zeros, single, index-of}
 use Rattle.calculus.specs.Terms.{Terms, term, select, sum-ℕ, sum-ℤ, size, map-coefficients, map-monomials}
 use Rattle.calculus.specs.Terms.{drop-zeros, collect}
-use Rattle.calculus.specs.Model.{Model, most-degree, most-terms, span}
-use Rattle.calculus.specs.Refusal.{over-span, too-many-terms, leaves-box, Answer, accepted, require, _then_}
+use Rattle.calculus.specs.Model.{Model, one-model, most-degree, most-terms, span}
+use Rattle.calculus.specs.Refusal.{over-span, too-many-terms, leaves-box, uncertified, Answer, accepted, require}
+use Rattle.calculus.specs.Refusal.{_then_}
 
 -- after every sum and product: 8 for more than 64 terms, then 7 for a span above 2^30
 unfoldable pub limited : Model → Answer Model
@@ -188,3 +189,37 @@ put-constants i (X ∷ Xs) m = substitute most-degree i m (constant (m .vars) X)
 -- the range of what is left
 unfoldable pub evaluate : List ℤ → Model → Answer Ends
 evaluate Xs m = put-constants 1 Xs m then (λ r. accepted (range r))
+
+-- ---- quotient f / g, checked from a proposal h, w, with order d (request 1)
+-- used without its radius
+unfoldable pub bare : Model → Model
+bare m = record { vars = m .vars; radius = 0; terms = m .terms }
+
+-- w × (g × h - f)
+unfoldable pub defect : (d : ℕ) (f g h w : Model) → Answer Model
+defect d f g h w = multiply d g (bare h) then (λ p. subtract p f) then multiply d (bare w)
+
+-- 1 - w × g
+unfoldable pub deviation : (d : ℕ) (g w : Model) → Answer Model
+deviation d g w = multiply d (bare w) g then subtract (one-model (g .vars))
+
+-- the largest size of the ends of a range
+unfoldable pub largest-end : Ends → ℕ
+largest-end e = max (natAbs (e .low)) (natAbs (e .high))
+
+-- beta, mu: that of a form's range
+unfoldable pub largest-value : Model → ℕ
+largest-value m = largest-end (range m)
+
+-- beta × U / (U - mu) rounded up
+unfoldable pub quotient-radius : (beta mu : ℕ) → ℕ
+quotient-radius beta mu = divided-up (beta * U) (U - mu)
+
+-- 12 when mu is U or more; the polynomial of h with that radius, then 7 for its own span
+unfoldable pub certified : (h : Model) (beta mu : ℕ) → Answer Model
+certified h beta mu = require (ltb mu U) uncertified (widen (quotient-radius beta mu) (bare h))
+
+-- the two forms are worked out in this order
+unfoldable pub quotient : (d : ℕ) (f g h w : Model) → Answer Model
+quotient d f g h w =
+    defect d f g h w then (λ y. deviation d g w then (λ z. certified h (largest-value y) (largest-value z)))

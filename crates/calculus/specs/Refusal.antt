@@ -28,6 +28,8 @@ pub data Refusal : Type 0 where
   variables-differ : Refusal
   -- the writer's buffer is too short
   short-buffer : Refusal
+  -- a proposal does not certify its quotient: mu is U or more
+  uncertified : Refusal
 
 -- the number of each
 unfoldable pub number : Refusal → ℕ
@@ -42,6 +44,7 @@ number too-many-terms = 8
 number leaves-box = 9
 number variables-differ = 10
 number short-buffer = 11
+number uncertified = 12
 
 -- ---- the answer of an operation
 pub data Answer (A : Type 0) : Type 0 where

@@ -1,6 +1,6 @@
 -- What rounding down and up promise.
 use mathlib.Core.Path.{_≡_, refl, sym, ap, subst}
-use Prim.Native.Nat.{ℕ, pred, _+_, _*_, _≤_, _<_}
+use Prim.Native.Nat.{ℕ, pred, suc, _+_, _-_, _*_, _≤_, _<_, _/_, _%_}
 use native.Mathlib.Omega.{arith}
 use native.Mathlib.Nat as NatL
 use lib.IntN.{ℤ, pos, negsuc, negℤ, natAbs, _-ℤ_, _*ℤ_, negℤ-negℤ}
@@ -10,7 +10,7 @@ use Rattle.algebra.specs.Integer.{Is, is+, is-, is, is-mul, is-nat, is-sub-mul,
 use Rattle.algebra.specs.RingSolver.{_⊠_, ⊝_, ring}
 use Rattle.algebra.specs.IntegerRing.{ℤR, ℤO, of-le}
 use Rattle.algebra.specs.OrderedLaws.{neg-mono}
-use Rattle.fixed.specs.Division.{floor, ceiling, remainder}
+use Rattle.fixed.specs.Division.{floor, ceiling, remainder, divided-up}
 
 -- the floor times d is at most z,
 low : (z : ℤ) (d : ℕ) → 0 < d → plus (floor z d) * d + minus z ≤ plus z + minus (floor z d) * d
@@ -76,3 +76,37 @@ floor-unique (is- h) (is+ k) d r e l = let m = ap (λ i. i * d) k in absurd (ome
 floor-unique (is- h) (is- k) d r e l =
     let m = ap (λ i. i * d) k in
     ap negsuc (NatL.div-eq-of-lt-le d (omega arith) (omega arith))
+
+-- ---- naturals rounded up
+module _ (a d : ℕ) (h : 0 < d) where
+  -- the quotient covers a,
+  pub divided-up-ok : a ≤ d * divided-up a d
+  unfolding divided-up
+  divided-up-ok = omega (arith, NatL.lt-mul-div-succ (a + (d - 1)) h)
+
+  -- and by less than the divisor more
+  pub divided-up-least : d * divided-up a d < a + d
+  unfolding divided-up
+  divided-up-least = omega (arith, NatL.mul-div-le (a + (d - 1)) d)
+
+  -- the only number that does both
+  pub divided-up-unique : (q : ℕ) → a ≤ d * q → d * q < a + d → divided-up a d ≡ q
+  divided-up-unique q l u =
+      let below : divided-up a d < suc q = NatL.lt-of-mul-lt-mul-left d (omega (arith, divided-up-least)) in
+      let above : q < suc (divided-up a d) = NatL.lt-of-mul-lt-mul-left d (omega (arith, divided-up-ok)) in
+      omega arith
+
+  -- by the remainder: the quotient where it divides, one more where it does not
+  pub divided-up-exact : a % d ≡ 0 → a / d ≡ divided-up a d
+  divided-up-exact e = sym (divided-up-unique (a / d) (omega (arith, parts)) (omega (arith, parts)))
+    where
+      parts : d * (a / d) + a % d ≡ a
+      parts = NatL.div-add-mod a d
+
+  pub divided-up-inexact : 0 < a % d → a / d + 1 ≡ divided-up a d
+  divided-up-inexact l = sym (divided-up-unique (a / d + 1)
+      (omega (arith, NatL.div-add-mod a d, NatL.mod-lt a h)) (omega (arith, NatL.div-add-mod a d, NatL.mod-lt a h)))
+
+  -- which is at most a
+  pub inexact-below : 0 < a % d → a / d < a
+  inexact-below l = omega (arith, NatL.div-add-mod a d, NatL.mul-le-mul-right (a / d) h)

@@ -1,8 +1,8 @@
 -- Fixed point: the unit, the span limit, rounding to the unit and what it leaves, sums that stop above the limit.
-use Prim.Native.Nat.{ℕ, _+_, _-_, _/_, _^_, min}
+use Prim.Native.Nat.{ℕ, _+_, _/_, _^_, min}
 use lib.IntN.{ℤ, pos, _+ℤ_, _-ℤ_, _*ℤ_, natAbs}
 use Rattle.fixed.specs.declared.Rounded.{Rounded}
-use Rattle.fixed.specs.Division.{floor}
+use Rattle.fixed.specs.Division.{floor, divided-up}
 
 -- a whole number c stands for c / U
 unfoldable pub U : ℕ
@@ -26,7 +26,7 @@ rounded z = record { coefficient = round z; residual = residual z }
 
 -- E / U rounded up
 unfoldable pub round-up : ℕ → ℕ
-round-up E = (E + (U - 1)) / U
+round-up E = divided-up E U
 
 -- s, or just above the span limit where s is larger
 unfoldable pub capped : ℕ → ℕ

@@ -9,7 +9,7 @@ use lib.Dec.{leb, lit<, lit≤}
 use lib.IntN.{ℤ, pos, negsuc, natAbs, _+ℤ_, _-ℤ_, _*ℤ_}
 use Rattle.algebra.specs.Integer.{is, is-eq, is-add, is-nat, is-sub-mul, is-parts, plus, minus}
 use Rattle.algebra.specs.Integer.{natAbs-parts, natAbs-bound, natAbs-apart}
-use Rattle.fixed.specs.DivisionLaws.{division, remainder-lt}
+use Rattle.fixed.specs.DivisionLaws.{division, remainder-lt, divided-up-ok, divided-up-least}
 use Rattle.fixed.specs.Fixed.{U, span-limit, round, residual, round-up, capped}
 
 -- ---- the unit and the span limit
@@ -51,12 +51,12 @@ span-four-bytes = lit< tt
 -- the radius covers E,
 pub round-up-ok : (E : ℕ) → E ≤ U * round-up E
 unfolding round-up
-round-up-ok E = let h : 0 < U = U-pos in omega (arith, NatL.lt-mul-div-succ (E + (U - 1)) U-pos)
+round-up-ok E = divided-up-ok E U U-pos
 
 -- and less than a unit more
 pub round-up-least : (E : ℕ) → U * round-up E < E + U
 unfolding round-up
-round-up-least E = let h : 0 < U = U-pos in omega (arith, NatL.mul-div-le (E + (U - 1)) U)
+round-up-least E = divided-up-least E U U-pos
 
 -- ---- rounding: `residual-le` alone opens the rule, and the laws after it follow
 pub residual-is : (z : ℤ) → residual z ≡ natAbs (z -ℤ round z *ℤ pos U)

@@ -7,7 +7,7 @@ ghost use Prim.Native.Nat.{_+_, _*_, _^_, _<_};
 ghost use lib.Dec.{leb};
 ghost use lib.IntN.{pos, negsuc, natAbs, negℤ, _+ℤ_, _-ℤ_, _*ℤ_};
 ghost use lib.Signed.{nonNeg};
-ghost use Rattle.fixed.specs.Division.{floor, ceiling, remainder};
+ghost use Rattle.fixed.specs.Division.{floor, ceiling, remainder, divided-up};
 ghost use Rattle.fixed.specs.Fixed.{U, span-limit, rounded, round-up, capped};
 
 // The unit U, by its binary digits: with a power of two the floor of z / U is a shift.
@@ -206,6 +206,14 @@ pub fn round(z: i64) -> Rounded
             residual: missing,
         }
     }
+}
+
+// a / d rounded up, for d from 1. It tests the remainder instead of adding d - 1, so it takes every a.
+pub fn divided_up(a: u64, d: u64) -> u64
+    requires { ⌜ 0 < d ⌝ }
+    ensures { λ r. ⌜ r ≡ divided-up a d ⌝ }
+{
+    if a % d == 0 { a / d } else { a / d + 1 }
 }
 
 // e / U rounded up, the radius that pays for e. It tests the remainder instead of adding U - 1, so it takes every e.

@@ -1,6 +1,7 @@
 -- `round_up` is E / U rounded up.
 use native.Mathlib.Omega.{arith}
 use borrow.Author.Needs.{needs}
+use Rattle.fixed.specs.Division.{divided-up}
 use Rattle.fixed.specs.Fixed.{U, round-up}
 use Rattle.fixed.proofs.round_up.Statement.{statement}
 use Rattle.fixed.proofs.round_up.Tie as tie
@@ -9,11 +10,11 @@ add-result : tie.Need-add-result
 add-result c = search needs
 
 returns : tie.Need-returns
-unfolding U round-up
+unfolding U round-up divided-up
 returns c = omega arith
 
 returns-2 : tie.Need-returns-2
-unfolding U round-up
+unfolding U round-up divided-up
 returns-2 c = omega arith
 
 pub round-up-spec : {M : Type 1} → statement M
