@@ -16,12 +16,12 @@ use Rattle.calculus.specs.Monomial.{zeros, index-of, single}
 use Rattle.calculus.specs.Terms.{Terms, term, every, select, sum-over, size, map-coefficients, map-monomials}
 use Rattle.calculus.specs.Terms.{rising-from, rising, is-nonzero, nonzero, drop-zeros, collect}
 use Rattle.calculus.specs.Model.{Model, zero-model, one-model, most-vars, most-terms, between, span, fits, sound}
-use Rattle.calculus.specs.Refusal.{over-span, too-many-terms, leaves-box}
+use Rattle.calculus.specs.Refusal.{over-span, too-many-terms, leaves-box, uncertified}
 use Rattle.calculus.specs.Operations.{limited, constant, variable, negate, add, subtract, products}
 use Rattle.calculus.specs.Operations.{kept, multiply, range-in-box, largest-exponent, part-terms, part, horner}
-use Rattle.calculus.specs.Operations.{widen, substitute, is-small, sweep}
+use Rattle.calculus.specs.Operations.{widen, substitute, is-small, sweep, bare, certified, quotient}
 use Rattle.calculus.specs.TestLaws.{and-left, and-right, both}
-use Rattle.calculus.specs.RefusalLaws.{If-accepted, holds, require-accepted, then-accepted, weaken}
+use Rattle.calculus.specs.RefusalLaws.{If-accepted, holds, require-accepted, then-accepted, weaken, always}
 use Rattle.calculus.specs.MonomialLaws.{length-zeros, length-single, length-without, degree-zeros}
 use Rattle.calculus.specs.MonomialLaws.{degree-single, degree-without, less-without}
 use Rattle.calculus.specs.TermsLaws.{by-select, length-select, every-nil, every-cons, every-++}
@@ -281,18 +281,46 @@ module _ (n d : ℕ) where
       (λ p hp. weaken (λ r hr. hr .0) (add-sound p (part i k f) (hp .0) (part-canonical i k f hf))))
       (λ r hr. horner-canonical i f g hf hg k r hr)
 
+  widen-sound : (e : ℕ) (f : Model) → Canonical n d f → If-accepted (Sound n d) (widen e f)
+  unfolding widen
+  widen-sound e f h = limited-bounded {P = Canonical n d} _ (record {
+    vars = h .vars;
+    fitting = h .fitting;
+    nonzero-terms = h .nonzero-terms;
+    rising-terms = h .rising-terms;
+  })
+
   pub substitute-sound : (i : ℕ) (f g : Model) → Canonical n d f → Canonical n d g
       → If-accepted (Sound n d) (substitute d i f g)
-  unfolding substitute widen
+  unfolding substitute
   substitute-sound i f g hf hg = require-accepted (range-in-box g) leaves-box _ (λ t. then-accepted
       (horner-canonical i f g hf hg (largest-exponent i (f .terms)) _
       (part-canonical i (largest-exponent i (f .terms)) f hf))
-      (λ r hr. limited-bounded {P = Canonical n d} _ (record {
-        vars = hr .vars;
-        fitting = hr .fitting;
-        nonzero-terms = hr .nonzero-terms;
-        rising-terms = hr .rising-terms;
-      })))
+      (λ r hr. widen-sound (f .radius) r hr))
+
+  -- ---- quotient: the polynomial is that of h
+  pub bare-canonical : (f : Model) → Canonical n d f → Canonical n d (bare f)
+  unfolding bare
+  bare-canonical f h = record {
+    vars = h .vars;
+    fitting = h .fitting;
+    nonzero-terms = h .nonzero-terms;
+    rising-terms = h .rising-terms;
+  }
+
+  pub bare-sound : (f : Model) → Sound n d f → Sound n d (bare f)
+  bare-sound f h = (bare-canonical f (h .0), bounds)
+    where
+      bounds : Bounded (bare f)
+      bounds = unfold bare span in record {
+        count = h .1 .count;
+        small-span = let c = h .1 .small-span in omega arith;
+      }
+
+  pub quotient-sound : (f g h w : Model) → Canonical n d h → If-accepted (Sound n d) (quotient d f g h w)
+  unfolding quotient certified
+  quotient-sound f g h w c = then-accepted (always (tt {0}) _) (λ y _. then-accepted (always (tt {0}) _) (λ z _.
+      require-accepted _ uncertified _ (λ t. widen-sound _ (bare h) (bare-canonical h c))))
 
   -- ---- sweep: what is dropped goes into the radius, so that the span stays
   pub sweep-sound : (t : ℕ) (f : Model) → Sound n d f → Sound n d (sweep t f)
