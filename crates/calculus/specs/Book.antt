@@ -12,7 +12,7 @@ use Rattle.calculus.specs.Operations as Op
 use Rattle.calculus.specs.Operations.{Ends, zero-ends, range, integral}
 use Rattle.calculus.specs.Tests.{vars-sound, order-sound, constant-sound, variable-sound, threshold-sound}
 
--- operands a and b are steps, but a of an input is a model; v is a variable
+-- operands a, b, h and w are steps, but a of an input is a model; v is a variable
 pub data Step : Type 0 where
   input : (a : ℕ) → Step
   constant : (value : ℤ) → Step
@@ -21,10 +21,11 @@ pub data Step : Type 0 where
   add subtract multiply : (a b : ℕ) → Step
   substitute : (a b v : ℕ) → Step
   sweep : (a : ℕ) (value : ℤ) → Step
+  quotient : (a b h w : ℕ) → Step
 
--- their codes: 0 to 8, in this order
+-- their codes: 0 to 9, in this order
 abbrev pub last-code : ℕ
-last-code = 8
+last-code = 9
 
 -- the earlier steps that a step names, in order
 unfoldable pub operands : Step → List ℕ
@@ -37,6 +38,7 @@ operands (subtract a b) = a ∷ b ∷ []
 operands (multiply a b) = a ∷ b ∷ []
 operands (substitute a b v) = a ∷ b ∷ []
 operands (sweep a value) = a ∷ []
+operands (quotient a b h w) = a ∷ b ∷ h ∷ w ∷ []
 
 -- a book (document 01's term): n, the order d, the models and the steps
 pub record Book : Type 0 where
@@ -77,6 +79,7 @@ step-sound book i (subtract a b) = ltb a i && ltb b i
 step-sound book i (multiply a b) = ltb a i && ltb b i
 step-sound book i (substitute a b v) = ltb a i && ltb b i && variable-sound (book .vars) v
 step-sound book i (sweep a value) = ltb a i && threshold-sound value
+step-sound book i (quotient a b h w) = ltb a i && ltb b i && ltb h i && ltb w i
 
 -- the tests in order, then what is asked for
 unfoldable pub tested : {A : Type 0} → Book → Result A → Result A
@@ -105,6 +108,7 @@ run-step book r (subtract a b) = Op.subtract (r a) (r b)
 run-step book r (multiply a b) = Op.multiply (book .order) (r a) (r b)
 run-step book r (substitute a b v) = Op.substitute (book .order) v (r a) (r b)
 run-step book r (sweep a value) = accepted (Op.sweep (natAbs value) (r a))
+run-step book r (quotient a b h w) = Op.quotient (book .order) (r a) (r b) (r h) (r w)
 
 -- steps in order, each after the results so far; a refusal ends the run with the number of its step
 unfoldable pub run-steps : Book → List Model → List Step → Result (List Model)
