@@ -5,47 +5,59 @@
 --   crate fixed: the unit U, rounding
 --   Monomial, Terms, Model: a model, and which functions are within it
 --   Refusal, Operations, Tests, Book: the run of a book, which gives the last result, its range and its integral
---   Outcome: the exact outcome, as a function of the point and as a polynomial
+--   Outcome: the exact outcome, a function of the point and, where it is made as one, a polynomial
 use mathlib.Core.Path.{_≡_}
 use mathlib.Core.Option.{some}
 use Prim.Native.Nat.{ℕ, _<_}
+use lib.Dec.{T}
 use lib.IntN.{pos}
 use lib.ListN.{length, getElem?}
 use Rattle.algebra.specs.Rational.{ℚ, _*ℚ_, whole, _≤ℚ_}
 use Rattle.fixed.specs.Fixed.{U}
 use Rattle.calculus.specs.Model.{Point, In-box, At, Within}
 use Rattle.calculus.specs.Operations.{Ends}
-use Rattle.calculus.specs.Book.{substitute, Book, model-of, Summary}
-use Rattle.calculus.specs.Outcome.{Function, with-coordinate, outcome-of, outcomes, outcome, ℚ-Polynomial}
-use Rattle.calculus.specs.Outcome.{value-of, outcome-polynomial, exact-integral}
+use Rattle.calculus.specs.Book.{substitute, quotient, Book, model-of, Summary}
+use Rattle.calculus.specs.Outcome.{0ℚ, with-coordinate, ℚ-Polynomial, value-of, exact-integral, Outcome, Inputs}
+use Rattle.calculus.specs.Outcome.{polynomials, input-outcome, outcome-of, outcomes, outcome, no-quotient}
 
 -- y times U is at least the low and at most the high end
 pub record Lies (y : ℚ) (e : Ends) : Type 0 where
   pub from : whole (e .low) ≤ℚ whole (pos U) *ℚ y
   pub to : whole (pos U) *ℚ y ≤ℚ whole (e .high)
 
--- F a is a function within model a, for each model of the book
-unfoldable pub All-within : Book → (F : ℕ → Function) → Type 0
-All-within book F = (a : ℕ) → a < length (book .models) → Within (F a) (model-of book a)
+-- for each model of the book, the input's function is within it
+unfoldable pub All-within : Book → Inputs → Type 0
+All-within book I = (a : ℕ) → a < length (book .models) → Within (input-outcome I a .at) (model-of book a)
 
--- what an exact outcome is made from: functions within the models, and a point of the box
-pub record Given (book : Book) (F : ℕ → Function) (x : Point) : Type 0 where
-  pub functions : All-within book F
+-- what an exact outcome is made from: functions or polynomials within the models, and a point of the box
+pub record Given (book : Book) (I : Inputs) (x : Point) : Type 0 where
+  pub inputs : All-within book I
   pub point : In-box (book .vars) x
+
+-- an outcome that is made as a polynomial, and has its value at every point of n coordinates
+pub record Is-polynomial (n : ℕ) (o : Outcome) : Type 0 where
+  pub polynomial : ℚ-Polynomial
+  pub made : o .polynomial ≡ some polynomial
+  pub same : (x : Point) → length x ≡ n → o .at x ≡ value-of polynomial x
 
 -- of a book whose run gives the summary s
 pub record Claim (book : Book) (s : Summary) : Type 0 where
   -- the outcome differs from P, the value of the result's polynomial, by at most e/U
-  pub within-radius : (F : ℕ → Function) (x : Point) → Given book F x → At (s .model) x (outcome F (book .steps) x)
+  pub within-radius : (I : Inputs) (x : Point) → Given book I x → At (s .model) x (outcome I (book .steps) .at x)
   -- the outcome times U is at least the low and at most the high end of the range
-  pub in-range : (F : ℕ → Function) (x : Point) → Given book F x → Lies (outcome F (book .steps) x) (s .range)
+  pub in-range : (I : Inputs) (x : Point) → Given book I x → Lies (outcome I (book .steps) .at x) (s .range)
   -- where step i is a substitution, the point whose coordinate v is the outcome of step b is a point of the box again
-  pub stays-in-box : (F : ℕ → Function) (x : Point) → Given book F x
+  pub stays-in-box : (I : Inputs) (x : Point) → Given book I x
       → (i a b v : ℕ) → getElem? (book .steps) i ≡ some (substitute a b v)
-      → In-box (book .vars) (with-coordinate v (outcome-of (outcomes F (book .steps)) b x) x)
-  -- if every F a is a polynomial, the same steps done on polynomials give the outcome, at every point of n coordinates
-  pub outcome-is-polynomial : (Q : ℕ → ℚ-Polynomial) (x : Point) → length x ≡ book .vars
-      → outcome (λ a. value-of (Q a)) (book .steps) x ≡ value-of (outcome-polynomial Q (book .steps)) x
+      → In-box (book .vars) (with-coordinate v (outcome-of (outcomes I (book .steps)) b .at x) x)
+  -- where step i is a quotient, the outcome of step b, by which it divides, is not zero
+  pub never-zero : (I : Inputs) (x : Point) → Given book I x
+      → (i a b h w : ℕ) → getElem? (book .steps) i ≡ some (quotient a b h w)
+      → outcome-of (outcomes I (book .steps)) b .at x ≡ 0ℚ → ⊥
+  -- if every input is a polynomial and no step is a quotient, the outcome is a polynomial
+  pub outcome-is-polynomial : (Q : ℕ → ℚ-Polynomial) → T (no-quotient (book .steps))
+      → Is-polynomial (book .vars) (outcome (polynomials Q) (book .steps))
   -- and its integral over the box times U is at least the low and at most the high integral end
-  pub integral-in-ends : (Q : ℕ → ℚ-Polynomial) → All-within book (λ a. value-of (Q a))
-      → Lies (exact-integral (book .vars) (outcome-polynomial Q (book .steps))) (s .integral)
+  pub integral-in-ends : (Q : ℕ → ℚ-Polynomial) → T (no-quotient (book .steps)) → All-within book (polynomials Q)
+      → (q : ℚ-Polynomial) → outcome (polynomials Q) (book .steps) .polynomial ≡ some q
+      → Lies (exact-integral (book .vars) q) (s .integral)

@@ -1,5 +1,5 @@
 -- The proof of the claim: along the steps, each outcome so far is within its result.
-use mathlib.Core.Path.{_≡_, refl, sym, _∙_, subst}
+use mathlib.Core.Path.{_≡_, refl, sym, _∙_, ap, subst}
 use mathlib.Core.Bool.{_&&_}
 use mathlib.Core.List.{List, [], _∷_, _++_}
 use mathlib.Core.Option.{some}
@@ -12,16 +12,16 @@ use Rattle.algebra.specs.RationalOrder.{ℚO}
 use Rattle.polynomial.specs.BoxLaws.{box-length, box-replace}
 use Rattle.calculus.specs.Monomial.{index-of}
 use Rattle.calculus.specs.Model.{Model, zero-model, Point, In-box, Within}
-use Rattle.calculus.specs.Refusal.{leaves-box, Answer, accepted, done}
+use Rattle.calculus.specs.Refusal.{leaves-box, uncertified, Answer, accepted, done}
 use Rattle.calculus.specs.Operations as Op
 use Rattle.calculus.specs.Operations.{range, integral, range-in-box}
 use Rattle.calculus.specs.Book.{Step, input, constant, variable, negate, add, subtract, multiply, substitute}
-use Rattle.calculus.specs.Book.{sweep, Book, step-sound, model-of, result-of, run-step, run-steps, Summary}
-use Rattle.calculus.specs.Book.{summary, last, run-sound, run}
-use Rattle.calculus.specs.Outcome.{Function, 0ℚ, ℚ-Polynomial, value-of, with-coordinate, outcome-of}
-use Rattle.calculus.specs.Outcome.{step-outcome, outcomes-after, outcomes, outcome, outcome-polynomial}
-use Rattle.calculus.specs.Outcome.{exact-integral}
-use Rattle.calculus.specs.Claim.{Lies, All-within, Claim}
+use Rattle.calculus.specs.Book.{sweep, quotient, Book, step-sound, model-of, result-of, run-step, run-steps}
+use Rattle.calculus.specs.Book.{Summary, summary, last, run-sound, run}
+use Rattle.calculus.specs.Outcome.{0ℚ, with-coordinate, ℚ-Polynomial, value-of, exact-integral, Outcome, Inputs}
+use Rattle.calculus.specs.Outcome.{polynomials, input-outcome, step-value, step-outcome, zero-outcome, outcome-of}
+use Rattle.calculus.specs.Outcome.{outcomes-after, outcomes, outcome, no-quotient}
+use Rattle.calculus.specs.Claim.{Lies, All-within, Is-polynomial, Claim}
 use Rattle.calculus.specs.TestLaws.{and-left, and-right}
 use Rattle.calculus.specs.RefusalLaws.{If-accepted, holds, vacuous, require-accepted, then-accepted, weaken}
 use Rattle.calculus.specs.RefusalLaws.{always, If-done, is-done, if-done, followed-done, placed, constantly}
@@ -31,11 +31,12 @@ use Rattle.calculus.specs.EnclosureLaws.{limited-accepted, zero-near, co
 use Rattle.calculus.specs.EnclosureLaws.{add-near, subtract-near, multiply-near, sweep-near}
 use Rattle.calculus.specs.RangeLaws.{range-encloses, in-box-encloses}
 use Rattle.calculus.specs.SubstituteLaws.{substitute-near}
+use Rattle.calculus.specs.QuotientLaws.{quotient-near, divisor-nonzero}
 use Rattle.calculus.specs.IntegralEndsLaws.{integral-encloses}
 use Rattle.calculus.specs.EachLaws.{Each, nil, each-length, each-snoc, each-at, each-last}
 use Rattle.calculus.specs.BookLaws.{Passes, Done, run-done, model-passes, model-vars, variable-inside, Ran}
 use Rattle.calculus.specs.BookLaws.{sound-ran, next-number}
-use Rattle.calculus.specs.OutcomeLaws.{outcomes-before, outcome-agrees}
+use Rattle.calculus.specs.OutcomeLaws.{outcomes-before, outcome-known}
 
 -- ---- an operation's result has the number of variables of its first operand
 add-vars : (f g : Model) → If-accepted (λ r. r .vars ≡ f .vars) (Op.add f g)
@@ -60,48 +61,60 @@ substitute-vars d i f g = require-accepted (range-in-box g) leaves-box _ (λ t.
     then-accepted (horner-vars d i f g (f .vars) (Op.largest-exponent i (f .terms)) _ refl)
     (λ r hr. limited-accepted {P = λ r. r .vars ≡ f .vars} _ hr))
 
--- ---- f follows m: a model in n variables that f is within
-record Follows (n : ℕ) (f : Function) (m : Model) : Type 0 where
-  vars : m .vars ≡ n
-  near : (x : Point) → In-box n x → Near m x (f x)
+quotient-vars : (d : ℕ) (f g h w : Model) → If-accepted (λ r. r .vars ≡ h .vars) (Op.quotient d f g h w)
+unfolding Op.quotient Op.certified Op.widen Op.bare
+quotient-vars d f g h w = then-accepted (always (tt {0}) _) (λ y _. then-accepted (always (tt {0}) _) (λ z _.
+    require-accepted _ uncertified _ (λ t. limited-accepted {P = λ r. r .vars ≡ h .vars} _ refl)))
 
-follows : {n : ℕ} {f : Function} {a : Answer Model} → If-accepted (λ m. m .vars ≡ n) a
-    → ((x : Point) → In-box n x → If-accepted (λ m. Near m x (f x)) a) → If-accepted (Follows n f) a
+-- ---- models of the book are in its variables, and what is some value is that value
+input-vars : (b : Book) → Passes b → (a : ℕ) → a < length (b .models) → model-of b a .vars ≡ b .vars
+input-vars b p a h = model-vars b (model-of b a) (model-passes b p a h)
+
+some-same : {p q : ℚ-Polynomial} → some p ≡ some q → p ≡ q
+some-same e = cc
+
+-- ---- o follows m: a model in n variables that the outcome is within
+record Follows (n : ℕ) (o : Outcome) (m : Model) : Type 0 where
+  vars : m .vars ≡ n
+  near : (x : Point) → In-box n x → Near m x (o .at x)
+
+follows : {n : ℕ} {o : Outcome} {a : Answer Model} → If-accepted (λ m. m .vars ≡ n) a
+    → ((x : Point) → In-box n x → If-accepted (λ m. Near m x (o .at x)) a) → If-accepted (Follows n o) a
 follows (holds e) h = holds (record { vars = e; near = λ x b. get (h x b) })
   where
     get : {P : Model → Type 0} {m : Model} → If-accepted P (accepted m) → P m
     get (holds p) = p
 follows vacuous h = vacuous
 
-module _ (b : Book) (p : Passes b) (F : ℕ → Function) (hF : All-within b F) where
+module _ (b : Book) (p : Passes b) (I : Inputs) (hI : All-within b I) where
   abbrev n : ℕ
   n = b .vars
 
-  zero-follows : Follows n (λ x. 0ℚ) (zero-model n)
-  unfolding zero-model
+  zero-follows : Follows n zero-outcome (zero-model n)
+  unfolding zero-model zero-outcome
   zero-follows = record { vars = refl; near = λ x h. zero-near n x }
 
-  operand : {fs : List Function} {results : List Model} → Each (Follows n) fs results
-      → (a : ℕ) → Follows n (outcome-of fs a) (result-of b results a)
+  operand : {os : List Outcome} {results : List Model} → Each (Follows n) os results
+      → (a : ℕ) → Follows n (outcome-of os a) (result-of b results a)
   unfolding outcome-of result-of
-  operand e a = each-at (Follows n) (λ x. 0ℚ) (zero-model n) zero-follows e a
+  operand e a = each-at (Follows n) zero-outcome (zero-model n) zero-follows e a
 
-  input-follows : (a : ℕ) → a < length (b .models) → Follows n (F a) (model-of b a)
+  input-follows : (a : ℕ) → a < length (b .models) → (x : Point) → In-box n x
+      → Near (model-of b a) x (input-outcome I a .at x)
   unfolding All-within Within
-  input-follows a h = record { vars = e; near = λ x hx. at-near _ x _ (hF a h x (subst (λ k. In-box k x) (sym e) hx)) }
-    where
-      e : model-of b a .vars ≡ n
-      e = model-vars b (model-of b a) (model-passes b p a h)
+  input-follows a h x hx = at-near _ x _ (hI a h x (subst (λ k. In-box k x) (sym (input-vars b p a h)) hx))
 
-  same-vars : {fs : List Function} {results : List Model} → Each (Follows n) fs results → (a : ℕ) {r : Answer Model}
+  same-vars : {os : List Outcome} {results : List Model} → Each (Follows n) os results → (a : ℕ) {r : Answer Model}
       → If-accepted (λ m. m .vars ≡ result-of b results a .vars) r → If-accepted (λ m. m .vars ≡ n) r
   same-vars e a h = weaken (λ m k. k ∙ operand e a .vars) h
 
-  step-follows : {fs : List Function} {results : List Model} (i : ℕ) (s : Step) → T (step-sound b i s)
-      → Each (Follows n) fs results → If-accepted (Follows n (step-outcome F (outcome-of fs) s))
+  step-follows : {os : List Outcome} {results : List Model} (i : ℕ) (s : Step) → T (step-sound b i s)
+      → Each (Follows n) os results → If-accepted (Follows n (step-outcome I (outcome-of os) s))
       (run-step b (result-of b results) s)
-  unfolding step-outcome run-step step-sound with-coordinate Op.constant Op.variable Op.negate Op.subtract Op.sweep
-  step-follows i (input a) t e = holds (input-follows a (ltb→lt a (length (b .models)) t))
+  unfolding step-outcome step-value run-step step-sound with-coordinate Op.constant Op.variable Op.negate Op.subtract
+      Op.sweep
+  step-follows i (input a) t e = let h = ltb→lt a (length (b .models)) t in
+      holds (record { vars = input-vars b p a h; near = input-follows a h })
   step-follows i (constant c) t e = holds (record { vars = refl; near = λ x hx. constant-near n c x })
   step-follows i (variable v) t e = holds
       (record { vars = refl; near = λ x hx. variable-near n v (variable-inside n v t) hx })
@@ -113,24 +126,34 @@ module _ (b : Book) (p : Passes b) (F : ℕ → Function) (hF : All-within b F) 
       (λ x hx. subtract-near _ _ x _ _ (operand e a .near x hx) (operand e c .near x hx))
   step-follows i (multiply a c) t e = follows (same-vars e a (multiply-vars (b .order) _ _))
       (λ x hx. multiply-near (b .order) _ _ _ _ hx (operand e a .near x hx) (operand e c .near x hx))
-  step-follows {fs} {results} i (substitute a c v) t e = follows (same-vars e a (substitute-vars (b .order) v _ _))
-      (λ x hx. substitute-near v (outcome-of fs c x) x (b .order) (result-of b results a)
+  step-follows {os} {results} i (substitute a c v) t e = follows (same-vars e a (substitute-vars (b .order) v _ _))
+      (λ x hx. substitute-near v (outcome-of os c .at x) x (b .order) (result-of b results a)
       (result-of b results c) hx (operand e c .near x hx) _
       (variable-inside n v (and-right (ltb a i && ltb c i) _ t))
       (λ hy. operand e a .near _ (box-replace ℚO (index-of v) _ hy hx)))
   step-follows i (sweep a c) t e =
       holds (record { vars = operand e a .vars; near = λ x hx. sweep-near (natAbs c) _ _ hx (operand e a .near x hx) })
+  step-follows i (quotient a c h w) t e = follows (same-vars e h (quotient-vars (b .order) _ _ _ _))
+      (λ x hx. quotient-near (b .order) _ _ _ _ _ _ hx (operand e a .near x hx) (operand e c .near x hx))
 
   -- a substitution that is accepted takes points of the box to points of the box
-  substitution-stays : {fs : List Function} {results : List Model} → Each (Follows n) fs results
+  substitution-stays : {os : List Outcome} {results : List Model} → Each (Follows n) os results
       → (a c v : ℕ) (x : Point) → In-box n x
-      → If-accepted (λ m. In-box n (with-coordinate v (outcome-of fs c x) x))
+      → If-accepted (λ m. In-box n (with-coordinate v (outcome-of os c .at x) x))
       (run-step b (result-of b results) (substitute a c v))
   unfolding run-step Op.substitute with-coordinate
-  substitution-stays {fs} {results} e a c v x hx = require-accepted
+  substitution-stays {os} {results} e a c v x hx = require-accepted
       (range-in-box (result-of b results c)) leaves-box _ (λ t.
       always (box-replace ℚO (index-of v) _
       (in-box-encloses (result-of b results c) _ hx t (operand e c .near x hx)) hx) _)
+
+  -- a quotient that is accepted divides by an outcome that is not zero
+  quotient-divides : {os : List Outcome} {results : List Model} → Each (Follows n) os results
+      → (a c h w : ℕ) (x : Point) → In-box n x
+      → If-accepted (λ m. outcome-of os c .at x ≡ 0ℚ → ⊥) (run-step b (result-of b results) (quotient a c h w))
+  unfolding run-step
+  quotient-divides e a c h w x hx =
+      divisor-nonzero (b .order) _ _ _ _ _ _ hx (operand e a .near x hx) (operand e c .near x hx)
 
   -- ---- along the steps
   first : (i : ℕ) (s : Step) (l : List Step) → T (all-from i (step-sound b) (s ∷ l)) → T (step-sound b i s)
@@ -143,60 +166,76 @@ module _ (b : Book) (p : Passes b) (F : ℕ → Function) (hF : All-within b F) 
   unfolding all-from
   next results m s l h = rw (next-number results m) (and-right (step-sound b (length results) s) _ h)
 
-  run-follows : (l : List Step) (fs : List Function) (results : List Model)
+  run-follows : (l : List Step) (os : List Outcome) (results : List Model)
       → T (all-from (length results) (step-sound b) l)
-      → Each (Follows n) fs results → If-done (Each (Follows n) (outcomes-after F fs l)) (run-steps b results l)
+      → Each (Follows n) os results → If-done (Each (Follows n) (outcomes-after I os l)) (run-steps b results l)
   unfolding outcomes-after run-steps
-  run-follows [] fs results h e = is-done e
-  run-follows (s ∷ l) fs results h e = followed-done
+  run-follows [] os results h e = is-done e
+  run-follows (s ∷ l) os results h e = followed-done
       (placed (length results) (step-follows (length results) s (first (length results) s l h) e))
-      (λ m hm. run-follows l (fs ++ (step-outcome F (outcome-of fs) s ∷ [])) (results ++ (m ∷ []))
+      (λ m hm. run-follows l (os ++ (step-outcome I (outcome-of os) s ∷ [])) (results ++ (m ∷ []))
       (next results m s l h) (each-snoc (Follows n) e hm))
 
-  earlier : (i a c v : ℕ) → T (step-sound b i (substitute a c v)) → c < i
-  unfolding step-sound
-  earlier i a c v t = ltb→lt c i (and-right (ltb a i) _ (and-left (ltb a i && ltb c i) _ t))
+  -- what the step s, where it is accepted, says of the outcome of an earlier step c holds along the run
+  module _ (s : Step) (c : ℕ) (P : Outcome → Type 0) (earlier : (i : ℕ) → T (step-sound b i s) → c < i)
+      (asked : (os : List Outcome) (results : List Model) → Each (Follows n) os results
+      → If-accepted (λ m. P (outcome-of os c)) (run-step b (result-of b results) s)) where
+    run-asked : (l : List Step) (os : List Outcome) (results : List Model)
+        → T (all-from (length results) (step-sound b) l)
+        → Each (Follows n) os results → (i : ℕ) → getElem? l i ≡ some s
+        → If-done (λ rs. P (outcome-of (outcomes-after I os l) c)) (run-steps b results l)
+    unfolding run-steps outcomes-after
+    run-asked [] os results h e i g = let z : _≡_ {A = ℕ} 0 1 = cc in absurd (omega arith)
+    run-asked (t ∷ l) os results h e zero g = followed-done
+        (placed (length results)
+        (subst (λ t. If-accepted (λ m. P (outcome-of os c)) (run-step b (result-of b results) t)) (sym is) (asked os results e)))
+        (λ m hm. constantly (subst P (sym (outcomes-before I os (t ∷ l) c before)) hm) _)
+      where
+        is : t ≡ s
+        is = cc
 
-  run-stays : (l : List Step) (fs : List Function) (results : List Model)
-      → T (all-from (length results) (step-sound b) l)
-      → Each (Follows n) fs results → (i a c v : ℕ) → getElem? l i ≡ some (substitute a c v) → (x : Point) → In-box n x
-      → If-done (λ rs. In-box n (with-coordinate v (outcome-of (outcomes-after F fs l) c x) x)) (run-steps b results l)
-  unfolding run-steps outcomes-after
-  run-stays [] fs results h e i a c v g x hx = let z : _≡_ {A = ℕ} 0 1 = cc in absurd (omega arith)
-  run-stays (s ∷ l) fs results h e zero a c v g x hx = followed-done
-      (placed (length results)
-      (subst (λ s. If-accepted (λ m. In-box n (with-coordinate v (outcome-of fs c x) x))
-      (run-step b (result-of b results) s))
-      (sym is) (substitution-stays e a c v x hx)))
-      (λ m hm. constantly
-      (subst (λ f. In-box n (with-coordinate v (f x) x)) (sym (outcomes-before F fs (s ∷ l) c before)) hm) _)
-    where
-      is : s ≡ substitute a c v
-      is = cc
+        before : c < length os
+        before = let q = earlier (length results)
+            (subst (λ t. T (step-sound b (length results) t)) is (first (length results) t l h)) in
+            let k = each-length (Follows n) e in omega arith
+    run-asked (t ∷ l) os results h e (suc i) g = followed-done
+        (placed (length results) (step-follows (length results) t (first (length results) t l h) e))
+        (λ m hm. run-asked l (os ++ (step-outcome I (outcome-of os) t ∷ [])) (results ++ (m ∷ []))
+        (next results m t l h) (each-snoc (Follows n) e hm) i g)
 
-      before : c < length fs
-      before = let q = earlier (length results) a c v
-          (subst (λ s. T (step-sound b (length results) s)) is (first (length results) s l h)) in
-          let k = each-length (Follows n) e in omega arith
-  run-stays (s ∷ l) fs results h e (suc i) a c v g x hx = followed-done
-      (placed (length results) (step-follows (length results) s (first (length results) s l h) e))
-      (λ m hm. run-stays l (fs ++ (step-outcome F (outcome-of fs) s ∷ [])) (results ++ (m ∷ []))
-      (next results m s l h) (each-snoc (Follows n) e hm)
-      i a c v g x hx)
+    all-asked : (r : Summary) → Ran b r → (i : ℕ) → getElem? (b .steps) i ≡ some s
+        → P (outcome-of (outcomes I (b .steps)) c)
+    unfolding outcomes
+    all-asked r ran i g = if-done (run-asked (b .steps) [] [] (p .steps) nil i g) (ran .ran)
 
   -- the last outcome follows the result
-  result-follows : (s : Summary) → Ran b s → Follows n (outcome F (b .steps)) (s .model)
+  result-follows : (s : Summary) → Ran b s → Follows n (outcome I (b .steps)) (s .model)
   unfolding outcome outcomes summary
-  result-follows s r = subst (λ (t : Summary). Follows n (last (λ x. 0ℚ) (outcomes-after F [] (b .steps))) (t .model))
+  result-follows s r = subst (λ (t : Summary). Follows n (last zero-outcome (outcomes-after I [] (b .steps))) (t .model))
       (r .is-summary)
-      (each-last (Follows n) (λ x. 0ℚ) (zero-model n) zero-follows
+      (each-last (Follows n) zero-outcome (zero-model n) zero-follows
       (if-done (run-follows (b .steps) [] [] (p .steps) nil) (r .ran)))
 
-  -- and every substitution stays in the box
+  -- every substitution stays in the box
+  substitution-before : (i a c v : ℕ) → T (step-sound b i (substitute a c v)) → c < i
+  unfolding step-sound
+  substitution-before i a c v t = ltb→lt c i (and-right (ltb a i) _ (and-left (ltb a i && ltb c i) _ t))
+
   substitutions-stay : (s : Summary) → Ran b s → (i a c v : ℕ) → getElem? (b .steps) i ≡ some (substitute a c v)
-      → (x : Point) → In-box n x → In-box n (with-coordinate v (outcome-of (outcomes F (b .steps)) c x) x)
-  unfolding outcomes
-  substitutions-stay s r i a c v g x hx = if-done (run-stays (b .steps) [] [] (p .steps) nil i a c v g x hx) (r .ran)
+      → (x : Point) → In-box n x → In-box n (with-coordinate v (outcome-of (outcomes I (b .steps)) c .at x) x)
+  substitutions-stay s r i a c v g x hx = all-asked (substitute a c v) c (λ o. In-box n (with-coordinate v (o .at x) x))
+      (λ j. substitution-before j a c v) (λ os rs e. substitution-stays e a c v x hx) s r i g
+
+  -- no quotient divides by zero
+  quotient-before : (i a c h w : ℕ) → T (step-sound b i (quotient a c h w)) → c < i
+  unfolding step-sound
+  quotient-before i a c h w t = ltb→lt c i (and-right (ltb a i) _
+      (and-left (ltb a i && ltb c i) _ (and-left (ltb a i && ltb c i && ltb h i) _ t)))
+
+  quotients-divide : (s : Summary) → Ran b s → (i a c h w : ℕ) → getElem? (b .steps) i ≡ some (quotient a c h w)
+      → (x : Point) → In-box n x → outcome-of (outcomes I (b .steps)) c .at x ≡ 0ℚ → ⊥
+  quotients-divide s r i a c h w g x hx = all-asked (quotient a c h w) c (λ o. o .at x ≡ 0ℚ → ⊥)
+      (λ j. quotient-before j a c h w) (λ os rs e. quotient-divides e a c h w x hx) s r i g
 
 -- ---- the claim
 summary-range : (b : Book) (s : Summary) → Ran b s → s .range ≡ range (s .model)
@@ -210,31 +249,35 @@ summary-integral b s r = subst (λ (t : Summary). t .integral ≡ integral (t .m
 -- it holds of every book that passes the tests and whose steps run
 pub claim-sound : (b : Book) (s : Summary) → Passes b → run-sound b ≡ done s → Claim b s
 claim-sound b s p h = record {
-  within-radius = λ F x g. near-at (s .model) x _ (result F (g .functions) .near x (g .point));
-  in-range = λ F x g. subst (Lies (outcome F (b .steps) x)) (sym (summary-range b s ran))
-      (range-encloses (s .model) _ (g .point) (result F (g .functions) .near x (g .point)));
-  stays-in-box = λ F x g i a c v e. substitutions-stay b p F (g .functions) s ran i a c v e x (g .point);
-  outcome-is-polynomial = λ Q. outcome-agrees b Q (p .steps);
-  integral-in-ends = λ Q hQ. integral-of Q (result (λ a. value-of (Q a)) hQ);
+  within-radius = λ I x g. near-at (s .model) x _ (result I (g .inputs) .near x (g .point));
+  in-range = λ I x g. subst (Lies (outcome I (b .steps) .at x)) (sym (summary-range b s ran))
+      (range-encloses (s .model) _ (g .point) (result I (g .inputs) .near x (g .point)));
+  stays-in-box = λ I x g i a c v e. substitutions-stay b p I (g .inputs) s ran i a c v e x (g .point);
+  never-zero = λ I x g i a c h w e. quotients-divide b p I (g .inputs) s ran i a c h w e x (g .point);
+  outcome-is-polynomial = λ Q z. outcome-known b Q (p .steps) z;
+  integral-in-ends = λ Q z hQ q m. integral-of Q q (outcome-known b Q (p .steps) z) m (result (polynomials Q) hQ);
 }
   where
     ran : Ran b s
     ran = sound-ran b s h
 
-    result : (F : ℕ → Function) → All-within b F → Follows (b .vars) (outcome F (b .steps)) (s .model)
-    result F hF = result-follows b p F hF s ran
+    result : (I : Inputs) → All-within b I → Follows (b .vars) (outcome I (b .steps)) (s .model)
+    result I hI = result-follows b p I hI s ran
 
-    integral-of : (Q : ℕ → ℚ-Polynomial) → Follows (b .vars) (outcome (λ a. value-of (Q a)) (b .steps)) (s .model)
-        → Lies (exact-integral (b .vars) (outcome-polynomial Q (b .steps))) (s .integral)
-    integral-of Q f = subst (Lies (exact-integral (b .vars) q)) (sym (summary-integral b s ran))
+    integral-of : (Q : ℕ → ℚ-Polynomial) (q : ℚ-Polynomial)
+        → Is-polynomial (b .vars) (outcome (polynomials Q) (b .steps))
+        → outcome (polynomials Q) (b .steps) .polynomial ≡ some q
+        → Follows (b .vars) (outcome (polynomials Q) (b .steps)) (s .model)
+        → Lies (exact-integral (b .vars) q) (s .integral)
+    integral-of Q q k m f = subst (Lies (exact-integral (b .vars) q)) (sym (summary-integral b s ran))
         (subst (λ k. Lies (exact-integral k q) (integral (s .model))) (f .vars) (integral-encloses (s .model) q at))
       where
-        q : ℚ-Polynomial
-        q = outcome-polynomial Q (b .steps)
+        is : k .polynomial ≡ q
+        is = some-same (sym (k .made) ∙ m)
 
         at : (x : Point) → In-box (s .model .vars) x → Near (s .model) x (value-of q x)
         at x hx = let hx′ : In-box (b .vars) x = subst (λ k. In-box k x) (f .vars) hx in
-            subst (Near (s .model) x) (outcome-agrees b Q (p .steps) x (box-length ℚO hx′)) (f .near x hx′)
+            subst (Near (s .model) x) (k .same x (box-length ℚO hx′) ∙ ap (λ q. value-of q x) is) (f .near x hx′)
 
 -- THE CLAIM holds of every accepted book
 pub claim : (b : Book) (s : Summary) → run b ≡ done s → Claim b s

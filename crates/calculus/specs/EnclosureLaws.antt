@@ -20,7 +20,7 @@ use Rattle.fixed.specs.Fixed.{U, span-limit}
 use Rattle.fixed.specs.FixedLaws.{round-up-ok}
 use Rattle.calculus.specs.Monomial.{degree, zeros, index-of, single}
 use Rattle.calculus.specs.Terms.{Terms, term, select, size, drop-zeros, collect}
-use Rattle.calculus.specs.Model.{Model, zero-model, most-terms, span, _/U, _-ℚ_, Point, In-box}
+use Rattle.calculus.specs.Model.{Model, zero-model, one-model, most-terms, span, _/U, _-ℚ_, Point, In-box}
 use Rattle.calculus.specs.Refusal.{over-span, too-many-terms}
 use Rattle.calculus.specs.Operations.{limited, constant, variable, negate, add, subtract, products, within-order}
 use Rattle.calculus.specs.Operations.{above-order, carried, rounding, swept, error, kept, multiply, is-small}
@@ -62,6 +62,11 @@ unfolding constant
 constant-near n v x = exact-near _ x _ refl
     (U-times v ∙ sym (scaled-drop-zeros x (term v (zeros n) ∷ []) ∙ scaled-one v (zeros n) x
     ∙ ap (λ z. whole v *ℚ z) (monomial-constant (zeros n) x (degree-zeros n)) ∙ ℚR .*-one (whole v)))
+
+pub one-near : (n : ℕ) (x : Point) → Near (one-model n) x (natural 1)
+unfolding one-model
+one-near n x = exact-near _ x (natural 1) refl (sym (scaled-one (pos U) (zeros n) x
+    ∙ ap (λ z. natural U *ℚ z) (monomial-constant (zeros n) x (degree-zeros n))))
 
 pub variable-near : (n v : ℕ) {x : Point} → index-of v < n → In-box n x → Near (variable n v) x (coordinate v x)
 unfolding variable

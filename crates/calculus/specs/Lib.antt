@@ -39,6 +39,7 @@ pub mod ValueLaws
 pub mod EnclosureLaws
 pub mod RangeLaws
 pub mod SubstituteLaws
+pub mod QuotientLaws
 pub mod EvaluateLaws
 pub mod IntegralEndsLaws
 -- The claim.

@@ -1,9 +1,11 @@
 -- The exact outcome of a book's steps: nothing is rounded and nothing comes from what the run keeps.
+use mathlib.Core.Bool.{Bool, true, false, not, _&&_}
 use mathlib.Core.List.{List, [], _∷_, _++_}
+use mathlib.Core.Option.{Option, some, none}
 use Prim.Native.Nat.{ℕ}
 use lib.IntN.{pos}
 use lib.ListN.{getD}
-use Rattle.algebra.specs.Rational.{ℚ, _+ℚ_, _*ℚ_, negℚ, whole}
+use Rattle.algebra.specs.Rational.{ℚ, _+ℚ_, _*ℚ_, negℚ, _/ℚ_, whole}
 use Rattle.algebra.specs.RationalRing.{ℚR}
 use Rattle.algebra.specs.RationalField.{ℚF}
 use Rattle.polynomial.specs.Polynomial as P
@@ -12,8 +14,9 @@ use Rattle.polynomial.specs.Integral as I
 use Rattle.calculus.specs.Monomial.{index-of, single}
 use Rattle.calculus.specs.Model.{_/U, _-ℚ_, Point}
 use Rattle.calculus.specs.Book.{Step, input, constant, variable, negate, add, subtract, multiply, substitute}
-use Rattle.calculus.specs.Book.{sweep, last}
+use Rattle.calculus.specs.Book.{sweep, quotient, last}
 
+-- ---- functions of the point, and polynomials
 -- from points to fractions. ℚ is a quotient, so fractions that are equal by cross-multiplying are one and the same:
 -- every function gives one value at equal points, however their coordinates are written.
 abbrev pub Function : Type 0
@@ -31,37 +34,6 @@ coordinate v x = getD x (index-of v) 0ℚ
 unfoldable pub with-coordinate : (v : ℕ) (y : ℚ) → Point → Point
 with-coordinate v y x = replace (index-of v) y x
 
--- ---- as functions of the point, from F a, the function within model a
--- the outcome of a step, where f a is the outcome of step a
-unfoldable pub step-outcome : (F : ℕ → Function) (f : ℕ → Function) → Step → Function
-step-outcome F f (input a) x = F a x
-step-outcome F f (constant value) x = value /U
-step-outcome F f (variable v) x = coordinate v x
-step-outcome F f (negate a) x = negℚ (f a x)
-step-outcome F f (add a b) x = f a x +ℚ f b x
-step-outcome F f (subtract a b) x = f a x -ℚ f b x
-step-outcome F f (multiply a b) x = f a x *ℚ f b x
-step-outcome F f (substitute a b v) x = f a (with-coordinate v (f b x) x)
-step-outcome F f (sweep a value) x = f a x
-
--- the outcome of step a, from the outcomes so far; test 6 keeps the default out of reach
-unfoldable pub outcome-of : List Function → (a : ℕ) → Function
-outcome-of fs a = getD fs a (λ x. 0ℚ)
-
--- those of steps in order, each after the outcomes so far
-unfoldable pub outcomes-after : (F : ℕ → Function) (fs : List Function) → List Step → List Function
-outcomes-after F fs [] = fs
-outcomes-after F fs (s ∷ l) = outcomes-after F (fs ++ (step-outcome F (outcome-of fs) s ∷ [])) l
-
--- those of all steps
-unfoldable pub outcomes : (F : ℕ → Function) → List Step → List Function
-outcomes F = outcomes-after F []
-
--- that of the last
-unfoldable pub outcome : (F : ℕ → Function) → List Step → Function
-outcome F l = last (λ x. 0ℚ) (outcomes F l)
-
--- ---- as polynomials, from Q a, the polynomial for model a
 -- any list of terms with fractions for coefficients. Exponents after the n-th count neither in the value nor in the
 -- integral, and missing ones are 0: the polynomials in n variables are among these, so what holds of all holds of them.
 abbrev pub ℚ-Polynomial : Type 0
@@ -71,31 +43,107 @@ abbrev pub ℚ-Polynomial : Type 0
 unfoldable pub value-of : ℚ-Polynomial → Function
 value-of q x = eval ℚR q x
 
--- the polynomial of a step, where q a is that of step a; that of a variable ends with its exponent, later ones are 0
-unfoldable pub step-polynomial : (Q : ℕ → ℚ-Polynomial) (q : ℕ → ℚ-Polynomial) → Step → ℚ-Polynomial
-step-polynomial Q q (input a) = Q a
-step-polynomial Q q (constant value) = P.constant ℚR (value /U)
-step-polynomial Q q (variable v) = record { coefficient = whole (pos 1); exponents = single v v } ∷ []
-step-polynomial Q q (negate a) = P.negation ℚR (q a)
-step-polynomial Q q (add a b) = P.sum ℚR (q a) (q b)
-step-polynomial Q q (subtract a b) = P.sum ℚR (q a) (P.negation ℚR (q b))
-step-polynomial Q q (multiply a b) = P.product ℚR (q a) (q b)
-step-polynomial Q q (substitute a b v) = P.substitute ℚR (index-of v) (q b) (q a)
-step-polynomial Q q (sweep a value) = q a
-
--- the polynomial of step a, from the polynomials so far; test 6 keeps the default out of reach
-unfoldable pub polynomial-of : List ℚ-Polynomial → (a : ℕ) → ℚ-Polynomial
-polynomial-of qs a = getD qs a []
-
--- those of steps in order, each after the polynomials so far
-unfoldable pub polynomials-after : (Q : ℕ → ℚ-Polynomial) (qs : List ℚ-Polynomial) → List Step → List ℚ-Polynomial
-polynomials-after Q qs [] = qs
-polynomials-after Q qs (s ∷ l) = polynomials-after Q (qs ++ (step-polynomial Q (polynomial-of qs) s ∷ [])) l
-
--- that of the last
-unfoldable pub outcome-polynomial : (Q : ℕ → ℚ-Polynomial) → List Step → ℚ-Polynomial
-outcome-polynomial Q l = last [] (polynomials-after Q [] l)
-
 -- its integral over the box, summed over its terms
 unfoldable pub exact-integral : (n : ℕ) → ℚ-Polynomial → ℚ
 exact-integral = I.integral ℚF
+
+-- ---- outcomes
+-- a function of the point and, where it is made as one, a polynomial
+pub record Outcome : Type 0 where
+  pub at : Function
+  pub polynomial : Option ℚ-Polynomial
+
+-- what the outcomes are made from: a function F a for each model a, or a polynomial Q a
+pub data Inputs : Type 0 where
+  functions : (F : ℕ → Function) → Inputs
+  polynomials : (Q : ℕ → ℚ-Polynomial) → Inputs
+
+-- that of model a
+unfoldable pub input-outcome : Inputs → (a : ℕ) → Outcome
+input-outcome (functions F) a = record { at = F a; polynomial = none }
+input-outcome (polynomials Q) a = record { at = value-of (Q a); polynomial = some (Q a) }
+
+-- the value of a step's outcome at the point, where f a is the outcome of step a
+unfoldable pub step-value : Inputs → (f : ℕ → Outcome) → Step → Function
+step-value I f (input a) x = input-outcome I a .at x
+step-value I f (constant value) x = value /U
+step-value I f (variable v) x = coordinate v x
+step-value I f (negate a) x = negℚ (f a .at x)
+step-value I f (add a b) x = f a .at x +ℚ f b .at x
+step-value I f (subtract a b) x = f a .at x -ℚ f b .at x
+step-value I f (multiply a b) x = f a .at x *ℚ f b .at x
+step-value I f (substitute a b v) x = f a .at (with-coordinate v (f b .at x) x)
+step-value I f (sweep a value) x = f a .at x
+step-value I f (quotient a b h w) x = f a .at x /ℚ f b .at x
+
+-- ---- the same steps done on polynomials
+-- with a polynomial that is there
+unfoldable pub mapped : (ℚ-Polynomial → ℚ-Polynomial) → Option ℚ-Polynomial → Option ℚ-Polynomial
+mapped f none = none
+mapped f (some p) = some (f p)
+
+-- with two that are there
+unfoldable pub joined : (ℚ-Polynomial → ℚ-Polynomial → ℚ-Polynomial) → (p q : Option ℚ-Polynomial)
+    → Option ℚ-Polynomial
+joined f none q = none
+joined f (some p) q = mapped (f p) q
+
+-- the polynomial of a step's outcome, from those of its operands; a quotient has none, and that of a variable ends with
+-- its exponent, later ones are 0
+unfoldable pub step-polynomial : Inputs → (f : ℕ → Outcome) → Step → Option ℚ-Polynomial
+step-polynomial I f (input a) = input-outcome I a .polynomial
+step-polynomial I f (constant value) = some (P.constant ℚR (value /U))
+step-polynomial I f (variable v) = some (record { coefficient = whole (pos 1); exponents = single v v } ∷ [])
+step-polynomial I f (negate a) = mapped (P.negation ℚR) (f a .polynomial)
+step-polynomial I f (add a b) = joined (P.sum ℚR) (f a .polynomial) (f b .polynomial)
+step-polynomial I f (subtract a b) = joined (λ p q. P.sum ℚR p (P.negation ℚR q)) (f a .polynomial) (f b .polynomial)
+step-polynomial I f (multiply a b) = joined (P.product ℚR) (f a .polynomial) (f b .polynomial)
+step-polynomial I f (substitute a b v) =
+    joined (λ p q. P.substitute ℚR (index-of v) q p) (f a .polynomial) (f b .polynomial)
+step-polynomial I f (sweep a value) = f a .polynomial
+step-polynomial I f (quotient a b h w) = none
+
+-- ---- the steps in order
+-- the outcome of a step
+unfoldable pub step-outcome : Inputs → (f : ℕ → Outcome) → Step → Outcome
+step-outcome I f s = record { at = step-value I f s; polynomial = step-polynomial I f s }
+
+-- 0 everywhere
+unfoldable pub zero-outcome : Outcome
+zero-outcome = record { at = λ x. 0ℚ; polynomial = some [] }
+
+-- the outcome of step a, from the outcomes so far; test 6 keeps the default out of reach
+unfoldable pub outcome-of : List Outcome → (a : ℕ) → Outcome
+outcome-of os a = getD os a zero-outcome
+
+-- those of steps in order, each after the outcomes so far
+unfoldable pub outcomes-after : Inputs → List Outcome → List Step → List Outcome
+outcomes-after I os [] = os
+outcomes-after I os (s ∷ l) = outcomes-after I (os ++ (step-outcome I (outcome-of os) s ∷ [])) l
+
+-- those of all steps
+unfoldable pub outcomes : Inputs → List Step → List Outcome
+outcomes I = outcomes-after I []
+
+-- that of the last
+unfoldable pub outcome : Inputs → List Step → Outcome
+outcome I l = last zero-outcome (outcomes I l)
+
+-- ---- steps without a quotient
+-- whether a step is one
+unfoldable pub is-quotient : Step → Bool
+is-quotient (input a) = false
+is-quotient (constant value) = false
+is-quotient (variable v) = false
+is-quotient (negate a) = false
+is-quotient (add a b) = false
+is-quotient (subtract a b) = false
+is-quotient (multiply a b) = false
+is-quotient (substitute a b v) = false
+is-quotient (sweep a value) = false
+is-quotient (quotient a b h w) = true
+
+-- whether none is
+unfoldable pub no-quotient : List Step → Bool
+no-quotient [] = true
+no-quotient (s ∷ l) = not (is-quotient s) && no-quotient l

@@ -40,7 +40,7 @@ scaled-value p x = sum-over _+ℚ_ (natural 0) (term-value x) p
 unfoldable pub Near : Model → Point → ℚ → Type 0
 Near m x y = abs ℚO (natural U *ℚ y -ℚ scaled-value (m .terms) x) ≤ℚ natural (m .radius)
 
-U-value : (m : Model) (x : Point) → natural U *ℚ value m x ≡ scaled-value (m .terms) x
+pub U-value : (m : Model) (x : Point) → natural U *ℚ value m x ≡ scaled-value (m .terms) x
 unfolding value polynomial eval scaled-value sum-over
 U-value m x = go (m .terms)
   where
