@@ -28,9 +28,9 @@ use Rattle.calculus.specs.Model.{Within}
 use Rattle.calculus.specs.Operations as Op
 use Rattle.calculus.specs.Operations.{Ends, zero-ends}
 use Rattle.calculus.specs.Book.{constant, negate, Book, model-of, last}
-use Rattle.calculus.specs.Outcome.{Function, 0ℚ, step-outcome, outcome-of, outcomes-after, outcomes, outcome}
-use Rattle.calculus.specs.Outcome.{ℚ-Polynomial, value-of, step-polynomial, polynomials-after}
-use Rattle.calculus.specs.Outcome.{outcome-polynomial, exact-integral}
+use Rattle.calculus.specs.Outcome.{Function, 0ℚ, ℚ-Polynomial, value-of, exact-integral, functions, polynomials}
+use Rattle.calculus.specs.Outcome.{input-outcome, step-value, step-polynomial, step-outcome, outcome-of}
+use Rattle.calculus.specs.Outcome.{outcomes-after, outcomes, outcome, is-quotient, no-quotient}
 use Rattle.calculus.specs.Claim.{Lies, All-within, Given, Claim}
 use Rattle.calculus.specs.UnitLaws.{natural, natural-*, natural-≤, natural-nonneg, abs-whole, U-times}
 use Rattle.calculus.specs.UnitLaws.{U-cancel}
@@ -47,8 +47,8 @@ own b a = value (model-of b a)
 pub radius-nonneg : (e : ℕ) → natural 0 ≤ℚ pos e /U
 radius-nonneg e = U-cancel (natural 0) (pos e /U) (*-zero ℚR (natural U) ≡≤ natural-nonneg e ≤≡ sym (U-times (pos e)))
 
-pub own-within : (b : Book) → All-within b (own b)
-unfolding All-within Within At distance own
+pub own-within : (b : Book) → All-within b (functions (own b))
+unfolding All-within Within At distance own input-outcome
 own-within b a h x hx = ap (abs ℚO) (+-neg (value (model-of b a) x))
     ≡≤ abs-zero
     ≤≤ radius-nonneg (model-of b a .radius)
@@ -57,8 +57,8 @@ own-within b a h x hx = ap (abs ℚO) (+-neg (value (model-of b a) x))
 unfoldable pub own-polynomial : Book → ℕ → ℚ-Polynomial
 own-polynomial b a = polynomial (model-of b a)
 
-pub own-polynomial-within : (b : Book) → All-within b (λ a. value-of (own-polynomial b a))
-unfolding own-polynomial value-of value own All-within Within
+pub own-polynomial-within : (b : Book) → All-within b (polynomials (own-polynomial b))
+unfolding own-polynomial value-of value own All-within Within input-outcome
 own-polynomial-within b = own-within b
 
 -- a point: all coordinates 0
@@ -70,8 +70,8 @@ unfolding origin
 origin-inside zero = none
 origin-inside (suc n) = more (abs-zero ≤≤ natural-≤ 0 1 (omega arith)) (origin-inside n)
 
-pub own-given : (b : Book) → Given b (own b) (origin (b .vars))
-own-given b = record { functions = own-within b; point = origin-inside (b .vars) }
+pub own-given : (b : Book) → Given b (functions (own b)) (origin (b .vars))
+own-given b = record { inputs = own-within b; point = origin-inside (b .vars) }
 
 -- ---- each band alone refutes a wrong answer
 -- an inequality of whole numbers that is false
@@ -94,11 +94,11 @@ one-step ms = record { vars = 1; order = 1; models = ms; steps = constant (pos 1
 -- the zero model is not its result
 pub radius-refutes : (ms : List Model) (n : ℕ) (r i : Ends)
     → Claim (one-step ms) (record { model = zero-model n; range = r; integral = i }) → ⊥
-unfolding one-step outcome outcomes outcomes-after step-outcome last zero-model
+unfolding one-step outcome outcomes outcomes-after step-outcome step-value last zero-model
 radius-refutes ms n r i c = false-≤ 1 0 (omega arith) (sym (abs-whole (pos 1)) ≡≤ ap (abs ℚO) (sym difference) ≡≤ near)
   where
     at : At (zero-model n) (origin 1) (pos 1 /U)
-    at = c .within-radius (own (one-step ms)) (origin 1) (own-given (one-step ms))
+    at = c .within-radius (functions (own (one-step ms))) (origin 1) (own-given (one-step ms))
 
     near : abs ℚO (natural U *ℚ pos 1 /U -ℚ natural U *ℚ 0ℚ) ≤ℚ natural 0
     near = both-near (zero-model n) (zero-model n) (origin 1) (pos 1 /U) 0ℚ refl
@@ -110,20 +110,22 @@ radius-refutes ms n r i c = false-≤ 1 0 (omega arith) (sym (abs-whole (pos 1))
 -- 0 to 0 is not its range
 pub range-refutes : (m : Model) (i : Ends)
     → Claim (one-step []) (record { model = m; range = zero-ends; integral = i }) → ⊥
-unfolding one-step zero-ends outcome outcomes outcomes-after step-outcome last
+unfolding one-step zero-ends outcome outcomes outcomes-after step-outcome step-value last
 range-refutes m i c = false-≤ 1 0 (omega arith) (sym (U-times (pos 1)) ≡≤ lies .to)
   where
     lies : Lies (pos 1 /U) zero-ends
-    lies = c .in-range (own (one-step [])) (origin 1) (own-given (one-step []))
+    lies = c .in-range (functions (own (one-step []))) (origin 1) (own-given (one-step []))
 
 -- 0 to 0 is not its integral
 pub integral-refutes : (m : Model) (r : Ends)
     → Claim (one-step []) (record { model = m; range = r; integral = zero-ends }) → ⊥
-unfolding one-step zero-ends outcome-polynomial polynomials-after step-polynomial last exact-integral
+unfolding one-step zero-ends outcome outcomes outcomes-after step-outcome step-polynomial last exact-integral
+    no-quotient is-quotient
 integral-refutes m r c = false-≤ 2 0 (omega arith) (sym amount ≡≤ lies .to)
   where
     lies : Lies (exact-integral 1 (P.constant ℚR (pos 1 /U))) zero-ends
-    lies = c .integral-in-ends (own-polynomial (one-step [])) (own-polynomial-within (one-step []))
+    lies = c .integral-in-ends (own-polynomial (one-step [])) tt (own-polynomial-within (one-step []))
+        (P.constant ℚR (pos 1 /U)) refl
 
     amount : natural U *ℚ exact-integral 1 (P.constant ℚR (pos 1 /U)) ≡ natural 2
     amount = ap (λ z. natural U *ℚ z) (integral-constant ℚF 1 (pos 1 /U))
@@ -142,14 +144,14 @@ negated = record { vars = 1; order = 1; models = []; steps = constant (pos 1) �
 -- the model of 1 / U is not its result
 pub passing-refuted : (r i : Ends)
     → Claim negated (record { model = Op.constant 1 (pos 1); range = r; integral = i }) → ⊥
-unfolding negated outcome outcomes outcomes-after step-outcome outcome-of last
+unfolding negated outcome outcomes outcomes-after step-outcome step-value outcome-of last
 passing-refuted r i c = false-≤ 2 0 (omega arith) (sym (abs-whole (negsuc 1)) ≡≤ ap (abs ℚO) (sym difference) ≡≤ near)
   where
     m : Model
     m = Op.constant 1 (pos 1)
 
     at : At m (origin 1) (negℚ (pos 1 /U))
-    at = c .within-radius (own negated) (origin 1) (own-given negated)
+    at = c .within-radius (functions (own negated)) (origin 1) (own-given negated)
 
     near : abs ℚO (natural U *ℚ negℚ (pos 1 /U) -ℚ natural U *ℚ pos 1 /U) ≤ℚ natural 0
     near = unfold Op.constant in both-near m m (origin 1) (negℚ (pos 1 /U)) (pos 1 /U) refl

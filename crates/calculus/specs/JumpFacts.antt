@@ -33,8 +33,9 @@ use Rattle.calculus.specs.Refusal.{done}
 use Rattle.calculus.specs.Operations.{Ends}
 use Rattle.calculus.specs.Book.{input, constant, variable, negate, add, multiply, substitute, sweep, Book}
 use Rattle.calculus.specs.Book.{model-of, Summary, summary, last, run}
-use Rattle.calculus.specs.Outcome.{Function, 0ℚ, coordinate, with-coordinate, step-outcome, outcome-of}
-use Rattle.calculus.specs.Outcome.{outcomes-after, outcomes, outcome, ℚ-Polynomial, value-of}
+use Rattle.calculus.specs.Outcome.{Function, 0ℚ, coordinate, with-coordinate, ℚ-Polynomial, value-of, Inputs}
+use Rattle.calculus.specs.Outcome.{functions, input-outcome, step-value, step-outcome, outcome-of}
+use Rattle.calculus.specs.Outcome.{outcomes-after, outcomes, outcome}
 use Rattle.calculus.specs.Claim.{All-within, Given, Claim}
 use Rattle.calculus.specs.Computing.{runs}
 use Rattle.calculus.specs.UnitLaws.{natural, natural-≤, abs-whole, U-times, U-times-≤}
@@ -68,8 +69,8 @@ height-fits up m = equal (abs-pos ℚO (radius-nonneg (m .radius)))
 height-fits down m = abs-neg-eq ℚO _ ≡≤ equal (abs-pos ℚO (radius-nonneg (m .radius)))
 
 -- they are within the models of every book
-pub jumping-within : (j : Jump) (b : Book) → All-within b (jumping j b)
-unfolding All-within Within jumping
+pub jumping-within : (j : Jump) (b : Book) → All-within b (functions (jumping j b))
+unfolding All-within Within jumping input-outcome
 jumping-within j b a h x hx = go (leℚ (coordinate 1 x) 0ℚ)
   where
     m : Model
@@ -114,10 +115,10 @@ woven-runs = refl
 
 -- the outcome with such functions, at the point -1
 unfoldable pub woven-outcome : Jump → ℚ
-woven-outcome j = outcome (jumping j woven) (woven .steps) left
+woven-outcome j = outcome (functions (jumping j woven)) (woven .steps) .at left
 
-pub given : (j : Jump) → Given woven (jumping j woven) left
-given j = record { functions = jumping-within j woven; point = unfold woven in left-inside }
+pub given : (j : Jump) → Given woven (functions (jumping j woven)) left
+given j = record { inputs = jumping-within j woven; point = unfold woven in left-inside }
 
 -- times U it is F(1) - 5 at the point -1, with 3 or -3 for F(1)
 module _ (j : Jump) where
@@ -129,8 +130,8 @@ module _ (j : Jump) where
   above t = elim t [ true ↦ 0ℚ | false ↦ 0ℚ +ℚ e ]
 
   at-left : woven-outcome j ≡ (0ℚ +ℚ e) *ℚ natural 1 +ℚ whole (negsuc 0) *ℚ pos 5 /U
-  unfolding woven-outcome woven left outcome outcomes outcomes-after step-outcome outcome-of last with-coordinate
-      coordinate index-of replace jumping own model-of value polynomial eval above
+  unfolding woven-outcome woven left outcome outcomes outcomes-after step-outcome step-value input-outcome
+      outcome-of last with-coordinate coordinate index-of replace jumping own model-of value polynomial eval above
   at-left = ap (λ y. jumping j woven 0 (y ∷ []) *ℚ y +ℚ whole (negsuc 0) *ℚ pos 5 /U) (sym (whole-neg (negsuc 0)))
       ∙ ap (λ t. above t *ℚ natural 1 +ℚ whole (negsuc 0) *ℚ pos 5 /U) one-above
 
@@ -155,17 +156,17 @@ outcome-down = scaled down (negsuc 2) (ring 2 ℚR (λ u a. u ⊠ ⊝ a) (λ u a
 -- the outcome lies within the radius 8 of the result; downwards it reaches it
 pub woven-claimed : (j : Jump) → At woven-result left (woven-outcome j)
 unfolding woven-outcome summary
-woven-claimed j = claim woven (summary woven-result) woven-runs .within-radius (jumping j woven) left (given j)
+woven-claimed j = claim woven (summary woven-result) woven-runs .within-radius (functions (jumping j woven)) left (given j)
 
 -- the low end of a range is at most -8
 pub low-end : (s : Summary) → Claim woven s → (s .range .low) ≤ℤ negsuc 7
 unfolding woven-outcome
 low-end s c = ≤-whole (s .range .low) (negsuc 7)
-    (c .in-range (jumping down woven) left (given down) .from ≤≡ outcome-down)
+    (c .in-range (functions (jumping down woven)) left (given down) .from ≤≡ outcome-down)
 
 near : (s : Summary) → Claim woven s → (j : Jump) → Near (s .model) left (woven-outcome j)
 unfolding woven-outcome
-near s c j = at-near (s .model) left (woven-outcome j) (c .within-radius (jumping j woven) left (given j))
+near s c j = at-near (s .model) left (woven-outcome j) (c .within-radius (functions (jumping j woven)) left (given j))
 
 -- |z| ≤ n, of fractions and so of whole numbers
 bounded : (z : ℤ) (n : ℕ) (y : ℚ) → y ≡ whole z → abs ℚO y ≤ℚ natural n → natAbs z ≤ n
@@ -278,9 +279,9 @@ unfolding runs put-zero
 put-zero-runs = refl
 
 -- if the outcome of step 0 were taken at the point as it is, the claim would be false of this accepted book
-pub same-point-refuted : ((F : ℕ → Function) (x : Point) → Given put-zero F x
-    → At (zero-model 1) x (outcome-of (outcomes F (put-zero .steps)) 0 x)) → ⊥
-unfolding put-zero outcomes outcomes-after step-outcome outcome-of coordinate index-of
+pub same-point-refuted : ((I : Inputs) (x : Point) → Given put-zero I x
+    → At (zero-model 1) x (outcome-of (outcomes I (put-zero .steps)) 0 .at x)) → ⊥
+unfolding put-zero outcomes outcomes-after step-outcome step-value outcome-of coordinate index-of
 same-point-refuted h = let k : U ≤ 0 = unfold zero-model in bounded (pos U) 0 _ apart
     (both-near (zero-model 1) (zero-model 1) right _ 0ℚ refl (at-near (zero-model 1) right _ at) (zero-near 1 right)) in
     omega (arith, U-suc)
@@ -289,8 +290,8 @@ same-point-refuted h = let k : U ≤ 0 = unfold zero-model in bounded (pos U) 0 
     right = natural 1 ∷ []
 
     at : At (zero-model 1) right (natural 1)
-    at = h (own put-zero) right (record {
-      functions = own-within put-zero;
+    at = h (functions (own put-zero)) right (record {
+      inputs = own-within put-zero;
       point = more (equal (abs-whole (pos 1))) none;
     })
 
