@@ -89,10 +89,8 @@ call-substitute d i f g =
 -- 5 at places 0 to 3, 10
 unfoldable pub require-four : {A : Type 0} → (d : ℕ) (f g h w : Model) → Result A → Result A
 require-four d f g h w a =
-    require-at 0 (sound d f) bad-model
-    (require-at 1 (sound d g) bad-model
-    (require-at 2 (sound d h) bad-model
-    (require-at 3 (sound d w) bad-model
+    require-at 0 (sound d f) bad-model (require-at 1 (sound d g) bad-model
+    (require-at 2 (sound d h) bad-model (require-at 3 (sound d w) bad-model
     (require-at 0 (eqb (f .vars) (g .vars) && eqb (f .vars) (h .vars) && eqb (f .vars) (w .vars)) variables-differ a))))
 
 -- 3, 5 four times, 10, then the first 8 or 7 of the forms, 12, 7

@@ -1,5 +1,5 @@
 -- The proof of the claim: along the steps, each outcome so far is within its result.
-use mathlib.Core.Path.{_≡_, refl, sym, _∙_, ap, subst}
+use mathlib.Core.Path.{_≡_, refl, sym, _∙_, subst}
 use mathlib.Core.Bool.{_&&_}
 use mathlib.Core.List.{List, [], _∷_, _++_}
 use mathlib.Core.Option.{some}
@@ -20,8 +20,8 @@ use Rattle.calculus.specs.Book.{sweep, quotient, Book, step-sound, model
 use Rattle.calculus.specs.Book.{Summary, summary, last, run-sound, run}
 use Rattle.calculus.specs.Outcome.{0ℚ, with-coordinate, ℚ-Polynomial, value-of, exact-integral, Outcome, Inputs}
 use Rattle.calculus.specs.Outcome.{polynomials, input-outcome, step-value, step-outcome, zero-outcome, outcome-of}
-use Rattle.calculus.specs.Outcome.{outcomes-after, outcomes, outcome, no-quotient}
-use Rattle.calculus.specs.Claim.{Lies, All-within, Is-polynomial, Claim}
+use Rattle.calculus.specs.Outcome.{outcomes-after, outcomes, outcome}
+use Rattle.calculus.specs.Claim.{Lies, All-within, Claim}
 use Rattle.calculus.specs.TestLaws.{and-left, and-right}
 use Rattle.calculus.specs.RefusalLaws.{If-accepted, holds, vacuous, require-accepted, then-accepted, weaken}
 use Rattle.calculus.specs.RefusalLaws.{always, If-done, is-done, if-done, followed-done, placed, constantly}
@@ -36,7 +36,7 @@ use Rattle.calculus.specs.IntegralEndsLaws.{integral-encloses}
 use Rattle.calculus.specs.EachLaws.{Each, nil, each-length, each-snoc, each-at, each-last}
 use Rattle.calculus.specs.BookLaws.{Passes, Done, run-done, model-passes, model-vars, variable-inside, Ran}
 use Rattle.calculus.specs.BookLaws.{sound-ran, next-number}
-use Rattle.calculus.specs.OutcomeLaws.{outcomes-before, outcome-known}
+use Rattle.calculus.specs.OutcomeLaws.{outcomes-before, polynomial-agrees, outcome-known}
 
 -- ---- an operation's result has the number of variables of its first operand
 add-vars : (f g : Model) → If-accepted (λ r. r .vars ≡ f .vars) (Op.add f g)
@@ -66,12 +66,9 @@ unfolding Op.quotient Op.certified Op.widen Op.bare
 quotient-vars d f g h w = then-accepted (always (tt {0}) _) (λ y _. then-accepted (always (tt {0}) _) (λ z _.
     require-accepted _ uncertified _ (λ t. limited-accepted {P = λ r. r .vars ≡ h .vars} _ refl)))
 
--- ---- models of the book are in its variables, and what is some value is that value
+-- the models of a book are in its variables
 input-vars : (b : Book) → Passes b → (a : ℕ) → a < length (b .models) → model-of b a .vars ≡ b .vars
 input-vars b p a h = model-vars b (model-of b a) (model-passes b p a h)
-
-some-same : {p q : ℚ-Polynomial} → some p ≡ some q → p ≡ q
-some-same e = cc
 
 -- ---- o follows m: a model in n variables that the outcome is within
 record Follows (n : ℕ) (o : Outcome) (m : Model) : Type 0 where
@@ -254,8 +251,8 @@ claim-sound b s p h = record {
       (range-encloses (s .model) _ (g .point) (result I (g .inputs) .near x (g .point)));
   stays-in-box = λ I x g i a c v e. substitutions-stay b p I (g .inputs) s ran i a c v e x (g .point);
   never-zero = λ I x g i a c h w e. quotients-divide b p I (g .inputs) s ran i a c h w e x (g .point);
-  outcome-is-polynomial = λ Q z. outcome-known b Q (p .steps) z;
-  integral-in-ends = λ Q z hQ q m. integral-of Q q (outcome-known b Q (p .steps) z) m (result (polynomials Q) hQ);
+  outcome-is-polynomial = λ Q z. outcome-known Q b (p .steps) z;
+  integral-in-ends = λ Q z hQ q m. integral-of Q q m (result (polynomials Q) hQ);
 }
   where
     ran : Ran b s
@@ -264,20 +261,16 @@ claim-sound b s p h = record {
     result : (I : Inputs) → All-within b I → Follows (b .vars) (outcome I (b .steps)) (s .model)
     result I hI = result-follows b p I hI s ran
 
-    integral-of : (Q : ℕ → ℚ-Polynomial) (q : ℚ-Polynomial)
-        → Is-polynomial (b .vars) (outcome (polynomials Q) (b .steps))
-        → outcome (polynomials Q) (b .steps) .polynomial ≡ some q
+    integral-of : (Q : ℕ → ℚ-Polynomial) (q : ℚ-Polynomial) → outcome (polynomials Q) (b .steps) .polynomial ≡ some q
         → Follows (b .vars) (outcome (polynomials Q) (b .steps)) (s .model)
         → Lies (exact-integral (b .vars) q) (s .integral)
-    integral-of Q q k m f = subst (Lies (exact-integral (b .vars) q)) (sym (summary-integral b s ran))
+    integral-of Q q m f = subst (Lies (exact-integral (b .vars) q)) (sym (summary-integral b s ran))
         (subst (λ k. Lies (exact-integral k q) (integral (s .model))) (f .vars) (integral-encloses (s .model) q at))
       where
-        is : k .polynomial ≡ q
-        is = some-same (sym (k .made) ∙ m)
-
         at : (x : Point) → In-box (s .model .vars) x → Near (s .model) x (value-of q x)
         at x hx = let hx′ : In-box (b .vars) x = subst (λ k. In-box k x) (f .vars) hx in
-            subst (Near (s .model) x) (k .same x (box-length ℚO hx′) ∙ ap (λ q. value-of q x) is) (f .near x hx′)
+            subst (Near (s .model) x) (polynomial-agrees b (polynomials Q) (p .steps) q m x (box-length ℚO hx′))
+            (f .near x hx′)
 
 -- THE CLAIM holds of every accepted book
 pub claim : (b : Book) (s : Summary) → run b ≡ done s → Claim b s

@@ -27,7 +27,7 @@ unfolding
     K.decode K.key-width
     T.every T.select T.sum-over T.size T.map-coefficients T.map-monomials
     T.rising-from T.rising T.is-nonzero T.nonzero T.drop-zeros T.insert T.collect
-    M.zero-model M.most-vars M.most-degree M.most-terms M.between M.span M.fits M.sound
+    M.zero-model M.one-model M.most-vars M.most-degree M.most-terms M.between M.span M.fits M.sound
 models = tt
 
 -- the operations
@@ -38,6 +38,7 @@ unfolding
     O.products O.within-order O.above-order O.carried O.rounding O.swept O.error O.kept O.multiply
     O.is-constant O.constant-part O.variation O.range O.range-in-box
     O.largest-exponent O.part-terms O.part O.horner O.widen O.substitute
+    O.bare O.defect O.deviation O.largest-end O.largest-value O.quotient-radius O.certified O.quotient
     O.is-small O.sweep O.integral-sum O.integral
 operations = tt
 

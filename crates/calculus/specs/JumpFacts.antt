@@ -91,7 +91,7 @@ unfolding left
 left-inside = more (equal (abs-whole (negsuc 0))) none
 
 -- 1 is above 0
-one-above : leℚ (natural 1) 0ℚ ≡ false
+pub one-above : leℚ (natural 1) 0ℚ ≡ false
 unfolding at-most over-1 one-more whole
 one-above = leℚ-class (over-1 (pos 1)) (over-1 (pos 0))
 
@@ -169,7 +169,7 @@ unfolding woven-outcome
 near s c j = at-near (s .model) left (woven-outcome j) (c .within-radius (functions (jumping j woven)) left (given j))
 
 -- |z| ≤ n, of fractions and so of whole numbers
-bounded : (z : ℤ) (n : ℕ) (y : ℚ) → y ≡ whole z → abs ℚO y ≤ℚ natural n → natAbs z ≤ n
+pub bounded : (z : ℤ) (n : ℕ) (y : ℚ) → y ≡ whole z → abs ℚO y ≤ℚ natural n → natAbs z ≤ n
 bounded z n y e h = leb→le (natAbs z) n (≤-whole (pos (natAbs z)) (pos n)
     (sym (abs-whole z) ≡≤ ap (abs ℚO) (sym e) ≡≤ h) .le)
 

@@ -47,3 +47,4 @@ pub mod OutcomeLaws
 pub mod ClaimProof
 pub mod ClaimFacts
 pub mod JumpFacts
+pub mod QuotientFacts

@@ -116,53 +116,53 @@ largest-encloses m y b h = lies-≤ y (range m) (range-encloses m y b h)
 
 -- ---- the two forms enclose
 module _ (d : ℕ) (f g h w : Model) {n : ℕ} {x : Point} (F G : ℚ) (b : In-box n x) (hf : Near f x F) (hg : Near g x G)
-    where
-  -- the values of the polynomials of h and w
-  abbrev H : ℚ
-  H = value h x
+  where
+    -- the values of the polynomials of h and w
+    abbrev H : ℚ
+    H = value h x
 
-  abbrev W : ℚ
-  W = value w x
+    abbrev W : ℚ
+    W = value w x
 
-  bare-near : (m : Model) → Near (bare m) x (value m x)
-  unfolding bare
-  bare-near m = exact-near _ x (value m x) refl (U-value m x)
+    bare-near : (m : Model) → Near (bare m) x (value m x)
+    unfolding bare
+    bare-near m = exact-near _ x (value m x) refl (U-value m x)
 
-  defect-near : If-accepted (λ y. Near y x (W *ℚ (G *ℚ H -ℚ F))) (defect d f g h w)
-  unfolding defect
-  defect-near = then-accepted (then-accepted (multiply-near d g (bare h) G H b hg (bare-near h))
-      (λ p hp. subtract-near p f x (G *ℚ H) F hp hf))
-      (λ q hq. multiply-near d (bare w) q W (G *ℚ H -ℚ F) b (bare-near w) hq)
+    defect-near : If-accepted (λ y. Near y x (W *ℚ (G *ℚ H -ℚ F))) (defect d f g h w)
+    unfolding defect
+    defect-near = then-accepted (then-accepted (multiply-near d g (bare h) G H b hg (bare-near h))
+        (λ p hp. subtract-near p f x (G *ℚ H) F hp hf))
+        (λ q hq. multiply-near d (bare w) q W (G *ℚ H -ℚ F) b (bare-near w) hq)
 
-  deviation-near : If-accepted (λ z. Near z x (natural 1 -ℚ W *ℚ G)) (deviation d g w)
-  unfolding deviation
-  deviation-near = then-accepted (multiply-near d (bare w) g W G b (bare-near w) hg)
-      (λ p hp. subtract-near (one-model (g .vars)) p x (natural 1) (W *ℚ G) (one-near (g .vars) x) hp)
+    deviation-near : If-accepted (λ z. Near z x (natural 1 -ℚ W *ℚ G)) (deviation d g w)
+    unfolding deviation
+    deviation-near = then-accepted (multiply-near d (bare w) g W G b (bare-near w) hg)
+        (λ p hp. subtract-near (one-model (g .vars)) p x (natural 1) (W *ℚ G) (one-near (g .vars) x) hp)
 
-  -- ---- the quotient
-  certified-near : (β μ : ℕ) → abs ℚO (natural U *ℚ (W *ℚ (G *ℚ H -ℚ F))) ≤ℚ natural β
-      → abs ℚO (natural U *ℚ (natural 1 -ℚ W *ℚ G)) ≤ℚ natural μ
-      → If-accepted (λ m. Near m x (F /ℚ G)) (certified h β μ)
-  unfolding certified widen bare Near quotient-radius
-  certified-near β μ h1 h2 = require-accepted (ltb μ U) uncertified _ (λ t.
-      limited-accepted {P = λ m. Near m x (F /ℚ G)}
-      (record { vars = h .vars; radius = 0 + quotient-radius β μ; terms = h .terms })
-      (ap (λ v. abs ℚO (natural U *ℚ (F /ℚ G) -ℚ v)) (sym (U-value h x))
-      ∙ ap (abs ℚO) (ring 3 ℚR (λ u q v. u ⊠ q ⊟ u ⊠ v) (λ u q v. u ⊠ (q ⊟ v)) refl (natural U) (F /ℚ G) H)
-      ≡≤ enclosed F G H W β μ (quotient-radius β μ) h1 h2 (ltb→lt μ U t) (covers (ltb→lt μ U t))
-      ≤≡ ap natural (let e : quotient-radius β μ ≡ 0 + quotient-radius β μ = omega arith in e)))
-    where
-      covers : μ < U → β * U ≤ (U - μ) * divided-up (β * U) (U - μ)
-      covers l = divided-up-ok (β * U) (U - μ) (omega arith)
+    -- ---- the quotient
+    certified-near : (β μ : ℕ) → abs ℚO (natural U *ℚ (W *ℚ (G *ℚ H -ℚ F))) ≤ℚ natural β
+        → abs ℚO (natural U *ℚ (natural 1 -ℚ W *ℚ G)) ≤ℚ natural μ
+        → If-accepted (λ m. Near m x (F /ℚ G)) (certified h β μ)
+    unfolding certified widen bare Near quotient-radius
+    certified-near β μ h1 h2 = require-accepted (ltb μ U) uncertified _ (λ t.
+        limited-accepted {P = λ m. Near m x (F /ℚ G)}
+        (record { vars = h .vars; radius = 0 + quotient-radius β μ; terms = h .terms })
+        (ap (λ v. abs ℚO (natural U *ℚ (F /ℚ G) -ℚ v)) (sym (U-value h x))
+        ∙ ap (abs ℚO) (ring 3 ℚR (λ u q v. u ⊠ q ⊟ u ⊠ v) (λ u q v. u ⊠ (q ⊟ v)) refl (natural U) (F /ℚ G) H)
+        ≡≤ enclosed F G H W β μ (quotient-radius β μ) h1 h2 (ltb→lt μ U t) (covers (ltb→lt μ U t))
+        ≤≡ ap natural (let e : quotient-radius β μ ≡ 0 + quotient-radius β μ = omega arith in e)))
+      where
+        covers : μ < U → β * U ≤ (U - μ) * divided-up (β * U) (U - μ)
+        covers l = divided-up-ok (β * U) (U - μ) (omega arith)
 
-  pub quotient-near : If-accepted (λ m. Near m x (F /ℚ G)) (quotient d f g h w)
-  unfolding quotient
-  quotient-near = then-accepted defect-near (λ y hy. then-accepted deviation-near (λ z hz.
-      certified-near _ _ (largest-encloses y _ b hy) (largest-encloses z _ b hz)))
+    pub quotient-near : If-accepted (λ m. Near m x (F /ℚ G)) (quotient d f g h w)
+    unfolding quotient
+    quotient-near = then-accepted defect-near (λ y hy. then-accepted deviation-near (λ z hz.
+        certified-near _ _ (largest-encloses y _ b hy) (largest-encloses z _ b hz)))
 
-  -- and what it divides by is not zero
-  pub divisor-nonzero : If-accepted (λ m. G ≢ natural 0) (quotient d f g h w)
-  unfolding quotient certified
-  divisor-nonzero = then-accepted (always (tt {0}) _) (λ y _. then-accepted deviation-near (λ z hz.
-      require-accepted (ltb (largest-value z) U) uncertified _ (λ t.
-      always (nonzero G W (largest-value z) (largest-encloses z _ b hz) (ltb→lt (largest-value z) U t)) _)))
+    -- and what it divides by is not zero
+    pub divisor-nonzero : If-accepted (λ m. G ≢ natural 0) (quotient d f g h w)
+    unfolding quotient certified
+    divisor-nonzero = then-accepted (always (tt {0}) _) (λ y _. then-accepted deviation-near (λ z hz.
+        require-accepted (ltb (largest-value z) U) uncertified _ (λ t.
+        always (nonzero G W (largest-value z) (largest-encloses z _ b hz) (ltb→lt (largest-value z) U t)) _)))

@@ -1,0 +1,171 @@
+-- Facts beside the claim with a quotient: functions that are no polynomials meet its hypotheses and reach its radius;
+-- and they refute an answer with h's own radius, one with U in place of U - mu, and a claim that takes the outcome of h
+-- for the quotient's.
+use mathlib.Core.Path.{_≡_, refl, sym, _∙_, ap, ap₂}
+use mathlib.Core.Bool.{true, false}
+use mathlib.Core.Logic.{_≢_}
+use mathlib.Core.List.{List, [], _∷_}
+use Prim.Native.Nat.{ℕ, _+_, _*_, _≤_}
+use native.Mathlib.Omega.{arith}
+use lib.IntN.{ℤ, pos, negsuc, natAbs}
+use Rattle.algebra.specs.RingSolver.{𝟎, _⊞_, _⊟_, _⊠_, ⊝_, ring}
+use Rattle.algebra.specs.Ordered.{abs}
+use Rattle.algebra.specs.Rational.{ℚ, _+ℚ_, _*ℚ_, negℚ, _/ℚ_, whole, _≤ℚ_}
+use Rattle.algebra.specs.RationalRing.{ℚR}
+use Rattle.algebra.specs.RationalOrder.{ℚO}
+use Rattle.algebra.specs.RationalLaws.{/ℚ-back, whole-+, whole-*, whole-neg}
+use Rattle.polynomial.specs.Polynomial.{eval}
+use Rattle.polynomial.specs.Box.{none, more}
+use Rattle.fixed.specs.Computing.{numbers}
+use Rattle.fixed.specs.Fixed.{U}
+use Rattle.calculus.specs.Monomial.{index-of}
+use Rattle.calculus.specs.Model.{Model, zero-model, _/U, _-ℚ_, Point, In-box, polynomial, value, At}
+use Rattle.calculus.specs.Refusal.{done}
+use Rattle.calculus.specs.Operations.{Ends}
+use Rattle.calculus.specs.Book.{input, constant, quotient, Book, model-of, Summary, summary, last, run}
+use Rattle.calculus.specs.Outcome.{0ℚ, coordinate, ℚ-Polynomial, value-of, Inputs, functions, input-outcome}
+use Rattle.calculus.specs.Outcome.{step-value, step-outcome, outcome-of, outcomes-after, outcomes, outcome}
+use Rattle.calculus.specs.Claim.{Given, Claim}
+use Rattle.calculus.specs.Computing.{runs}
+use Rattle.calculus.specs.UnitLaws.{natural, natural-*, abs-whole, U-times}
+use Rattle.calculus.specs.ValueLaws.{Near, at-near}
+use Rattle.calculus.specs.EnclosureLaws.{zero-near}
+use Rattle.calculus.specs.ChainLaws.{equal}
+use Rattle.calculus.specs.ClaimFacts.{own, both-near}
+use Rattle.calculus.specs.ClaimProof.{claim}
+use Rattle.calculus.specs.JumpFacts.{Jump, up, down, height, jumping, jumping-within, one-above, bounded, woven}
+use Rattle.calculus.specs.JumpFacts.{no-polynomial}
+
+-- ---- the book: f / g with f within a model without terms, radius 3, and g the constant 1/2; the proposal is h, a
+-- model without terms and with any radius e, and w, the constant 1, so that mu is U/2
+unfoldable pub halved : (e : ℕ) → Book
+halved e = record {
+  vars = 1;
+  order = 1;
+  models = record { vars = 1; radius = 3; terms = [] } ∷ record { vars = 1; radius = e; terms = [] } ∷ [];
+  steps = input 0 ∷ input 1 ∷ constant (pos 524288) ∷ constant (pos 1048576) ∷ quotient 0 2 1 3 ∷ [];
+}
+
+-- its result: the polynomial of h, radius 3 × U / (U - U/2)
+unfoldable pub halved-result : Model
+halved-result = record { vars = 1; radius = 6; terms = [] }
+
+pub halved-runs : run (halved 1) ≡ done (summary halved-result)
+unfolding runs halved halved-result
+halved-runs = refl
+
+-- whatever the radius of h is
+pub halved-runs-wide : run (halved 100) ≡ done (summary halved-result)
+unfolding runs halved halved-result
+halved-runs-wide = refl
+
+-- ---- the outcome
+-- 1, a point of the box, where functions that jump differ from their models' polynomials
+unfoldable pub right : Point
+right = natural 1 ∷ []
+
+pub right-inside : In-box 1 right
+unfolding right
+right-inside = more (equal (abs-whole (pos 1))) none
+
+-- with such functions
+unfoldable pub halved-outcome : (e : ℕ) → Jump → ℚ
+halved-outcome e j = outcome (functions (jumping j (halved e))) (halved e .steps) .at right
+
+pub given : (e : ℕ) (j : Jump) → Given (halved e) (functions (jumping j (halved e))) right
+given e j = record { inputs = jumping-within j (halved e); point = unfold halved in right-inside }
+
+-- they are no polynomials
+pub halved-no-polynomial : (e : ℕ) (q : ℚ-Polynomial)
+    → ((x : Point) → In-box 1 x → value-of q x ≡ jumping up (halved e) 0 x) → ⊥
+unfolding halved woven jumping own model-of
+halved-no-polynomial e q h = no-polynomial q h
+
+module _ (e : ℕ) (j : Jump) where
+  -- F(1), the whole radius up or down
+  abbrev F : ℚ
+  F = 0ℚ +ℚ height j (record { vars = 1; radius = 3; terms = [] })
+
+  abbrev G : ℚ
+  G = pos 524288 /U
+
+  at-right : halved-outcome e j ≡ F /ℚ G
+  unfolding halved-outcome halved right outcome outcomes outcomes-after step-outcome step-value input-outcome outcome-of
+      last coordinate index-of jumping own model-of value polynomial eval
+  at-right = ap (λ t. elim t [ true ↦ 0ℚ | false ↦ F ] /ℚ G) one-above
+
+  -- U F / G is twice U F
+  scaled : (s : Summary) → Claim (halved e) s → (z : ℤ) → natural U *ℚ F ≡ whole z
+      → natural U *ℚ halved-outcome e j ≡ whole (pos 2) *ℚ whole z
+  scaled s c z h = ap (λ y. natural U *ℚ y) at-right
+      ∙ ap (λ u. u *ℚ (F /ℚ G)) twice
+      ∙ ring 3 ℚR (λ t u q. t ⊠ u ⊠ q) (λ t u q. t ⊠ (u ⊠ q)) refl (natural 2) (natural 524288) (F /ℚ G)
+      ∙ ap (λ y. natural 2 *ℚ (y *ℚ (F /ℚ G))) (sym (U-times (pos 524288)))
+      ∙ ring 4 ℚR (λ t u g q. t ⊠ (u ⊠ g ⊠ q)) (λ t u g q. t ⊠ (u ⊠ (g ⊠ q))) refl (natural 2) (natural U) G (F /ℚ G)
+      ∙ ap (λ y. natural 2 *ℚ (natural U *ℚ y)) (/ℚ-back F G divides) ∙ ap (λ y. natural 2 *ℚ y) h
+    where
+      twice : natural U ≡ natural 2 *ℚ natural 524288
+      twice = unfold numbers in natural-* 2 524288
+
+      divides : G ≢ natural 0
+      divides = unfold halved outcomes outcomes-after step-outcome step-value outcome-of in
+          c .never-zero (functions (jumping j (halved e))) right (given e j) 4 0 2 1 3 refl
+
+-- 6 up and 6 down
+pub outcome-up : (e : ℕ) (s : Summary) → Claim (halved e) s → natural U *ℚ halved-outcome e up ≡ whole (pos 6)
+unfolding height
+outcome-up e s c = scaled e up s c (pos 3)
+    (ring 2 ℚR (λ u a. u ⊠ (𝟎 ⊞ a)) (λ u a. u ⊠ a) refl (natural U) (pos 3 /U) ∙ U-times (pos 3))
+    ∙ sym (whole-* (pos 2) (pos 3))
+
+pub outcome-down : (e : ℕ) (s : Summary) → Claim (halved e) s → natural U *ℚ halved-outcome e down ≡ whole (negsuc 5)
+unfolding height
+outcome-down e s c = scaled e down s c (negsuc 2)
+    (ring 2 ℚR (λ u a. u ⊠ (𝟎 ⊞ ⊝ a)) (λ u a. ⊝ (u ⊠ a)) refl (natural U) (pos 3 /U)
+    ∙ ap negℚ (U-times (pos 3)) ∙ sym (whole-neg (pos 3)))
+    ∙ sym (whole-* (pos 2) (negsuc 2))
+
+-- ---- what the claim says of it
+-- the outcome is within the result, and reaches its radius
+pub halved-claimed : (j : Jump) → At halved-result right (halved-outcome 1 j)
+unfolding halved-outcome summary
+halved-claimed j = claim (halved 1) (summary halved-result) halved-runs .within-radius _ right (given 1 j)
+
+-- whatever its terms are, an answer has at least the radius 6
+pub least-radius : (e : ℕ) (s : Summary) → Claim (halved e) s → 6 ≤ s .model .radius
+least-radius e s c = let h : 12 ≤ s .model .radius + s .model .radius = bounded (pos 12) _ _ apart
+    (both-near (s .model) (s .model) right _ _ refl (near up) (near down)) in omega arith
+  where
+    near : (j : Jump) → Near (s .model) right (halved-outcome e j)
+    near j = unfold halved-outcome in
+        at-near (s .model) right _ (c .within-radius (functions (jumping j (halved e))) right (given e j))
+
+    apart : natural U *ℚ halved-outcome e up -ℚ natural U *ℚ halved-outcome e down ≡ whole (pos 12)
+    apart = ap₂ _-ℚ_ (outcome-up e s c) (outcome-down e s c)
+        ∙ ap (λ z. whole (pos 6) +ℚ z) (sym (whole-neg (negsuc 5))) ∙ sym (whole-+ (pos 6) (pos 6))
+
+-- so these answers are refuted: h with its own radius, and the radius 3 × U / U
+pub own-radius-refuted : (r i : Ends)
+    → Claim (halved 1) (record { model = record { vars = 1; radius = 1; terms = [] }; range = r; integral = i }) → ⊥
+own-radius-refuted r i c = omega (arith, least-radius 1 _ c)
+
+pub whole-unit-refuted : (r i : Ends)
+    → Claim (halved 1) (record { model = record { vars = 1; radius = 3; terms = [] }; range = r; integral = i }) → ⊥
+whole-unit-refuted r i c = omega (arith, least-radius 1 _ c)
+
+-- if the outcome of h were the quotient's, the claim would be false of this accepted book
+unfoldable pub proposal-outcome : Inputs → Point → ℚ
+proposal-outcome I x = outcome-of (outcomes I (halved 100 .steps)) 1 .at x
+
+proposal-up : natural U *ℚ proposal-outcome (functions (jumping up (halved 100))) right -ℚ natural U *ℚ 0ℚ
+    ≡ whole (pos 100)
+unfolding proposal-outcome halved right outcomes outcomes-after step-outcome step-value input-outcome outcome-of
+    coordinate index-of jumping own model-of value polynomial eval height
+proposal-up = ap (λ t. natural U *ℚ elim t [ true ↦ 0ℚ | false ↦ 0ℚ +ℚ pos 100 /U ] -ℚ natural U *ℚ 0ℚ) one-above
+    ∙ ring 2 ℚR (λ u a. u ⊠ (𝟎 ⊞ a) ⊟ u ⊠ 𝟎) (λ u a. u ⊠ a) refl (natural U) (pos 100 /U) ∙ U-times (pos 100)
+
+pub proposal-refuted : ((I : Inputs) (x : Point) → Given (halved 100) I x
+    → At halved-result x (proposal-outcome I x)) → ⊥
+unfolding halved-result zero-model
+proposal-refuted h = let k : 100 ≤ 6 + 0 = bounded (pos 100) _ _ proposal-up (both-near halved-result (zero-model 1)
+    right _ 0ℚ refl (at-near halved-result right _ (h _ right (given 100 up))) (zero-near 1 right)) in omega arith
