@@ -20,7 +20,7 @@ use Rattle.model_types.specs.declared.Refusal.{Refusal}
 use Rattle.model_types.specs.declared.Refusal.the-variants.{BadLength, BadMark, BadLimits, BadOffset}
 use Rattle.model_types.specs.declared.Refusal.the-variants.{BadModel, BadStep}
 use Rattle.model_types.specs.declared.Refusal.the-variants.{OverSpan, TooManyTerms, LeavesBox}
-use Rattle.model_types.specs.declared.Refusal.the-variants.{VariablesDiffer, ShortBuffer}
+use Rattle.model_types.specs.declared.Refusal.the-variants.{VariablesDiffer, ShortBuffer, Uncertified}
 use Rattle.model_types.specs.declared.Verdict.{Verdict}
 use Rattle.model_types.specs.declared.Verdict.the-variants.{Accepted, Refused}
 use Rattle.model_types.specs.declared.Answer.{Answer}
@@ -83,6 +83,7 @@ refusal R.too-many-terms = TooManyTerms
 refusal R.leaves-box = LeavesBox
 refusal R.variables-differ = VariablesDiffer
 refusal R.short-buffer = ShortBuffer
+refusal R.uncertified = Uncertified
 
 -- and back
 unfoldable pub cause : Refusal → R.Refusal
@@ -97,6 +98,7 @@ cause TooManyTerms = R.too-many-terms
 cause LeavesBox = R.leaves-box
 cause VariablesDiffer = R.variables-differ
 cause ShortBuffer = R.short-buffer
+cause Uncertified = R.uncertified
 
 -- document 01's number of a verdict, 0 without a refusal
 unfoldable pub verdict-number : Verdict → ℕ

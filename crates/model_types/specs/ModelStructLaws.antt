@@ -38,7 +38,7 @@ use Rattle.model_types.specs.declared.Refusal.{Refusal}
 use Rattle.model_types.specs.declared.Refusal.the-variants.{BadLength, BadMark, BadLimits, BadOffset}
 use Rattle.model_types.specs.declared.Refusal.the-variants.{BadModel, BadStep}
 use Rattle.model_types.specs.declared.Refusal.the-variants.{OverSpan, TooManyTerms, LeavesBox}
-use Rattle.model_types.specs.declared.Refusal.the-variants.{VariablesDiffer, ShortBuffer}
+use Rattle.model_types.specs.declared.Refusal.the-variants.{VariablesDiffer, ShortBuffer, Uncertified}
 use Rattle.model_types.specs.ModelStruct.{refusal, cause, one-term, zero-term, places, view-term, view}
 use Rattle.model_types.specs.ModelStruct.{pack-term, pad, pack}
 use Rattle.calculus.specs.MonomialKeyLaws.{key-monomial, monomial-key, fits-key, fits-below}
@@ -405,6 +405,7 @@ refusal-cause TooManyTerms = refl
 refusal-cause LeavesBox = refl
 refusal-cause VariablesDiffer = refl
 refusal-cause ShortBuffer = refl
+refusal-cause Uncertified = refl
 
 pub cause-refusal : (r : R.Refusal) → cause (refusal r) ≡ r
 unfolding refusal cause
@@ -419,3 +420,4 @@ cause-refusal R.too-many-terms = refl
 cause-refusal R.leaves-box = refl
 cause-refusal R.variables-differ = refl
 cause-refusal R.short-buffer = refl
+cause-refusal R.uncertified = refl

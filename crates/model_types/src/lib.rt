@@ -33,7 +33,7 @@ pub struct Model {
     pub terms: [Term; MOST_TERMS],
 }
 
-// Why a call is refused: one case for each number of document 01's table.
+// Why a call is refused: one case for each number of the documents' table.
 pub enum Refusal {
     BadLength,
     BadMark,
@@ -46,6 +46,7 @@ pub enum Refusal {
     LeavesBox,
     VariablesDiffer,
     ShortBuffer,
+    Uncertified,
 }
 
 // The refusal stands with its place.
@@ -176,6 +177,7 @@ pub fn number(refusal: Refusal) -> u8
         Refusal::LeavesBox => 9,
         Refusal::VariablesDiffer => 10,
         Refusal::ShortBuffer => 11,
+        Refusal::Uncertified => 12,
     }
 }
 

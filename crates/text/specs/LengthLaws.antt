@@ -21,6 +21,7 @@ use Rattle.calculus.specs.TermsLaws.{every-head, every-tail}
 use Rattle.calculus.specs.Model.{Model, most-degree, most-terms, fits, sound, span}
 use Rattle.calculus.specs.Refusal.{Refusal, bad-length, bad-mark, bad-limits, bad-offset, bad-model, bad-step}
 use Rattle.calculus.specs.Refusal.{over-span, too-many-terms, leaves-box, variables-differ, short-buffer}
+use Rattle.calculus.specs.Refusal.{uncertified}
 use Rattle.calculus.specs.Refusal.{number, Result, done, stopped}
 use Rattle.calculus.specs.Operations.{Ends, range, integral, integral-sum, constant-part, variation}
 use Rattle.calculus.specs.Book.{Summary, summary}
@@ -208,6 +209,7 @@ number-small too-many-terms = lit< tt
 number-small leaves-box = lit< tt
 number-small variables-differ = lit< tt
 number-small short-buffer = lit< tt
+number-small uncertified = lit< tt
 
 lines-length : (s : List ℕ) (x : Result Summary) → run-sheet s ≡ x → length (lines x) ≤ most-text
 unfolding most-text
