@@ -27,8 +27,8 @@ use Rattle.model_types.specs.declared.Bounds.{Bounds}
 use Rattle.model_types.specs.ModelStruct.{view, pack, answer, bounds}
 use Rattle.model_types.specs.ModelStructLaws.{sound-vars}
 use Rattle.model_substitution.specs.Substitute.{Substitution}
-use Rattle.model_substitution.specs.ResultLaws.{Holds, held-view, held-sound, held-vars, Got, got, then-is}
-use Rattle.model_substitution.specs.ResultLaws.{refused-then, refused-ends}
+use Rattle.model_types.specs.ResultLaws.{Holds, held-view, held-sound, held-vars, Got, got, then-is}
+use Rattle.model_types.specs.ResultLaws.{refused-then, refused-ends}
 use Rattle.model_evaluation.specs.Evaluate.{Evaluation}
 
 -- one of the coordinates

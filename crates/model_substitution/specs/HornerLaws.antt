@@ -19,8 +19,8 @@ use Rattle.model_limits.specs.Limits.{Packed}
 use Rattle.model_powers.specs.PowersLaws.{part-sound}
 use Rattle.model_substitution.specs.Substitute.{horner-turn, Turn, Substitution}
 use Rattle.model_substitution.specs.TurnLaws.{turn-sound}
-use Rattle.model_substitution.specs.ResultLaws.{Holds, held-view, held-sound, held-vars, Got, got, then-is}
-use Rattle.model_substitution.specs.ResultLaws.{refused-then}
+use Rattle.model_types.specs.ResultLaws.{Holds, held-view, held-sound, held-vars, Got, got, then-is}
+use Rattle.model_types.specs.ResultLaws.{refused-then}
 
 -- ---- g in the place of variable i of f
 module _ (d i : ℕ) (f g : Model) where

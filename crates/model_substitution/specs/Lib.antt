@@ -1,4 +1,3 @@
 pub mod Substitute
-pub mod ResultLaws
 pub mod TurnLaws
 pub mod HornerLaws

@@ -17,8 +17,8 @@ use Rattle.model_types.specs.ModelStruct.{view, answer}
 use Rattle.model_types.specs.ModelStructLaws.{sound-vars}
 use Rattle.model_addition.specs.Addition.{Operands}
 use Rattle.model_substitution.specs.Substitute.{horner-turn, Turn}
-use Rattle.model_substitution.specs.ResultLaws.{sound-order, held-view, held-sound, held-vars, Got, got, then-is}
-use Rattle.model_substitution.specs.ResultLaws.{refused-then}
+use Rattle.model_types.specs.ResultLaws.{sound-order, held-view, held-sound, held-vars, Got, got, then-is}
+use Rattle.model_types.specs.ResultLaws.{refused-then}
 
 pub turn-sound : (n d : ℕ) (h g q : C.Model) → Canonical n d h → Canonical n d g → Canonical n d q
     → If-accepted (Sound n d) (horner-turn d h g q)

@@ -4,3 +4,4 @@ pub mod ModelStruct
 pub mod ModelStructLaws
 pub mod ZeroTestLaws
 pub mod AnswerLaws
+pub mod ResultLaws

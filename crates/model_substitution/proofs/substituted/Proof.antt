@@ -7,7 +7,7 @@ use borrow.Author.Tests.{not-true, not-false}
 use lib.ListN.{length}
 use Rattle.model_types.specs.ModelStruct.{view, cause}
 use Rattle.model_powers.specs.Powers.{In-variable}
-use Rattle.model_substitution.specs.ResultLaws.{sound-order}
+use Rattle.model_types.specs.ResultLaws.{sound-order}
 use Rattle.model_substitution.specs.HornerLaws.{Left, outside, left-first, left-turn, turn-refused, turn-accepted}
 use Rattle.model_substitution.specs.HornerLaws.{left-packed, left-end}
 use Rattle.model_substitution.proofs.substituted.Statement.{statement}

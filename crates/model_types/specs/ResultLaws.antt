@@ -18,16 +18,16 @@ use Rattle.calculus.specs.RefusalLaws.{If-accepted, holds, vacuous}
 use Rattle.calculus.specs.Operations.{Ends, zero-ends}
 use Rattle.calculus.specs.Tests.{vars-sound}
 use Rattle.calculus.specs.SoundLaws.{Canonical, Sound, sound-parts, parts-sound}
 use Rattle.model_types.specs.declared.Model.{Model}
 use Rattle.model_types.specs.declared.Refusal.{Refusal}
 use Rattle.model_types.specs.declared.Verdict.the-variants.{Accepted, Refused}
 use Rattle.model_types.specs.declared.Answer.{Answer}
 use Rattle.model_types.specs.ModelStruct.{view, pack, answer, bounds}
 use Rattle.model_types.specs.ModelStructLaws.{sound-vars, view-pack-sound}
 
 -- ---- soundness
 -- in n variables, of which there are 1 to 4
-sound-in : (n d : ℕ) (m : C.Model) → vars-sound n ≡ true → Sound n d m → T (sound d m)
+pub sound-in : (n d : ℕ) (m : C.Model) → vars-sound n ≡ true → Sound n d m → T (sound d m)
 unfolding vars-sound
 sound-in n d m v s = parts-sound d m (subst T (sym (ap (between 1 most-vars) (s .0 .vars) ∙ v)) tt)
     (subst (λ i. Sound i d m) (sym (s .0 .vars)) s)
@@ -81,6 +81,28 @@ got e v vacuous = let z : _≡_ {A = ℕ} 0 1 = cc in absurd (omega arith)
 pub then-is : {A B : Type 0} {a : R.Answer A} {x : A} (f : A → R.Answer B) → a ≡ accepted x → (a then f) ≡ f x
 unfolding _then_
 then-is f e = ap (λ a. a then f) e
+
+-- so the struct that is taken from it is sound, and what is made of that struct is the whole answer
+module _ {n d : ℕ} (v : vars-sound n ≡ true) (o : d ≤ most-degree) {a : R.Answer C.Model} (s : If-accepted (Sound n d) a)
+    {r : Answer} (e : r ≡ answer (at-place 0 a)) (t : r .verdict ≡ Accepted) where
+  taken : Got n d a (r .model)
+  taken = got e t s
+
+  pub taken-sound : T (sound d (view (r .model)))
+  taken-sound = held-sound v o (taken .holds)
+
+  pub taken-vars : r .model .n ≡ n
+  taken-vars = held-vars (taken .holds)
+
+  pub taken-then : (f : C.Model → R.Answer C.Model) {x : Answer} → x ≡ answer (at-place 0 (f (view (r .model))))
+      → x ≡ answer (at-place 0 (a then f))
+  taken-then f h = h ∙ ap (λ b. answer (at-place 0 b))
+      (ap f (held-view v o (taken .holds)) ∙ sym (then-is f (taken .is)))
+
+-- the parts of a struct's soundness, in as many variables
+pub sound-struct : {n d : ℕ} (m : Model) → m .n ≡ n → T (sound d (view m)) → Sound n d (view m)
+unfolding view
+sound-struct {d = d} m e h = subst (λ n. Sound n d (view m)) e (sound-parts d (view m) h)
 
 -- ---- an answer that is refused: what would follow it is refused with it
 module _ {r : Answer} {x : Refusal} {y : ℕ} where

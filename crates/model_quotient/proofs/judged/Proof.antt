@@ -1,0 +1,95 @@
+-- `judged` works out the second form: a refused one is the answer, and else what it certifies.
+use mathlib.Core.Path.{_≡_, _∙_, ap}
+use borrow.Author.Needs.{needs}
+use Rattle.calculus.specs.Refusal.{at-place}
+use Rattle.calculus.specs.Operations.{certified}
+use Rattle.model_types.specs.declared.Verdict.the-variants.{Accepted}
+use Rattle.model_types.specs.ModelStruct.{view, answer}
+use Rattle.model_types.specs.ResultLaws.{sound-order}
+use Rattle.model_quotient.specs.CertificateLaws.{judged-refused, form-sound, judged-answer}
+use Rattle.model_quotient.proofs.judged.Statement.{statement}
+use Rattle.model_quotient.proofs.judged.Tie as tie
+
+deviation-requires : tie.Need-deviation-requires
+deviation-requires c κs =
+    let s = c .before .before .before .before .before in
+    (s .pre .0 .factors, s .pre .1)
+
+enum-told : tie.Need-enum-told
+enum-told c = search needs
+
+enum-told-2 : tie.Need-enum-told-2
+enum-told-2 c = search needs
+
+abbrev start : tie.After-deviation → tie.Start
+start c = c .before .before .before .before .before .before
+
+-- ---- the form is refused
+same-length : tie.Need-same-length
+same-length c = search needs
+
+same-length-2 : tie.Need-same-length-2
+same-length-2 c = search needs
+
+same-length-3 : tie.Need-same-length-3
+same-length-3 c = search needs
+
+returns : tie.Need-returns
+returns c =
+    let m = c .before .before .before .before .before .before .before in (
+      judged-refused (start m .pre .0) (m .deviation .ensures .0) (c .enum-told2 .given .1),
+      record { slots-length = search needs; keys-length = search needs; sums-length = search needs },
+    )
+
+-- ---- it is accepted
+module _ (c : tie.After-enum-told) where
+  abbrev made : tie.After-deviation
+  made = c .before .before .before .before .before .before .before
+
+  taken : made .deviation .result .verdict ≡ Accepted
+  taken = c .enum-told .given .1
+
+largest-value-requires : tie.Need-largest-value-requires
+largest-value-requires c κs = form-sound (start (made c) .pre .0) (made c .deviation .ensures .0) (taken c)
+
+certified-requires : tie.Need-certified-requires
+certified-requires c κs =
+    let s = start (made (c .before)) .pre .0 in (sound-order _ _ (s .factors .order) (s .proposed), s .small)
+
+same-length-4 : tie.Need-same-length-4
+same-length-4 c = search needs
+
+same-length-5 : tie.Need-same-length-5
+same-length-5 c = search needs
+
+same-length-6 : tie.Need-same-length-6
+same-length-6 c = search needs
+
+returns-2 : tie.Need-returns-2
+returns-2 c =
+    let l = c .before in
+    let m = made (l .before) in
+    let s = start m in (
+      judged-answer (s .pre .0) (m .deviation .ensures .0) (taken (l .before))
+          (c .certified .ensures ∙ ap (λ mu. answer (at-place 0 (certified (view (s .args .h)) (s .args .beta) mu)))
+          (l .largest-value .ensures)),
+      record { slots-length = search needs; keys-length = search needs; sums-length = search needs },
+    )
+
+pub judged-spec : {M : Type 1} → statement M
+judged-spec =
+    tie.close
+    (tie.spec
+    deviation-requires
+    enum-told
+    enum-told-2
+    same-length
+    same-length-2
+    same-length-3
+    returns
+    largest-value-requires
+    certified-requires
+    same-length-4
+    same-length-5
+    same-length-6
+    returns-2)
