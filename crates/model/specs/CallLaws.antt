@@ -9,10 +9,11 @@ use Rattle.calculus.specs.Refusal.{done, at-place, require-at, _followed-by_}
 use Rattle.calculus.specs.Operations as Op
 use Rattle.calculus.specs.Tests.{order-sound}
 use Rattle.calculus.specs.Calls.{require-two, call-negate, call-sweep, call-range, call-integral, call-evaluate}
-use Rattle.calculus.specs.Calls.{call-add, call-subtract, call-multiply, call-substitute}
+use Rattle.calculus.specs.Calls.{call-add, call-subtract, call-multiply, call-substitute, call-quotient}
 use Rattle.model_call_tests.specs.Admission.{single-model, sweeping, at-point, two-models, ordered, substituting}
+use Rattle.model_call_tests.specs.Admission.{dividing}
 use Rattle.calculus.specs.RefusalLaws.{at-followed}
-use Rattle.model_call_tests.specs.AdmissionLaws.{two-followed}
+use Rattle.model_call_tests.specs.AdmissionLaws.{two-followed, four-followed}
 
 -- ---- of one model
 module _ (f : Model) where
@@ -59,3 +60,10 @@ module _ (f g : Model) where
   unfolding call-substitute substituting _followed-by_
   substitute-is d i = sym (at-followed 0 _ _ _ _ ∙ ap (require-at 0 (order-sound d) _)
       (two-followed d f g _ _ ∙ ap (require-two d f g) (at-followed 0 _ _ _ _)))
+
+-- ---- of four
+pub quotient-is : (d : ℕ) (f g h w : Model)
+    → call-quotient d f g h w ≡ (dividing d f g h w followed-by (λ u. at-place 0 (Op.quotient d f g h w)))
+unfolding call-quotient dividing _followed-by_
+quotient-is d f g h w =
+    sym (at-followed 0 _ _ _ _ ∙ ap (require-at 0 (order-sound d) _) (four-followed d f g h w _ _))

@@ -5,7 +5,7 @@
 ghost use mathlib.Core.Path.{_≡_};
 ghost use Rattle.calculus.specs.Model.{«zero-model», «one-model»};
 ghost use Rattle.calculus.specs.Calls.{call-negate, call-add, call-subtract, call-multiply, call-substitute};
-ghost use Rattle.calculus.specs.Calls.{call-sweep, call-range, call-integral, call-evaluate};
+ghost use Rattle.calculus.specs.Calls.{call-sweep, call-range, call-integral, call-evaluate, call-quotient};
 ghost use Rattle.model_types.specs.ModelStruct.{view, pack, answer, bounds};
 pub use model_types::Answer;
 pub use model_types::Bounds;
@@ -17,7 +17,7 @@ pub use model_types::Verdict;
 // Whether a struct holds a model by the rules, with degrees up to d.
 pub use model_soundness::sound;
 
-// Document 01's number of a refusal: 1 to 11.
+// The number of a refusal in the documents' table: 1 to 12.
 pub use model_types::number;
 
 // ---- the named models
@@ -153,6 +153,24 @@ pub fn evaluate(m: Model, xs: [i64; model_types::MOST_VARS as usize]) -> Bounds
     }
 }
 
+// f / g by the polynomial of h, with the radius that the forms w × (g × h - f) and 1 - w × g certify: for all functions
+// within f and g the second is nowhere 0 in the box, and the quotient is within the answer. h and w are used without
+// their radii. 3, 5 at places 0 to 3, 10, then the first 8 or 7 of the forms, 12, 7.
+pub fn quotient(d: u8, f: Model, g: Model, h: Model, w: Model) -> Answer
+    ensures { λ r. ⌜ r ≡ answer (call-quotient d (view f) (view g) (view h) (view w)) ⌝ }
+{
+    let v = model_call_tests::dividing(d, f, g, h, w);
+    match v {
+        Verdict::Accepted => {
+            let mut slots = [0u16; product_table::SLOTS];
+            let mut keys = [0u64; product_table::PLACES];
+            let mut sums = [0i64; product_table::PLACES];
+            model_quotient::divided(d, f, g, h, w, &mut slots, &mut keys, &mut sums)
+        }
+        Verdict::Refused(refusal, place) => model_types::refuse(refusal, place),
+    }
+}
+
 // ---- for the layer above: operands that are known to be sound, and a lent table
 // Whether a term may stand in a model of n variables, n at least 1, behind keys that are below `least`.
 pub use model_soundness::term_sound;
@@ -183,6 +201,9 @@ pub use model_multiplication::multiplied;
 
 // The answer of `substitute`, for two sound models in the same variables and one of these. The table is lent.
 pub use model_substitution::substituted;
+
+// The answer of `quotient`, for four sound models in the same variables. The table is lent.
+pub use model_quotient::divided;
 
 // How long a lent table's keys and sums are at the least, and how long its slots.
 pub use product_table::PLACES;

@@ -6,7 +6,7 @@ use lib.ListN.{take, drop}
 use Rattle.calculus.specs.Model.{Model, most-degree, sound}
 use Rattle.calculus.specs.Refusal.{bad-limits, bad-model, bad-step, leaves-box, Result, done, require-at}
 use Rattle.calculus.specs.Tests.{order-sound, variable-sound, threshold-sound, all-zero, all-in-unit}
-use Rattle.calculus.specs.Calls.{require-two}
+use Rattle.calculus.specs.Calls.{require-two, require-four}
 
 -- tests that have nothing to hand on: done, or the first refusal with its place
 abbrev pub Tests : Type 0
@@ -40,3 +40,11 @@ unfoldable pub substituting : (d i : ℕ) (f g : Model) → Tests
 substituting d i f g =
     require-at 0 (order-sound d) bad-limits
     (require-two d f g (require-at 0 (variable-sound (f .vars) i) bad-step (done tt)))
+
+-- ---- the call of four models: 5 four times, 10
+unfoldable pub four-models : (d : ℕ) (f g h w : Model) → Tests
+four-models d f g h w = require-four d f g h w (done tt)
+
+-- a quotient: 3, 5 four times, 10
+unfoldable pub dividing : (d : ℕ) (f g h w : Model) → Tests
+dividing d f g h w = require-at 0 (order-sound d) bad-limits (require-four d f g h w (done tt))

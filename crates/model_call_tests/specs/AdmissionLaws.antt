@@ -1,24 +1,26 @@
 -- What verdicts of tests say: which tests have passed, and what a call is that makes them first.
 use mathlib.Core.Path.{_≡_, refl, sym, _∙_, ap}
+use mathlib.Core.Bool.{_&&_}
 use mathlib.Core.List.{List}
 use Prim.Native.Nat.{ℕ, _≤_}
 use native.Mathlib.Omega.{arith}
-use lib.Dec.{T, eqb→eq}
+use lib.Dec.{T, eqb, eqb→eq}
 use lib.IntN.{ℤ}
 use lib.ListN.{take}
 use Rattle.calculus.specs.Model.{Model, most-degree, sound}
+use Rattle.calculus.specs.TestLaws.{and-left, and-right}
 use Rattle.calculus.specs.BookLaws.{between-low, between-high}
 use Rattle.calculus.specs.Refusal as R
 use Rattle.calculus.specs.Refusal.{Result, done, stopped, require-at, _followed-by_}
 use Rattle.calculus.specs.RefusalLaws.{passed-at, at-followed}
 use Rattle.calculus.specs.Tests.{order-sound, variable-sound, all-in-unit}
-use Rattle.calculus.specs.Calls.{require-two}
+use Rattle.calculus.specs.Calls.{require-two, require-four}
 use Rattle.model_types.specs.declared.Refusal.{Refusal}
 use Rattle.model_types.specs.declared.Verdict.the-variants.{Accepted, Refused}
 use Rattle.model_types.specs.ModelStruct.{refusal, cause, verdict}
 use Rattle.model_types.specs.ModelStructLaws.{refusal-cause, cause-refusal}
 use Rattle.model_call_tests.specs.Admission.{Tests, single-model, sweeping, at-point, two-models, ordered}
-use Rattle.model_call_tests.specs.Admission.{substituting}
+use Rattle.model_call_tests.specs.Admission.{substituting, dividing}
 
 -- ---- a verdict's tests
 pub accepted-done : (t : Tests) → verdict t ≡ Accepted → t ≡ done tt
@@ -50,6 +52,15 @@ pub two-followed : {A B : Type 0} (d : ℕ) (m n : Model) (t : Result A) (f : A 
 unfolding require-two
 two-followed d m n t f = at-followed 0 _ _ _ f ∙ ap (require-at 0 (sound d m) _)
     (at-followed 1 _ _ _ f ∙ ap (require-at 1 (sound d n) _) (at-followed 0 _ _ _ f))
+
+-- and those of four
+pub four-followed : {A B : Type 0} (d : ℕ) (m n o p : Model) (t : Result A) (f : A → Result B)
+    → (require-four d m n o p t followed-by f) ≡ require-four d m n o p (t followed-by f)
+unfolding require-four
+four-followed d m n o p t f = at-followed 0 _ _ _ f ∙ ap (require-at 0 (sound d m) _)
+    (at-followed 1 _ _ _ f ∙ ap (require-at 1 (sound d n) _)
+    (at-followed 2 _ _ _ f ∙ ap (require-at 2 (sound d o) _)
+    (at-followed 3 _ _ _ f ∙ ap (require-at 3 (sound d p) _) (at-followed 0 _ _ _ f))))
 
 -- ---- what has passed
 pub single-passed : (f : Model) → verdict (single-model f) ≡ Accepted → T (sound most-degree f)
@@ -130,6 +141,39 @@ substituting-passed d i f g e =
       vars = two .vars;
       least = between-low 1 (f .vars) i variable;
       most = between-high 1 (f .vars) i variable;
+    }
+
+-- an order, and four models in the same variables
+pub record Dividing (d : ℕ) (f g h w : Model) : Type 0 where
+  pub order : d ≤ most-degree
+  pub first : T (sound d f)
+  pub second : T (sound d g)
+  pub third : T (sound d h)
+  pub fourth : T (sound d w)
+  pub second-vars : f .vars ≡ g .vars
+  pub third-vars : f .vars ≡ h .vars
+  pub fourth-vars : f .vars ≡ w .vars
+
+pub dividing-passed : (d : ℕ) (f g h w : Model) → verdict (dividing d f g h w) ≡ Accepted → Dividing d f g h w
+unfolding dividing order-sound require-four
+dividing-passed d f g h w e =
+    let limit = passed-at 0 _ _ _ tt (accepted-done (dividing d f g h w) e) in
+    let one = passed-at 0 _ _ _ tt (limit .result) in
+    let two = passed-at 1 _ _ _ tt (one .result) in
+    let three = passed-at 2 _ _ _ tt (two .result) in
+    let four = passed-at 3 _ _ _ tt (three .result) in
+    let same = passed-at 0 _ _ _ tt (four .result) .test in
+    let earlier = and-left (eqb (f .vars) (g .vars) && eqb (f .vars) (h .vars)) _ same in
+    record {
+      order = between-high 1 most-degree d (limit .test);
+      first = one .test;
+      second = two .test;
+      third = three .test;
+      fourth = four .test;
+      second-vars = eqb→eq (f .vars) (g .vars) (and-left (eqb (f .vars) (g .vars)) _ earlier);
+      third-vars = eqb→eq (f .vars) (h .vars) (and-right (eqb (f .vars) (g .vars)) _ earlier);
+      fourth-vars = eqb→eq (f .vars) (w .vars)
+          (and-right (eqb (f .vars) (g .vars) && eqb (f .vars) (h .vars)) _ same);
     }
 
 -- ---- a substitution's tests are a product's, then that of the variable

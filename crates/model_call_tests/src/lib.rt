@@ -8,6 +8,7 @@ ghost use Rattle.calculus.specs.Tests.{«all-zero», «all-in-unit»};
 ghost use Rattle.model_types.specs.ModelStruct.{view, verdict};
 ghost use Rattle.model_call_tests.specs.Admission.{«single-model», sweeping, «at-point»};
 ghost use Rattle.model_call_tests.specs.Admission.{«two-models», ordered, substituting};
+ghost use Rattle.model_call_tests.specs.Admission.{«four-models», dividing};
 use model_types::Model;
 use model_types::Refusal;
 use model_types::Verdict;
@@ -73,6 +74,44 @@ pub fn substituting(d: u8, i: u8, f: Model, g: Model) -> Verdict
         return Verdict::Refused(Refusal::BadStep, 0);
     }
     Verdict::Accepted
+}
+
+// The tests of four models with degrees up to d. 5 at places 0 to 3, 10.
+pub fn four_models(d: u8, f: Model, g: Model, h: Model, w: Model) -> Verdict
+    ensures { λ r. ⌜ r ≡ verdict (four-models d (view f) (view g) (view h) (view w)) ⌝ }
+{
+    if !model_soundness::sound(f, d) {
+        return Verdict::Refused(Refusal::BadModel, 0);
+    }
+    if !model_soundness::sound(g, d) {
+        return Verdict::Refused(Refusal::BadModel, 1);
+    }
+    if !model_soundness::sound(h, d) {
+        return Verdict::Refused(Refusal::BadModel, 2);
+    }
+    if !model_soundness::sound(w, d) {
+        return Verdict::Refused(Refusal::BadModel, 3);
+    }
+    if f.n != g.n {
+        return Verdict::Refused(Refusal::VariablesDiffer, 0);
+    }
+    if f.n != h.n {
+        return Verdict::Refused(Refusal::VariablesDiffer, 0);
+    }
+    if f.n != w.n {
+        return Verdict::Refused(Refusal::VariablesDiffer, 0);
+    }
+    Verdict::Accepted
+}
+
+// The tests of a quotient with order d. 3, 5 at places 0 to 3, 10.
+pub fn dividing(d: u8, f: Model, g: Model, h: Model, w: Model) -> Verdict
+    ensures { λ r. ⌜ r ≡ verdict (dividing d (view f) (view g) (view h) (view w)) ⌝ }
+{
+    if !model_types::order_sound(d) {
+        return Verdict::Refused(Refusal::BadLimits, 0);
+    }
+    four_models(d, f, g, h, w)
 }
 
 // Whether the coordinates above n are 0.

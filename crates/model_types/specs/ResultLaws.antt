@@ -83,8 +83,8 @@ unfolding _then_
 then-is f e = ap (λ a. a then f) e
 
 -- so the struct that is taken from it is sound, and what is made of that struct is the whole answer
-module _ {n d : ℕ} (v : vars-sound n ≡ true) (o : d ≤ most-degree) {a : R.Answer C.Model} (s : If-accepted (Sound n d) a)
-    {r : Answer} (e : r ≡ answer (at-place 0 a)) (t : r .verdict ≡ Accepted) where
+module _ {n d : ℕ} (v : vars-sound n ≡ true) (o : d ≤ most-degree) {a : R.Answer C.Model}
+    (s : If-accepted (Sound n d) a) {r : Answer} (e : r ≡ answer (at-place 0 a)) (t : r .verdict ≡ Accepted) where
   taken : Got n d a (r .model)
   taken = got e t s
 

@@ -3,7 +3,8 @@ use mathlib.Core.Path.{_≡_}
 use borrow.Author.Needs.{needs}
 use Rattle.model_types.specs.ModelStructLaws.{limits}
 use Rattle.model_types.specs.declared.Verdict.the-variants.{Accepted}
-use Rattle.model_proposal.specs.FormLaws.{deviation-factors, deviation-refused, deviation-operands, deviation-answer}
+use Rattle.model_proposal.specs.FormLaws.{deviation-factors, deviation-refused, deviation-operands}
+use Rattle.model_proposal.specs.FormLaws.{deviation-answer}
 use Rattle.model_proposal.proofs.deviation.Statement.{statement}
 use Rattle.model_proposal.proofs.deviation.Tie as tie
 
@@ -41,7 +42,8 @@ same-length-3 c = search needs
 returns : tie.Need-returns
 returns c =
     let m = c .before .before .before .before .before .before .before in (
-      deviation-refused (start m .pre .0) _ (bared m .bare .ensures) (m .multiplied .ensures .0) (c .enum-told2 .given .1),
+      deviation-refused (start m .pre .0) _ (bared m .bare .ensures) (m .multiplied .ensures .0)
+          (c .enum-told2 .given .1),
       record { slots-length = search needs; keys-length = search needs; sums-length = search needs },
     )
 

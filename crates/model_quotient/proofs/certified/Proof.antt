@@ -41,15 +41,16 @@ with-radius-requires : tie.Need-with-radius-requires
 with-radius-requires c κs = search needs
 
 limited-requires : tie.Need-limited-requires
-limited-requires c κs = rw (c .with-radius .ensures) (radius-packed _ _ (c .before .before .before .before .before .pre .0))
+limited-requires c κs =
+    rw (c .with-radius .ensures) (radius-packed _ _ (c .before .before .before .before .before .pre .0))
 
 returns-2 : tie.Need-returns-2
 returns-2 c =
     let q = c .before .before in
     let e = q .before in
     let u = unit-is (e .before) in
-    certified-answer _ _ _ (e .before .before .before .pre .0) u (omega (arith, u, e .if1 .left)) (q .divided-up .ensures)
-    (c .before .with-radius .ensures) (c .limited .ensures)
+    certified-answer _ _ _ (e .before .before .before .pre .0) u (omega (arith, u, e .if1 .left))
+    (q .divided-up .ensures) (c .before .with-radius .ensures) (c .limited .ensures)
 
 pub certified-spec : {M : Type 1} → statement M
 certified-spec =
