@@ -60,5 +60,6 @@ unfolding
     O.zero-ends O.put-constants O.evaluate
     Te.all-zero Te.all-in-unit
     C.call-constant C.call-variable C.call-negate C.call-sweep C.call-range C.call-integral C.call-evaluate
-    C.require-two C.call-add C.call-subtract C.call-multiply C.call-substitute C.returned-model C.returned-ends
+    C.require-two C.call-add C.call-subtract C.call-multiply C.call-substitute C.require-four C.call-quotient
+    C.returned-model C.returned-ends
 calls = tt

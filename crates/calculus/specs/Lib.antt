@@ -13,6 +13,7 @@ pub mod Claim
 pub mod Forms
 pub mod Edges
 pub mod CallEdges
+pub mod QuotientEdges
 -- Lists of definitions that facts by computation open.
 pub mod Computing
 -- Laws: of tests and answers, of monomials and keys, of terms.
