@@ -5,10 +5,11 @@ use Prim.Native.Nat.{ℕ, zero, suc, _*_}
 use Prim.Native.String.{String}
 use lib.IntN.{pos, negsuc}
 use lib.ListN.{replicate, length}
-use Rattle.calculus.specs.Refusal.{done}
+use Rattle.calculus.specs.Refusal.{uncertified, done, stopped}
+use Rattle.calculus.specs.Forms.{at-key, model, ends, gives}
 use Rattle.format.specs.Bytes.{join}
 use Rattle.format.specs.HeldBook.{Held-model, Held-book}
-use Rattle.format.specs.Format.{longest, returned-book, opened, written}
+use Rattle.format.specs.Format.{longest, returned-book, opened, run-sheet, written}
 use Rattle.format.specs.Samples.{hex, sheet-forms}
 use Rattle.format.specs.Computing.{reads, writes}
 
@@ -61,9 +62,9 @@ edges =
     ∷ edge 5 1 ("00 00 00 00 00" ∷ "00" ∷ "01 00 00 00 00 00 00 00" ∷ "01 02 01 01 06 00 4D 4B" ∷ [])
     ∷ edge 5 0 ("00" ∷ "01 00 00 00 00 00 00 00" ∷ "01 02 00 01 01 00 4D 4B" ∷ [])
     -- a model's fault comes before a step's
-    ∷ edge 5 0 ("01 00 00 40 00" ∷ "09 00 00 00 00 00 00 00" ∷ "01 02 01 01 05 00 4D 4B" ∷ [])
+    ∷ edge 5 0 ("01 00 00 40 00" ∷ "0A 00 00 00 00 00 00 00" ∷ "01 02 01 01 05 00 4D 4B" ∷ [])
     -- another code; for each code a field that it does not name
-    ∷ edge 6 0 ("09 00 00 00 00 00 00 00" ∷ "01 02 00 01 00 00 4D 4B" ∷ [])
+    ∷ edge 6 0 ("0A 00 00 00 00 00 00 00" ∷ "01 02 00 01 00 00 4D 4B" ∷ [])
     ∷ edge 6 0 ("00 00 00 00 00" ∷ "00 00 01 00 00 00 00 00" ∷ "01 02 01 01 05 00 4D 4B" ∷ [])
     ∷ edge 6 1 ("01 00 00 00 00 00 00 00" ∷ "01 01 00 00 00 00 00 00" ∷ "01 02 00 02 00 00 4D 4B" ∷ [])
     ∷ edge 6 1 ("01 00 00 00 00 00 00 00" ∷ "02 00 00 01 01 00 00 00" ∷ "01 02 00 02 00 00 4D 4B" ∷ [])
@@ -81,6 +82,16 @@ edges =
     ∷ edge 6 0 ("02 00 00 02 00 00 00 00" ∷ "01 02 00 01 00 00 4D 4B" ∷ [])
     ∷ edge 6 1 ("01 00 00 00 00 00 00 00" ∷ "08 00 00 00 FF FF FF FF" ∷ "01 02 00 02 00 00 4D 4B" ∷ [])
     ∷ edge 6 1 ("01 00 00 00 00 00 00 00" ∷ "08 00 00 00 01 00 00 40" ∷ "01 02 00 02 00 00 4D 4B" ∷ [])
+    -- a quotient's a, b, v and value that are no earlier step: the first step, its own number four times, -1, 256
+    ∷ edge 6 0 ("09 00 00 00 00 00 00 00" ∷ "01 02 00 01 00 00 4D 4B" ∷ [])
+    ∷ edge 6 1 ("01 00 00 00 00 00 00 00" ∷ "09 01 00 00 00 00 00 00" ∷ "01 02 00 02 00 00 4D 4B" ∷ [])
+    ∷ edge 6 1 ("01 00 00 00 00 00 00 00" ∷ "09 00 01 00 00 00 00 00" ∷ "01 02 00 02 00 00 4D 4B" ∷ [])
+    ∷ edge 6 1 ("01 00 00 00 00 00 00 00" ∷ "09 00 00 01 00 00 00 00" ∷ "01 02 00 02 00 00 4D 4B" ∷ [])
+    ∷ edge 6 1 ("01 00 00 00 00 00 00 00" ∷ "09 00 00 00 01 00 00 00" ∷ "01 02 00 02 00 00 4D 4B" ∷ [])
+    ∷ edge 6 1 ("01 00 00 00 00 00 00 00" ∷ "09 00 00 00 FF FF FF FF" ∷ "01 02 00 02 00 00 4D 4B" ∷ [])
+    ∷ edge 6 1 ("01 00 00 00 00 00 00 00" ∷ "09 00 00 00 00 01 00 00" ∷ "01 02 00 02 00 00 4D 4B" ∷ [])
+    -- all of them earlier
+    ∷ edge 0 0 ("01 00 00 00 00 00 00 00" ∷ "09 00 00 00 00 00 00 00" ∷ "01 02 00 02 00 00 4D 4B" ∷ [])
     -- the largest threshold, the least constant
     ∷ edge 0 0 ("01 00 00 00 00 00 00 00" ∷ "08 00 00 00 00 00 00 40" ∷ "01 02 00 02 00 00 4D 4B" ∷ [])
     ∷ edge 0 0 ("01 00 00 00 00 00 00 C0" ∷ "01 02 00 01 00 00 4D 4B" ∷ [])
@@ -91,6 +102,24 @@ pub edges-read : map {B = ℕ × ℕ} (λ r. (returned-book (r .bytes) .number, 
     ≡ map (λ r. (r .number, r .place)) edges
 unfolding reads writes sheet-forms edges edge
 edges-read = refl
+
+-- ---- quotients
+-- inputs f = 3 with radius 1, g = 2, h = 1.5 + 2 / U and w = 0.75 with radii 5 and 7, then the step given
+unfoldable pub quotient-sheet : (step : String) → List ℕ
+quotient-sheet step = hex (
+    "01 00 00 00 01 00 00 00 00 30 00" ∷ "00 00 00 00 01 00 00 00 00 20 00" ∷ "05 00 00 00 01 00 00 02 00 18 00" ∷
+    "07 00 00 00 01 00 00 00 00 0C 00" ∷ "00 00 00 00 00 00 00 00" ∷ "00 01 00 00 00 00 00 00" ∷
+    "00 02 00 00 00 00 00 00" ∷ "00 03 00 00 00 00 00 00" ∷ step ∷ "01 02 04 05 2C 00 4D 4B" ∷ [])
+
+-- beta is 3, and 1 from the radius of f, mu is U / 2; h and w exchanged: mu is above U; g = 2 and w = 1: mu is U
+pub edge-quotients : (run-sheet (quotient-sheet "09 00 01 02 03 00 00 00")
+    ≡ gives (model 1 8 (at-key 1 0x0000 (pos 1572866) ∷ []))
+    (ends (pos 1572858) (pos 1572874)) (ends (pos 3145716) (pos 3145748)))
+    × (run-sheet (quotient-sheet "09 00 01 03 02 00 00 00") ≡ stopped uncertified 4)
+    × (run-sheet (hex ("01 00 00 00 00 00 20 00" ∷ "01 00 00 00 00 00 10 00" ∷ "09 00 00 00 01 00 00 00" ∷
+    "01 02 00 03 00 00 4D 4B" ∷ [])) ≡ stopped uncertified 2)
+unfolding reads sheet-forms quotient-sheet
+edge-quotients = (refl, refl, refl)
 
 -- ---- records
 -- the records of a sheet whose run would be refused: two models and three steps, and no trailer
@@ -137,8 +166,8 @@ pub edge-written : (all-written (small-book 2 1) (replicate 18 0xFF) ≡ (0, 0, 
     × (all-written (small-book 2 1) (replicate 16 0xFF) ≡ (0, 0, 16, small-sheet))
     × (all-written (small-book 2 1) (replicate 15 0xFF) ≡ (11, 0, 0, replicate 15 0xFF))
     × (all-written square-book (replicate 27 0) ≡ (0, 0, 27, square-sheet))
-    × (all-written (small-book 2 9) [] ≡ (6, 0, 0, []))
-    × (all-written (small-book 0 9) [] ≡ (3, 0, 0, []))
+    × (all-written (small-book 2 10) [] ≡ (6, 0, 0, []))
+    × (all-written (small-book 0 10) [] ≡ (3, 0, 0, []))
 unfolding writes sheet-forms small-book small-sheet square-book square-sheet all-written
 edge-written = (refl, refl, refl, refl, refl, refl)
 

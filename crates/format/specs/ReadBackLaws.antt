@@ -144,13 +144,10 @@ step-is : (s : Held-step) (z : ℤ) → z ≡ s .value
     → record { code = s .code; a = s .a; b = s .b; v = s .v; value = z } ≡ s
 step-is s z p = rw p
 
-step-back : (s : Held-step) (r : List ℕ) → natAbs (s .value) ≤ span-limit → read-step (step-bytes s ++ r) ≡ s
+step-back : (s : Held-step) (r : List ℕ) → natAbs (s .value) < 2 ^ 31 → read-step (step-bytes s ++ r) ≡ s
 unfolding read-step step-bytes
 step-back s r h = step-is s _
-    (ap signed (read-u32 (bits (s .value)) r (bits-below (s .value) small)) ∙ signed-bits (s .value) small)
-  where
-    small : natAbs (s .value) < 2 ^ 31
-    small = omega (arith, span-four-bytes)
+    (ap signed (read-u32 (bits (s .value)) r (bits-below (s .value) h)) ∙ signed-bits (s .value) h)
 
 pub length-step : (s : Held-step) → length (step-bytes s) ≡ step-length
 unfolding step-bytes u32-bytes

@@ -2,13 +2,14 @@
 use mathlib.Core.Path.{_≡_, subst}
 use mathlib.Core.Bool.{Bool, true, false, cond, _&&_, _||_}
 use mathlib.Core.List.{List, _∷_, map}
-use Prim.Native.Nat.{ℕ, _+_, _<_, _≤_}
+use Prim.Native.Nat.{ℕ, _+_, _^_, _<_, _≤_}
 use native.Mathlib.Omega.{arith}
-use lib.Dec.{T, eqb, leb, leb→le, eqb→eq, ltb→lt}
+use lib.Dec.{T, eqb, leb, ltb, leb→le, eqb→eq, ltb→lt}
 use lib.IntN.{ℤ, natAbs}
 use lib.Signed.{nonNeg}
 use lib.ListN.{length, length-map}
 use Rattle.fixed.specs.Fixed.{span-limit}
+use Rattle.fixed.specs.FixedLaws.{span-four-bytes}
 use Rattle.calculus.specs.Key.{key-width, key-limit, monomial-of}
 use Rattle.calculus.specs.Terms.{every, sum-over, size}
 use Rattle.calculus.specs.Model.{most-terms, span, fits}
@@ -20,7 +21,7 @@ use Rattle.calculus.specs.SoundLaws.{Sound, sound-parts}
 use Rattle.calculus.specs.BookLaws.{between-high}
 use Rattle.format.specs.HeldBook.{Held-term, Held-model, Held-step, view-term, view-model}
 use Rattle.format.specs.HeldBook.{held-model-sound, held-step-sound}
-use Rattle.format.specs.Fields.{limit-a, limit-b, v-sound, value-sound}
+use Rattle.format.specs.Fields.{limit-a, limit-b, v-sound, earlier, value-sound}
 use Rattle.format.specs.StepFieldLaws.{Fields, fields-of}
 
 -- ---- the numbers of a model that passes
@@ -69,24 +70,31 @@ pub record Step-facts (s : Held-step) : Type 0 where
   pub a : s .a < 256
   pub b : s .b < 256
   pub v : s .v < 256
-  pub value : natAbs (s .value) ≤ span-limit
+  pub value : natAbs (s .value) < 2 ^ 31
 
 -- the limits of its fields are small
 pub under-cond : (t : Bool) (x y k : ℕ) → x ≤ k → y ≤ k → cond t x y ≤ k
 under-cond true x y k p q = p
 under-cond false x y k p q = q
 
-v-small : (t : Bool) (n v : ℕ) → T (cond t (variable-sound n v) (eqb v 0)) → v ≤ n
+v-small : (t u : Bool) (n i v k : ℕ) → n ≤ k → i ≤ k
+    → T (cond t (variable-sound n v) (cond u (ltb v i) (eqb v 0))) → v ≤ k
 unfolding variable-sound
-v-small true n v h = between-high 1 n v h
-v-small false n v h = let e = eqb→eq v 0 h in omega arith
+v-small true u n i v k p q h = let l = between-high 1 n v h in omega arith
+v-small false true n i v k p q h = let l = ltb→lt v i h in omega arith
+v-small false false n i v k p q h = let e = eqb→eq v 0 h in omega arith
 
-value-small : (t u : Bool) (z : ℤ) → T (cond t (constant-sound z) (cond u (threshold-sound z) (eqb (natAbs z) 0)))
-    → natAbs z ≤ span-limit
-unfolding constant-sound threshold-sound
-value-small true u z h = leb→le (natAbs z) span-limit h
-value-small false true z h = leb→le (natAbs z) span-limit (and-right (nonNeg z) _ h)
-value-small false false z h = let e = eqb→eq (natAbs z) 0 h in omega arith
+in-span : (z : ℤ) → T (leb (natAbs z) span-limit) → natAbs z < 2 ^ 31
+in-span z h = omega (arith, leb→le (natAbs z) span-limit h, span-four-bytes)
+
+value-small : (t u w : Bool) (i : ℕ) (z : ℤ) → i ≤ 64
+    → T (cond t (constant-sound z) (cond u (threshold-sound z) (cond w (earlier i z) (eqb (natAbs z) 0))))
+    → natAbs z < 2 ^ 31
+unfolding constant-sound threshold-sound earlier
+value-small true u w i z q h = in-span z h
+value-small false true w i z q h = in-span z (and-right (nonNeg z) _ h)
+value-small false false true i z q h = let l = ltb→lt (natAbs z) i (and-right (nonNeg z) _ h) in omega arith
+value-small false false false i z q h = let e = eqb→eq (natAbs z) 0 h in omega arith
 
 pub step-facts : (b : Book) (i : ℕ) (s : Held-step) → i ≤ 64 → length (b .models) ≤ 16 → b .vars ≤ key-width
     → T (held-step-sound b i s) → Step-facts s
@@ -97,9 +105,11 @@ step-facts b i s li lm ln h = record {
       let k = under-cond (eqb (s .code) 0) (length (b .models)) (cond (leb 3 (s .code)) i 1) 64 (omega arith)
       (under-cond (leb 3 (s .code)) i 1 64 li (omega arith)) in omega arith;
   b = let l = ltb→lt (s .b) _ (p .in-b) in
-      let k = under-cond (leb 4 (s .code) && leb (s .code) 7) i 1 64 li (omega arith) in omega arith;
-  v = let l = v-small (eqb (s .code) 2 || eqb (s .code) 7) (b .vars) (s .v) (p .in-v) in omega arith;
-  value = value-small (eqb (s .code) 1) (eqb (s .code) 8) (s .value) (p .in-value);
+      let k = under-cond ((leb 4 (s .code) && leb (s .code) 7) || eqb (s .code) 9) i 1 64 li (omega arith) in
+      omega arith;
+  v = let l = v-small (eqb (s .code) 2 || eqb (s .code) 7) (eqb (s .code) 9) (b .vars) i (s .v) 64 (omega arith) li
+      (p .in-v) in omega arith;
+  value = value-small (eqb (s .code) 1) (eqb (s .code) 8) (eqb (s .code) 9) i (s .value) li (p .in-value);
 }
   where
     p : Fields b i s

@@ -6,14 +6,16 @@ use Prim.Native.Nat.{ℕ, zero, suc, _+_, _<_}
 use native.Mathlib.Omega.{arith}
 use lib.Dec.{T, eqb, leb, ltb, eqb→eq, ltb→lt, lt→ltb}
 use borrow.Author.Tests.{lt-leb}
-use lib.IntN.{natAbs}
+use lib.IntN.{ℤ, pos, negsuc, natAbs}
 use lib.ListN.{length, getElem?}
+use lib.Signed.{nonNeg}
+use Rattle.algebra.specs.Integer.{minus}
 use Rattle.calculus.specs.Tests.{constant-sound, variable-sound, threshold-sound}
 use Rattle.calculus.specs.Book.{Step, input, constant, variable, negate, add, subtract, multiply, substitute, sweep}
-use Rattle.calculus.specs.Book.{last-code, Book, step-sound}
+use Rattle.calculus.specs.Book.{quotient, last-code, Book, step-sound}
 use Rattle.calculus.specs.TestLaws.{and-left, and-right, both, same-tests}
 use Rattle.format.specs.HeldBook.{Held-step, Form, form, forms, step-of, view-step, held-step-sound}
-use Rattle.format.specs.Fields.{limit-a, limit-b, v-sound, value-sound, fields-sound}
+use Rattle.format.specs.Fields.{limit-a, limit-b, v-sound, earlier, value-sound, fields-sound}
 
 -- ---- the two tests agree, code by code
 -- a form that gives a step passes with it
@@ -40,6 +42,15 @@ below-one x e = lt→ltb x 1 (omega arith)
 
 under-one : (x : ℕ) → T (ltb x 1) → x ≡ 0
 under-one x h = let l = ltb→lt x 1 h in omega arith
+
+-- no part below 0
+not-below : (z : ℤ) → minus z ≡ 0 → T (nonNeg z)
+not-below (pos n) e = tt
+not-below (negsuc n) e = absurd (omega arith)
+
+none-below : (z : ℤ) → T (nonNeg z) → minus z ≡ 0
+none-below (pos n) h = refl
+none-below (negsuc n) h = absurd h
 
 -- the tests of a, b, v and value
 record Four (A B C D : Bool) : Type 0 where
@@ -192,6 +203,28 @@ module _ (b : Book) (i : ℕ) (s : Held-step) where
         passes = both a-before _ (q .in-a) (q .in-value);
       })
 
+  by-quotient : accepts (step-of (some (form (minus (s .value)) (quotient (s .a) (s .b) (s .v) size))))
+      ≡ (a-before && b-before && ltb (s .v) i && earlier i (s .value))
+  unfolding step-sound earlier
+  by-quotient = by-form (form (minus (s .value)) (quotient (s .a) (s .b) (s .v) size))
+      a-before b-before (ltb (s .v) i) (earlier i (s .value))
+      (λ p.
+      let q = parts a-before b-before (ltb (s .v) i) (ltb size i) (p .passes) in record {
+        in-a = q .in-a;
+        in-b = q .in-b;
+        in-v = q .in-v;
+        in-value = both (nonNeg (s .value)) (ltb size i) (not-below (s .value) (p .unnamed)) (q .in-value);
+      })
+      (λ q. record {
+        unnamed = none-below (s .value) (and-left (nonNeg (s .value)) (ltb size i) (q .in-value));
+        passes = four a-before b-before (ltb (s .v) i) (ltb size i) (record {
+          in-a = q .in-a;
+          in-b = q .in-b;
+          in-v = q .in-v;
+          in-value = and-right (nonNeg (s .value)) (ltb size i) (q .in-value);
+        });
+      })
+
   beyond : last-code < s .code → accepts (step-of none) ≡ fields-sound (b .vars) (length (b .models)) i s
   unfolding step-of fields-sound
   beyond l = rw (lt-leb (s .code) last-code l)
@@ -208,7 +241,8 @@ module _ (b : Book) (i : ℕ) (s : Held-step) where
   by-code (suc (suc (suc (suc (suc (suc zero)))))) e = rw e (two-operands (multiply (s .a) (s .b)) refl)
   by-code (suc (suc (suc (suc (suc (suc (suc zero))))))) e = rw e by-substitute
   by-code (suc (suc (suc (suc (suc (suc (suc (suc zero)))))))) e = rw e by-sweep
-  by-code (suc (suc (suc (suc (suc (suc (suc (suc (suc c))))))))) e = beyond (omega arith)
+  by-code (suc (suc (suc (suc (suc (suc (suc (suc (suc zero))))))))) e = rw e by-quotient
+  by-code (suc (suc (suc (suc (suc (suc (suc (suc (suc (suc c)))))))))) e = beyond (omega arith)
 
   -- THEOREM: test 6 is that of all fields
   pub step-by-fields : held-step-sound b i s ≡ fields-sound (b .vars) (length (b .models)) i s
@@ -225,8 +259,8 @@ pub record Fields (b : Book) (i : ℕ) (s : Held-step) : Type 0 where
   pub in-code : T (leb (s .code) last-code)
   pub in-a : T (ltb (s .a) (limit-a (length (b .models)) i (s .code)))
   pub in-b : T (ltb (s .b) (limit-b i (s .code)))
-  pub in-v : T (v-sound (b .vars) (s .code) (s .v))
-  pub in-value : T (value-sound (s .code) (s .value))
+  pub in-v : T (v-sound (b .vars) i (s .code) (s .v))
+  pub in-value : T (value-sound i (s .code) (s .value))
 
 pub fields-of : (b : Book) (i : ℕ) (s : Held-step) → T (held-step-sound b i s) → Fields b i s
 unfolding fields-sound
@@ -248,7 +282,7 @@ fields-of b i s h = record {
     c = ltb (s .b) (limit-b i (s .code))
 
     v : Bool
-    v = v-sound (b .vars) (s .code) (s .v)
+    v = v-sound (b .vars) i (s .code) (s .v)
 
     k : T (fields-sound (b .vars) (length (b .models)) i s)
     k = subst T (step-by-fields b i s) h

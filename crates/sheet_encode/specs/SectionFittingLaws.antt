@@ -76,7 +76,7 @@ module _ (b : Book) where
     pub step-at-fits : (k : ℕ) (x : Step) → k < b .«step_count» → b .«step_count» ≤ length (b .steps)
         → natAbs (getD (b .steps) k x .value) < 2 ^ 31
     unfolding held-step
-    step-at-fits k x h l = omega (arith, span-four-bytes, ap (λ s. natAbs (s .value)) at, f .value)
+    step-at-fits k x h l = omega (arith, ap (λ s. natAbs (s .value)) at, f .value)
       where
         at : getD (held-book b .steps) k (held-step x) ≡ held-step (getD (b .steps) k x)
         at = step-at k x h l
