@@ -3,7 +3,7 @@
 ghost use mathlib.Core.Path.{_≡_};
 ghost use Rattle.calculus.specs.Book.{«limits-sound»};
 ghost use Rattle.format.specs.HeldBook.{outline};
-ghost use Rattle.format.specs.Fields.{«limit-a», «limit-b», «v-sound», «value-sound», «fields-sound»};
+ghost use Rattle.format.specs.Fields.{«limit-a», «limit-b», «v-sound», earlier, «value-sound», «fields-sound»};
 ghost use Rattle.sheet_book.specs.BookStruct.{«held-step»};
 use model_types::Model;
 use model_types::Term;
@@ -16,7 +16,7 @@ pub const MOST_MODELS: usize = 16;
 pub const MOST_STEPS: usize = 64;
 
 // The codes of steps: 0 to this, which is `last-code`.
-const LAST_CODE: u8 = 8;
+const LAST_CODE: u8 = 9;
 
 // A step: its code and its fields.
 pub struct Step {
@@ -140,6 +140,9 @@ fn limit_a(models: usize, i: usize, code: u8) -> usize
 fn limit_b(i: usize, code: u8) -> usize
     ensures { λ r. ⌜ r ≡ limit-b i code ⌝ }
 {
+    if code == 9 {
+        return i;
+    }
     if code < 4 {
         return 1;
     }
@@ -149,9 +152,9 @@ fn limit_b(i: usize, code: u8) -> usize
     i
 }
 
-// Whether field v is a variable of n where the code names it.
-fn v_sound(n: u8, code: u8, v: u8) -> bool
-    ensures { λ r. ⌜ r ≡ v-sound n code v ⌝ }
+// Whether field v is a variable of n, or a step before step i, where the code names it.
+fn v_sound(n: u8, i: usize, code: u8, v: u8) -> bool
+    ensures { λ r. ⌜ r ≡ v-sound n i code v ⌝ }
 {
     if code == 2 {
         return model_types::from_one(n, v);
@@ -159,18 +162,31 @@ fn v_sound(n: u8, code: u8, v: u8) -> bool
     if code == 7 {
         return model_types::from_one(n, v);
     }
+    if code == 9 {
+        return (v as usize) < i;
+    }
     v == 0
 }
 
-// Whether the value is a constant or a threshold where the code names it.
-fn value_sound(code: u8, value: i64) -> bool
-    ensures { λ r. ⌜ r ≡ value-sound code value ⌝ }
+// Whether a value is the number of a step before step i.
+fn earlier(i: usize, value: i64) -> bool
+    ensures { λ r. ⌜ r ≡ earlier i value ⌝ }
+{
+    0 <= value && fixed::magnitude(value) < i as u64
+}
+
+// Whether the value is a constant, a threshold, or a step before step i, where the code names it.
+fn value_sound(i: usize, code: u8, value: i64) -> bool
+    ensures { λ r. ⌜ r ≡ value-sound i code value ⌝ }
 {
     if code == 1 {
         return fixed::constant_within_limits(value);
     }
     if code == 8 {
         return fixed::threshold_within_limits(value);
+    }
+    if code == 9 {
+        return earlier(i, value);
     }
     fixed::magnitude(value) == 0
 }
@@ -189,8 +205,8 @@ pub fn step_sound(n: u8, models: usize, i: usize, s: Step) -> bool
     if limit_b(i, code) <= s.b as usize {
         return false;
     }
-    if !v_sound(n, code, s.v) {
+    if !v_sound(n, i, code, s.v) {
         return false;
     }
-    value_sound(code, s.value)
+    value_sound(i, code, s.value)
 }

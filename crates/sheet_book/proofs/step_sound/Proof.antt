@@ -51,12 +51,12 @@ module _ (c : tie.After-v-sound) where
   abbrev from-v : tie.Start
   from-v = from-b (c .before .before .before)
 
-v-in : (c : tie.Else4) → v-sound (from-v (c .before) .args .n) (from-v (c .before) .args .s .code)
-    (from-v (c .before) .args .s .v) ≡ true
+v-in : (c : tie.Else4) → v-sound (from-v (c .before) .args .n) (from-v (c .before) .args .i)
+    (from-v (c .before) .args .s .code) (from-v (c .before) .args .s .v) ≡ true
 v-in c = sym (c .before .v-sound .ensures) ∙ not-false _ (c .if4 .left)
 
-v-out : (c : tie.Then4) → v-sound (from-v (c .before) .args .n) (from-v (c .before) .args .s .code)
-    (from-v (c .before) .args .s .v) ≡ false
+v-out : (c : tie.Then4) → v-sound (from-v (c .before) .args .n) (from-v (c .before) .args .i)
+    (from-v (c .before) .args .s .code) (from-v (c .before) .args .s .v) ≡ false
 v-out c = sym (c .before .v-sound .ensures) ∙ not-true _ (c .if4 .taken)
 
 read-back : (c : tie.After-struct-told)
@@ -110,7 +110,7 @@ returns-5 c =
     let in-b = in-v .before .before in
     let in-a = in-b .before .before .before in
     rw (code-in (in-a .before .before .before), a-in in-a, b-in in-b, v-in in-v)
-    (c .value-sound .ensures ∙ ap (value-sound _) (read-back (c .before)))
+    (c .value-sound .ensures ∙ ap (value-sound _ _) (read-back (c .before)))
 
 pub step-sound-spec : {M : Type 1} → statement M
 step-sound-spec =

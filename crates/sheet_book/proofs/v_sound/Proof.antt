@@ -27,8 +27,18 @@ returns-2 c =
 returns-3 : tie.Need-returns-3
 unfolding v-sound
 returns-3 c =
-    let code = c .before .before .args .code in
-    rw (ne-eqb code 2 (c .before .if1 .left), ne-eqb code 7 (c .if2 .left))
+    let code = c .before .before .before .args .code in
+    rw (ne-eqb code 2 (c .before .before .if1 .left), ne-eqb code 7 (c .before .if2 .left), c .if3 .taken)
+
+returns-4 : tie.Need-returns-4
+unfolding v-sound
+returns-4 c =
+    let code = c .before .before .before .args .code in
+    rw (
+      ne-eqb code 2 (c .before .before .if1 .left),
+      ne-eqb code 7 (c .before .if2 .left),
+      ne-eqb code 9 (c .if3 .left),
+    )
 
 pub v-sound-spec : {M : Type 1} → statement M
-v-sound-spec = tie.close (tie.spec from-one-requires returns from-one-requires-2 returns-2 returns-3)
+v-sound-spec = tie.close (tie.spec from-one-requires returns from-one-requires-2 returns-2 returns-3 returns-4)

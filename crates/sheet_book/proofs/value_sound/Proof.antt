@@ -8,7 +8,7 @@ use mir.Facts.{toZ-ofZ}
 use mir.Syntax.{w64}
 use mir.Val.{toZ, ofZ}
 use Rattle.calculus.specs.Tests.{constant-sound, threshold-sound}
-use Rattle.format.specs.Fields.{value-sound}
+use Rattle.format.specs.Fields.{earlier, value-sound}
 use Rattle.sheet_book.proofs.value_sound.Statement.{statement}
 use Rattle.sheet_book.proofs.value_sound.Tie as tie
 
@@ -35,15 +35,33 @@ returns-2 c =
     c .threshold-within-limits .ensures ∙ ap threshold-sound (read-back s)
     ∙ rw (ne-eqb (s .args .code) 1 (c .before .before .if1 .left), eq-eqb (s .args .code) 8 (c .before .if2 .taken))
 
-magnitude-requires : tie.Need-magnitude-requires
-magnitude-requires c κs = search needs
+earlier-requires : tie.Need-earlier-requires
+earlier-requires c κs = search needs
 
 returns-3 : tie.Need-returns-3
 unfolding value-sound
 returns-3 c =
-    let s = c .before .before .before in
+    let s = c .before .before .before .before in
+    c .earlier .ensures ∙ ap (earlier _) (read-back s)
+    ∙ rw (
+      ne-eqb (s .args .code) 1 (c .before .before .before .if1 .left),
+      ne-eqb (s .args .code) 8 (c .before .before .if2 .left),
+      eq-eqb (s .args .code) 9 (c .before .if3 .taken),
+    )
+
+magnitude-requires : tie.Need-magnitude-requires
+magnitude-requires c κs = search needs
+
+returns-4 : tie.Need-returns-4
+unfolding value-sound
+returns-4 c =
+    let s = c .before .before .before .before in
     ap (λ x. eqb x 0) (c .magnitude .ensures ∙ ap natAbs (read-back s))
-    ∙ rw (ne-eqb (s .args .code) 1 (c .before .before .if1 .left), ne-eqb (s .args .code) 8 (c .before .if2 .left))
+    ∙ rw (
+      ne-eqb (s .args .code) 1 (c .before .before .before .if1 .left),
+      ne-eqb (s .args .code) 8 (c .before .before .if2 .left),
+      ne-eqb (s .args .code) 9 (c .before .if3 .left),
+    )
 
 pub value-sound-spec : {M : Type 1} → statement M
 value-sound-spec =
@@ -53,5 +71,7 @@ value-sound-spec =
     returns
     threshold-within-limits-requires
     returns-2
+    earlier-requires
+    returns-3
     magnitude-requires
-    returns-3)
+    returns-4)
