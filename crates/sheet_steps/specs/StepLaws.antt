@@ -2,15 +2,18 @@
 -- that is what the book's step gives.
 use mathlib.Core.Path.{_≡_, refl, sym, _∙_, ap, subst}
 use mathlib.Core.Bool.{Bool, true, false}
+use mathlib.Core.Logic.{inl, inr}
 use mathlib.Core.Option.{Option, some, none}
 use Prim.Native.Nat.{ℕ, zero, suc, _≤_}
 use native.Mathlib.Omega.{arith}
 use lib.Dec.{T, eqb}
+use lib.IntN.{natAbs}
 use lib.ListN.{getElem?}
 use Rattle.calculus.specs.Model as C
 use Rattle.calculus.specs.Model.{most-degree, sound}
 use Rattle.calculus.specs.Refusal as R
 use Rattle.calculus.specs.Refusal.{accepted, at-place}
+use Rattle.calculus.specs.Operations as Op
 use Rattle.calculus.specs.Tests.{variable-sound}
 use Rattle.calculus.specs.BookLaws.{between-low, between-high}
 use Rattle.calculus.specs.Book.{Step, Book, model-of, run-step}
@@ -21,7 +24,6 @@ use Rattle.model_types.specs.ModelStructLaws.{vars-range}
 use Rattle.model.specs.OperationContracts.{Operands, Factors, Substitution}
 use Rattle.model.specs.OperationLaws.{sound-order}
 use Rattle.format.specs.HeldBook.{Held-step, Form, forms, step-of, view-step}
-use Rattle.format.specs.Fields.{v-sound}
 use Rattle.sheet_step_answers.specs.Answers.{accepted-answer}
 use Rattle.sheet_steps.specs.Steps.{one-model, two-results, renumbered, form-answer, code-answer, step-answer}
 use Rattle.sheet_steps.specs.Steps.{Step-ready, Direct-ready}
@@ -36,12 +38,10 @@ module _ {n d : ℕ} {s : Held-step} {m f g : Model} (r : Step-ready n d s m f g
   in-range t = (between-low 1 n (s .v) t, between-high 1 n (s .v) t)
 
   of-variable : s .code ≡ 2 → (1 ≤ s .v) × (s .v ≤ n)
-  unfolding v-sound
-  of-variable e = in-range (subst (λ c. T (v-sound n c (s .v))) e (r .variable))
+  of-variable e = in-range (r .variable (inl e))
 
   into-variable : s .code ≡ 7 → (1 ≤ s .v) × (s .v ≤ n)
-  unfolding v-sound
-  into-variable e = in-range (subst (λ c. T (v-sound n c (s .v))) e (r .variable))
+  into-variable e = in-range (r .variable (inr e))
 
   operands : Operands f g
   operands = record {
@@ -75,6 +75,7 @@ module _ {n d : ℕ} {s : Held-step} {m f g : Model} (r : Step-ready n d s m f g
     code = r .code;
     no-product = p;
     no-substitution = q;
+    no-quotient = r .no-quotient;
     input = input-sound;
     variable = of-variable;
     operands = operands;
@@ -118,26 +119,34 @@ form-step f t e = go (eqb (f .unnamed) 0) e
     go false e = let z : _≡_ {A = ℕ} 0 1 = cc in absurd (omega arith)
 
 module _ (b : Book) (r : ℕ → C.Model) (s : Held-step) (t : Step) (m : C.Model) where
-  -- the model matters to an input only
-  by-code : (c : ℕ) → step-of (getElem? (forms s) c) ≡ some t → (c ≡ 0 → m ≡ model-of b (s .a))
+  -- each but a quotient; the model matters to an input only
+  by-code : (c : ℕ) → step-of (getElem? (forms s) c) ≡ some t → (c ≡ 9 → ⊥) → (c ≡ 0 → m ≡ model-of b (s .a))
       → code-answer (b .vars) (b .order) s m (r (s .a)) (r (s .b)) c ≡ run-step b r t
   unfolding codes
-  by-code zero h e = ap accepted (e refl) ∙ ap (run-step b r) (form-step _ t h)
-  by-code (suc zero) h e = ap (run-step b r) (form-step _ t h)
-  by-code (suc (suc zero)) h e = ap (run-step b r) (form-step _ t h)
-  by-code (suc (suc (suc zero))) h e = ap (run-step b r) (form-step _ t h)
-  by-code (suc (suc (suc (suc zero)))) h e = ap (run-step b r) (form-step _ t h)
-  by-code (suc (suc (suc (suc (suc zero))))) h e = ap (run-step b r) (form-step _ t h)
-  by-code (suc (suc (suc (suc (suc (suc zero)))))) h e = ap (run-step b r) (form-step _ t h)
-  by-code (suc (suc (suc (suc (suc (suc (suc zero))))))) h e = ap (run-step b r) (form-step _ t h)
-  by-code (suc (suc (suc (suc (suc (suc (suc (suc zero)))))))) h e = ap (run-step b r) (form-step _ t h)
-  by-code (suc (suc (suc (suc (suc (suc (suc (suc (suc c))))))))) h e = no-form h
+  by-code zero h p e = ap accepted (e refl) ∙ ap (run-step b r) (form-step _ t h)
+  by-code (suc zero) h p e = ap (run-step b r) (form-step _ t h)
+  by-code (suc (suc zero)) h p e = ap (run-step b r) (form-step _ t h)
+  by-code (suc (suc (suc zero))) h p e = ap (run-step b r) (form-step _ t h)
+  by-code (suc (suc (suc (suc zero)))) h p e = ap (run-step b r) (form-step _ t h)
+  by-code (suc (suc (suc (suc (suc zero))))) h p e = ap (run-step b r) (form-step _ t h)
+  by-code (suc (suc (suc (suc (suc (suc zero)))))) h p e = ap (run-step b r) (form-step _ t h)
+  by-code (suc (suc (suc (suc (suc (suc (suc zero))))))) h p e = ap (run-step b r) (form-step _ t h)
+  by-code (suc (suc (suc (suc (suc (suc (suc (suc zero)))))))) h p e = ap (run-step b r) (form-step _ t h)
+  by-code (suc (suc (suc (suc (suc (suc (suc (suc (suc zero))))))))) h p e = absurd (p refl)
+  by-code (suc (suc (suc (suc (suc (suc (suc (suc (suc (suc c)))))))))) h p e = no-form h
     where
       no-form : {A : Type 0} → step-of none ≡ some t → A
       no-form e = unfold step-of in let z : _≡_ {A = ℕ} 0 1 = cc in absurd (omega arith)
 
   -- what the code gives is what the step of the book gives
-  pub step-is : view-step s ≡ some t → (s .code ≡ 0 → m ≡ model-of b (s .a))
+  pub step-is : view-step s ≡ some t → (s .code ≡ 9 → ⊥) → (s .code ≡ 0 → m ≡ model-of b (s .a))
       → step-answer (b .vars) (b .order) s m (r (s .a)) (r (s .b)) ≡ run-step b r t
   unfolding view-step step-answer
   step-is = by-code (s .code)
+
+-- and a quotient is that of the results that its fields name
+pub quotient-is : (b : Book) (r : ℕ → C.Model) (s : Held-step) (t : Step) → view-step s ≡ some t → s .code ≡ 9
+    → Op.quotient (b .order) (r (s .a)) (r (s .b)) (r (s .v)) (r (natAbs (s .value))) ≡ run-step b r t
+unfolding view-step forms run-step
+quotient-is b r s t h e =
+    ap (run-step b r) (form-step _ t (ap (λ c. step-of (getElem? (forms s) c)) (sym e) ∙ h))

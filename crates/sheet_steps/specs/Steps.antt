@@ -2,6 +2,7 @@
 use mathlib.Core.Path.{_≡_}
 use mathlib.Core.Bool.{true}
 use mathlib.Core.List.{[], _∷_}
+use mathlib.Core.Logic.{_⊎_}
 use mathlib.Core.Option.{Option, some, none}
 use Prim.Native.Nat.{ℕ, _≤_}
 use lib.Dec.{T}
@@ -11,13 +12,12 @@ use Rattle.calculus.specs.Model as C
 use Rattle.calculus.specs.Model.{most-degree, sound}
 use Rattle.calculus.specs.Refusal as R
 use Rattle.calculus.specs.Refusal.{accepted}
-use Rattle.calculus.specs.Tests.{vars-sound}
+use Rattle.calculus.specs.Tests.{vars-sound, variable-sound}
 use Rattle.calculus.specs.Book.{last-code, Book, run-step}
 use Rattle.model_types.specs.declared.Model.{Model}
 use Rattle.model_types.specs.ModelStruct.{view}
 use Rattle.model.specs.OperationContracts.{Operands}
 use Rattle.format.specs.HeldBook.{Held-step, Form, forms}
-use Rattle.format.specs.Fields.{v-sound}
 
 -- ---- what it gives
 -- a book in n variables of order d with the one model m
@@ -47,25 +47,28 @@ unfoldable pub step-answer : (n d : ℕ) → Held-step → (m f g : C.Model) →
 step-answer n d s m f g = code-answer n d s m f g (s .code)
 
 -- ---- what it asks
--- any step: the results are sound in n variables for order d, and so is the model of an input
+-- any step but a quotient, which names two more results: the results are sound in n variables for order d, and so is
+-- the model of an input; v is a variable where the code names one
 pub record Step-ready (n d : ℕ) (s : Held-step) (m f g : Model) : Type 0 where
   pub vars : vars-sound n ≡ true
   pub order : d ≤ most-degree
   pub code : s .code ≤ last-code
-  pub variable : T (v-sound n (s .code) (s .v))
+  pub no-quotient : s .code ≡ 9 → ⊥
+  pub variable : (s .code ≡ 2) ⊎ (s .code ≡ 7) → T (variable-sound n (s .v))
   pub input : s .code ≡ 0 → T (sound d (view m))
   pub first : T (sound d (view f))
   pub first-vars : f .n ≡ n
   pub second : T (sound d (view g))
   pub second-vars : g .n ≡ n
 
--- one that is neither a product nor a substitution: a model that is sound, if it is an input, a variable among n, if it
--- names one, and two sound results
+-- one that is no product and no substitution either: a model that is sound, if it is an input, a variable among n, if
+-- it names one, and two sound results
 pub record Direct-ready (n : ℕ) (s : Held-step) (m f g : Model) : Type 0 where
   pub width : n ≤ key-width
   pub code : s .code ≤ last-code
   pub no-product : s .code ≡ 6 → ⊥
   pub no-substitution : s .code ≡ 7 → ⊥
+  pub no-quotient : s .code ≡ 9 → ⊥
   pub input : s .code ≡ 0 → T (sound most-degree (view m))
   pub variable : s .code ≡ 2 → (1 ≤ s .v) × (s .v ≤ n)
   pub operands : Operands f g

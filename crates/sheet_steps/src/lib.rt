@@ -1,4 +1,5 @@
-// One step of a book: the operation that its code names, on the model or the results that its fields name.
+// One step of a book, a quotient apart: the operation that its code names, on the model or the results that its fields
+// name.
 ghost use mathlib.Core.Path.{_≡_};
 ghost use Prim.Native.Nat.{ℕ, _-_, min};
 ghost use Rattle.calculus.specs.Refusal.{«at-place»};
@@ -23,8 +24,8 @@ pub fn model_place(a: u8) -> usize
     }
 }
 
-// What a step gives whose operation needs no table, which is each but a product and a substitution, with the model that
-// its field a names and the results that a and b name: the same for every order.
+// What a step gives whose operation needs no table, which is each but a product, a substitution and a quotient, with
+// the model that its field a names and the results that a and b name: the same for every order.
 fn direct_answer(n: u8, s: Step, input: Model, f: Model, g: Model) -> Answer
     requires { ⌜ Direct-ready n (held-step s) input f g ⌝ }
     ensures { λ r. ⌜ ((d : ℕ)
@@ -42,8 +43,8 @@ fn direct_answer(n: u8, s: Step, input: Model, f: Model, g: Model) -> Answer
     }
 }
 
-// What a step gives, with the model that its field a names and the results that a and b name. A product and a
-// substitution use the table that is lent.
+// What a step gives that names at most two results, which is each but a quotient, with the model that its field a names
+// and the results that a and b name. A product and a substitution use the table that is lent.
 pub fn step_answer(
     n: u8,
     d: u8,

@@ -11,7 +11,6 @@ use Rattle.calculus.specs.Model as C
 use Rattle.calculus.specs.Refusal as R
 use Rattle.calculus.specs.Refusal.{accepted, at-place}
 use Rattle.calculus.specs.Operations as Op
-use Rattle.calculus.specs.Book.{last-code}
 use Rattle.model_types.specs.declared.Answer.{Answer}
 use Rattle.model_types.specs.declared.Model.{Model}
 use Rattle.model_types.specs.ModelStruct.{view, pack, answer}
@@ -131,14 +130,14 @@ unfolding codes
 returns-6 c = λ d. answers (c .before .before) d 5 _ (c .subtracted .ensures) (c .before .match .keys6) refl
 
 -- no other code is left
-is-last : (m : tie.At-match-rest) → m .before .args .s .code ≡ last-code
+is-sweep : (m : tie.At-match-rest) → m .before .args .s .code ≡ 8
 unfolding held-step
-is-last m =
+is-sweep m =
     let r = m .match .rest in
     let p = m .before .pre in
     let low : 4 ≤ m .before .args .s .code =
     omega (arith, r .0 .0 .0 .0 .0 .1, r .0 .0 .0 .0 .1, r .0 .0 .0 .1, r .0 .0 .1) in
-    omega (arith, low, p .code, p .no-product, p .no-substitution, r .1, r .0 .1)
+    omega (arith, low, p .code, p .no-product, p .no-substitution, p .no-quotient, r .1, r .0 .1)
 
 returns-7 : tie.Need-returns-7
 unfolding codes held-step
@@ -147,10 +146,10 @@ returns-7 c = λ d.
     let a = t .before .before .args in
     let read-back : toZ w64 (ofZ w64 (a .s .value)) ≡ a .s .value =
     toZ-ofZ (record { sfits = t .struct-told2 .given .1 .1 .1 .1 .0 .1 }) in
-    accepts (t .before .before) d last-code _ (c .accepted5 .ensures)
+    accepts (t .before .before) d 8 _ (c .accepted5 .ensures)
     (c .before .swept .ensures
     ∙ ap (λ k. pack (Op.sweep k (view (a .f)))) (c .before .before .magnitude .ensures ∙ ap natAbs read-back))
-    (is-last (t .before)) refl
+    (is-sweep (t .before)) refl
 
 pub direct-answer-spec : {M : Type 1} → statement M
 direct-answer-spec =
