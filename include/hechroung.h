@@ -60,7 +60,8 @@ struct hechroung_summary {
     struct hechroung_ends range, integral;
 };
 
-/* A step of a book: document 01's code and its fields; those that the code does not name are 0. */
+/* A step of a book: its code (document 01, and 9 of document 02) and its fields; those that the code does not name
+   are 0. */
 struct hechroung_step {
     uint8_t code, a, b, v;
     int64_t value;

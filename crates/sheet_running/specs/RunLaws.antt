@@ -1,12 +1,15 @@
 -- The run of a book that passed the tests: one turn of its loop, with each way out.
 use mathlib.Core.Path.{_≡_, refl, sym, _∙_, ap, ap₂, subst}
-use mathlib.Core.Bool.{Bool, true, cond, _&&_}
+use mathlib.Core.Bool.{Bool, true, cond, _&&_, _||_}
 use mathlib.Core.List.{List, [], _∷_, _++_, map, map-append}
+use mathlib.Core.Logic.{_⊎_, inl, inr}
 use mathlib.Core.Option.{some}
 use Prim.Native.Nat.{ℕ, zero, suc, _+_, _-_, _<_, _≤_}
 use native.Mathlib.Numerals.{add-one}
 use native.Mathlib.Omega.{arith}
 use lib.Dec.{T, eqb, leb, ltb, ltb→lt, leb→le}
+use lib.IntN.{natAbs}
+use lib.Signed.{nonNeg}
 use lib.ListN.{length, drop, getD, set, replicate, length-map, length-replicate, getD-replicate, drop-of-length-le}
 use lib.ListN.{List·getD-map}
 use lib.Seq.{drop-cons}
@@ -14,7 +17,8 @@ use Rattle.calculus.specs.Model as C
 use Rattle.calculus.specs.Model.{most-degree, zero-model, sound}
 use Rattle.calculus.specs.Refusal as R
 use Rattle.calculus.specs.Refusal.{accepted, refused, done, stopped, at-place, _followed-by_}
-use Rattle.calculus.specs.Tests.{vars-sound}
+use Rattle.calculus.specs.Operations.{quotient}
+use Rattle.calculus.specs.Tests.{vars-sound, variable-sound}
 use Rattle.calculus.specs.TestLaws.{and-right}
 use Rattle.calculus.specs.Refusal.{all-from}
 use Rattle.calculus.specs.SoundLaws.{Sound, zero-sound}
@@ -31,15 +35,16 @@ use Rattle.model_types.specs.declared.Verdict.the-variants.{Accepted, Refused}
 use Rattle.model_types.specs.declared.Answer.{Answer}
 use Rattle.model_types.specs.ModelStruct.{view, pack, refusal, cause, answer}
 use Rattle.model_types.specs.ModelStructLaws.{cause-refusal, vars-within}
+use Rattle.model.specs.OperationContracts.{Proposal}
 use Rattle.model.specs.OperationLaws.{Holds, held-vars, held-view, held-sound, Got, got}
 use Rattle.format.specs.SmallLaws.{under-cond}
 use Rattle.format.specs.HeldBook.{Held-step, Held-book, view-model, view-step, view-book, outline, outline-of}
 use Rattle.format.specs.HeldBook.{held-step-sound, Held-passes}
 use Rattle.format.specs.HeldBookLaws.{In-limits, in-limits, steps-pass, view-at, view-passes}
-use Rattle.format.specs.Fields.{limit-a, limit-b, v-sound}
+use Rattle.format.specs.Fields.{limit-a, limit-b, v-sound, earlier, value-sound}
 use Rattle.format.specs.StepFieldLaws.{Fields, fields-of}
 use Rattle.sheet_steps.specs.Steps.{step-answer, Step-ready}
-use Rattle.sheet_steps.specs.StepLaws.{step-is}
+use Rattle.sheet_steps.specs.StepLaws.{step-is, quotient-is}
 use Rattle.sheet_step_answers.specs.Answers.{accepted-answer}
 use Rattle.sheet_running.specs.Running.{last-result}
 
@@ -92,6 +97,12 @@ module _ (h : Held-book) where
     pub is-model : s .code ≡ 0 → view m ≡ model-of (view-book h) (s .a)
     pub is-first : f ≡ getD results (s .a) empty-place
     pub is-second : g ≡ getD results (s .b) empty-place
+
+  -- and what a quotient names besides: two results more
+  pub record Proposed (s : Held-step) (results : List Model) (k w : Model) : Type 0 where
+    pub code : s .code ≡ 9
+    pub is-third : k ≡ getD results (s .v) empty-place
+    pub is-fourth : w ≡ getD results (natAbs (s .value)) empty-place
 
   -- s is step i
   pub record Step-at (i : ℕ) (s : Held-step) : Type 0 where
@@ -175,8 +186,28 @@ module _ {h : Held-book} (p : Held-passes h) where
     second-place = omega (
       arith,
       ltb→lt (s .b) _ (fields .in-b),
-      under-cond (leb 4 (s .code) && leb (s .code) 7) i 1 64
+      under-cond ((leb 4 (s .code) && leb (s .code) 7) || eqb (s .code) 9) i 1 64
           (omega (arith, at .within, in-limits-of .steps-high)) (omega arith),
+    )
+
+    -- so are the two others of a quotient
+    pub third-place : s .code ≡ 9 → s .v < 64
+    unfolding v-sound
+    third-place e = omega (
+      arith,
+      ltb→lt (s .v) i (subst (λ c. T (v-sound (outline-of h .vars) i c (s .v))) e (fields .in-v)),
+      at .within,
+      in-limits-of .steps-high,
+    )
+
+    pub fourth-place : s .code ≡ 9 → natAbs (s .value) < 64
+    unfolding value-sound earlier
+    fourth-place e = omega (
+      arith,
+      ltb→lt (natAbs (s .value)) i
+          (and-right (nonNeg (s .value)) _ (subst (λ c. T (value-sound i c (s .value))) e (fields .in-value))),
+      at .within,
+      in-limits-of .steps-high,
     )
 
     -- that of an input is a model
@@ -216,21 +247,29 @@ module _ {h : Held-book} (p : Held-passes h) where
       second-held : Holds (h .n) (h .d) g (result (s .b))
       second-held = held-result (s .b) second-place (o .is-second)
 
+      third-held : {k w : Model} (q : Proposed h s results k w) → Holds (h .n) (h .d) k (result (s .v))
+      third-held q = held-result (s .v) (third-place (q .code)) (q .is-third)
+
+      fourth-held : {k w : Model} (q : Proposed h s results k w) → Holds (h .n) (h .d) w (result (natAbs (s .value)))
+      fourth-held q = held-result (natAbs (s .value)) (fourth-place (q .code)) (q .is-fourth)
+
       input-passes : s .code ≡ 0 → T (sound (h .d) (view m))
       unfolding model-sound view-book
       input-passes e = subst (λ m. T (sound (h .d) m)) (sym (o .is-model e))
           (and-right (eqb (model-of book (s .a) .vars) (h .n)) _
           (model-passes book passes (s .a) (omega (arith, model-place e, length-map (h .models) view-model))))
 
-      in-variable : T (v-sound (h .n) (s .code) (s .v))
-      unfolding outline-of outline
-      in-variable = fields .in-v
+      in-variable : (s .code ≡ 2) ⊎ (s .code ≡ 7) → T (variable-sound (h .n) (s .v))
+      unfolding outline-of outline v-sound
+      in-variable (inl e) = subst (λ c. T (v-sound (h .n) i c (s .v))) e (fields .in-v)
+      in-variable (inr e) = subst (λ c. T (v-sound (h .n) i c (s .v))) e (fields .in-v)
 
-      pub step-ready : Step-ready (h .n) (h .d) s m f g
-      step-ready = record {
+      pub step-ready : (s .code ≡ 9 → ⊥) → Step-ready (h .n) (h .d) s m f g
+      step-ready other = record {
         vars = vars;
         order = order;
         code = leb→le (s .code) last-code (fields .in-code);
+        no-quotient = other;
         variable = in-variable;
         input = input-passes;
         first = held-sound vars order first-held;
@@ -239,13 +278,26 @@ module _ {h : Held-book} (p : Held-passes h) where
         second-vars = held-vars second-held;
       }
 
+      -- and a quotient
+      pub proposal : {k w : Model} → Proposed h s results k w → Proposal (h .d) f g k w
+      proposal q = record {
+        order = order;
+        dividend = held-sound vars order first-held;
+        divisor = held-sound vars order second-held;
+        proposed = held-sound vars order (third-held q);
+        inverse = held-sound vars order (fourth-held q);
+        divisor-vars = held-vars second-held ∙ sym (held-vars first-held);
+        proposed-vars = held-vars (third-held q) ∙ sym (held-vars first-held);
+        inverse-vars = held-vars (fourth-held q) ∙ sym (held-vars first-held);
+      }
+
       -- ---- what it answers
       -- what its code gives
       abbrev coded : R.Answer C.Model
       coded = step-answer (h .n) (h .d) s (view m) (view f) (view g)
 
       -- the answer of the book's step
-      abbrev given : R.Answer C.Model
+      abbrev pub given : R.Answer C.Model
       given = run-step book result step-at
 
       -- the steps that are left, after its result
@@ -257,14 +309,27 @@ module _ {h : Held-book} (p : Held-passes h) where
       turn = sym (l .rest) ∙ ap (run-steps book (l .models)) next
           ∙ ap (λ j. at-place j given followed-by after) (l .count)
 
-      module _ {r : Answer} (e : r ≡ answer (at-place 0 coded)) where
-        is-given : r ≡ answer (at-place 0 given)
-        unfolding view-book
-        is-given = e ∙ ap (λ a. answer (at-place 0 a))
-            (ap₂ (step-answer (h .n) (h .d) s (view m)) (held-view vars order first-held)
-            (held-view vars order second-held)
-            ∙ step-is book result s step-at (view m) stands (o .is-model))
+      -- that of any step but a quotient is the answer of the book's step,
+      pub by-code : {r : Answer} → (s .code ≡ 9 → ⊥) → r ≡ answer (at-place 0 coded) → r ≡ answer (at-place 0 given)
+      unfolding view-book
+      by-code other e = e ∙ ap (λ a. answer (at-place 0 a))
+          (ap₂ (step-answer (h .n) (h .d) s (view m)) (held-view vars order first-held)
+          (held-view vars order second-held)
+          ∙ step-is book result s step-at (view m) stands other (o .is-model))
 
+      -- and so is that of a quotient
+      pub by-quotient : {r : Answer} {k w : Model} → Proposed h s results k w
+          → r ≡ answer (at-place 0 (quotient (h .d) (view f) (view g) (view k) (view w)))
+          → r ≡ answer (at-place 0 given)
+      unfolding view-book
+      by-quotient {k = k} {w = w} q e = e ∙ ap (λ a. answer (at-place 0 a))
+          (ap₂ (λ x y. quotient (h .d) x y (view k) (view w)) (held-view vars order first-held)
+          (held-view vars order second-held)
+          ∙ ap₂ (quotient (h .d) (result (s .a)) (result (s .b))) (held-view vars order (third-held q))
+          (held-view vars order (fourth-held q))
+          ∙ quotient-is book result s step-at stands (q .code))
+
+      module _ {r : Answer} (is-given : r ≡ answer (at-place 0 given)) where
         -- it is refused, and with it the run, at the number of the step
         pub step-refused : {x : Refusal} {y : ℕ} → r .verdict ≡ Refused x y
             → answer (stopped (cause x) i) ≡ answer (last-result book)

@@ -10,8 +10,8 @@ use sheet_book::Book;
 
 // The last result of a book that passed the tests. The first step that is refused ends the run, with the refusal and
 // its number. The results stand in one array, which holds the model without terms where no step has come yet, and all
-// products share one table. What the fields of a step name is copied out before its code is looked at: the tests keep
-// every field within the array of results.
+// products share one table. What a and b of a step name is copied out before its code is looked at: the tests keep both
+// within the array of results. The two results more that only a quotient names are copied for it alone.
 pub fn last_result(b: Book) -> Answer
     requires { ⌜ Held-passes (held-book b) ⌝ }
     ensures { λ r. ⌜ r ≡ answer (last-result (view-book (held-book b))) ⌝ }
@@ -30,7 +30,13 @@ pub fn last_result(b: Book) -> Answer
         let input = b.models[sheet_steps::model_place(s.a)];
         let f = results[s.a as usize];
         let g = results[s.b as usize];
-        let a = sheet_steps::step_answer(n, d, s, input, f, g, &mut slots, &mut keys, &mut sums);
+        let a = if s.code == 9 {
+            let h = results[s.v as usize];
+            let w = results[fixed::magnitude(s.value) as usize];
+            model::divided(d, f, g, h, w, &mut slots, &mut keys, &mut sums)
+        } else {
+            sheet_steps::step_answer(n, d, s, input, f, g, &mut slots, &mut keys, &mut sums)
+        };
         let v = a.verdict;
         let Verdict::Refused(refusal, _) = v else {
             let m = a.model;

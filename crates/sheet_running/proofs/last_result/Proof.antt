@@ -1,11 +1,16 @@
 -- `last_result` runs the steps in order: the results so far and the steps that are left lead to the answer.
 use mathlib.Core.Path.{_≡_, refl, sym, _∙_, ap, subst}
 use mathlib.Core.List.{List}
+use mathlib.Core.Logic.{⊎-elim}
 use Prim.Native.Nat.{_-_, _≤_, _<_}
 use native.Mathlib.Omega.{arith}
 use borrow.Author.Needs.{needs}
+use lib.IntN.{natAbs}
 use lib.ListN.{length, getD, length-map}
-use Rattle.calculus.specs.Refusal.{stopped}
+use mir.Facts.{toZ-ofZ}
+use mir.Syntax.{w64}
+use mir.Val.{toZ, ofZ}
+use Rattle.calculus.specs.Refusal.{at-place, stopped}
 use Rattle.calculus.specs.Book.{most-models, most-steps}
 use Rattle.format.specs.HeldBook.{Held-passes}
 use Rattle.model_types.specs.declared.Model.{Model}
@@ -14,10 +19,10 @@ use Rattle.sheet_book.specs.declared.Book.{Book}
 use Rattle.sheet_book.specs.declared.Step.{Step}
 use Rattle.sheet_book.specs.BookStruct.{no-step, held-step, held-book}
 use Rattle.sheet_book.specs.FailingLaws.{count-steps}
-use Rattle.sheet_running.specs.RunLaws.{empty-place, Running, Named, Step-at, running-first, first-place}
-use Rattle.sheet_running.specs.RunLaws.{second-place}
-use Rattle.sheet_running.specs.RunLaws.{model-place, step-ready, step-refused, step-accepted}
-use Rattle.sheet_running.specs.RunLaws.{last-answer}
+use Rattle.sheet_running.specs.RunLaws.{empty-place, Running, Named, Proposed, Step-at, running-first}
+use Rattle.sheet_running.specs.RunLaws.{first-place, second-place, third-place, fourth-place, model-place}
+use Rattle.sheet_running.specs.RunLaws.{step-ready, proposal, given, by-code, by-quotient}
+use Rattle.sheet_running.specs.RunLaws.{step-refused, step-accepted, last-answer}
 use Rattle.sheet_running.specs.MemoryLaws.{few-steps, some-step, step-here, model-here}
 use Rattle.sheet_running.proofs.last_result.Statement.{statement}
 use Rattle.sheet_running.proofs.last_result.Tie as tie
@@ -118,25 +123,16 @@ mul-g c = omega (arith, second (c .before .before .before .before .before .befor
 array-copy-out-g : tie.Need-array-copy-out-g Inv-loop μ-loop
 array-copy-out-g c = second (c .before .before .before .before .before .before)
 
-slice-aggregate-step-answer : tie.Need-slice-aggregate-step-answer Inv-loop μ-loop
-slice-aggregate-step-answer c = search needs
-
-slice-aggregate-step-answer-2 : tie.Need-slice-aggregate-step-answer-2 Inv-loop μ-loop
-slice-aggregate-step-answer-2 c = search needs
-
-slice-aggregate-step-answer-3 : tie.Need-slice-aggregate-step-answer-3 Inv-loop μ-loop
-slice-aggregate-step-answer-3 c = search needs
-
--- what its fields name
-module _ (c : tie.After-sums Inv-loop μ-loop) where
+-- what a and b name
+module _ (c : tie.After-struct-known3 Inv-loop μ-loop) where
   abbrev step : tie.In-loop Inv-loop μ-loop
-  step = c .before .before .before .before .before .before .before .before .before .before
+  step = c .before .before .before .before .before .before .before .before
 
   abbrev results : List Model
   results = turn step .loop .results
 
   abbrev placed : tie.After-model-place Inv-loop μ-loop
-  placed = c .before .before .before .before .before .before .before .before
+  placed = c .before .before .before .before .before .before
 
   abbrev taken : Model
   taken = getD (book step .models) (placed .model-place .result) empty-place
@@ -154,12 +150,140 @@ module _ (c : tie.After-sums Inv-loop μ-loop) where
     is-second = refl;
   }
 
-step-answer-requires : tie.Need-step-answer-requires Inv-loop μ-loop
+-- ---- a quotient: what v and value name
+module _ (c : tie.Then1 Inv-loop μ-loop) where
+  third : at (step (c .before)) .v < 64
+  unfolding held-step
+  third = third-place (pass (step (c .before))) (here (step (c .before))) (c .if1 .taken)
+
+  fourth : natAbs (at (step (c .before)) .value) < 64
+  unfolding held-step
+  fourth = fourth-place (pass (step (c .before))) (here (step (c .before))) (c .if1 .taken)
+
+cast-h : tie.Need-cast-h Inv-loop μ-loop
+cast-h c = omega (arith, third (c .before))
+
+mul-h : tie.Need-mul-h Inv-loop μ-loop
+mul-h c = omega (arith, third (c .before))
+
+array-copy-out-h : tie.Need-array-copy-out-h Inv-loop μ-loop
+array-copy-out-h c = third (c .before)
+
+magnitude-requires : tie.Need-magnitude-requires Inv-loop μ-loop
+magnitude-requires c κs = search needs
+
+module _ (c : tie.After-magnitude Inv-loop μ-loop) where
+  abbrev quotient : tie.Then1 Inv-loop μ-loop
+  quotient = c .before .before .before .before
+
+  value-place : c .magnitude .result ≡ natAbs (at (step (quotient .before)) .value)
+  value-place = c .magnitude .ensures ∙ ap natAbs read-back
+    where
+      read-back : toZ w64 (ofZ w64 (at (step (quotient .before)) .value)) ≡ at (step (quotient .before)) .value
+      read-back = toZ-ofZ (record { sfits = c .before .struct-told .given .1 .1 .1 .1 .0 .1 })
+
+  inside-results : c .magnitude .result < 64
+  inside-results = omega (arith, value-place, fourth quotient)
+
+mul-w : tie.Need-mul-w Inv-loop μ-loop
+mul-w c = omega (arith, inside-results c)
+
+array-copy-out-w : tie.Need-array-copy-out-w Inv-loop μ-loop
+array-copy-out-w c = inside-results c
+
+slice-aggregate-divided : tie.Need-slice-aggregate-divided Inv-loop μ-loop
+slice-aggregate-divided c = search needs
+
+slice-aggregate-divided-2 : tie.Need-slice-aggregate-divided-2 Inv-loop μ-loop
+slice-aggregate-divided-2 c = search needs
+
+slice-aggregate-divided-3 : tie.Need-slice-aggregate-divided-3 Inv-loop μ-loop
+slice-aggregate-divided-3 c = search needs
+
+module _ (c : tie.After-magnitude Inv-loop μ-loop) where
+  abbrev asked : tie.In-loop Inv-loop μ-loop
+  asked = step (quotient c .before)
+
+  abbrev all-results : List Model
+  all-results = turn asked .loop .results
+
+  proposed : Proposed (held-book (book asked)) (held-step (at asked)) all-results
+      (getD all-results (at asked .v) empty-place) (getD all-results (c .magnitude .result) empty-place)
+  unfolding held-step
+  proposed = record {
+    code = quotient c .if1 .taken;
+    is-third = refl;
+    is-fourth = ap (λ i. getD all-results i empty-place) (value-place c);
+  }
+
+divided-requires : tie.Need-divided-requires Inv-loop μ-loop
 unfolding held-book
-step-answer-requires c κs = (
-  step-ready (pass (step c)) (here (step c)) (turn (step c) .loop .inv .1) (named c),
-  record { slots-room = search needs; keys-room = search needs; sums-room = search needs },
-)
+divided-requires c κs =
+    let q = c .before .before .before .before in
+    let s = asked q in (
+      proposal (pass s) (here s) (turn s .loop .inv .1) (named (quotient q .before)) (proposed q),
+      record { slots-room = search needs; keys-room = search needs; sums-room = search needs },
+    )
+
+-- ---- any other step
+slice-aggregate-step-answer : tie.Need-slice-aggregate-step-answer Inv-loop μ-loop
+slice-aggregate-step-answer c = search needs
+
+slice-aggregate-step-answer-2 : tie.Need-slice-aggregate-step-answer-2 Inv-loop μ-loop
+slice-aggregate-step-answer-2 c = search needs
+
+slice-aggregate-step-answer-3 : tie.Need-slice-aggregate-step-answer-3 Inv-loop μ-loop
+slice-aggregate-step-answer-3 c = search needs
+
+step-answer-requires : tie.Need-step-answer-requires Inv-loop μ-loop
+unfolding held-book held-step
+step-answer-requires c κs =
+    let o = c .before .before .before in
+    let s = step (o .before) in (
+      step-ready (pass s) (here s) (turn s .loop .inv .1) (named (o .before)) (o .if1 .left),
+      record { slots-room = search needs; keys-room = search needs; sums-room = search needs },
+    )
+
+-- ---- what it answers, either way
+module _ (c : tie.Joined1 Inv-loop μ-loop) where
+  abbrev stepping : tie.In-loop Inv-loop μ-loop
+  stepping = step (c .before)
+
+  abbrev before-step : tie.At-loop Inv-loop μ-loop
+  before-step = turn stepping
+
+  either-way : (c .if1 .a ≡ answer (at-place 0 (given (pass stepping) (here stepping) (before-step .loop .inv .1)
+      (named (c .before)))))
+      × (length (c .if1 .slots) ≡ length (before-step .loop .slots))
+      × (length (c .if1 .keys) ≡ length (before-step .loop .keys))
+      × (length (c .if1 .sums) ≡ length (before-step .loop .sums))
+  unfolding held-book held-step
+  either-way = ⊎-elim
+      (λ w.
+      let m : tie.After-magnitude Inv-loop μ-loop = record {
+        before = record {
+          before = record {
+            before = record { before = record { before = c .before; if1 = w .0 }; struct-known4 = w .1 };
+            h = w .2;
+          };
+          struct-told = w .3;
+        };
+        magnitude = w .4;
+      } in (
+        w .16 ∙ by-quotient (pass stepping) (here stepping) (before-step .loop .inv .1) (named (c .before))
+            (proposed m) (w .9 .ensures .0),
+        ap length (w .13) ∙ w .9 .kept .1 .1 .1 .1 .1 .0,
+        ap length (w .14) ∙ w .9 .kept .1 .1 .1 .1 .1 .1 .0,
+        ap length (w .15) ∙ w .9 .kept .1 .1 .1 .1 .1 .1 .1 .0,
+      ))
+      (λ w. (
+        w .11 ∙ by-code (pass stepping) (here stepping) (before-step .loop .inv .1) (named (c .before))
+            (w .0 .left) (w .4 .ensures .0),
+        ap length (w .8) ∙ w .4 .kept .1 .1 .1 .1 .1 .1 .0,
+        ap length (w .9) ∙ w .4 .kept .1 .1 .1 .1 .1 .1 .1 .0,
+        ap length (w .10) ∙ w .4 .kept .1 .1 .1 .1 .1 .1 .1 .1 .0,
+      ))
+      (c .if1 .came)
 
 enum-known-v : tie.Need-enum-known-v Inv-loop μ-loop
 enum-known-v c = search needs
@@ -168,11 +292,11 @@ enum-told : tie.Need-enum-told Inv-loop μ-loop
 enum-told c = search needs
 
 -- ---- it is accepted
-abbrev answered : tie.After-m Inv-loop μ-loop → tie.After-step-answer Inv-loop μ-loop
-answered c = c .before .before .before .before .before .before
+abbrev answered : tie.After-m Inv-loop μ-loop → tie.Joined1 Inv-loop μ-loop
+answered c = c .before .before .before
 
 abbrev stepped : tie.After-m Inv-loop μ-loop → tie.In-loop Inv-loop μ-loop
-stepped c = step (answered c .before)
+stepped c = stepping (answered c)
 
 mul-results : tie.Need-mul-results Inv-loop μ-loop
 mul-results c = omega (arith, small (stepped c))
@@ -191,13 +315,13 @@ unfolding held-book
 loop-again c =
     let a = answered c in
     let s = stepped c in
-    let l = turn s .loop .inv in (
+    let l = turn s .loop .inv in
+    let w = either-way a in (
       omega (arith, inside s),
-      step-accepted (pass s) (here s) (l .1) (named (a .before)) (a .step-answer .ensures .0)
-          (c .before .enum-told .given .1),
-      a .step-answer .kept .1 .1 .1 .1 .1 .1 .0 ∙ l .2,
-      a .step-answer .kept .1 .1 .1 .1 .1 .1 .1 .0 ∙ l .3,
-      a .step-answer .kept .1 .1 .1 .1 .1 .1 .1 .1 .0 ∙ l .4,
+      step-accepted (pass s) (here s) (l .1) (named (a .before)) (w .0) (c .before .enum-told .given .1),
+      w .1 ∙ l .2,
+      w .2 ∙ l .3,
+      w .3 ∙ l .4,
     )
 
 -- ---- it is refused
@@ -207,12 +331,12 @@ refuse-requires c κs = search needs
 returns : tie.Need-returns Inv-loop μ-loop
 unfolding held-book
 returns c =
-    let a = c .before .before .before .before .before .before .before in
-    let s = step (a .before) in
+    let a = c .before .before .before .before in
+    let s = stepping a in
     let place : c .refuse .result ≡ answer (stopped (cause (c .before .before .v .given .0 .0)) (turn s .loop .i)) =
     c .refuse .ensures in
     place
-    ∙ step-refused (pass s) (here s) (turn s .loop .inv .1) (named (a .before)) (a .step-answer .ensures .0)
+    ∙ step-refused (pass s) (here s) (turn s .loop .inv .1) (named (a .before)) (either-way a .0)
     (c .before .before .v .given .1)
 
 -- ---- after the loop
@@ -269,6 +393,16 @@ last-result-spec =
     cast-g
     mul-g
     array-copy-out-g
+    cast-h
+    mul-h
+    array-copy-out-h
+    magnitude-requires
+    mul-w
+    array-copy-out-w
+    slice-aggregate-divided
+    slice-aggregate-divided-2
+    slice-aggregate-divided-3
+    divided-requires
     slice-aggregate-step-answer
     slice-aggregate-step-answer-2
     slice-aggregate-step-answer-3
