@@ -18,7 +18,8 @@ use Rattle.calculus.specs.RefusalLaws.{If-accepted, holds, If-done, is-d
 use Rattle.calculus.specs.Refusal.{all-from}
 use Rattle.calculus.specs.SoundLaws as S
 use Rattle.calculus.specs.SoundLaws.{Sound, sound-parts, parts-sound, zero-sound, negate-sound, add-sound}
-use Rattle.calculus.specs.SoundLaws.{subtract-sound, multiply-sound, substitute-sound, sweep-sound, quotient-sound}
+use Rattle.calculus.specs.SoundLaws.{subtract-sound, multiply-sound, substitute-sound, sweep-sound}
+use Rattle.calculus.specs.SoundLaws.{quotient-sound}
 use Rattle.calculus.specs.EachLaws.{All, nil, each-snoc, each-at, each-last}
 use Rattle.calculus.specs.BookLaws.{Passes, model-passes, model-vars, between-low, Ran, sound-ran, next-number}
 

@@ -185,7 +185,8 @@ module _ (b : Book) (p : Passes b) (I : Inputs) (hI : All-within b I) where
     run-asked [] os results h e i g = let z : _≡_ {A = ℕ} 0 1 = cc in absurd (omega arith)
     run-asked (t ∷ l) os results h e zero g = followed-done
         (placed (length results)
-        (subst (λ t. If-accepted (λ m. P (outcome-of os c)) (run-step b (result-of b results) t)) (sym is) (asked os results e)))
+        (subst (λ t. If-accepted (λ m. P (outcome-of os c)) (run-step b (result-of b results) t)) (sym is)
+        (asked os results e)))
         (λ m hm. constantly (subst P (sym (outcomes-before I os (t ∷ l) c before)) hm) _)
       where
         is : t ≡ s
@@ -208,8 +209,8 @@ module _ (b : Book) (p : Passes b) (I : Inputs) (hI : All-within b I) where
   -- the last outcome follows the result
   result-follows : (s : Summary) → Ran b s → Follows n (outcome I (b .steps)) (s .model)
   unfolding outcome outcomes summary
-  result-follows s r = subst (λ (t : Summary). Follows n (last zero-outcome (outcomes-after I [] (b .steps))) (t .model))
-      (r .is-summary)
+  result-follows s r = subst
+      (λ (t : Summary). Follows n (last zero-outcome (outcomes-after I [] (b .steps))) (t .model)) (r .is-summary)
       (each-last (Follows n) zero-outcome (zero-model n) zero-follows
       (if-done (run-follows (b .steps) [] [] (p .steps) nil) (r .ran)))
 

@@ -156,7 +156,8 @@ outcome-down = scaled down (negsuc 2) (ring 2 ℚR (λ u a. u ⊠ ⊝ a) (λ u a
 -- the outcome lies within the radius 8 of the result; downwards it reaches it
 pub woven-claimed : (j : Jump) → At woven-result left (woven-outcome j)
 unfolding woven-outcome summary
-woven-claimed j = claim woven (summary woven-result) woven-runs .within-radius (functions (jumping j woven)) left (given j)
+woven-claimed j =
+    claim woven (summary woven-result) woven-runs .within-radius (functions (jumping j woven)) left (given j)
 
 -- the low end of a range is at most -8
 pub low-end : (s : Summary) → Claim woven s → (s .range .low) ≤ℤ negsuc 7

@@ -5,7 +5,7 @@ use mathlib.Core.Path.{_≡_, refl, sym, _∙_, ap, ap₂}
 use mathlib.Core.Bool.{true, false}
 use mathlib.Core.Logic.{_≢_}
 use mathlib.Core.List.{List, [], _∷_}
-use Prim.Native.Nat.{ℕ, _+_, _*_, _≤_}
+use Prim.Native.Nat.{ℕ, _+_, _*_, _/_, _≤_}
 use native.Mathlib.Omega.{arith}
 use lib.IntN.{ℤ, pos, negsuc, natAbs}
 use Rattle.algebra.specs.RingSolver.{𝟎, _⊞_, _⊟_, _⊠_, ⊝_, ring}
@@ -16,7 +16,7 @@ use Rattle.algebra.specs.RationalOrder.{ℚO}
 use Rattle.algebra.specs.RationalLaws.{/ℚ-back, whole-+, whole-*, whole-neg}
 use Rattle.polynomial.specs.Polynomial.{eval}
 use Rattle.polynomial.specs.Box.{none, more}
-use Rattle.fixed.specs.Computing.{numbers}
+use Rattle.fixed.specs.FixedLaws.{U-even}
 use Rattle.fixed.specs.Fixed.{U}
 use Rattle.calculus.specs.Monomial.{index-of}
 use Rattle.calculus.specs.Model.{Model, zero-model, _/U, _-ℚ_, Point, In-box, polynomial, value, At}
@@ -43,7 +43,7 @@ halved e = record {
   vars = 1;
   order = 1;
   models = record { vars = 1; radius = 3; terms = [] } ∷ record { vars = 1; radius = e; terms = [] } ∷ [];
-  steps = input 0 ∷ input 1 ∷ constant (pos 524288) ∷ constant (pos 1048576) ∷ quotient 0 2 1 3 ∷ [];
+  steps = input 0 ∷ input 1 ∷ constant (pos (U / 2)) ∷ constant (pos U) ∷ quotient 0 2 1 3 ∷ [];
 }
 
 -- its result: the polynomial of h, radius 3 × U / (U - U/2)
@@ -87,7 +87,7 @@ module _ (e : ℕ) (j : Jump) where
   F = 0ℚ +ℚ height j (record { vars = 1; radius = 3; terms = [] })
 
   abbrev G : ℚ
-  G = pos 524288 /U
+  G = pos (U / 2) /U
 
   at-right : halved-outcome e j ≡ F /ℚ G
   unfolding halved-outcome halved right outcome outcomes outcomes-after step-outcome step-value input-outcome outcome-of
@@ -99,13 +99,13 @@ module _ (e : ℕ) (j : Jump) where
       → natural U *ℚ halved-outcome e j ≡ whole (pos 2) *ℚ whole z
   scaled s c z h = ap (λ y. natural U *ℚ y) at-right
       ∙ ap (λ u. u *ℚ (F /ℚ G)) twice
-      ∙ ring 3 ℚR (λ t u q. t ⊠ u ⊠ q) (λ t u q. t ⊠ (u ⊠ q)) refl (natural 2) (natural 524288) (F /ℚ G)
-      ∙ ap (λ y. natural 2 *ℚ (y *ℚ (F /ℚ G))) (sym (U-times (pos 524288)))
+      ∙ ring 3 ℚR (λ t u q. t ⊠ u ⊠ q) (λ t u q. t ⊠ (u ⊠ q)) refl (natural 2) (natural (U / 2)) (F /ℚ G)
+      ∙ ap (λ y. natural 2 *ℚ (y *ℚ (F /ℚ G))) (sym (U-times (pos (U / 2))))
       ∙ ring 4 ℚR (λ t u g q. t ⊠ (u ⊠ g ⊠ q)) (λ t u g q. t ⊠ (u ⊠ (g ⊠ q))) refl (natural 2) (natural U) G (F /ℚ G)
       ∙ ap (λ y. natural 2 *ℚ (natural U *ℚ y)) (/ℚ-back F G divides) ∙ ap (λ y. natural 2 *ℚ y) h
     where
-      twice : natural U ≡ natural 2 *ℚ natural 524288
-      twice = unfold numbers in natural-* 2 524288
+      twice : natural U ≡ natural 2 *ℚ natural (U / 2)
+      twice = ap natural U-even ∙ natural-* 2 (U / 2)
 
       divides : G ≢ natural 0
       divides = unfold halved outcomes outcomes-after step-outcome step-value outcome-of in

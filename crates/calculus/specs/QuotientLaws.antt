@@ -1,4 +1,4 @@
--- The quotient encloses: where it is accepted, the divisor is not zero and f / g is within the result. All at one point.
+-- The quotient encloses: where it is accepted, the divisor is not zero and f / g is within the result; at one point.
 use mathlib.Core.Path.{_≡_, refl, sym, _∙_, ap, ap₂, subst}
 use mathlib.Core.Logic.{_≢_}
 use Prim.Native.Nat.{ℕ, zero, suc, _+_, _-_, _*_, _<_, _≤_, max}
