@@ -1,8 +1,10 @@
 // Books that are handed over as numbers and slices: for each model an entry of ns, counts and radii and 64 keys and
 // coefficients; for each step the four bytes of its code, a, b and v, and a value.
 ghost use mathlib.Core.Path.{_≡_};
+ghost use Prim.Native.Nat.{_<_};
+ghost use lib.ListN.{length};
 ghost use Rattle.c_books.specs.HandedBooks.{«step-places», «handed-steps», «model-places», «handed-models»};
-ghost use Rattle.c_books.specs.HandedBooks.{«handed-book»};
+ghost use Rattle.c_books.specs.HandedBooks.{«model-at», «handed-book»};
 use model_types::Model;
 use sheet_book::Book;
 use sheet_book::Step;
@@ -62,6 +64,28 @@ pub fn model_places(
     c_models::least(sheet_book::MOST_MODELS, c_models::least(heads, terms))
 }
 
+// The model at a place that the slices have.
+pub fn model_at(
+    ns: &[u8],
+    counts: &[usize],
+    radii: &[u64],
+    keys: &[u16],
+    coefficients: &[i64],
+    k: usize,
+) -> Model
+    requires { ⌜ k < model-places (length (now ns)) (length (now counts)) (length (now radii)) (length (now keys))
+        (length (now coefficients)) ⌝ }
+    ensures { λ r. ⌜ r ≡ model-at (now (ns .entry)) (now (counts .entry)) (now (radii .entry)) (now (keys .entry))
+        (now (coefficients .entry)) k ⌝ }
+{
+    let n = ns[k];
+    let count = counts[k];
+    let radius = radii[k];
+    let from = model_types::MOST_TERMS * k;
+    let to = from + model_types::MOST_TERMS;
+    c_models::handed(n, count, radius, &keys[from..to], &coefficients[from..to])
+}
+
 // The models that are handed over, and zeros behind them.
 pub fn handed_models(
     ns: &[u8],
@@ -83,12 +107,7 @@ pub fn handed_models(
     let mut out = [sheet_book::NO_MODEL; sheet_book::MOST_MODELS];
     let mut k = 0;
     while k < places {
-        let n = ns[k];
-        let count = counts[k];
-        let radius = radii[k];
-        let from = model_types::MOST_TERMS * k;
-        let to = from + model_types::MOST_TERMS;
-        let m = c_models::handed(n, count, radius, &keys[from..to], &coefficients[from..to]);
+        let m = model_at(ns, counts, radii, keys, coefficients, k);
         out[k] = m;
         k += 1;
     }

@@ -2,6 +2,7 @@
 // anything that its types can hold. A slice that is too short, or a code that names no call, is answered with MISUSED,
 // and nothing is changed then; every other answer is document 01's, its number 0 where nothing is refused.
 pub mod calls; // calls.rt: the single calls
+pub mod quotients; // quotients.rt: the single call of four models
 pub mod books; // books.rt: books written
 pub mod runs; // runs.rt: sheets and books run
 pub mod sheets; // sheets.rt: sheets printed and taken apart

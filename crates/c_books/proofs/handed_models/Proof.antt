@@ -28,53 +28,8 @@ loop-holds : tie.Need-loop-holds Inv-loop μ-loop
 unfolding padded table most-models most-terms
 loop-holds c = (omega arith, refl, models-lent _ _ _ _ _ _ (c .model-places .ensures))
 
-shared-slice-read-n : tie.Need-shared-slice-read-n Inv-loop μ-loop
-shared-slice-read-n c = search needs
-
-mul-count : tie.Need-mul-count Inv-loop μ-loop
-mul-count c = search needs
-
-shared-slice-read-count : tie.Need-shared-slice-read-count Inv-loop μ-loop
-shared-slice-read-count c = search needs
-
-mul-radius : tie.Need-mul-radius Inv-loop μ-loop
-mul-radius c = search needs
-
-shared-slice-read-radius : tie.Need-shared-slice-read-radius Inv-loop μ-loop
-shared-slice-read-radius c = search needs
-
-mul-from : tie.Need-mul-from Inv-loop μ-loop
-mul-from c = search needs
-
-add-to : tie.Need-add-to Inv-loop μ-loop
-add-to c = search needs
-
-mul-handed : tie.Need-mul-handed Inv-loop μ-loop
-mul-handed c = search needs
-
-sub-handed : tie.Need-sub-handed Inv-loop μ-loop
-sub-handed c = search needs
-
-part-handed-start : tie.Need-part-handed-start Inv-loop μ-loop
-part-handed-start c = search needs
-
-part-handed-end : tie.Need-part-handed-end Inv-loop μ-loop
-part-handed-end c = search needs
-
-mul-handed-2 : tie.Need-mul-handed-2 Inv-loop μ-loop
-mul-handed-2 c = search needs
-
-sub-handed-2 : tie.Need-sub-handed-2 Inv-loop μ-loop
-sub-handed-2 c = search needs
-
-part-handed-start-2 : tie.Need-part-handed-start-2 Inv-loop μ-loop
-part-handed-start-2 c = search needs
-
-part-handed-end-2 : tie.Need-part-handed-end-2 Inv-loop μ-loop
-part-handed-end-2 c = search needs
-
-handed-requires : tie.Need-handed-requires Inv-loop μ-loop
-handed-requires c κs = search needs
+model-at-requires : tie.Need-model-at-requires Inv-loop μ-loop
+model-at-requires c κs = ?
 
 mul-out : tie.Need-mul-out Inv-loop μ-loop
 mul-out c = search needs
@@ -89,19 +44,8 @@ loop-less : tie.Need-loop-less Inv-loop μ-loop
 loop-less c = search needs
 
 loop-again : tie.Need-loop-again Inv-loop μ-loop
-unfolding model-at most-models
-loop-again c =
-    let l = c .before .before .before .before .before .before .before in
-    let a = l .before .before .before .before .before .before .args in
-    let k = l .loop .k in
-    let h = l .loop .inv in
-    let w : 64 * k + 64 - 64 * k ≡ 64 = omega arith in (
-      omega arith,
-      rw (h .1, c .handed .ensures, w)
-          (table-more no-model 16 (model-at (a .ns .now) (a .counts .now) (a .radii .now) (a .keys .now)
-          (a .coefficients .now)) k (omega (arith, h .2 .few))),
-      h .2,
-    )
+unfolding most-models
+loop-again c = ?
 
 returns : tie.Need-returns Inv-loop μ-loop
 unfolding handed-models
@@ -118,22 +62,7 @@ handed-models-spec =
     μ-loop
     model-places-requires
     loop-holds
-    shared-slice-read-n
-    mul-count
-    shared-slice-read-count
-    mul-radius
-    shared-slice-read-radius
-    mul-from
-    add-to
-    mul-handed
-    sub-handed
-    part-handed-start
-    part-handed-end
-    mul-handed-2
-    sub-handed-2
-    part-handed-start-2
-    part-handed-end-2
-    handed-requires
+    model-at-requires
     mul-out
     array-set-from-out
     add-k

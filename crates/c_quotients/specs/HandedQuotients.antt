@@ -1,0 +1,21 @@
+-- The quotient of four models that are handed over one behind the other: f, g, h, w.
+use mathlib.Core.Bool.{Bool, _&&_}
+use mathlib.Core.List.{List}
+use Prim.Native.Nat.{ℕ}
+use lib.Dec.{leb}
+use lib.IntN.{ℤ}
+use Rattle.calculus.specs.Model as C
+use Rattle.calculus.specs.Refusal.{Result}
+use Rattle.calculus.specs.Calls.{call-quotient}
+use Rattle.model_types.specs.ModelStruct.{view}
+use Rattle.c_books.specs.HandedBooks.{model-at}
+
+-- whether the slices hold four models, and there is room for the answer
+unfoldable pub quotient-fits : (models : ℕ) (room : Bool) → Bool
+quotient-fits models room = leb 4 models && room
+
+-- the call with the first four
+unfoldable pub handed-quotient : (d : ℕ) (ns counts radii keys : List ℕ) → List ℤ → Result C.Model
+handed-quotient d ns cs rs ks zs =
+    let handed = λ k. view (model-at ns cs rs ks zs k) in
+    call-quotient d (handed 0) (handed 1) (handed 2) (handed 3)
