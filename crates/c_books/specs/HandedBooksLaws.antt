@@ -51,3 +51,15 @@ models-lent p ns cs rs ks zs e = record {
   keys-long = omega arith;
   coefficients-long = omega arith;
 }
+
+pub models-lent-at : (k ns counts radii keys coefficients : ℕ) → k < model-places ns counts radii keys coefficients
+    → Models-lent (suc k) ns counts radii keys coefficients
+unfolding model-places most-models
+models-lent-at k ns cs rs ks zs e = record {
+  few = omega arith;
+  ns-long = omega arith;
+  counts-long = omega arith;
+  radii-long = omega arith;
+  keys-long = omega arith;
+  coefficients-long = omega arith;
+}

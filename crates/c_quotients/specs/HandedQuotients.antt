@@ -14,8 +14,12 @@ use Rattle.c_books.specs.HandedBooks.{model-at}
 unfoldable pub quotient-fits : (models : ℕ) (room : Bool) → Bool
 quotient-fits models room = leb 4 models && room
 
+-- the model at place k
+abbrev pub operand : (ns counts radii keys : List ℕ) → List ℤ → (k : ℕ) → C.Model
+operand ns cs rs ks zs k = view (model-at ns cs rs ks zs k)
+
 -- the call with the first four
 unfoldable pub handed-quotient : (d : ℕ) (ns counts radii keys : List ℕ) → List ℤ → Result C.Model
 handed-quotient d ns cs rs ks zs =
-    let handed = λ k. view (model-at ns cs rs ks zs k) in
-    call-quotient d (handed 0) (handed 1) (handed 2) (handed 3)
+    call-quotient d (operand ns cs rs ks zs 0) (operand ns cs rs ks zs 1) (operand ns cs rs ks zs 2)
+    (operand ns cs rs ks zs 3)

@@ -1,6 +1,6 @@
 -- `handed_models` stores the models one after the other.
 use mathlib.Core.Path.{_≡_, refl}
-use Prim.Native.Nat.{_+_, _*_, _≤_, _-_}
+use Prim.Native.Nat.{_≤_, _-_}
 use native.Mathlib.Omega.{arith}
 use borrow.Author.Needs.{needs}
 use lib.ListN.{length}
@@ -29,7 +29,7 @@ unfolding padded table most-models most-terms
 loop-holds c = (omega arith, refl, models-lent _ _ _ _ _ _ (c .model-places .ensures))
 
 model-at-requires : tie.Need-model-at-requires Inv-loop μ-loop
-model-at-requires c κs = ?
+model-at-requires c κs = omega (arith, c .before .before .model-places .ensures)
 
 mul-out : tie.Need-mul-out Inv-loop μ-loop
 mul-out c = search needs
@@ -45,7 +45,16 @@ loop-less c = search needs
 
 loop-again : tie.Need-loop-again Inv-loop μ-loop
 unfolding most-models
-loop-again c = ?
+loop-again c =
+    let l = c .before .before in
+    let a = l .before .before .before .before .before .before .args in
+    let h = l .loop .inv in (
+      omega arith,
+      rw (h .1, c .model-at .ensures)
+          (table-more no-model 16 (model-at (a .ns .now) (a .counts .now) (a .radii .now) (a .keys .now)
+          (a .coefficients .now)) (l .loop .k) (omega (arith, h .2 .few))),
+      h .2,
+    )
 
 returns : tie.Need-returns Inv-loop μ-loop
 unfolding handed-models
