@@ -31,18 +31,21 @@ sloped a b = model 1 0 (at-key 1 0x0000 a ∷ at-key 1 0x1000 b ∷ [])
 unfoldable pub line-within : (radius : ℕ) → Model
 line-within e = model 1 e (at-key 1 0x0000 (pos 5) ∷ at-key 1 0x1000 (pos 3) ∷ [])
 
--- ---- in two: the zero model, the model of 1
+-- ---- in two
+-- the zero model
 unfoldable pub nought-of-two : Model
 nought-of-two = model 2 0 []
 
+-- the model of 1
 unfoldable pub one-of-two : Model
 one-of-two = one-term 2 0x0000 (pos 1048576)
 
--- 2^26 at each power of x to 8, and at each power of y to 7: a product of 72 terms
+-- 2^26 at each power of x to 8
 unfoldable pub powers-of-first : Model
 powers-of-first =
     row-of-terms (0x0000 ∷ 0x1000 ∷ 0x2000 ∷ 0x3000 ∷ 0x4000 ∷ 0x5000 ∷ 0x6000 ∷ 0x7000 ∷ 0x8000 ∷ [])
 
+-- and at each power of y to 7: with these a product of 72 terms
 unfoldable pub powers-of-second : Model
 powers-of-second = row-of-terms (0x0000 ∷ 0x0100 ∷ 0x0200 ∷ 0x0300 ∷ 0x0400 ∷ 0x0500 ∷ 0x0600 ∷ 0x0700 ∷ [])
 
@@ -97,12 +100,14 @@ quotient-edges =
     ∷ refuses 11 (call-quotient 2 line line cube line) 5 2
     ∷ refuses 11 (call-quotient 2 line line line cube) 5 3
     -- the first form's 7 comes before the second's 8, which comes where the first passes
-    ∷ refuses 12 (call-quotient 15 (one-term 2 0x0000 (pos 1073741824)) powers-of-second nought-of-two powers-of-first) 7 0
+    ∷ refuses 12 (call-quotient 15 (one-term 2 0x0000 (pos 1073741824)) powers-of-second nought-of-two powers-of-first)
+    7 0
     ∷ refuses 12 (call-quotient 15 nought-of-two powers-of-second nought-of-two powers-of-first) 8 0
     -- and before the 12 of mu at U
     ∷ refuses 13 (call-quotient 1 (number-of (pos 1073741824)) nought nought (number-of (pos 2097152))) 7 0
     -- 8 and 7 of each difference: 65 terms, a span above 2^30
-    ∷ refuses 14 (call-quotient 15 (one-term 2 0x8000 (pos 1)) one-of-two (model 2 0 (terms-from 0 64 (pos 1))) one-of-two)
+    ∷ refuses 14 (call-quotient 15 (one-term 2 0x8000 (pos 1)) one-of-two (model 2 0 (terms-from 0 64 (pos 1)))
+    one-of-two)
     8 0
     ∷ refuses 14 (call-quotient 15 nought-of-two (model 2 0 (terms-from 1 64 (pos 1))) nought-of-two one-of-two) 8 0
     ∷ refuses 14 (call-quotient 1 (number-of (minus 1073741824)) one one one) 7 0
