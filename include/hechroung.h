@@ -6,7 +6,8 @@
 
    Answers. Every function that makes a call returns a byte:
      0                   accepted
-     1 to 11             document 01's refusal; the answer is then the zero model in one variable, or ends 0
+     1 to 12             the refusal of documents 01 and 02; the answer is then the zero model in one variable, or
+                         ends 0
      HECHROUNG_MISUSED   no call was made and nothing was written: a pointer is null, a slice is too short, or a code
                          names no call
 
@@ -54,14 +55,15 @@ struct hechroung_ends {
 };
 
 /* What a run gives: the last step's model, the ends of its range and of its integral over the box. Demand 3 of document
-   01 holds of it, for all functions within the sheet's models and all points of the box with fraction coordinates. */
+   01 holds of it, for all functions within the sheet's models and all points of the box with fraction coordinates; of a
+   sheet with a quotient nothing is said about the integral. */
 struct hechroung_summary {
     struct hechroung_model model;
     struct hechroung_ends range, integral;
 };
 
-/* A step of a book: its code (document 01, and 9 of document 02) and its fields; those that the code does not name
-   are 0. */
+/* A step of a book: the code of documents 01 and 02 and its fields; those that the code does not name are 0. Code 9, a
+   quotient, has f in a, g in b, step h in v and step w in value. */
 struct hechroung_step {
     uint8_t code, a, b, v;
     int64_t value;
@@ -87,6 +89,22 @@ extern uint8_t hechroung_call(uint8_t code, uint8_t d, uint8_t i, int64_t value,
                               int64_t *coefficients, size_t coefficients_length,
                               uint64_t *numbers, size_t numbers_length);
 
+/* The quotient f / g with order d, from a proposal: h should be near f / g and w near 1 / g; both are used without
+   their radii. The answer is the polynomial of h with a radius that the call works out; nothing is supposed of the
+   proposal. Refusals 3 (d), 5 at place 0 to 3 (f, g, h, w), 10, then 8 or 7 of a product or difference inside, 12
+   (uncertified: with this w it is not shown that g is nowhere zero), 7.
+   Read: f, g, h and w in this order, as hechroung_write takes a book's models: of ns, counts and radii at least 4
+   entries, of keys and coefficients at least 4 times 64.
+   Written: out_keys, out_coefficients and out_numbers as for hechroung_call. */
+extern uint8_t hechroung_quotient(uint8_t d, const uint8_t *ns, size_t ns_length,
+                                  const size_t *counts, size_t counts_length,
+                                  const uint64_t *radii, size_t radii_length,
+                                  const uint16_t *keys, size_t keys_length,
+                                  const int64_t *coefficients, size_t coefficients_length,
+                                  uint16_t *out_keys, size_t out_keys_length,
+                                  int64_t *out_coefficients, size_t out_coefficients_length,
+                                  uint64_t *out_numbers, size_t out_numbers_length);
+
 /* A call that answers with two ends. Codes: 1 range, 2 integral, 3 evaluate at the point x1, .., x4; the others do not
    look at the point. The place of a refusal is 0. Read: as above. Written: ends, at least 2, hold the low and the high
    end. */
@@ -96,7 +114,7 @@ extern uint8_t hechroung_ends(uint8_t code, uint8_t n, size_t count, uint64_t ra
                               int64_t x1, int64_t x2, int64_t x3, int64_t x4,
                               int64_t *ends, size_t ends_length);
 
-/* Runs a sheet: refusals 1 to 9. Read: the sheet, of any length. Written: keys, coefficients and numbers as above;
+/* Runs a sheet: refusals 1 to 9, 12. Read: the sheet, of any length. Written: keys, coefficients and numbers as above;
    ends, at least 4, hold the low and high end of the range, then those of the integral. */
 extern uint8_t hechroung_run(const uint8_t *sheet, size_t sheet_length,
                              uint16_t *keys, size_t keys_length, int64_t *coefficients, size_t coefficients_length,
@@ -137,7 +155,7 @@ extern uint8_t hechroung_write(uint8_t n, uint8_t d, size_t model_count, size_t 
                                const uint8_t *fields, size_t fields_length, const int64_t *values, size_t values_length,
                                uint8_t *buffer, size_t buffer_length, uint64_t *numbers, size_t numbers_length);
 
-/* Runs a book: refusals 3, 5 to 9. Read: as for hechroung_write, the models' keys and coefficients as book_keys and
+/* Runs a book: refusals 3, 5 to 9, 12. Read: as for hechroung_write, the models' keys and coefficients as book_keys and
    book_coefficients. Written: keys, coefficients, numbers and ends as for hechroung_run. */
 extern uint8_t hechroung_run_book(uint8_t n, uint8_t d, size_t model_count, size_t step_count,
                                   const uint8_t *ns, size_t ns_length, const size_t *counts, size_t counts_length,
@@ -227,6 +245,41 @@ static inline uint8_t hechroung_sweep(const struct hechroung_model *f, int64_t t
     return hechroung_called_(8, 0, 0, threshold, f, f, answer, NULL);
 }
 
+/* f / g with order d, from a proposal h for f / g and w for 1 / g, which are used without their radii. Refusals 3 (d),
+   5 at place 0 to 3, 10, then 8 or 7, 12 (uncertified), 7. It takes some 4 KB of stack itself. */
+static inline uint8_t hechroung_divide(uint8_t d, const struct hechroung_model *f, const struct hechroung_model *g,
+                                       const struct hechroung_model *h, const struct hechroung_model *w,
+                                       struct hechroung_model *answer, size_t *place) {
+    const struct hechroung_model *models[4];
+    struct hechroung_model model;
+    uint8_t ns[4], number;
+    size_t counts[4], k;
+    uint64_t radii[4], numbers[4] = {0, 0, 0, 0};
+    uint16_t keys[4 * HECHROUNG_MOST_TERMS];
+    int64_t coefficients[4 * HECHROUNG_MOST_TERMS];
+    if (f == NULL || g == NULL || h == NULL || w == NULL || answer == NULL) return HECHROUNG_MISUSED;
+    models[0] = f;
+    models[1] = g;
+    models[2] = h;
+    models[3] = w;
+    for (k = 0; k < 4; k++) {
+        ns[k] = models[k]->n;
+        counts[k] = models[k]->count;
+        radii[k] = models[k]->radius;
+        memcpy(keys + k * HECHROUNG_MOST_TERMS, models[k]->keys, sizeof models[k]->keys);
+        memcpy(coefficients + k * HECHROUNG_MOST_TERMS, models[k]->coefficients, sizeof models[k]->coefficients);
+    }
+    number = hechroung_quotient(d, ns, 4, counts, 4, radii, 4,
+                                keys, 4 * HECHROUNG_MOST_TERMS, coefficients, 4 * HECHROUNG_MOST_TERMS,
+                                model.keys, HECHROUNG_MOST_TERMS, model.coefficients, HECHROUNG_MOST_TERMS, numbers, 4);
+    model.n = (uint8_t)numbers[1];
+    model.count = (size_t)numbers[2];
+    model.radius = numbers[3];
+    *answer = model;
+    if (place != NULL) *place = (size_t)numbers[0];
+    return number;
+}
+
 static inline uint8_t hechroung_ended_(uint8_t code, const struct hechroung_model *f, const int64_t point[4],
                                        struct hechroung_ends *answer) {
     int64_t ends[2] = {0, 0};
@@ -271,7 +324,7 @@ static inline void hechroung_summed_(const uint64_t numbers[4], const int64_t en
     if (place != NULL) *place = (size_t)numbers[0];
 }
 
-/* Runs a sheet. Refusals 1 to 9. */
+/* Runs a sheet. Refusals 1 to 9, 12. */
 static inline uint8_t hechroung_run_sheet(const uint8_t *sheet, size_t length, struct hechroung_summary *answer,
                                           size_t *place) {
     uint64_t numbers[4] = {0, 0, 0, 0};
@@ -339,7 +392,7 @@ static inline uint8_t hechroung_write_sheet(uint8_t n, uint8_t d,
     return number;
 }
 
-/* Runs a book of these models and steps. Refusals 3, 5 to 9. It takes some 12 KB of stack itself. */
+/* Runs a book of these models and steps. Refusals 3, 5 to 9, 12. It takes some 12 KB of stack itself. */
 static inline uint8_t hechroung_run_models(uint8_t n, uint8_t d,
                                            const struct hechroung_model *models, size_t model_count,
                                            const struct hechroung_step *steps, size_t step_count,

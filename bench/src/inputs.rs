@@ -10,7 +10,7 @@ pub const ORDER: u8 = 15;
 /// The most steps.
 pub const STEPS: usize = 64;
 const MODELS: usize = 16;
-const VARIABLES: u8 = 4;
+pub const VARIABLES: u8 = 4;
 const RADIUS: u64 = 5;
 
 /// What the factors of a row are like.
@@ -35,7 +35,7 @@ pub fn factors(random: &mut Random, terms: usize, order: u8, kind: Kind) -> (Mod
 }
 
 /// Different rising keys of degree at most the order, 0 among them. For high orders low exponents are the likelier.
-fn keys(random: &mut Random, terms: usize, order: u8) -> Vec<u16> {
+pub fn keys(random: &mut Random, terms: usize, order: u8) -> Vec<u16> {
     let mut keys = BTreeSet::from([0]);
     while keys.len() < terms {
         let mut left = order;
@@ -106,7 +106,7 @@ pub fn largest(random: &mut Random, count: usize) -> Vec<u8> {
 }
 
 /// Small coefficients but for the constant one, so that 62 products in a row keep the same 64 terms.
-fn draft_model(random: &mut Random, keys: &[u16]) -> DraftModel {
+pub fn draft_model(random: &mut Random, keys: &[u16]) -> DraftModel {
     let model = model(random, keys, Kind::Kept);
     let small = |key: u16, c: i64| {
         if key == 0 {

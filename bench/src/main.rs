@@ -5,6 +5,7 @@ mod flint;
 mod growth;
 mod inputs;
 mod products;
+mod quotients;
 mod sheets;
 mod timing;
 
@@ -16,6 +17,7 @@ fn main() {
         .map_or(0, |word| word.parse().expect("a seed is a number"));
     let mut random = Random::new(seed);
     products::print(&mut random);
+    quotients::print(seed);
     sheets::print(&mut random);
     growth::print(&mut random);
 }

@@ -1,4 +1,5 @@
-//! The best time of several rounds, each of all inputs in turn; the ways to be timed take turns by round.
+//! The best time of several rounds, each of all inputs in turn; the ways to be timed take turns by round. And the middle
+//! of what several seeds gave.
 
 use std::time::Instant;
 
@@ -20,4 +21,16 @@ pub fn best<const WAYS: usize>(
         }
     }
     best
+}
+
+/// The middle number, or the mean of the two in the middle.
+pub fn median(numbers: impl Iterator<Item = f64>) -> f64 {
+    let mut numbers: Vec<f64> = numbers.collect();
+    numbers.sort_by(f64::total_cmp);
+    let half = numbers.len() / 2;
+    if numbers.len() % 2 == 1 {
+        numbers[half]
+    } else {
+        (numbers[half - 1] + numbers[half]) / 2.0
+    }
 }

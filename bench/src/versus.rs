@@ -10,7 +10,7 @@ use inputs::{factors, largest, typical, Kind, STEPS};
 use loaded::Library;
 use reference::generate::Random;
 use std::hint::black_box;
-use timing::best;
+use timing::{best, median};
 
 const PRODUCTS: usize = 64;
 const SHEETS: usize = 16;
@@ -129,16 +129,4 @@ fn print_row(name: &str, times: &[Times]) {
     let highest = ratios().fold(0.0, f64::max);
     let middle = median(ratios());
     println!("| {name} | {new:.2} | {old:.2} | {middle:.3} | {lowest:.3} | {highest:.3} |");
-}
-
-/// The middle number, or the mean of the two in the middle.
-fn median(numbers: impl Iterator<Item = f64>) -> f64 {
-    let mut numbers: Vec<f64> = numbers.collect();
-    numbers.sort_by(f64::total_cmp);
-    let half = numbers.len() / 2;
-    if numbers.len() % 2 == 1 {
-        numbers[half]
-    } else {
-        (numbers[half - 1] + numbers[half]) / 2.0
-    }
 }

@@ -1,6 +1,7 @@
 """Polynomial models with an error radius: a small wrapper over the proved library, through ctypes.
 
-Coefficients, radii, values and ends are whole numbers in units of 1/UNIT. What document 01 refuses is raised as Refused.
+Coefficients, radii, values and ends are whole numbers in units of 1/UNIT. What documents 01 and 02 refuse is raised as
+Refused.
 """
 
 import ctypes
@@ -22,6 +23,11 @@ _call = _library.hechroung_call
 _call.restype = _u8
 _call.argtypes = [_u8, _u8, _u8, _i64, *_handed, *_handed,
                   ctypes.POINTER(ctypes.c_uint16), _size, ctypes.POINTER(_i64), _size, ctypes.POINTER(_u64), _size]
+_quotient = _library.hechroung_quotient
+_quotient.restype = _u8
+_quotient.argtypes = [_u8, ctypes.c_char_p, _size, ctypes.POINTER(_size), _size, ctypes.POINTER(_u64), _size,
+                      ctypes.POINTER(ctypes.c_uint16), _size, ctypes.POINTER(_i64), _size,
+                      ctypes.POINTER(ctypes.c_uint16), _size, ctypes.POINTER(_i64), _size, ctypes.POINTER(_u64), _size]
 _ends = _library.hechroung_ends
 _ends.restype = _u8
 _ends.argtypes = [_u8, *_handed, _i64, _i64, _i64, _i64, ctypes.POINTER(_i64), _size]
@@ -47,7 +53,7 @@ _run_book.argtypes = [_u8, _u8, _size, _size, ctypes.c_char_p, _size, ctypes.POI
 
 
 class Refused(Exception):
-    """Document 01's refusal: its number, 1 to 11, and its place."""
+    """The refusal of documents 01 and 02: its number, 1 to 12, and its place."""
 
     def __init__(self, number, place):
         super().__init__(f"refused {number} {place}")
@@ -75,6 +81,19 @@ def _arguments(model):
     keys = _Keys(*(key for key, _ in first))
     coefficients = _Coefficients(*(coefficient for _, coefficient in first))
     return model.n, len(model.terms), model.radius, keys, MOST_TERMS, coefficients, MOST_TERMS
+
+
+def _lent(models):
+    """The slices of models one behind the other: n, count and radius of each, and 64 keys and coefficients."""
+    if not all(isinstance(model, Model) for model in models):
+        raise Misused()
+    padded = [[*model.terms[:MOST_TERMS], *[(0, 0)] * (MOST_TERMS - len(model.terms))] for model in models]
+    terms = [term for places in padded for term in places]
+    return (bytes(model.n for model in models), len(models),
+            (_size * len(models))(*(len(model.terms) for model in models)), len(models),
+            (_u64 * len(models))(*(model.radius for model in models)), len(models),
+            (ctypes.c_uint16 * len(terms))(*(key for key, _ in terms)), len(terms),
+            (_i64 * len(terms))(*(coefficient for _, coefficient in terms)), len(terms))
 
 
 def _called(code, d, i, value, f, g=Model(1)):
@@ -128,6 +147,15 @@ def substitute(d, i, f, g):
     return _called(7, d, i, 0, f, g)
 
 
+def quotient(d, f, g, h, w):
+    """f / g with order d, from a proposal: h should be near f / g, w near 1 / g; their radii are not used."""
+    keys, coefficients, numbers = _Keys(), _Coefficients(), (_u64 * 4)()
+    number = _quotient(d, *_lent([f, g, h, w]), keys, MOST_TERMS, coefficients, MOST_TERMS, numbers, 4)
+    place, n, count, radius = numbers
+    _check(number, place)
+    return Model(n, radius, zip(keys[:count], coefficients[:count]))
+
+
 def sweep(f, threshold):
     return _called(8, 0, 0, threshold, f)
 
@@ -175,18 +203,10 @@ def stepped(sheet):
 
 def run_book(n, d, models, steps):
     """Runs models and steps, each step its code, a, b, v and value: the result, the ends of its range and integral."""
-    if not all(isinstance(model, Model) for model in models):
-        raise Misused()
-    padded = [[*model.terms[:MOST_TERMS], *[(0, 0)] * (MOST_TERMS - len(model.terms))] for model in models]
-    terms = [term for places in padded for term in places]
     fields = bytes(field for step in steps for field in step[:4])
     keys, coefficients, numbers, ends = _Keys(), _Coefficients(), (_u64 * 4)(), (_i64 * 4)()
-    number = _run_book(n, d, len(models), len(steps), bytes(model.n for model in models), len(models),
-                       (_size * len(models))(*(len(model.terms) for model in models)), len(models),
-                       (_u64 * len(models))(*(model.radius for model in models)), len(models),
-                       (ctypes.c_uint16 * len(terms))(*(key for key, _ in terms)), len(terms),
-                       (_i64 * len(terms))(*(coefficient for _, coefficient in terms)), len(terms),
-                       fields, len(fields), (_i64 * len(steps))(*(step[4] for step in steps)), len(steps),
+    number = _run_book(n, d, len(models), len(steps), *_lent(models), fields, len(fields),
+                       (_i64 * len(steps))(*(step[4] for step in steps)), len(steps),
                        keys, MOST_TERMS, coefficients, MOST_TERMS, numbers, 4, ends, 4)
     place, n, count, radius = numbers
     _check(number, place)

@@ -1,6 +1,6 @@
 //! Polynomial models in 1 to 4 variables on the box [-1, 1]^n, with an error radius: a safe wrapper over the proved
-//! library of this repository. Every call takes anything whatever; what is unfit gets the refusal that document 01
-//! lists for it.
+//! library of this repository. Every call takes anything whatever; what is unfit gets the refusal that documents 01
+//! and 02 list for it.
 //!
 //! Coefficients, radii and ends are whole numbers in units of 1/[`UNIT`].
 //!
@@ -26,7 +26,7 @@ mod sheets;
 pub use sheets::{lines, open, records, rewrite, run, run_book, write};
 pub use sheets::{Book, Kind, Opened, Record, Records, Step, Summary, Written};
 
-use raw::{Handed, MISUSED};
+use raw::{Handed, HandedModels, MISUSED};
 use std::error::Error;
 use std::fmt;
 
@@ -53,7 +53,7 @@ pub struct Model {
     pub coefficients: [i64; MOST_TERMS],
 }
 
-/// Document 01's number of a refusal, 1 to 11, and its place.
+/// The number of a refusal in documents 01 and 02, 1 to 12, and its place.
 #[derive(Clone, Copy, Debug, PartialEq, Eq, PartialOrd, Ord)]
 pub struct Refusal {
     pub number: u8,
@@ -143,7 +143,8 @@ impl fmt::Display for Refusal {
             8 => "there are more than 64 terms",
             9 => "the box is left",
             10 => "the models differ in their number of variables",
-            _ => "the buffer is too short",
+            11 => "the buffer is too short",
+            _ => "uncertified: the divisor is not shown to be nowhere zero",
         };
         write!(out, "refused {} {}: {reason}", self.number, self.place)
     }
@@ -186,6 +187,40 @@ pub fn substitute(d: u8, i: u8, f: &Model, g: &Model) -> Answer {
     called(7, d, i, 0, f.handed(), g.handed())
 }
 
+/// f / g with order d, from a proposal: h should be near f / g and w near 1 / g. The answer is h's polynomial with a
+/// radius that the call works out; the radii of h and w are not used. Refusals 3, 5 at place 0 to 3 (f, g, h, w), 10,
+/// then the first 8 or 7 inside, 12 where this w does not show that g is nowhere zero, 7.
+///
+/// ```
+/// use hechroung::{quotient, Model, UNIT};
+///
+/// let (one, three) = (Model::constant(1, UNIT)?, Model::constant(1, 3 * UNIT)?);
+/// let third = Model::constant(1, UNIT / 3)?;
+/// let answer = quotient(1, &one, &three, &third, &third).accepted()?;
+/// assert_eq!((answer.coefficients[0], answer.radius), (349_525, 2));
+/// # Ok::<(), hechroung::Refusal>(())
+/// ```
+pub fn quotient(d: u8, f: &Model, g: &Model, h: &Model, w: &Model) -> Answer {
+    let models = [f, g, h, w];
+    let mut keys = [0; 4 * MOST_TERMS];
+    let mut coefficients = [0; 4 * MOST_TERMS];
+    for (k, model) in models.iter().enumerate() {
+        let places = k * MOST_TERMS..(k + 1) * MOST_TERMS;
+        keys[places.clone()].copy_from_slice(&model.keys);
+        coefficients[places].copy_from_slice(&model.coefficients);
+    }
+    let handed = HandedModels {
+        ns: &models.map(|model| model.n),
+        counts: &models.map(|model| model.count),
+        radii: &models.map(|model| model.radius),
+        keys: &keys,
+        coefficients: &coefficients,
+    };
+    answered(|model, numbers| {
+        raw::quotient(d, handed, &mut model.keys, &mut model.coefficients, numbers)
+    })
+}
+
 /// Terms but the constant one with |c| at most the threshold moved into the radius. Refusals 5, 6.
 pub fn sweep(f: &Model, threshold: i64) -> Answer {
     called(8, 0, 0, threshold, f.handed(), Handed::NONE)
@@ -207,19 +242,26 @@ pub fn evaluate(f: &Model, point: [i64; 4]) -> Bounds {
 }
 
 fn called(code: u8, d: u8, i: u8, value: i64, f: Handed<'_>, g: Handed<'_>) -> Answer {
+    answered(|model, numbers| {
+        raw::call(
+            code,
+            d,
+            i,
+            value,
+            f,
+            g,
+            &mut model.keys,
+            &mut model.coefficients,
+            numbers,
+        )
+    })
+}
+
+/// What a call stored.
+fn answered(call: impl FnOnce(&mut Model, &mut [u64]) -> u8) -> Answer {
     let mut model = Model::ZERO;
     let mut numbers = [0; 4];
-    let number = raw::call(
-        code,
-        d,
-        i,
-        value,
-        f,
-        g,
-        &mut model.keys,
-        &mut model.coefficients,
-        &mut numbers,
-    );
+    let number = call(&mut model, &mut numbers);
     let [place, n, count, radius] = numbers;
     model.n = narrowed(n);
     model.count = narrowed(count);

@@ -27,6 +27,17 @@ impl Handed<'_> {
     };
 }
 
+/// Models that are handed over one behind the other: for each an entry of `ns`, `counts` and `radii` and 64 keys and
+/// coefficients.
+#[derive(Clone, Copy, Debug)]
+pub struct HandedModels<'a> {
+    pub ns: &'a [u8],
+    pub counts: &'a [usize],
+    pub radii: &'a [u64],
+    pub keys: &'a [u16],
+    pub coefficients: &'a [i64],
+}
+
 // A slice passes as a pointer and a length.
 extern "C" {
     fn hechroung_call(
@@ -54,6 +65,26 @@ extern "C" {
         coefficients_length: usize,
         numbers: *mut u64,
         numbers_length: usize,
+    ) -> u8;
+
+    fn hechroung_quotient(
+        d: u8,
+        ns: *const u8,
+        ns_length: usize,
+        counts: *const usize,
+        counts_length: usize,
+        radii: *const u64,
+        radii_length: usize,
+        keys: *const u16,
+        keys_length: usize,
+        coefficients: *const i64,
+        coefficients_length: usize,
+        out_keys: *mut u16,
+        out_keys_length: usize,
+        out_coefficients: *mut i64,
+        out_coefficients_length: usize,
+        out_numbers: *mut u64,
+        out_numbers_length: usize,
     ) -> u8;
 
     fn hechroung_ends(
@@ -237,6 +268,39 @@ pub fn call(
             g.keys.len(),
             g.coefficients.as_ptr(),
             g.coefficients.len(),
+            keys.as_mut_ptr(),
+            keys.len(),
+            coefficients.as_mut_ptr(),
+            coefficients.len(),
+            numbers.as_mut_ptr(),
+            numbers.len(),
+        )
+    }
+}
+
+/// f / g with order d, from the proposal h and w: the refusal's number, 0 without one. The slices hold at least four
+/// models: f, g, h and w in this order. The answer goes into `keys`, `coefficients` and `numbers` as in [`call`].
+pub fn quotient(
+    d: u8,
+    models: HandedModels<'_>,
+    keys: &mut [u16],
+    coefficients: &mut [i64],
+    numbers: &mut [u64],
+) -> u8 {
+    // SAFETY: as in `call`.
+    unsafe {
+        hechroung_quotient(
+            d,
+            models.ns.as_ptr(),
+            models.ns.len(),
+            models.counts.as_ptr(),
+            models.counts.len(),
+            models.radii.as_ptr(),
+            models.radii.len(),
+            models.keys.as_ptr(),
+            models.keys.len(),
+            models.coefficients.as_ptr(),
+            models.coefficients.len(),
             keys.as_mut_ptr(),
             keys.len(),
             coefficients.as_mut_ptr(),

@@ -5,6 +5,7 @@ use crate::{narrowed, refusal, Ends, Model, Refusal};
 use crate::{LONGEST_RECORD, MOST_MODELS, MOST_STEPS, MOST_TERMS};
 
 /// What a run gives: the last step's model, its range and its integral; beside a refusal the zero model and ends 0.
+/// Nothing is said about the integral of a sheet with a quotient.
 #[derive(Clone, Copy, Debug, PartialEq, Eq)]
 pub struct Summary {
     pub model: Model,
@@ -20,7 +21,7 @@ pub struct Written {
     pub refusal: Option<Refusal>,
 }
 
-/// A step: its code and its fields.
+/// A step: its code and its fields. A quotient, code 9, has f in a, g in b, step h in v and step w in value.
 #[derive(Clone, Copy, Debug, Default, PartialEq, Eq)]
 pub struct Step {
     pub code: u8,
@@ -76,7 +77,7 @@ impl Book {
     }
 }
 
-/// Runs a sheet. Refusals 1 to 9.
+/// Runs a sheet. Refusals 1 to 9, 12.
 pub fn run(sheet: &[u8]) -> Summary {
     summary(|model, numbers, ends| {
         raw::run(
@@ -89,7 +90,7 @@ pub fn run(sheet: &[u8]) -> Summary {
     })
 }
 
-/// Runs a book in memory. Refusals 3, 5 to 9.
+/// Runs a book in memory. Refusals 3, 5 to 9, 12.
 pub fn run_book(book: &Book) -> Summary {
     let flat = Flat::of(book);
     summary(|model, numbers, ends| {

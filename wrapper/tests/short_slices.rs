@@ -1,7 +1,7 @@
 //! A slice that is one place too short is answered with MISUSED, and nothing is changed; with just enough room the call
 //! is answered.
 
-use hechroung::raw::{self, Handed, HandedBook, MISUSED};
+use hechroung::raw::{self, Handed, HandedBook, HandedModels, MISUSED};
 
 /// The constant 1 / U, in one variable.
 const SHEET: [u8; 16] = [1, 0, 0, 0, 1, 0, 0, 0, 1, 1, 0, 1, 0, 0, 0x4D, 0x4B];
@@ -41,6 +41,16 @@ impl Room {
             &mut self.coefficients,
             &mut self.numbers,
             &mut self.ends,
+        )
+    }
+
+    fn quotient(&mut self, models: HandedModels<'_>) -> u8 {
+        raw::quotient(
+            1,
+            models,
+            &mut self.keys,
+            &mut self.coefficients,
+            &mut self.numbers,
         )
     }
 
@@ -270,4 +280,89 @@ fn a_call_needs_its_places_and_room() {
         assert_eq!(called, MISUSED, "code {code}");
         assert!(room.unchanged());
     }
+}
+
+/// Four times the model of 1, in one variable: 1 over 1, with 1 as the proposal.
+const ONES: HandedModels<'static> = HandedModels {
+    ns: &[1; 4],
+    counts: &[1; 4],
+    radii: &[0; 4],
+    keys: &[0; 256],
+    coefficients: &[1 << 20; 256],
+};
+
+#[test]
+fn a_quotient_needs_four_models_and_room() {
+    const ENOUGH: [usize; 4] = [64, 64, 4, 0];
+    let short = [
+        HandedModels {
+            ns: &ONES.ns[1..],
+            ..ONES
+        },
+        HandedModels {
+            counts: &ONES.counts[1..],
+            ..ONES
+        },
+        HandedModels {
+            radii: &ONES.radii[1..],
+            ..ONES
+        },
+        HandedModels {
+            keys: &ONES.keys[1..],
+            ..ONES
+        },
+        HandedModels {
+            coefficients: &ONES.coefficients[1..],
+            ..ONES
+        },
+        HandedModels {
+            ns: &[],
+            counts: &[],
+            radii: &[],
+            keys: &[],
+            coefficients: &[],
+        },
+    ];
+    for (k, models) in short.into_iter().enumerate() {
+        let mut room = Room::new(ENOUGH);
+        assert_eq!(room.quotient(models), MISUSED, "slice {k}");
+        assert!(room.unchanged(), "slice {k}");
+    }
+    for short in 0..3 {
+        let mut lengths = ENOUGH;
+        lengths[short] -= 1;
+        let mut room = Room::new(lengths);
+        assert_eq!(room.quotient(ONES), MISUSED, "slice {short}");
+        assert!(room.unchanged(), "slice {short}");
+    }
+    let mut room = Room::new(ENOUGH);
+    assert_eq!(room.quotient(ONES), 0);
+    assert_eq!(room.numbers, [0, 1, 1, 0]);
+    assert_eq!((room.keys[0], room.coefficients[0]), (0, 1 << 20));
+    assert_eq!(room.coefficients[1..], [0; 63]);
+    // A refusal is stored as an answer: the fourth model has another n, and then breaks a rule.
+    for (n, expected) in [(2, [0, 1, 0, 0]), (5, [3, 1, 0, 0])] {
+        let mut room = Room::new(ENOUGH);
+        let number = room.quotient(HandedModels {
+            ns: &[1, 1, 1, n],
+            ..ONES
+        });
+        assert_eq!(
+            (number, room.numbers),
+            (if n == 2 { 10 } else { 5 }, expected.to_vec())
+        );
+        assert_eq!((room.keys, room.coefficients), (vec![0; 64], vec![0; 64]));
+    }
+    // More than four models: the others are not looked at, and places behind the answer stay.
+    let mut room = Room::new([65, 65, 5, 0]);
+    let number = room.quotient(HandedModels {
+        ns: &[1, 1, 1, 1, 9],
+        counts: &[1, 1, 1, 1, 99],
+        ..ONES
+    });
+    assert_eq!(number, 0);
+    assert_eq!(
+        (room.keys[64], room.coefficients[64], room.numbers[4]),
+        (MARK.into(), MARK.into(), MARK.into())
+    );
 }

@@ -22,6 +22,8 @@ pub struct Seen {
 #[derive(Clone, Copy, Default)]
 pub struct Tried {
     pub points: u64,
+    /// Those of sheets with a quotient; of such a sheet no integral is tried.
+    pub points_of_quotients: u64,
     pub points_too_large: u64,
     pub integrals: u64,
 }
@@ -98,6 +100,10 @@ fn proved_answer(call: &Call) -> Proved {
             &to_model(g),
         )),
         Call::Sweep { f, threshold } => model(hechroung::sweep(&to_model(f), *threshold)),
+        Call::Quotient { f, g, h, w, order } => {
+            let [f, g, h, w] = [f, g, h, w].map(|operand| to_model(operand));
+            model(hechroung::quotient(*order, &f, &g, &h, &w))
+        }
         Call::Range { f } => Proved::Ends(hechroung::range(&to_model(f))),
         Call::Integral { f } => Proved::Ends(hechroung::integral(&to_model(f))),
         Call::Evaluate { f, point } => Proved::Ends(hechroung::evaluate(&to_model(f), *point)),

@@ -165,6 +165,7 @@ fn push_call(bytes: &mut Vec<u8>, call: &Call) {
             point.iter().for_each(|x| bytes.extend(x.to_le_bytes()));
             push_models(bytes, &[], &[f]);
         }
+        Call::Quotient { f, g, h, w, order } => push_models(bytes, &[12, *order], &[f, g, h, w]),
     }
 }
 
@@ -260,6 +261,13 @@ fn take_call(bytes: &mut Bytes) -> Option<Call> {
             point: take_point(bytes)?,
             f: take_model(bytes)?,
         },
+        12 => Call::Quotient {
+            order: bytes.byte()?,
+            f: take_model(bytes)?,
+            g: take_model(bytes)?,
+            h: take_model(bytes)?,
+            w: take_model(bytes)?,
+        },
         _ => return None,
     })
 }
@@ -307,6 +315,7 @@ mod tests {
             "call ",
             "call 0",
             "call 03",
+            "call 0c01",
             "call 020101ff",
             "cal 020101",
             "shaped 00",

@@ -1,18 +1,22 @@
 //! How often each kind of case was compared and each refusal reached.
 
 use crate::agree::{Seen, Tried};
-use std::collections::{BTreeMap, BTreeSet};
+use std::collections::BTreeMap;
 
-/// The refusals of document 01's table.
-const REFUSALS: std::ops::RangeInclusive<u8> = 1..=11;
+/// The refusals of documents 01 and 02.
+const REFUSALS: std::ops::RangeInclusive<u8> = 1..=12;
 /// Those that a kind of case has to reach.
-const REACHED: [(&str, &[u8]); 5] = [
-    ("sheet", &[1, 2, 3, 4, 5, 6, 7, 8, 9]),
+const REACHED: [(&str, &[u8]); 6] = [
+    ("quotient", &[3, 5, 7, 8, 10, 12]),
+    ("sheet", &[1, 2, 3, 4, 5, 6, 7, 8, 9, 12]),
     ("sheet written back", &[1, 2, 3, 4, 5, 6, 11]),
     ("sheet stepped through", &[1, 2, 3, 4, 5, 6]),
     ("book written", &[3, 5, 6, 11]),
-    ("book run", &[3, 5, 6, 7, 8, 9]),
+    ("book run", &[3, 5, 6, 7, 8, 9, 12]),
 ];
+
+/// Places that are listed one by one: those of a sheet's models.
+const MOST_LISTED: usize = 17;
 
 #[derive(Default)]
 pub struct Counts {
@@ -27,8 +31,8 @@ struct Kind {
     accepted: u64,
     /// A case that is no call: a slice was too short, or a code unknown.
     misused: u64,
-    /// By number: how often, and at which places.
-    refused: BTreeMap<u8, (u64, BTreeSet<usize>)>,
+    /// By number: how often at each place.
+    refused: BTreeMap<u8, BTreeMap<usize, u64>>,
 }
 
 impl Counts {
@@ -40,9 +44,8 @@ impl Counts {
             _ if seen.misused => kind.misused += 1,
             None => kind.accepted += 1,
             Some((number, place)) => {
-                let (times, places) = kind.refused.entry(number).or_default();
-                *times += 1;
-                places.insert(place);
+                let places = kind.refused.entry(number).or_default();
+                *places.entry(place).or_default() += 1;
             }
         }
     }
@@ -53,6 +56,7 @@ impl Counts {
 
     fn try_add(&mut self, tried: Tried) {
         self.tried.points += tried.points;
+        self.tried.points_of_quotients += tried.points_of_quotients;
         self.tried.points_too_large += tried.points_too_large;
         self.tried.integrals += tried.integrals;
     }
@@ -86,7 +90,7 @@ impl Counts {
             .collect()
     }
 
-    /// A line for each kind, and one for all: refusals as number: times at so many places.
+    /// A line for each kind, and one for all; below it a line for each refusal: how often, and how often at each place.
     pub fn print(&self) {
         let mut all = Kind::default();
         for (name, kind) in &self.kinds {
@@ -95,8 +99,11 @@ impl Counts {
         }
         all.print("all");
         println!(
-            "enclosure tried with exact fractions: {} points ({} too large), {} integrals",
-            self.tried.points, self.tried.points_too_large, self.tried.integrals
+            "enclosure tried with exact fractions: {} points ({} too large), {} of them with a quotient; {} integrals",
+            self.tried.points,
+            self.tried.points_too_large,
+            self.tried.points_of_quotients,
+            self.tried.integrals
         );
     }
 }
@@ -106,10 +113,11 @@ impl Kind {
         self.cases += other.cases;
         self.accepted += other.accepted;
         self.misused += other.misused;
-        for (number, (times, places)) in other.refused {
+        for (number, places) in other.refused {
             let mine = self.refused.entry(number).or_default();
-            mine.0 += times;
-            mine.1.extend(places);
+            for (place, times) in places {
+                *mine.entry(place).or_default() += times;
+            }
         }
     }
 
@@ -125,11 +133,25 @@ impl Kind {
         if self.misused > 0 {
             println!("    misused: {}", self.misused);
         }
-        for (number, (times, places)) in &self.refused {
-            let last = places.last().copied().unwrap_or_default();
-            let count = places.len();
-            let noun = if count == 1 { "place" } else { "places" };
-            println!("    refused {number}: {times} times at {count} {noun}, the last {last}");
+        for (number, places) in &self.refused {
+            let times: u64 = places.values().sum();
+            println!("    refused {number}: {times} times, {}", by_place(places));
         }
     }
+}
+
+/// How often each place was reached: one by one, or where there are many, in short.
+fn by_place(places: &BTreeMap<usize, u64>) -> String {
+    if places.len() <= MOST_LISTED {
+        let each = places
+            .iter()
+            .map(|(place, times)| format!("{place}: {times}"));
+        return format!("by place {}", each.collect::<Vec<_>>().join(", "));
+    }
+    let first = places.keys().next().copied().unwrap_or_default();
+    let last = places.keys().next_back().copied().unwrap_or_default();
+    let least = places.values().min().copied().unwrap_or_default();
+    let most = places.values().max().copied().unwrap_or_default();
+    let count = places.len();
+    format!("at {count} places from {first} to {last}, each {least} to {most} times")
 }

@@ -1,4 +1,5 @@
-//! Single calls at the limits: 64 terms, spans about 2^30, degree 15, substituted models that just stay in the box.
+//! Single calls at the limits: 64 terms, spans about 2^30, degree 15, substituted models that just stay in the box,
+//! quotients whose mu is about U.
 
 use reference::calls::Call;
 use reference::generate::hostile;
@@ -10,13 +11,14 @@ use reference::stored::StoredModel;
 /// A call of any kind that a limit may refuse.
 pub fn call(random: &mut Random) -> Call {
     let n = random.byte(1, 4);
-    match random.below(12) {
+    match random.below(14) {
         0 | 1 => sum(random, n),
         2..=4 => product(random, n),
         5..=7 => substitution(random, n),
         8 => sweep(random, n),
         9 => evaluation(random, n),
-        10 => Call::Range {
+        10 | 11 => quotient(random, n),
+        12 => Call::Range {
             f: at_span(random, n, 15),
         },
         _ => Call::Integral {
@@ -97,6 +99,71 @@ fn substitution(random: &mut Random, n: u8) -> Call {
         i,
         order,
     }
+}
+
+/// Constants, at times with a term or a radius, whose mu is about U or about 0, and a radius that about fills the span.
+fn quotient(random: &mut Random, n: u8) -> Call {
+    let order = random.byte(1, 15);
+    let distance = match random.below(4) {
+        0 => about(random, 0),
+        1 => UNIT - random.between(1, 64),
+        2 => random.between(0, UNIT),
+        _ => about(random, UNIT),
+    };
+    let divisor = UNIT + random.sign() * distance;
+    let mut g = constant(random, n, divisor);
+    if random.one_in(4) {
+        g = with_distance(random, n, distance);
+    }
+    // The radius is |h - f / g| at most, times U / (U - mu).
+    let room = (UNIT - distance).max(1);
+    let most = LARGEST_SPAN * room / UNIT;
+    let beta = match random.below(3) {
+        0 => about(random, most),
+        1 => random.between(0, most),
+        _ => about(random, 0),
+    };
+    let h_size = match random.below(3) {
+        0 => 0,
+        1 => about(random, LARGEST_SPAN - beta.max(0) * UNIT / room),
+        _ => random.between(0, LARGEST_SPAN),
+    };
+    let h_value = random.sign() * h_size.clamp(0, LARGEST_SPAN);
+    let f_value = h_value * divisor / UNIT + random.sign() * beta;
+    let one = match random.below(4) {
+        0 => about(random, UNIT),
+        _ => UNIT,
+    };
+    let f_value = f_value.clamp(-LARGEST_SPAN, LARGEST_SPAN);
+    Call::Quotient {
+        f: constant(random, n, f_value),
+        g,
+        h: constant(random, n, h_value),
+        w: constant(random, n, one),
+        order,
+    }
+}
+
+/// One term of key 0, or none.
+fn constant(random: &mut Random, n: u8, value: i64) -> Box<StoredModel> {
+    let terms: &[(u16, i32)] = &[(0, value as i32)];
+    let draft = DraftModel::new(0, if value == 0 { &[] } else { terms });
+    Box::new(hostile::stored(random, n, &draft))
+}
+
+/// 1 and a variable, or 1 with a radius: mu is the distance.
+fn with_distance(random: &mut Random, n: u8, distance: i64) -> Box<StoredModel> {
+    let size = distance.max(0);
+    let variable = 0x1000 >> (4 * random.below(u64::from(n)));
+    let draft = if size > 0 && random.one_in(2) {
+        DraftModel::new(
+            0,
+            &[(0, UNIT as i32), (variable, (random.sign() * size) as i32)],
+        )
+    } else {
+        DraftModel::new(size as u32, &[(0, UNIT as i32)])
+    };
+    Box::new(hostile::stored(random, n, &draft))
 }
 
 /// A threshold that is some coefficient's size, or next to it.

@@ -3,17 +3,19 @@
 
 use crate::agree::{pair, same, to_ends, to_model, Seen};
 use crate::case::Bytes;
-use hechroung::raw::{self, Handed, MISUSED};
+use hechroung::raw::{self, Handed, HandedModels, MISUSED};
 use hechroung::Model;
 use reference::calls::{Call, CallAnswer};
 use reference::generate::Random;
 use reference::model::MOST_TERMS;
 
-/// The lengths of the slices, and the code in the place of the call's own where it is not 0.
+/// The lengths of the slices, and the code in the place of the call's own where it is not 0. For a quotient, which has
+/// no code, `inputs` name the lengths for its fourth model, and `entries` how many models' numbers there are.
 #[derive(Clone, Copy, Debug, PartialEq)]
 pub struct Shape {
     pub code: u8,
     pub inputs: [u8; 4],
+    pub entries: [u8; 3],
     pub outputs: [u8; 3],
 }
 
@@ -38,6 +40,7 @@ impl Shape {
         };
         Shape {
             inputs: [length(64), length(64), length(64), length(64)],
+            entries: [length(4), length(4), length(4)],
             outputs: [length(64), length(64), length(4)],
             code,
         }
@@ -46,6 +49,7 @@ impl Shape {
     pub fn push(&self, bytes: &mut Vec<u8>) {
         bytes.push(self.code);
         bytes.extend(self.inputs);
+        bytes.extend(self.entries);
         bytes.extend(self.outputs);
     }
 
@@ -53,6 +57,7 @@ impl Shape {
         Some(Shape {
             code: bytes.byte()?,
             inputs: bytes.take()?,
+            entries: bytes.take()?,
             outputs: bytes.take()?,
         })
     }
@@ -70,6 +75,10 @@ struct Arguments {
 }
 
 pub fn compare(call: &Call, shape: &Shape) -> Result<Seen, String> {
+    if let Call::Quotient { f, g, h, w, order } = call {
+        let models = [f, g, h, w].map(|model| to_model(model));
+        return compare_quotient(&models, *order, shape, &call.answer());
+    }
     let mut arguments = arguments(call);
     if shape.code != 0 {
         arguments.code = shape.code;
@@ -155,6 +164,81 @@ fn compare_model(
     Ok(Seen::of(refusal))
 }
 
+/// What the slices for an answer hold after a call.
+type Stored = (Vec<u16>, Vec<i64>, Vec<u64>);
+
+fn compare_quotient(
+    models: &[Model; 4],
+    order: u8,
+    shape: &Shape,
+    answer: &CallAnswer,
+) -> Result<Seen, String> {
+    let CallAnswer::Model(answer) = answer else {
+        unreachable!("a quotient answers with a model");
+    };
+    let [ns_length, counts_length, radii_length] = shape.entries.map(usize::from);
+    let [keys_length, coefficients_length, _, _] = shape
+        .inputs
+        .map(|length| 3 * MOST_TERMS + usize::from(length));
+    let outputs = shape.outputs.map(usize::from);
+    // What is behind four models may be anything.
+    let ns = over(&models.map(|model| model.n), 0xAB, ns_length);
+    let counts = over(&models.map(|model| model.count), usize::MAX, counts_length);
+    let radii = over(&models.map(|model| model.radius), NUMBER, radii_length);
+    let keys = models.map(|model| model.keys).concat();
+    let coefficients = models.map(|model| model.coefficients).concat();
+    let (mut out_keys, mut out_coefficients, mut numbers) = untouched(outputs);
+    let number = raw::quotient(
+        order,
+        HandedModels {
+            ns: &ns,
+            counts: &counts,
+            radii: &radii,
+            keys: &over(&keys, KEY, keys_length),
+            coefficients: &over(&coefficients, COEFFICIENT, coefficients_length),
+        },
+        &mut out_keys,
+        &mut out_coefficients,
+        &mut numbers,
+    );
+    let found = (out_keys, out_coefficients, numbers);
+    let entries = ns_length.min(counts_length).min(radii_length);
+    let fits = entries >= 4
+        && keys_length.min(coefficients_length) >= 4 * MOST_TERMS
+        && outputs[0].min(outputs[1]) >= MOST_TERMS
+        && outputs[2] >= 4;
+    if !fits {
+        return misused(number, &found, &untouched(outputs));
+    }
+    let refusal = answer.refusal.map(pair);
+    let model = to_model(&answer.model);
+    let expected_numbers = [
+        refusal.map_or(0, |(_, place)| place as u64),
+        u64::from(model.n),
+        model.count as u64,
+        model.radius,
+    ];
+    let expected = (
+        over(&model.keys, KEY, outputs[0]),
+        over(&model.coefficients, COEFFICIENT, outputs[1]),
+        over(&expected_numbers, NUMBER, outputs[2]),
+    );
+    same(
+        &(number, found),
+        &(refusal.map_or(0, |(number, _)| number), expected),
+    )?;
+    Ok(Seen::of(refusal))
+}
+
+/// Slices of these lengths for an answer, before a call.
+fn untouched([keys, coefficients, numbers]: [usize; 3]) -> Stored {
+    (
+        vec![KEY; keys],
+        vec![COEFFICIENT; coefficients],
+        vec![NUMBER; numbers],
+    )
+}
+
 fn compare_ends(
     arguments: &Arguments,
     shape: &Shape,
@@ -206,7 +290,7 @@ fn handed<'a>(model: &Model, keys: &'a [u16], coefficients: &'a [i64]) -> Handed
     }
 }
 
-/// The first places hold these, the others what they held.
+/// The first places hold these, the others what they held; cut off where the length is smaller.
 fn over<T: Copy>(first: &[T], held: T, length: usize) -> Vec<T> {
     let mut all = first.to_vec();
     all.resize(length, held);
@@ -293,6 +377,7 @@ fn arguments(call: &Call) -> Arguments {
             f: to_model(f),
             ..none
         },
+        Call::Quotient { .. } => unreachable!("a quotient is an exported function of its own"),
         Call::Range { f } => Arguments {
             code: 1,
             f: to_model(f),

@@ -4,6 +4,7 @@ use crate::agree::{pair, same, to_ends, to_model, to_refusal, Seen, Tried};
 use hechroung::{Step, Summary, Written};
 use reference::book::Book;
 use reference::exact::check_result;
+use reference::exact::outcome::has_quotient;
 use reference::generate::{functions, Random};
 use reference::model::{monomial_of_key, Model};
 use reference::operations::Ends;
@@ -73,8 +74,14 @@ fn enclosed(bytes: &[u8], summary: &Summary, seed: u64) -> Result<Tried, String>
     };
     let checked = check_result(&book, &result, &inside, &points)
         .map_err(|violation| format!("not enclosed: {violation:?}"))?;
+    let of_quotients = if has_quotient(&book) {
+        checked.points
+    } else {
+        0
+    };
     Ok(Tried {
         points: checked.points as u64,
+        points_of_quotients: of_quotients as u64,
         points_too_large: checked.points_too_large as u64,
         integrals: u64::from(checked.integral),
     })

@@ -2,10 +2,10 @@
 //! bytes. What lies below the stack may not be touched: a call that needs more ends the test by a signal. The few words
 //! that the test itself needs to hand over the arguments count as the call's.
 
-use hechroung::raw::{self, Handed, HandedBook};
+use hechroung::raw::{self, Handed, HandedBook, HandedModels};
 use hechroung::{LONGEST_RECORD, LONGEST_SHEET, MOST_MODELS, MOST_STEPS, MOST_TERMS};
-use reference::book::{Book, Step, INPUT, MULTIPLY, SUBSTITUTE};
-use reference::generate::{self, books, Draft, DraftModel, Random};
+use reference::book::{Book, Step, INPUT, MULTIPLY, QUOTIENT, SUBSTITUTE};
+use reference::generate::{self, books, quotients, Draft, DraftModel, Random};
 use reference::sheet;
 use reference::stored::StoredModel;
 use std::arch::asm;
@@ -169,6 +169,16 @@ impl Answer {
         );
     }
 
+    fn quotient(&mut self, d: u8, models: HandedModels<'_>) {
+        self.number = raw::quotient(
+            d,
+            models,
+            &mut self.keys,
+            &mut self.coefficients,
+            &mut self.numbers,
+        );
+    }
+
     fn run(&mut self, sheet: &[u8]) {
         self.number = raw::run(
             sheet,
@@ -187,6 +197,38 @@ impl Answer {
             &mut self.numbers,
             &mut self.ends,
         );
+    }
+}
+
+/// The slices of a quotient's four models.
+struct LentModels {
+    ns: [u8; 4],
+    counts: [usize; 4],
+    radii: [u64; 4],
+    keys: Vec<u16>,
+    coefficients: Vec<i64>,
+}
+
+impl LentModels {
+    fn new(models: &[StoredModel; 4]) -> LentModels {
+        let terms = || models.iter().flat_map(|model| model.terms.iter());
+        LentModels {
+            ns: models.map(|model| model.n),
+            counts: models.map(|model| model.count),
+            radii: models.map(|model| model.radius),
+            keys: terms().map(|term| term.key).collect(),
+            coefficients: terms().map(|term| term.coefficient).collect(),
+        }
+    }
+
+    fn handed(&self) -> HandedModels<'_> {
+        HandedModels {
+            ns: &self.ns,
+            counts: &self.counts,
+            radii: &self.radii,
+            keys: &self.keys,
+            coefficients: &self.coefficients,
+        }
     }
 }
 
@@ -250,30 +292,36 @@ fn heaviest_keys() -> Vec<u16> {
 }
 
 /// At these keys coefficients so small that no step leaves the box and that results keep their terms.
-fn heaviest_model() -> DraftModel {
+fn heaviest_model(constant: i32) -> DraftModel {
     DraftModel {
         radius: 5,
         terms: heaviest_keys()
             .into_iter()
-            .map(|key| (key, if key == 0 { 1 << 19 } else { 3 }))
+            .map(|key| (key, if key == 0 { constant } else { 3 }))
             .collect(),
     }
 }
 
-/// Sixteen such models; inputs, and then products and substitutions in turn up to 64 steps.
+/// About 1/2, 1/2, 1 and 2: the first over the second is the third, and the fourth is one over the second.
+fn heaviest_operands() -> [DraftModel; 4] {
+    [1 << 19, 1 << 19, 1 << 20, 1 << 21].map(heaviest_model)
+}
+
+/// Sixteen such models; inputs, and then products, substitutions and quotients in turn up to 64 steps.
 fn heaviest_sheet() -> Vec<u8> {
-    let models = vec![heaviest_model(); MOST_MODELS];
-    let mut steps = vec![Step::one(INPUT, 0), Step::one(INPUT, 1)];
+    let mut models = heaviest_operands().to_vec();
+    models.resize(MOST_MODELS, heaviest_model(1 << 19));
+    let mut steps: Vec<Step> = (0..4).map(|model| Step::one(INPUT, model)).collect();
     while steps.len() < MOST_STEPS {
         let v = steps.len() as u8 % 4 + 1;
-        steps.push(if v % 2 == 0 {
-            Step::two(MULTIPLY, 0, 1)
-        } else {
-            Step::substitute(0, 1, v)
+        steps.push(match steps.len() % 3 {
+            0 => Step::two(MULTIPLY, 0, 1),
+            1 => Step::substitute(0, 1, v),
+            _ => Step::quotient(0, 1, 2, 3),
         });
         assert!(matches!(
             steps.last().map(|step| step.code),
-            Some(MULTIPLY | SUBSTITUTE)
+            Some(MULTIPLY | SUBSTITUTE | QUOTIENT)
         ));
     }
     Draft::new(4, 15, models, steps).bytes()
@@ -336,6 +384,37 @@ fn a_call_stays_within_its_figure() {
         });
         most(&format!("ends {code}"), CALL, used);
     }
+}
+
+#[test]
+fn a_quotient_stays_within_its_figure() {
+    let mut stack = Stack::new(CALL);
+    let stored = |n: u8, models: &[DraftModel; 4]| {
+        LentModels::new(
+            &models
+                .each_ref()
+                .map(|draft| StoredModel::store(&draft.model(n))),
+        )
+    };
+    let mut operands = vec![(15, stored(4, &heaviest_operands()))];
+    let mut random = Random::new(7);
+    for number in 0..GENERATED as usize {
+        let made = match number % 2 {
+            0 => quotients::accepted(&mut random),
+            _ => (quotients::REFUSED[number / 2 % quotients::REFUSED.len()].make)(&mut random),
+        };
+        operands.push((made.d, stored(made.n, &made.models)));
+    }
+    let mut accepted = 0;
+    let used = operands.iter().enumerate().map(|(k, (d, models))| {
+        let mut answer = Answer::NONE;
+        let used = stack.run(|| answer.quotient(*d, models.handed()));
+        accepted += u64::from(answer.number == 0);
+        assert!(k > 0 || answer.number == 0, "the heaviest is accepted");
+        used
+    });
+    most("quotient", CALL, used);
+    assert!(accepted > 10, "quotient: {accepted} accepted");
 }
 
 #[test]

@@ -1,0 +1,48 @@
+"""A conductivity curve corrected by a temperature curve: the quotient from a proposal, as a single call and as a step,
+then a poorer proposal, a refusal and a misuse. examples/quotient.md says what the lines mean."""
+
+from hechroung import UNIT, Misused, Model, Refused
+from hechroung import evaluate, quotient, range_of, run_book, variable
+from propose import propose
+
+ORDER = 3
+
+
+def hundredths(value):
+    """A number of hundredths in units, rounded toward 0."""
+    return UNIT * value // 100 if value >= 0 else -(UNIT * -value // 100)
+
+
+# x is the time of the milking, y the milk's temperature. Conductivity in mS/cm, to 0.02; the factor of the temperature,
+# to 0.001. Keys: x has hex 1000, y hex 0100.
+conductivity = Model(2, hundredths(2), [(0x0000, hundredths(560)), (0x0100, hundredths(60)), (0x1000, hundredths(50)),
+                                        (0x1100, hundredths(5)), (0x2000, hundredths(-20))])
+temperature = Model(2, UNIT // 1000, [(0x0000, hundredths(124)), (0x0100, hundredths(6)), (0x1000, hundredths(1))])
+
+h, w = propose(ORDER, conductivity, temperature)
+corrected = quotient(ORDER, conductivity, temperature, h, w)
+print("proposal: h of", len(h.terms), "terms, w of", len(w.terms))
+print("radius", corrected.radius)
+for key, coefficient in corrected.terms:
+    print("term", key >> 12, key >> 8 & 15, coefficient)
+print("range", *range_of(corrected))
+print("at 0.6 -0.3", *evaluate(corrected, [hundredths(60), hundredths(-30)]))
+
+# The same as a step: four inputs, then code 9 with f in a, g in b, step h in v and step w in value.
+inputs = [(0, model, 0, 0, 0) for model in range(4)]
+result, ends, _ = run_book(2, ORDER, [conductivity, temperature, h, w], [*inputs, (9, 0, 1, 2, 3)])
+assert (result.radius, result.terms, ends) == (corrected.radius, corrected.terms, range_of(corrected))
+
+# Without Newton's rule w is a constant. That is a proposal as well, only a poorer one.
+h, w = propose(ORDER, conductivity, temperature, rounds=0)
+print("with a constant w: radius", quotient(ORDER, conductivity, temperature, h, w).radius)
+
+# The temperature's own variable is 0 somewhere: no proposal makes it a divisor.
+try:
+    quotient(ORDER, conductivity, variable(2, 2), h, w)
+except Refused as refusal:
+    print("refused", refusal.number, refusal.place)
+try:
+    quotient(ORDER, conductivity, temperature, h, None)
+except Misused as misuse:
+    print("misused", misuse.number)

@@ -1,0 +1,127 @@
+//! A conductivity curve corrected by a temperature curve: the quotient from a proposal, as a single call and as a step,
+//! then a poorer proposal, a refusal and a misuse. examples/quotient.md says what the lines mean.
+
+#![forbid(unsafe_code)]
+
+use hechroung::raw::{self, HandedModels};
+use hechroung::{evaluate, multiply, quotient, range, run_book, subtract};
+use hechroung::{Book, Model, Refusal, Step, UNIT};
+
+const ORDER: u8 = 3;
+
+fn main() -> Result<(), Refusal> {
+    // x is the time of the milking, y the milk's temperature. Conductivity in mS/cm, to 0.02; the factor of the
+    // temperature, to 0.001. Keys: x has hex 1000, y hex 0100.
+    let conductivity = model(
+        hundredths(2),
+        &[
+            (0x0000, hundredths(560)),
+            (0x0100, hundredths(60)),
+            (0x1000, hundredths(50)),
+            (0x1100, hundredths(5)),
+            (0x2000, hundredths(-20)),
+        ],
+    );
+    let temperature = model(
+        UNIT / 1000,
+        &[
+            (0x0000, hundredths(124)),
+            (0x0100, hundredths(6)),
+            (0x1000, hundredths(1)),
+        ],
+    );
+
+    let (h, w) = propose(&conductivity, &temperature, 2)?;
+    let corrected = quotient(ORDER, &conductivity, &temperature, &h, &w).accepted()?;
+    let ends = range(&corrected).accepted()?;
+    let value = evaluate(&corrected, [hundredths(60), hundredths(-30), 0, 0]).accepted()?;
+    println!("proposal: h of {} terms, w of {}", h.count, w.count);
+    println!("radius {}", corrected.radius);
+    for (key, coefficient) in corrected.terms() {
+        println!("term {} {} {coefficient}", key >> 12, key >> 8 & 15);
+    }
+    println!("range {} {}", ends.low, ends.high);
+    println!("at 0.6 -0.3 {} {}", value.low, value.high);
+
+    // The same as a step: four inputs, then code 9 with f in a, g in b, step h in v and step w in value.
+    let mut steps: Vec<Step> = (0..4).map(input).collect();
+    steps.push(Step {
+        code: 9,
+        a: 0,
+        b: 1,
+        v: 2,
+        value: 3,
+    });
+    let book = Book::new(2, ORDER, &[conductivity, temperature, h, w], &steps);
+    let summary = run_book(&book).accepted()?;
+    assert_eq!((summary.model, summary.range), (corrected, ends));
+
+    // Without Newton's rule w is a constant. That is a proposal as well, only a poorer one.
+    let (h, w) = propose(&conductivity, &temperature, 0)?;
+    let poorer = quotient(ORDER, &conductivity, &temperature, &h, &w).accepted()?;
+    println!("with a constant w: radius {}", poorer.radius);
+
+    // The temperature's own variable is 0 somewhere: no proposal makes it a divisor.
+    let y = Model::variable(2, 2)?;
+    if let Err(refusal) = quotient(ORDER, &conductivity, &y, &h, &w).accepted() {
+        println!("refused {} {}", refusal.number, refusal.place);
+    }
+    // The exported function itself takes slices of any length: here there are no models.
+    let none = HandedModels {
+        ns: &[],
+        counts: &[],
+        radii: &[],
+        keys: &[],
+        coefficients: &[],
+    };
+    let number = raw::quotient(ORDER, none, &mut [], &mut [], &mut []);
+    println!("misused {number}");
+    Ok(())
+}
+
+/// h near f / g and w near 1 / g, by the library's own calls. From the inverse of g's constant part, w <- w (2 - g w)
+/// squares the distance from 1 / g in every round, up to the order; then h <- f w. Radii do not matter for a proposal
+/// and are left away. g's first term is the constant one.
+fn propose(f: &Model, g: &Model, rounds: usize) -> Result<(Model, Model), Refusal> {
+    let (f, g) = (without_radius(*f), without_radius(*g));
+    let two = Model::constant(f.n, 2 * UNIT)?;
+    let mut w = Model::constant(f.n, UNIT * UNIT / g.coefficients[0])?;
+    for _ in 0..rounds {
+        let factor = subtract(&two, &multiply(ORDER, &g, &w).accepted()?).accepted()?;
+        w = without_radius(multiply(ORDER, &w, &factor).accepted()?);
+    }
+    let h = without_radius(multiply(ORDER, &f, &w).accepted()?);
+    Ok((h, w))
+}
+
+fn without_radius(model: Model) -> Model {
+    Model { radius: 0, ..model }
+}
+
+/// A number of hundredths in units, rounded toward 0.
+fn hundredths(value: i64) -> i64 {
+    UNIT * value / 100
+}
+
+/// A model in two variables.
+fn model(radius: i64, terms: &[(u16, i64)]) -> Model {
+    let mut model = Model {
+        n: 2,
+        count: terms.len(),
+        radius: radius as u64,
+        ..Model::ZERO
+    };
+    for (place, &(key, coefficient)) in terms.iter().enumerate() {
+        model.keys[place] = key;
+        model.coefficients[place] = coefficient;
+    }
+    model
+}
+
+fn input(model: u8) -> Step {
+    Step {
+        code: 0,
+        a: model,
+        ..Step::default()
+    }
+}
