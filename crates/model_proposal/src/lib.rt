@@ -83,7 +83,8 @@ pub fn defect(
     form
 }
 
-// 1 - w × g, w without its radius. The table is lent for the product.
+// 1 - w × g, w without its radius. The table is lent for the product. The model of 1 is made first: made behind the
+// product it was compiled into the place of the copy of w, and all copies of w were then cut into single terms.
 pub fn deviation(
     d: u8,
     g: Model,
@@ -98,11 +99,12 @@ pub fn deviation(
     ensures table { λ r. ⌜ Free-table (now (slots .entry)) (now (keys .entry)) (now (sums .entry))
         (now (slots .exit)) (now (keys .exit)) (now (sums .exit)) ⌝ }
 {
+    let unit = one(g.n);
     let product = model_multiplication::multiplied(d, bare(w), g, slots, keys, sums);
     let v = product.verdict;
     let Verdict::Accepted = v else {
         return product;
     };
-    let form = model_addition::subtracted(one(g.n), product.model);
+    let form = model_addition::subtracted(unit, product.model);
     form
 }

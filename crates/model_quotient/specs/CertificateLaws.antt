@@ -1,21 +1,21 @@
 -- The certificate, one test after the other: what each step asks, and each way out.
-use mathlib.Core.Path.{_≡_, sym, _∙_, ap, ap₂}
-use mathlib.Core.List.{List, map}
-use Prim.Native.Nat.{ℕ, _+_, _*_, _-_, _^_, _≤_, _<_}
+use mathlib.Core.Path.{_≡_, sym, _∙_, ap}
+use mathlib.Core.List.{List, [], _∷_, _++_, append-assoc, append-nil}
+use Prim.Native.Nat.{ℕ, suc, _+_, _*_, _-_, _^_, _≤_, _<_}
 use native.Mathlib.Nat as NatL
 use native.Mathlib.Omega.{arith}
 use borrow.Author.Tests.{le-ltb, lt-ltb}
 use lib.Dec.{T, lit<}
 use lib.IntN.{pos, negℤ}
-use lib.ListN.{length, getD, set}
+use lib.ListN.{length, take, getD, set, length-append}
+use lib.Seq.{length-take-le, take-all, set-set}
 use Rattle.algebra.specs.Integer.{natAbs-neg, natAbs-add}
 use Rattle.fixed.specs.Division.{divided-up}
 use Rattle.fixed.specs.Fixed.{U, span-limit}
 use Rattle.fixed.specs.FixedLaws.{U-within, span-square-fits}
 use Rattle.calculus.specs.Key.{key-width}
-use Rattle.calculus.specs.MonomialKeyLaws.{fits-below}
 use Rattle.calculus.specs.Model as C
-use Rattle.calculus.specs.Model.{most-degree, sound, span}
+use Rattle.calculus.specs.Model.{most-degree, most-terms, sound, span}
 use Rattle.calculus.specs.Refusal as R
 use Rattle.calculus.specs.Refusal.{uncertified, stopped, at-place, require}
 use Rattle.calculus.specs.Operations.{limited, widen, bare, range, constant-part, variation, defect, deviation}
@@ -26,9 +26,9 @@ use Rattle.model_types.specs.declared.Model.{Model}
 use Rattle.model_types.specs.declared.Refusal.{Refusal}
 use Rattle.model_types.specs.declared.Verdict.the-variants.{Accepted, Refused}
 use Rattle.model_types.specs.declared.Answer.{Answer}
-use Rattle.model_types.specs.ModelStruct.{zero-term, view, pack-term, pad, pack, answer}
-use Rattle.model_types.specs.ModelStructLaws.{limits, vars-range, sound-vars, read, term-at, length-read, read-more}
-use Rattle.model_types.specs.ModelStructLaws.{view-is, view-pack, pack-view-term, packed-more, key-fits-at}
+use Rattle.model_types.specs.Arrays.{padded}
+use Rattle.model_types.specs.ModelStruct.{zero-term, view, pad, pack, answer}
+use Rattle.model_types.specs.ModelStructLaws.{limits, vars-range, sound-vars, view-pack, pack-view, pad-more, take-more}
 use Rattle.model_types.specs.ResultLaws.{sound-order, taken-sound, taken-then, refused-then}
 use Rattle.model_limits.specs.Limits.{Packed}
 use Rattle.model_limits.specs.LimitLaws.{pack-packed}
@@ -91,23 +91,46 @@ module _ (h : C.Model) (beta mu : ℕ) where
       ∙ ap (λ e. with-radius e h) (q ∙ ap (λ u. divided-up (beta * u) (u - mu)) u))
       ∙ ap (λ c. answer (at-place 0 c)) (certified-radius l)
 
--- ---- the terms with another radius, copied one by one
-module _ (m : Model) (s : T (sound most-degree (view m))) (w : m .count ≤ length (m .terms)) where
-  pub copied-turn : (i : ℕ) (out : List Term) → i < m .count → out ≡ pad (map pack-term (read (m .n) i (m .terms)))
-      → set out i (getD (m .terms) i zero-term) ≡ pad (map pack-term (read (m .n) (i + 1) (m .terms)))
-  copied-turn i out l o =
-      let z = limits most-degree m s in
-      ap₂ (λ k t. set k i t) o
-      (sym (pack-view-term (m .n) _ (z .width) (fits-below (m .n) _ (key-fits-at most-degree m i (omega arith) s w l))))
-      ∙ packed-more (read (m .n) i (m .terms)) i (term-at (m .n) i (m .terms))
-      (length-read (m .n) i (m .terms) (omega arith)) (omega (arith, z .few))
-      ∙ ap (λ p. pad (map pack-term p)) (sym (read-more (m .n) i (m .terms) (omega arith)))
+-- ---- the terms with another radius, and zeros stored from the last place down to the count
+-- a zero more behind what is there
+padded-zero : (l : List Term) → length l < most-terms → pad (l ++ (zero-term ∷ [])) ≡ pad l
+unfolding padded
+padded-zero l h =
+    let k = length-append l (zero-term ∷ []) in
+    let n : most-terms - length l ≡ suc (most-terms - length (l ++ (zero-term ∷ []))) = omega arith in
+    rw (n, append-assoc)
 
-  pub copied-end : (e i : ℕ) (out : List Term) → i ≡ m .count
-      → out ≡ pad (map pack-term (read (m .n) i (m .terms)))
+module _ (l : List Term) (w : length l ≡ most-terms) where
+  pub zeroed-first : l ≡ pad (take most-terms l)
+  unfolding padded
+  zeroed-first =
+      let n : most-terms - length l ≡ 0 = omega arith in
+      rw (take-all most-terms l (omega arith), n, append-nil)
+
+  -- the place i and what stood in it
+  zeroed-at : (i : ℕ) → i < most-terms → set (pad (take (i + 1) l)) i zero-term ≡ pad (take i l)
+  zeroed-at i h =
+      let k = length-take-le i l (omega arith) in
+      ap (λ p. set p i zero-term)
+      (ap pad (take-more l i zero-term (omega arith)) ∙ sym (pad-more (take i l) i (getD l i zero-term) k h))
+      ∙ set-set (pad (take i l)) i (getD l i zero-term) zero-term
+      ∙ pad-more (take i l) i zero-term k h
+      ∙ padded-zero (take i l) (omega (arith, k))
+
+  pub zeroed-turn : (i : ℕ) (out : List Term) → 0 < i → i ≤ most-terms → out ≡ pad (take i l)
+      → set out (i - 1) zero-term ≡ pad (take (i - 1) l)
+  zeroed-turn i out g h o =
+      let e : i ≡ i - 1 + 1 = omega arith in
+      ap (λ p. set p (i - 1) zero-term) (o ∙ ap (λ j. pad (take j l)) e) ∙ zeroed-at (i - 1) (omega arith)
+
+module _ (m : Model) (s : T (sound most-degree (view m))) (w : m .count ≤ length (m .terms)) where
+  pub zeroed-end : (e i : ℕ) (out : List Term) → i ≡ m .count → out ≡ pad (take i (m .terms))
       → record { n = m .n; count = m .count; radius = e; terms = out } ≡ pack (with-radius e (view m))
   unfolding pack with-radius
-  copied-end e i out h o = rw (view-is m w, o, h, length-read (m .n) (m .count) (m .terms) w)
+  zeroed-end e i out h o = ap (λ l. record { n = m .n; count = m .count; radius = e; terms = l })
+      (o ∙ ap (λ i. pad (take i (m .terms))) h)
+      ∙ sym (ap (λ (r : Model). record { n = r .n; count = r .count; radius = e; terms = r .terms })
+      (pack-view most-degree m (omega arith) s w))
 
 -- ---- the second form
 module _ {d : ℕ} {g h w : Model} {beta : ℕ} (s : Judged d g h w beta)

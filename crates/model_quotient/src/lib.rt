@@ -34,11 +34,11 @@ fn with_radius(m: Model, e: u64) -> Model
     ensures { λ r. ⌜ r ≡ pack (with-radius e (view m)) ⌝ }
 {
     let count = m.count;
-    let mut terms = [Term::ZERO; MOST_TERMS];
-    let mut i = 0;
-    while i < count {
-        terms[i] = m.terms[i];
-        i += 1;
+    let mut terms = m.terms;
+    let mut i = MOST_TERMS;
+    while count < i {
+        i -= 1;
+        terms[i] = Term::ZERO;
     }
     Model {
         n: m.n,

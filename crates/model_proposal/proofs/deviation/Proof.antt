@@ -8,13 +8,16 @@ use Rattle.model_proposal.specs.FormLaws.{deviation-answer}
 use Rattle.model_proposal.proofs.deviation.Statement.{statement}
 use Rattle.model_proposal.proofs.deviation.Tie as tie
 
+one-requires : tie.Need-one-requires
+one-requires c κs = limits _ _ (c .before .before .pre .0 .second) .width
+
 bare-requires : tie.Need-bare-requires
 bare-requires c κs = search needs
 
 multiplied-requires : tie.Need-multiplied-requires
 multiplied-requires c κs =
     let b = c .before .before .before in
-    let s = b .before .before .before in
+    let s = b .before .before .before .before in
     (deviation-factors (s .pre .0) _ (b .bare .ensures), s .pre .1)
 
 enum-told : tie.Need-enum-told
@@ -27,7 +30,7 @@ abbrev bared : tie.After-multiplied → tie.After-bare
 bared c = c .before .before .before .before
 
 abbrev start : tie.After-multiplied → tie.Start
-start c = bared c .before .before .before
+start c = bared c .before .before .before .before
 
 -- ---- the product is refused
 same-length : tie.Need-same-length
@@ -55,14 +58,11 @@ module _ (c : tie.After-enum-told) where
   taken : made .multiplied .result .verdict ≡ Accepted
   taken = c .enum-told .given .1
 
-one-requires : tie.Need-one-requires
-one-requires c κs = limits _ _ (start (made c) .pre .0 .second) .width
-
 subtracted-requires : tie.Need-subtracted-requires
 subtracted-requires c κs =
-    let m = made (c .before) in
-    deviation-operands (start m .pre .0) _ (bared m .bare .ensures) (m .multiplied .ensures .0) (taken (c .before))
-    (c .one .ensures)
+    let m = made c in
+    deviation-operands (start m .pre .0) _ (bared m .bare .ensures) (m .multiplied .ensures .0) (taken c)
+    (bared m .before .one .ensures)
 
 same-length-4 : tie.Need-same-length-4
 same-length-4 c = search needs
@@ -75,10 +75,9 @@ same-length-6 c = search needs
 
 returns-2 : tie.Need-returns-2
 returns-2 c =
-    let o = c .before in
-    let m = made (o .before) in (
-      deviation-answer (start m .pre .0) _ (bared m .bare .ensures) (m .multiplied .ensures .0) (taken (o .before))
-          (o .one .ensures) (c .subtracted .ensures),
+    let m = made (c .before) in (
+      deviation-answer (start m .pre .0) _ (bared m .bare .ensures) (m .multiplied .ensures .0) (taken (c .before))
+          (bared m .before .one .ensures) (c .subtracted .ensures),
       record { slots-length = search needs; keys-length = search needs; sums-length = search needs },
     )
 
@@ -86,6 +85,7 @@ pub deviation-spec : {M : Type 1} → statement M
 deviation-spec =
     tie.close
     (tie.spec
+    one-requires
     bare-requires
     multiplied-requires
     enum-told
@@ -94,7 +94,6 @@ deviation-spec =
     same-length-2
     same-length-3
     returns
-    one-requires
     subtracted-requires
     same-length-4
     same-length-5

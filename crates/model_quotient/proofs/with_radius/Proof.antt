@@ -1,69 +1,64 @@
--- `with_radius` copies the terms one by one.
-use mathlib.Core.Path.{_≡_, refl}
-use mathlib.Core.List.{map}
-use Prim.Native.Nat.{_≤_, _-_}
+-- `with_radius` stores zeros from the last place down to the count.
+use mathlib.Core.Path.{_≡_}
+use Prim.Native.Nat.{_≤_}
 use native.Mathlib.Omega.{arith}
-use lib.ListN.{length, length-map}
+use lib.ListN.{length, take, length-map}
 use Rattle.calculus.specs.Model.{most-terms}
-use Rattle.model_types.specs.Arrays.{padded}
-use Rattle.model_types.specs.ModelStruct.{pack-term, pad}
-use Rattle.model_types.specs.ModelStructLaws.{read, limits}
-use Rattle.model_quotient.specs.CertificateLaws.{copied-turn, copied-end}
+use Rattle.model_types.specs.ModelStruct.{pad}
+use Rattle.model_types.specs.ModelStructLaws.{limits}
+use Rattle.model_quotient.specs.CertificateLaws.{zeroed-first, zeroed-turn, zeroed-end}
 use Rattle.model_quotient.proofs.with_radius.Statement.{statement}
 use Rattle.model_quotient.proofs.with_radius.Tie as tie
 
 abbrev Inv-loop : tie.InvT-loop
-Inv-loop e m count terms₀ i₀ terms i =
-    (i ≤ count) × (terms ≡ pad (map pack-term (read (m .n) i (m .terms))))
+Inv-loop m e count terms₀ i₀ terms i = (count ≤ i) × (i ≤ 64) × (terms ≡ pad (take i (m .terms)))
 
 abbrev μ-loop : tie.MeasureT-loop
-μ-loop e m count terms₀ i₀ terms i = count - i
+μ-loop m e count terms₀ i₀ terms i = i
 
 module _ (c : tie.Start Inv-loop μ-loop) where
-  long : length (c .args .t1 .terms) ≡ 64
+  long : length (c .args .m .terms) ≡ most-terms
+  unfolding most-terms
   long = simp length-map at (c .good .0 .1 .1 .1 .1 .1 .0 .1 .0 .1)
 
-  few : c .args .t1 .count ≤ 64
-  unfolding most-terms
+  few : c .args .m .count ≤ most-terms
   few = limits _ _ (c .pre) .few
 
-  whole : c .args .t1 .count ≤ length (c .args .t1 .terms)
+  whole : c .args .m .count ≤ length (c .args .m .terms)
   whole = omega (arith, few, long)
 
 loop-holds : tie.Need-loop-holds Inv-loop μ-loop
-unfolding most-terms padded
-loop-holds c = (omega arith, refl)
+unfolding most-terms
+loop-holds c = (few (c .before), omega arith, zeroed-first _ (long (c .before)))
+
+sub-i : tie.Need-sub-i Inv-loop μ-loop
+sub-i c = omega arith
 
 mul-terms : tie.Need-mul-terms Inv-loop μ-loop
-mul-terms c = omega (arith, few (c .before .before))
-
-element-copy-out-terms : tie.Need-element-copy-out-terms Inv-loop μ-loop
-element-copy-out-terms c = omega (arith, few (c .before .before))
-
-mul-terms-2 : tie.Need-mul-terms-2 Inv-loop μ-loop
-mul-terms-2 c = omega (arith, few (c .before .before .before))
+mul-terms c = omega (arith, c .before .loop .inv .1)
 
 array-set-from-terms : tie.Need-array-set-from-terms Inv-loop μ-loop
-array-set-from-terms c = omega (arith, few (c .before .before .before))
-
-add-i : tie.Need-add-i Inv-loop μ-loop
-add-i c = omega arith
+array-set-from-terms c = omega (arith, c .before .loop .inv .1)
 
 loop-less : tie.Need-loop-less Inv-loop μ-loop
 loop-less c = omega arith
 
 loop-again : tie.Need-loop-again Inv-loop μ-loop
+unfolding most-terms
 loop-again c =
-    let l = c .before .before in
-    let s = l .before in
-    (omega arith, copied-turn (s .args .t1) (s .pre) (whole s) (l .loop .i) _ (omega arith) (l .loop .inv .1))
+    let l = c .before in
+    let s = l .before .before in (
+      omega arith,
+      omega (arith, l .loop .inv .1),
+      zeroed-turn _ (long s) (l .loop .i) _ (omega arith) (l .loop .inv .1) (l .loop .inv .2),
+    )
 
 returns : tie.Need-returns Inv-loop μ-loop
 returns c =
     let l = c .before in
-    let s = l .before in
-    copied-end (s .args .t1) (s .pre) (whole s) (s .args .e) (l .loop .i) _ (omega (arith, l .loop .inv .0))
-    (l .loop .inv .1)
+    let s = l .before .before in
+    zeroed-end (s .args .m) (s .pre) (whole s) (s .args .e) (l .loop .i) _ (omega (arith, l .loop .inv .0))
+    (l .loop .inv .2)
 
 pub with-radius-spec : {M : Type 1} → statement M
 with-radius-spec =
@@ -72,11 +67,9 @@ with-radius-spec =
     Inv-loop
     μ-loop
     loop-holds
+    sub-i
     mul-terms
-    element-copy-out-terms
-    mul-terms-2
     array-set-from-terms
-    add-i
     loop-less
     loop-again
     returns)
