@@ -45,6 +45,7 @@ pub mod EvaluateLaws
 pub mod IntegralEndsLaws
 -- The claim.
 pub mod OutcomeLaws
+pub mod StepKindLaws
 pub mod ClaimProof
 pub mod ClaimFacts
 pub mod JumpFacts

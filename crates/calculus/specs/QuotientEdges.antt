@@ -74,6 +74,12 @@ quotient-edges =
     ∷ gives 6 (call-quotient 1 line one (line-within 7) one) line
     ∷ gives 6 (call-quotient 1 line one line (model 1 7 (at-key 1 0x0000 (pos 1048576) ∷ []))) line
     ∷ gives 6 (call-quotient 1 nought one (line-within 0) one) (line-within 8)
+    -- the radius of w is not used where beta is not 0 either
+    ∷ gives 6 (call-quotient 1 (number-of (pos 1)) one nought (model 1 7 (at-key 1 0x0000 (pos 1048576) ∷ [])))
+    (model 1 1 [])
+    -- w times the difference, and not the difference of two products: 1/4 (2 - 1) is rounded once
+    ∷ gives 6 (call-quotient 1 (number-of (pos 1)) one (number-of (pos 2)) (number-of (pos 262144)))
+    (model 1 4 (at-key 1 0x0000 (pos 2) ∷ []))
     -- f is zero
     ∷ gives 7 (call-quotient 1 nought one nought one) nought
     -- the radii of f and g are

@@ -3,7 +3,7 @@ use mathlib.Core.Bool.{Bool, true, false, _&&_}
 use mathlib.Core.List.{List, [], _∷_}
 use Prim.Native.Nat.{ℕ, suc}
 
--- the causes of a refusal, in document 01's words
+-- the causes of a refusal, in the words of document 01 (and, for 12, of document 02)
 pub data Refusal : Type 0 where
   -- length below 16 or above 6,744
   bad-length : Refusal
@@ -24,7 +24,7 @@ pub data Refusal : Type 0 where
   too-many-terms : Refusal
   -- substituted model leaves the box; in evaluation, a coordinate does
   leaves-box : Refusal
-  -- two models of a single call differ in n
+  -- models of a single call differ in n
   variables-differ : Refusal
   -- the writer's buffer is too short
   short-buffer : Refusal
