@@ -7,6 +7,7 @@ use crate::model::{
     ONE, UNIT,
 };
 use crate::refusal::Refusal;
+use std::cmp::Ordering;
 use std::collections::BTreeMap;
 
 /// Why an operation on sound models is refused. The place is not known here:
@@ -120,9 +121,15 @@ fn monomial_product(left: &Monomial, right: &Monomial) -> Monomial {
     std::array::from_fn(|i| left[i] + right[i])
 }
 
-/// (z + U/2) / U rounded down, also below 0.
+/// z / U rounded to the nearest whole number; halfway cases go to the even one.
 fn nearest_unit(z: i128) -> i128 {
-    divided_down(z + UNIT / 2, UNIT)
+    let below = divided_down(z, UNIT);
+    let rest = z - below * UNIT;
+    match rest.cmp(&(UNIT / 2)) {
+        Ordering::Less => below,
+        Ordering::Greater => below + 1,
+        Ordering::Equal => below + below.rem_euclid(2),
+    }
 }
 
 /// Rounded toward minus infinity; the divisor is positive.

@@ -118,9 +118,14 @@ fn evaluations_by_hand() {
     let unit = UNIT as i64;
     assert_eq!(ends([unit, unit, 0, 0]), Ends { low: 9, high: 15 });
     assert_eq!(ends([0, -unit, 0, 0]), Ends { low: 3, high: 9 });
-    // -2 × 1/2 is exact, 4 × 1/8 is a half: up to 1, with radius 1.
+    // -2 × 1/2 is exact, 4 × 1/8 is a half: to the even 0, with radius 1.
     let halfway = ends([unit / 2, unit / 8, 0, 0]);
-    assert_eq!(halfway, Ends { low: 6, high: 14 });
+    assert_eq!(halfway, Ends { low: 5, high: 13 });
+    // 4 × 3/8 is 1.5: to the even 2, and 4 × -3/8 to -2.
+    let halfway = ends([unit / 2, 3 * unit / 8, 0, 0]);
+    assert_eq!(halfway, Ends { low: 7, high: 15 });
+    let halfway = ends([unit / 2, -3 * unit / 8, 0, 0]);
+    assert_eq!(halfway, Ends { low: 3, high: 11 });
 }
 
 #[test]

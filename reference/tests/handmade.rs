@@ -12,20 +12,88 @@ fn product_lines(n: u8, d: u8, f: DraftModel, g: DraftModel) -> String {
     lines_of(n, d, &[f, g], &steps)
 }
 
+/// The lines of a constant with radius 1, or 0 where the product is exact.
+fn rounded(coefficient: i64, radius: i64) -> String {
+    let term = match coefficient {
+        0 => String::new(),
+        c => format!("term 0 {c}\n"),
+    };
+    let (low, high) = (coefficient - radius, coefficient + radius);
+    let (twice_low, twice_high) = (2 * low, 2 * high);
+    format!("radius {radius}\n{term}range {low} {high}\nintegral {twice_low} {twice_high}\n")
+}
+
+fn constants_product(f: i32, g: i32) -> String {
+    product_lines(1, 1, model(0, &[(0, f)]), model(0, &[(0, g)]))
+}
+
 #[test]
-fn halves_of_both_signs() {
-    let cases = [
-        (1, "radius 1\nterm 0 1\nrange 0 2\nintegral 0 4\n"),
-        (-1, "radius 1\nrange -1 1\nintegral -2 2\n"),
-        (3, "radius 1\nterm 0 2\nrange 1 3\nintegral 2 6\n"),
-        (-3, "radius 1\nterm 0 -1\nrange -2 0\nintegral -4 0\n"),
-        (2, "radius 0\nterm 0 1\nrange 1 1\nintegral 2 2\n"),
-    ];
-    for (factor, expected) in cases {
-        let f = model(0, &[(0, factor)]);
-        let g = model(0, &[(0, HALF)]);
-        assert_eq!(product_lines(1, 1, f, g), expected, "{factor} halves");
+fn halves_go_to_the_even_coefficient() {
+    // 0.5, 1.5, 2.5, 3.5, 4.5 and their negatives; whole numbers are exact.
+    let cases = [(1, 0), (3, 2), (5, 2), (7, 4), (9, 4)];
+    for (factor, even) in cases {
+        assert_eq!(constants_product(factor, HALF), rounded(even, 1));
+        assert_eq!(constants_product(-factor, HALF), rounded(-even, 1));
+        assert_eq!(constants_product(factor, -HALF), rounded(-even, 1));
+        assert_eq!(constants_product(-factor, -HALF), rounded(even, 1));
     }
+    assert_eq!(constants_product(2, HALF), rounded(1, 0));
+    assert_eq!(constants_product(-6, HALF), rounded(-3, 0));
+}
+
+#[test]
+fn next_to_a_half_the_nearest_is_taken() {
+    // z at U/2 - 1, U/2 and U/2 + 1, and the same above 1.
+    for (z, nearest) in [
+        (HALF - 1, 0),
+        (HALF, 0),
+        (HALF + 1, 1),
+        (UNIT + HALF - 1, 1),
+        (UNIT + HALF, 2),
+        (UNIT + HALF + 1, 2),
+    ] {
+        assert_eq!(constants_product(1, z), rounded(nearest, 1), "{z}");
+        assert_eq!(constants_product(-1, z), rounded(-nearest, 1), "-{z}");
+    }
+}
+
+#[test]
+fn a_half_that_meets_from_two_products_goes_to_the_even_one() {
+    // (1 + x) units times (1 + x)/4: 1/4, 1/2, 1/4 units, all to 0; E is U in all.
+    let f = model(0, &[(0, 1), (0x1000, 1)]);
+    let g = model(0, &[(0, UNIT / 4), (0x1000, UNIT / 4)]);
+    assert_eq!(product_lines(1, 2, f, g), rounded(0, 1));
+    // (1 + x) units times (3 + 3x)/4: 3/4, 3/2, 3/4 units become 1, 2, 1.
+    let f = model(0, &[(0, 1), (0x1000, 1)]);
+    let g = model(0, &[(0, 3 * UNIT / 4), (0x1000, 3 * UNIT / 4)]);
+    let found = product_lines(1, 2, f, g);
+    assert!(found.starts_with("radius 1\nterm 0 1\nterm 1 2\nterm 2 1\n"));
+}
+
+#[test]
+fn halves_inside_a_substitution() {
+    // 5 x/U at 1/2 is 2.5, and at -1/2 -2.5: to 2 and -2, with radius 1.
+    let at = |value: i32| {
+        let models = [model(0, &[(0x1000, 5)]), model(0, &[(0, value)])];
+        let steps = [input(0), input(1), Step::substitute(0, 1, 1)];
+        lines(1, &models, &steps)
+    };
+    assert_eq!(at(HALF), rounded(2, 1));
+    assert_eq!(at(-HALF), rounded(-2, 1));
+}
+
+#[test]
+fn halves_inside_a_quotient() {
+    // f = 5 units, g = 1, h = 0 and w = 1/2: w × (-5) is -2.5, which becomes -2
+    // with radius 1, so that beta is 3; mu is U/2, and 3 × 2 is 6. Rounded up it
+    // would have been the same here, but not for f = -5, where beta would be 4.
+    let quotient = |f: i32| {
+        let constants = [f, UNIT, 0, HALF].map(Step::constant);
+        let steps = [constants.as_slice(), &[Step::quotient(0, 1, 2, 3)]].concat();
+        lines(1, &[], &steps)
+    };
+    assert_eq!(quotient(5), rounded(0, 6));
+    assert_eq!(quotient(-5), rounded(0, 6));
 }
 
 #[test]

@@ -1,4 +1,4 @@
-//! The 13 samples of document 01.
+//! The 13 samples of document 01, as the requests of document 02 change them.
 
 mod common;
 
@@ -64,14 +64,15 @@ fn product_of_constants(a: i32, b: i32) -> String {
     lines(1, &[], &steps)
 }
 
+/// As CR 2 has it.
 #[test]
-fn sample_6_a_half_rounds_up() {
-    let expected = "radius 1\nterm 0 1\nrange 0 2\nintegral 0 4\n";
+fn sample_6_a_half_goes_to_the_even_coefficient() {
+    let expected = "radius 1\nrange -1 1\nintegral -2 2\n";
     assert_eq!(product_of_constants(1, HALF), expected);
 }
 
 #[test]
-fn sample_7_a_negative_half_rounds_up_too() {
+fn sample_7_and_so_does_a_negative_half() {
     let expected = "radius 1\nrange -1 1\nintegral -2 2\n";
     assert_eq!(product_of_constants(-1, HALF), expected);
 }
