@@ -1,6 +1,8 @@
--- Integers and naturals divided by a natural number from 1, rounded down and up.
-use Prim.Native.Nat.{ℕ, _+_, _-_, _/_}
-use lib.IntN.{ℤ, pos, negsuc, negℤ, natAbs, _-ℤ_, _*ℤ_}
+-- Integers divided by a natural number from 1, rounded down, up and to the nearest; naturals rounded up.
+use mathlib.Core.Bool.{Bool, true, false}
+use Prim.Native.Nat.{ℕ, _+_, _-_, _*_, _/_, _%_}
+use lib.Dec.{eqb, ltb}
+use lib.IntN.{ℤ, pos, negsuc, negℤ, natAbs, _+ℤ_, _-ℤ_, _*ℤ_}
 
 -- rounded down; negsuc a is -(a + 1)
 unfoldable pub floor : ℤ → ℕ → ℤ
@@ -18,3 +20,18 @@ remainder z d = natAbs (z -ℤ floor z d *ℤ pos d)
 -- a natural divided, rounded up
 unfoldable pub divided-up : ℕ → ℕ → ℕ
 divided-up a d = (a + (d - 1)) / d
+
+-- an even number
+unfoldable pub even : ℤ → Bool
+even c = eqb (natAbs c % 2) 0
+
+-- of c and the number after it the even one
+unfoldable pub even-of-two : ℤ → ℤ
+even-of-two c = elim (even c) [ true ↦ c | false ↦ c +ℤ pos 1 ]
+
+-- rounded to the nearest: down from below half of d, up from above it, and halfway to the even one of the two
+unfoldable pub nearest : ℤ → ℕ → ℤ
+nearest z d = elim (ltb (2 * remainder z d) d) [
+  | true ↦ floor z d
+  | false ↦ elim (ltb d (2 * remainder z d)) [ true ↦ floor z d +ℤ pos 1 | false ↦ even-of-two (floor z d) ]
+]

@@ -1,8 +1,8 @@
 -- Fixed point: the unit, the span limit, rounding to the unit and what it leaves, sums that stop above the limit.
-use Prim.Native.Nat.{ℕ, _+_, _/_, _^_, min}
-use lib.IntN.{ℤ, pos, _+ℤ_, _-ℤ_, _*ℤ_, natAbs}
+use Prim.Native.Nat.{ℕ, _+_, _^_, min}
+use lib.IntN.{ℤ, pos, _-ℤ_, _*ℤ_, natAbs}
 use Rattle.fixed.specs.declared.Rounded.{Rounded}
-use Rattle.fixed.specs.Division.{floor, divided-up}
+use Rattle.fixed.specs.Division.{nearest, divided-up}
 
 -- a whole number c stands for c / U
 unfoldable pub U : ℕ
@@ -12,9 +12,9 @@ U = 2 ^ 20
 unfoldable pub span-limit : ℕ
 span-limit = 2 ^ 30
 
--- (z + U/2) / U rounded down
+-- z / U rounded to the nearest, halfway to the even
 unfoldable pub round : ℤ → ℤ
-round z = floor (z +ℤ pos (U / 2)) U
+round z = nearest z U
 
 -- |z − c U| for c = round z
 unfoldable pub residual : ℤ → ℕ

@@ -1,15 +1,16 @@
 -- All that the layers above know of the unit, the span limit and the rounding.
-use mathlib.Core.Path.{_≡_, refl, sym, _∙_}
+use mathlib.Core.Path.{_≡_, refl, sym, ap, _∙_}
 use Prim.Native.Nat.{ℕ, zero, suc, pred, _+_, _-_, _*_, _/_, _^_, _≤_, _<_}
 use native.Mathlib.Decide.{decLe}
 use native.Mathlib.Omega.{arith}
 use native.Mathlib.Nat as NatL
 use borrow.Author.Tests.{le-leb, lt-leb}
-use lib.Dec.{leb, lit<, lit≤}
-use lib.IntN.{ℤ, pos, negsuc, natAbs, _+ℤ_, _-ℤ_, _*ℤ_}
-use Rattle.algebra.specs.Integer.{is, is-eq, is-add, is-nat, is-sub-mul, is-parts, plus, minus}
-use Rattle.algebra.specs.Integer.{natAbs-parts, natAbs-bound, natAbs-apart}
-use Rattle.fixed.specs.DivisionLaws.{division, remainder-lt, divided-up-ok, divided-up-least}
+use lib.Dec.{T, leb, lit<, lit≤}
+use lib.IntN.{ℤ, pos, negℤ, natAbs, _-ℤ_, _*ℤ_}
+use Rattle.algebra.specs.Integer.{is, is-eq, is-nat, natAbs-parts}
+use Rattle.fixed.specs.Division.{even, nearest}
+use Rattle.fixed.specs.DivisionLaws.{divided-up-ok, divided-up-least}
+use Rattle.fixed.specs.NearestLaws.{nearest-le, nearest-even, nearest-neg, left-neg, left-le-abs, nearest-le-abs}
 use Rattle.fixed.specs.Fixed.{U, span-limit, round, residual, round-up, capped}
 
 -- ---- the unit and the span limit
@@ -23,9 +24,6 @@ U-suc = let h : 0 < U = U-pos in omega arith
 pub U-even : U ≡ 2 * (U / 2)
 unfolding U
 U-even = refl
-
-U-two : 2 ≤ U
-U-two = let h : 0 < U = U-pos in omega (arith, U-even)
 
 -- the unit itself is within the span limit
 pub U-within : U ≤ span-limit
@@ -58,45 +56,42 @@ pub round-up-least : (E : ℕ) → U * round-up E < E + U
 unfolding round-up
 round-up-least E = divided-up-least E U U-pos
 
--- ---- rounding: `residual-le` alone opens the rule, and the laws after it follow
+-- ---- rounding: laws of `nearest` at U
+-- rounding is to the nearest, and halfway to the even
+pub residual-le : (z : ℤ) → 2 * residual z ≤ U
+unfolding round residual
+residual-le z = nearest-le z U U-pos
+
+pub round-even : (z : ℤ) → 2 * residual z ≡ U → T (even (round z))
+unfolding round residual
+round-even z h = nearest-even z U U-pos h
+
+-- the sign turns with the argument, and as much is left
+pub round-neg : (z : ℤ) → round (negℤ z) ≡ negℤ (round z)
+unfolding round
+round-neg z = nearest-neg z U U-pos
+
+pub residual-neg : (z : ℤ) → residual (negℤ z) ≡ residual z
+unfolding round residual
+residual-neg z = ap (λ c. natAbs (negℤ z -ℤ c *ℤ pos U)) (round-neg z) ∙ left-neg z (round z) U
+
+-- no more is left than there was, and c is no larger
+pub residual-le-abs : (z : ℤ) → residual z ≤ natAbs z
+unfolding round residual
+residual-le-abs z = left-le-abs z U U-pos
+
+pub round-le-abs : (z : ℤ) → natAbs (round z) ≤ natAbs z
+unfolding round
+round-le-abs z = nearest-le-abs z U U-pos
+
+-- as code computes them
+pub round-is : (z : ℤ) → round z ≡ nearest z U
+unfolding round
+round-is z = refl
+
 pub residual-is : (z : ℤ) → residual z ≡ natAbs (z -ℤ round z *ℤ pos U)
 unfolding residual
 residual-is z = refl
-
--- rounding is to the nearest
-pub residual-le : (z : ℤ) → 2 * residual z ≤ U
-unfolding round
-residual-le z =
-    let s = is-parts (is-add (is z) (is-nat (U / 2))) in
-    let q = division (z +ℤ pos (U / 2)) U U-pos in
-    let l = remainder-lt (z +ℤ pos (U / 2)) U U-pos in
-    let e : U ≡ 2 * (U / 2) = U-even in
-    omega (arith, residual-is z, natAbs-bound (is-sub-mul (is z) (is (round z)) U) (U / 2) (omega arith) (omega arith))
-
--- z and c U are apart by what is left
-apart : (z c : ℤ) → c ≡ round z
-    → (plus z + minus c * U ≤ minus z + plus c * U + residual z)
-    × (minus z + plus c * U ≤ plus z + minus c * U + residual z)
-apart z c e = rw (residual-is z, ← e) (natAbs-apart (is-sub-mul (is z) (is c) U))
-
--- no more is left than there was, and c is no larger
-smaller : (z c : ℤ) → c ≡ round z → (residual z ≤ natAbs z) × (natAbs c ≤ natAbs z)
-smaller z (pos zero) e =
-    let p = natAbs-parts z in
-    let b = natAbs-bound (is-sub-mul (is z) (is-nat 0) U) (natAbs z) (omega arith) (omega arith) in
-    (rw (residual-is z, ← e) b, omega arith)
-smaller z (pos (suc n)) e =
-    let a = apart z (pos (suc n)) e in
-    omega (arith, residual-le z, natAbs-parts z, U-two, NatL.mul-le-mul-left n U-two)
-smaller z (negsuc n) e =
-    let a = apart z (negsuc n) e in
-    omega (arith, residual-le z, natAbs-parts z, U-two, NatL.mul-le-mul-left n U-two)
-
-pub residual-le-abs : (z : ℤ) → residual z ≤ natAbs z
-residual-le-abs z = smaller z (round z) refl .0
-
-pub round-le-abs : (z : ℤ) → natAbs (round z) ≤ natAbs z
-round-le-abs z = smaller z (round z) refl .1
 
 -- zero rounds to zero, and nothing is left
 pub round-zero : round (pos 0) ≡ pos 0

@@ -1,5 +1,6 @@
 pub mod Division
 pub mod DivisionLaws
+pub mod NearestLaws
 pub mod Fixed
 pub mod Computing
 pub mod FixedLaws

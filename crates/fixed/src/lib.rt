@@ -7,7 +7,7 @@ ghost use Prim.Native.Nat.{_+_, _*_, _^_, _<_};
 ghost use lib.Dec.{leb};
 ghost use lib.IntN.{pos, negsuc, natAbs, negℤ, _+ℤ_, _-ℤ_, _*ℤ_};
 ghost use lib.Signed.{nonNeg};
-ghost use Rattle.fixed.specs.Division.{floor, ceiling, remainder, divided-up};
+ghost use Rattle.fixed.specs.Division.{floor, ceiling, remainder, divided-up, nearest};
 ghost use Rattle.fixed.specs.Fixed.{U, span-limit, rounded, round-up, capped};
 
 // The unit U, by its binary digits: with a power of two the floor of z / U is a shift.
@@ -169,6 +169,30 @@ pub fn ceiling_divided(z: i64, d: u64) -> i64
     negated(floor_divided(negated(z), d))
 }
 
+// n / d rounded to the nearest, halfway to the even. Twice the remainder is compared with d, with one more where the
+// quotient is odd: that tells at a tie which of the two is even.
+fn nearest_quotient(n: u64, d: u64) -> u64
+    requires { ⌜ n < 2 ^ 63 ⌝ }
+    requires { ⌜ 0 < d ⌝ }
+    ensures { λ r. ⌜ pos r ≡ nearest (pos n) d ⌝ }
+{
+    let below = n / d;
+    let rest = n % d;
+    let odd = below % 2;
+    let twice = rest * 2;
+    if twice + odd <= d { below } else { below + 1 }
+}
+
+// z / d rounded to the nearest, halfway to the even. The rule does not see the sign, so the size is divided.
+pub fn nearest_divided(z: i64, d: u64) -> i64
+    requires { ⌜ natAbs z < 2 ^ 63 ⌝ }
+    requires { ⌜ 0 < d ⌝ }
+    ensures { λ r. ⌜ r ≡ nearest z d ⌝ }
+{
+    let c = signed(nearest_quotient(magnitude(z), d));
+    if z < 0 { negated(c) } else { c }
+}
+
 // ---- rounding to the unit
 
 // z / U rounded down: the shift copies the sign, so it rounds down below 0 too.
@@ -186,14 +210,15 @@ fn above_whole_units(z: i64, units: i64) -> u64
     (z - units * UNIT as i64) as u64
 }
 
-// z rounded to a coefficient, with its residual. It compares what z is above the floor with half a unit instead of
-// adding the half, so it takes every z.
+// z rounded to a coefficient, halfway to the even, with its residual. What z is above the floor is compared with half a
+// unit, with one more where the floor is odd: one comparison for ties and all others, and every z is taken.
 pub fn round(z: i64) -> Rounded
     ensures { λ r. ⌜ r ≡ rounded z ⌝ }
 {
     let below = whole_units(z);
     let rest = above_whole_units(z, below);
-    if rest < HALF_UNIT {
+    let odd = magnitude(below) % 2;
+    if rest + odd <= HALF_UNIT {
         Rounded {
             coefficient: below,
             residual: rest,
