@@ -2,7 +2,7 @@
 use mathlib.Core.Path.{_≡_, refl}
 use mathlib.Core.List.{List, [], _∷_, map}
 use Prim.Native.Nat.{ℕ}
-use lib.IntN.{pos}
+use lib.IntN.{ℤ, pos}
 use Rattle.calculus.specs.Terms.{term}
 use Rattle.calculus.specs.Model.{Model}
 use Rattle.calculus.specs.Refusal.{Result, Returned}
@@ -74,6 +74,14 @@ outside = one-term 1 0x0000 (pos 1048577)
 unfoldable pub near-limit : (n c : ℕ) → Model
 near-limit n c = model n 0 (at-key n 0x0000 (pos c) ∷ at-key n 0x1000 (pos 1) ∷ [])
 
+-- the constant a times the constant b
+unfoldable pub times : (a b : ℤ) → Result Model
+times a b = call-multiply 1 (one-term 1 0x0000 a) (one-term 1 0x0000 b)
+
+-- the constant c with radius 1
+unfoldable pub about : ℤ → Model
+about c = model 1 1 (at-key 1 0x0000 c ∷ [])
+
 -- ---- the table; the line is 5 + 3x
 unfoldable pub call-edges : List Call-edge
 call-edges =
@@ -138,11 +146,19 @@ call-edges =
     (ends (pos 1073741822) (pos 1073741824))
     -- 9 for any coordinate comes before it
     ∷ refuses-ends 14 (call-evaluate (pos 1048575 ∷ pos 1048577 ∷ []) (near-limit 2 1073741823)) 9
+    -- halfway goes to the even coefficient: not away from 0 (1, 5), not toward it (3), not up (-3), not down (-1)
+    ∷ gives 15 (times (pos 1) (pos 524288)) (model 1 1 []) ∷ gives 15 (times (minus 1) (pos 524288)) (model 1 1 [])
+    ∷ gives 15 (times (pos 3) (pos 524288)) (about (pos 2)) ∷ gives 15 (times (minus 3) (pos 524288)) (about (minus 2))
+    ∷ gives 15 (times (pos 5) (pos 524288)) (about (pos 2)) ∷ gives 15 (times (minus 5) (pos 524288)) (about (minus 2))
+    -- z just below halfway, there and just above it
+    ∷ gives 16 (times (pos 1) (pos 524287)) (model 1 1 []) ∷ gives 16 (times (minus 1) (pos 524287)) (model 1 1 [])
+    ∷ gives 16 (times (pos 1) (pos 524288)) (model 1 1 []) ∷ gives 16 (times (pos 524288) (minus 1)) (model 1 1 [])
+    ∷ gives 16 (times (pos 1) (pos 524289)) (about (pos 1)) ∷ gives 16 (times (minus 1) (pos 524289)) (about (minus 1))
     ∷ []
 
 -- each call hands back what its row says
 pub call-edges-hold : map (λ r. r .given) call-edges ≡ map (λ r. r .wanted) call-edges
 unfolding
     calls forms one-term terms-from
-    back gives refuses gives-ends refuses-ends bad cube two-variables outside near-limit call-edges
+    back gives refuses gives-ends refuses-ends bad cube two-variables outside near-limit times about call-edges
 call-edges-hold = refl

@@ -73,7 +73,7 @@ edges =
     (stopped leaves-box 2)
     -- the radius of f, added last, passes the span
     ∷ row 6 (book 1 2 (model 1 1073741823 (at-key 1 0x1000 (pos 1) ∷ []) ∷ [])
-    (input 0 ∷ constant (pos 524288) ∷ substitute 0 1 1 ∷ []))
+    (input 0 ∷ constant (pos 786432) ∷ substitute 0 1 1 ∷ []))
     (stopped over-span 2)
     -- a step is no operand of its own
     ∷ broken 7 (negate 1) ∷ broken 7 (sweep 1 (pos 0))

@@ -25,6 +25,7 @@ pub mod MonomialKeyLaws
 pub mod TermsLaws
 pub mod SumLaws
 pub mod CanonicalLaws
+pub mod MirrorLaws
 pub mod ProductLaws
 pub mod FitsLaws
 pub mod LoopLaws
@@ -33,6 +34,7 @@ pub mod SoundLaws
 pub mod EachLaws
 pub mod BookLaws
 pub mod BookSoundLaws
+pub mod MirrorStepLaws
 -- Enclosure.
 pub mod ChainLaws
 pub mod UnitLaws

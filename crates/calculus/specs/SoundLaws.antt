@@ -7,13 +7,12 @@ use native.Mathlib.Omega.{arith}
 use borrow.Author.Tests.{ne-eqb}
 use lib.Dec.{T, eqb, leb, eqb→eq, leb→le, le→leb, lit≤}
 use lib.IntN.{ℤ, pos, negsuc, negℤ, natAbs}
-use lib.ListN.{length, length-map}
-use Rattle.algebra.specs.Integer.{natAbs-neg}
+use lib.ListN.{length}
 use Rattle.polynomial.specs.Polynomial.{exponent, without}
 use Rattle.fixed.specs.Fixed.{U, span-limit}
 use Rattle.fixed.specs.FixedLaws.{U-pos, U-within}
 use Rattle.calculus.specs.Monomial.{zeros, index-of, single}
-use Rattle.calculus.specs.Terms.{Terms, term, every, select, sum-over, size, map-coefficients, map-monomials}
+use Rattle.calculus.specs.Terms.{Terms, term, every, select, sum-over, size, map-monomials}
 use Rattle.calculus.specs.Terms.{rising-from, rising, is-nonzero, nonzero, drop-zeros, collect}
 use Rattle.calculus.specs.Model.{Model, zero-model, one-model, most-vars, most-terms, between, span, fits, sound}
 use Rattle.calculus.specs.Refusal.{over-span, too-many-terms, leaves-box, uncertified}
@@ -30,8 +29,9 @@ use Rattle.calculus.specs.TermsLaws.{every-map-monomials, every-collect,
 use Rattle.calculus.specs.TermsLaws.{rising-cons, rising-below, rising-any, rising-select}
 use Rattle.calculus.specs.TermsLaws.{rising-map-coefficients, nonzero-drop-zeros}
 use Rattle.calculus.specs.FitsLaws.{fits-by, fits-length, fits-degree, kept-fits}
-use Rattle.calculus.specs.SumLaws.{ℕ-addition, sum-split, sum-map-coefficients, sum-cong}
+use Rattle.calculus.specs.SumLaws.{ℕ-addition, sum-split}
 use Rattle.calculus.specs.CanonicalLaws.{canonical-rising}
+use Rattle.calculus.specs.MirrorLaws.{size-turned, length-turned}
 use Rattle.calculus.specs.ProductLaws.{products-rising, kept-rising}
 
 -- ---- the rules of a model, in two parts
@@ -214,22 +214,13 @@ module _ (n d : ℕ) where
       turned (pos (suc n)) h = unfold is-nonzero in (unfold is-nonzero in h)
       turned (negsuc n) h = unfold is-nonzero in h
 
-  size-negated : (p : Terms) → size (map-coefficients negℤ p) ≡ size p
-  unfolding size
-  size-negated p = sum-map-coefficients ℕ-addition (λ k c. natAbs c) negℤ p
-      ∙ sum-cong ℕ-addition _ (λ k c. natAbs c) (λ k c. natAbs-neg c) p
-
-  length-negated : (p : Terms) → length (map-coefficients negℤ p) ≡ length p
-  unfolding map-coefficients
-  length-negated p = length-map p _
-
   pub negate-sound : (f : Model) → Sound n d f → Sound n d (negate f)
   negate-sound f h = (negate-canonical f (h .0), bounds)
     where
       bounds : Bounded (negate f)
       bounds = unfold negate span in record {
-        count = let e = length-negated (f .terms) in let c = h .1 .count in omega arith;
-        small-span = let e = size-negated (f .terms) in let c = h .1 .small-span in omega arith;
+        count = let e = length-turned (f .terms) in let c = h .1 .count in omega arith;
+        small-span = let e = size-turned (f .terms) in let c = h .1 .small-span in omega arith;
       }
 
   pub add-sound : (f g : Model) → Canonical n d f → Canonical n d g → If-accepted (Sound n d) (add f g)

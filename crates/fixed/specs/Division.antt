@@ -22,12 +22,12 @@ unfoldable pub divided-up : ℕ → ℕ → ℕ
 divided-up a d = (a + (d - 1)) / d
 
 -- an even number
-unfoldable pub even : ℤ → Bool
-even c = eqb (natAbs c % 2) 0
+unfoldable pub is-even : ℤ → Bool
+is-even c = eqb (natAbs c % 2) 0
 
 -- of c and the number after it the even one
 unfoldable pub even-of-two : ℤ → ℤ
-even-of-two c = elim (even c) [ true ↦ c | false ↦ c +ℤ pos 1 ]
+even-of-two c = elim (is-even c) [ true ↦ c | false ↦ c +ℤ pos 1 ]
 
 -- rounded to the nearest: down from below half of d, up from above it, and halfway to the even one of the two
 unfoldable pub nearest : ℤ → ℕ → ℤ

@@ -1,6 +1,6 @@
 -- All that the layers above know of the unit, the span limit and the rounding.
 use mathlib.Core.Path.{_≡_, refl, sym, ap, _∙_}
-use Prim.Native.Nat.{ℕ, zero, suc, pred, _+_, _-_, _*_, _/_, _^_, _≤_, _<_}
+use Prim.Native.Nat.{ℕ, suc, pred, _+_, _-_, _*_, _/_, _^_, _≤_, _<_}
 use native.Mathlib.Decide.{decLe}
 use native.Mathlib.Omega.{arith}
 use native.Mathlib.Nat as NatL
@@ -8,7 +8,7 @@ use borrow.Author.Tests.{le-leb, lt-leb}
 use lib.Dec.{T, leb, lit<, lit≤}
 use lib.IntN.{ℤ, pos, negℤ, natAbs, _-ℤ_, _*ℤ_}
 use Rattle.algebra.specs.Integer.{is, is-eq, is-nat, natAbs-parts}
-use Rattle.fixed.specs.Division.{even, nearest}
+use Rattle.fixed.specs.Division.{is-even, nearest}
 use Rattle.fixed.specs.DivisionLaws.{divided-up-ok, divided-up-least}
 use Rattle.fixed.specs.NearestLaws.{nearest-le, nearest-even, nearest-neg, left-neg, left-le-abs, nearest-le-abs}
 use Rattle.fixed.specs.Fixed.{U, span-limit, round, residual, round-up, capped}
@@ -62,7 +62,7 @@ pub residual-le : (z : ℤ) → 2 * residual z ≤ U
 unfolding round residual
 residual-le z = nearest-le z U U-pos
 
-pub round-even : (z : ℤ) → 2 * residual z ≡ U → T (even (round z))
+pub round-even : (z : ℤ) → 2 * residual z ≡ U → T (is-even (round z))
 unfolding round residual
 round-even z h = nearest-even z U U-pos h
 

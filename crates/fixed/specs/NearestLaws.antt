@@ -1,7 +1,7 @@
 -- What rounding to the nearest promises: at most half of the divisor is left, a tie is even, and no other number is so;
 -- the sign turns with the argument, what divides is exact, and the order is kept.
 use mathlib.Core.Path.{_≡_, refl, sym, _∙_, ap, subst}
-use mathlib.Core.Bool.{Bool, true, false, not}
+use mathlib.Core.Bool.{Bool, true, false}
 use Prim.Native.Nat.{ℕ, zero, suc, _+_, _*_, _-_, _%_, _≤_, _<_}
 use native.Mathlib.Decide.{decLe}
 use native.Mathlib.Nat as NatL
@@ -10,11 +10,11 @@ use borrow.Author.Tests.{lt-ltb, le-ltb, eq-eqb, ne-eqb}
 use lib.Dec.{T, eqb, eqb→eq}
 use lib.IntN.{ℤ, pos, negsuc, negℤ, natAbs, _+ℤ_, _-ℤ_, _*ℤ_}
 use lib.Signed.{_≤ℤ_}
-use Rattle.algebra.specs.Integer.{is, is-eq, is-add, is-mul, is-neg, is-nat, is-sub-mul, plus, minus, natAbs-bound}
+use Rattle.algebra.specs.Integer.{is, is-eq, is-add, is-neg, is-nat, is-sub-mul, plus, minus, natAbs-bound}
 use Rattle.algebra.specs.Integer.{natAbs-parts, natAbs-apart, natAbs-neg}
 use Rattle.algebra.specs.IntegerRing.{ℤR, of-le, le-of}
 use Rattle.algebra.specs.RingSolver.{_⊟_, _⊠_, ⊝_, ring}
-use Rattle.fixed.specs.Division.{floor, remainder, even, even-of-two, nearest}
+use Rattle.fixed.specs.Division.{floor, remainder, is-even, even-of-two, nearest}
 use Rattle.fixed.specs.DivisionLaws.{division, remainder-lt}
 
 -- ---- even and odd
@@ -26,16 +26,16 @@ next-parity (negsuc n) =
     = ap natAbs (is-eq (is-add (is (negsuc n)) (is-nat 1)) (is-neg (is-nat n)) (omega arith)) ∙ natAbs-neg (pos n) in
     omega arith
 
-even-by : (c : ℤ) → natAbs c % 2 ≡ 0 → T (even c)
-unfolding even
+even-by : (c : ℤ) → natAbs c % 2 ≡ 0 → T (is-even c)
+unfolding is-even
 even-by c h = subst (λ n. T (eqb n 0)) (sym h) tt
 
-even-parity : (c : ℤ) → T (even c) → natAbs c % 2 ≡ 0
-unfolding even
+even-parity : (c : ℤ) → T (is-even c) → natAbs c % 2 ≡ 0
+unfolding is-even
 even-parity c h = eqb→eq (natAbs c % 2) 0 h
 
-even-neg : (c : ℤ) → even (negℤ c) ≡ even c
-unfolding even
+even-neg : (c : ℤ) → is-even (negℤ c) ≡ is-even c
+unfolding is-even
 even-neg c = ap (λ n. eqb (n % 2) 0) (natAbs-neg c)
 
 -- ---- the rule by the floor and the remainder
@@ -47,11 +47,11 @@ other : {b : Bool} (x y : ℤ) → b ≡ false → elim b as (λ b. ℤ) [ true 
 other x y e = ap (λ b. elim b as (λ b. ℤ) [ true ↦ x | false ↦ y ]) e
 
 even-stays : (c : ℤ) → natAbs c % 2 ≡ 0 → even-of-two c ≡ c
-unfolding even-of-two even
+unfolding even-of-two is-even
 even-stays c h = chosen _ _ (eq-eqb (natAbs c % 2) 0 h)
 
 odd-goes-on : (c : ℤ) → natAbs c % 2 ≡ 1 → even-of-two c ≡ c +ℤ pos 1
-unfolding even-of-two even
+unfolding even-of-two is-even
 odd-goes-on c h = other _ _ (ne-eqb (natAbs c % 2) 0 (λ e. omega arith))
 
 module _ (z : ℤ) (d : ℕ) where
@@ -90,7 +90,7 @@ module _ (z : ℤ) (d : ℕ) where
 -- c is the nearest to z / d: at most half of d is left, and where it is half c is even
 pub record Nearest (z : ℤ) (d : ℕ) (c : ℤ) : Type 0 where
   pub half : 2 * natAbs (z -ℤ c *ℤ pos d) ≤ d
-  pub tie : 2 * natAbs (z -ℤ c *ℤ pos d) ≡ d → T (even c)
+  pub tie : 2 * natAbs (z -ℤ c *ℤ pos d) ≡ d → T (is-even c)
 
 module _ (z : ℤ) (d : ℕ) (h : 0 < d) where
   -- from the floor and from the number after it
@@ -124,7 +124,7 @@ module _ (z : ℤ) (d : ℕ) (h : 0 < d) where
   nearest-le = nearest-is .half
 
   -- at a tie the number is even
-  pub nearest-even : 2 * natAbs (z -ℤ nearest z d *ℤ pos d) ≡ d → T (even (nearest z d))
+  pub nearest-even : 2 * natAbs (z -ℤ nearest z d *ℤ pos d) ≡ d → T (is-even (nearest z d))
   nearest-even = nearest-is .tie
 
 -- ---- order
@@ -161,7 +161,8 @@ not-above z y c q d h m n s l =
 
 -- no other number is the nearest
 pub nearest-unique : (z c : ℤ) (d : ℕ) → 0 < d → Nearest z d c → nearest z d ≡ c
-nearest-unique z c d h n = go (decLe (plus q + minus c) (plus c + minus q)) (decLe (plus c + minus q) (plus q + minus c))
+nearest-unique z c d h n =
+    go (decLe (plus q + minus c) (plus c + minus q)) (decLe (plus c + minus q) (plus q + minus c))
   where
     q : ℤ
     q = nearest z d

@@ -74,10 +74,10 @@ samples =
     ∷ sample 5 ("01 00 00 00 00 00 00 40" ∷ "01 00 00 00 01 00 00 00" ∷ "04 00 01 00 00 00 00 00" ∷
     "01 02 00 03 00 00 4D 4B" ∷ [])
     (stopped over-span 2)
-    -- constants 1 times 524288: coefficient 1, radius 1
+    -- constants 1 times 524288: no terms, radius 1
     ∷ sample 6 ("01 00 00 00 01 00 00 00" ∷ "01 00 00 00 00 00 08 00" ∷ "06 00 01 00 00 00 00 00" ∷
     "01 02 00 03 00 00 4D 4B" ∷ [])
-    (gives (model 1 1 (at-key 1 0x0000 (pos 1) ∷ [])) (ends (pos 0) (pos 2)) (ends (pos 0) (pos 4)))
+    (gives (model 1 1 []) (ends (minus 1) (pos 1)) (ends (minus 2) (pos 2)))
     -- constants -1 times 524288: no terms, radius 1
     ∷ sample 7 ("01 00 00 00 FF FF FF FF" ∷ "01 00 00 00 00 00 08 00" ∷ "06 00 01 00 00 00 00 00" ∷
     "01 02 00 03 00 00 4D 4B" ∷ [])

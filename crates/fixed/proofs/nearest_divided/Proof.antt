@@ -19,7 +19,8 @@ size c = c .magnitude .ensures ∙ ap natAbs (toZ-ofZ (c .before .fits .z))
 
 -- what comes of it: the rounding of the size, no larger than the size
 module _ (c : tie.After-nearest-quotient) where
-  quotient : pos (c .nearest-quotient .result) ≡ nearest (pos (natAbs (c .before .before .args .z))) (c .before .before .args .d)
+  quotient : pos (c .nearest-quotient .result)
+      ≡ nearest (pos (natAbs (c .before .before .args .z))) (c .before .before .args .d)
   quotient = c .nearest-quotient .ensures ∙ ap (λ n. nearest (pos n) (c .before .before .args .d)) (size (c .before))
 
   small : c .nearest-quotient .result < 2 ^ 63

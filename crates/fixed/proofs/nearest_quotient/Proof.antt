@@ -1,10 +1,10 @@
 -- `nearest_quotient` is the rounding of a natural number: its floor and remainder are those of n / d.
-use mathlib.Core.Path.{_≡_, ap, sym, _∙_}
+use mathlib.Core.Path.{_≡_, sym}
 use Prim.Native.Nat.{ℕ, _+_, _*_, _/_, _%_, _≤_, _<_}
 use native.Mathlib.Nat as NatL
 use native.Mathlib.Omega.{arith}
 use borrow.Author.Needs.{needs}
-use lib.IntN.{pos, natAbs, _+ℤ_}
+use lib.IntN.{pos}
 use Rattle.fixed.specs.Division.{floor, remainder, nearest}
 use Rattle.fixed.specs.DivisionLaws.{division}
 use Rattle.fixed.specs.NearestLaws.{nearest-down, nearest-up}
@@ -37,7 +37,8 @@ add-if1 : tie.Need-add-if1
 add-if1 c = record { fits = omega (arith, c .pre, NatL.mod-le (c .args .n) (c .args .d)) }
 
 add-result : tie.Need-add-result
-add-result c = record { fits = omega (arith, c .before .pre, NatL.div-le-self (c .before .args .n) (c .before .args .d)) }
+add-result c =
+    record { fits = omega (arith, c .before .pre, NatL.div-le-self (c .before .args .n) (c .before .args .d)) }
 
 returns : tie.Need-returns
 returns c = quotient-below (c .before .args .n) (c .before .args .d) (c .before .pre .1) (c .if1 .taken)

@@ -1,5 +1,5 @@
--- `round` is the rounding: the floor of z / U, or one more where what z has above it, with one more for an odd floor, is
--- above half a unit.
+-- `round` is the rounding: the floor of z / U, or one more where what z has above it, with 1 for an odd floor, is above
+-- half a unit.
 use mathlib.Core.Path.{_≡_, ap, _∙_}
 use Prim.Native.Nat.{_+_, _-_, _*_, _/_, _%_, _≤_, _<_}
 use native.Mathlib.Omega.{arith}
@@ -81,7 +81,8 @@ add-above c = rw (floored (c .before .before .before)) (next-fits _ (c .before .
 
 sub-missing : tie.Need-sub-missing
 unfolding U
-sub-missing c = omega (arith, rest (c .before .before), remainder-lt (c .before .before .before .before .args .z) U U-pos)
+sub-missing c =
+    omega (arith, rest (c .before .before), remainder-lt (c .before .before .before .before .args .z) U U-pos)
 
 returns : tie.Need-returns
 unfolding U
