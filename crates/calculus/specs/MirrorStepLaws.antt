@@ -3,6 +3,7 @@
 use mathlib.Core.Path.{_≡_, refl, sym, _∙_, ap}
 use mathlib.Core.List.{List, [], _∷_, _++_}
 use Prim.Native.Nat.{ℕ}
+use native.Mathlib.Omega.{arith}
 use lib.ListN.{length, getD}
 use Rattle.calculus.specs.Model.{Model, zero-model}
 use Rattle.calculus.specs.Refusal.{Answer, accepted, refused, Result, done, at-place, _then_, _followed-by_}
@@ -35,6 +36,24 @@ ends-with book results l =
 pub run-ends : (book : Book) → run-sound book ≡ ends-with book [] (book .steps)
 unfolding run-sound ends-with
 run-ends book = refl
+
+-- after steps that were done it goes on from their results
+pub ends-after : (book : Book) (before all : List Model) (k l : List Step) → run-steps book before k ≡ done all
+    → ends-with book before (k ++ l) ≡ ends-with book all l
+unfolding run-steps ends-with at-place _followed-by_
+ends-after book before all [] l e = ap (λ results. ends-with book results l) cc
+ends-after book before all (s ∷ k) l e =
+    go (run-step book (result-of book before) s) e (λ m. ends-after book (before ++ (m ∷ [])) all k l)
+  where
+    go : (x : Answer Model)
+        → (at-place (length before) x followed-by (λ m. run-steps book (before ++ (m ∷ [])) k)) ≡ done all
+        → ((m : Model) → run-steps book (before ++ (m ∷ [])) k ≡ done all
+        → ends-with book (before ++ (m ∷ [])) (k ++ l) ≡ ends-with book all l)
+        → ((at-place (length before) x followed-by (λ m. run-steps book (before ++ (m ∷ [])) (k ++ l)))
+        followed-by (λ all. done (summary (last (zero-model (book .vars)) all))))
+        ≡ ends-with book all l
+    go (accepted m) h ih = ih m h
+    go (refused w) h ih = let z : _≡_ {A = ℕ} 0 1 = cc in absurd (omega arith)
 
 last-snoc : (m n : Model) (l : List Model) → last m (l ++ (n ∷ [])) ≡ n
 unfolding last
