@@ -25,7 +25,7 @@ pub mod MonomialKeyLaws
 pub mod TermsLaws
 pub mod SumLaws
 pub mod CanonicalLaws
-pub mod MirrorLaws
+pub mod TurnedLaws
 pub mod ProductLaws
 pub mod FitsLaws
 pub mod LoopLaws
@@ -34,7 +34,6 @@ pub mod SoundLaws
 pub mod EachLaws
 pub mod BookLaws
 pub mod BookSoundLaws
-pub mod MirrorStepLaws
 -- Enclosure.
 pub mod ChainLaws
 pub mod UnitLaws
@@ -52,3 +51,6 @@ pub mod ClaimProof
 pub mod ClaimFacts
 pub mod JumpFacts
 pub mod QuotientFacts
+-- A mirrored factor.
+pub mod MirrorLaws
+pub mod MirrorStepLaws

@@ -1,136 +1,27 @@
 -- A mirrored curve: turning the signs of one factor turns those of the product and leaves its radius, or its refusal.
-use mathlib.Core.Path.{_≡_, refl, sym, _∙_, ap, ap₂}
+use mathlib.Core.Path.{_≡_, refl, _∙_, ap, ap₂}
 use mathlib.Core.Bool.{Bool, true, false, not}
-use mathlib.Core.List.{List, [], _∷_, _++_}
+use mathlib.Core.List.{[], _∷_}
 use Prim.Native.Nat.{ℕ, _+_, _*_}
+use native.Mathlib.Omega.{arith}
 use lib.Dec.{eqb, leb}
-use lib.IntN.{ℤ, negℤ, natAbs, _+ℤ_, _*ℤ_, negℤ-negℤ}
-use lib.ListN.{length, length-map}
+use lib.IntN.{negℤ}
+use lib.ListN.{length}
 use Rattle.algebra.specs.Integer.{natAbs-neg}
-use Rattle.algebra.specs.IntegerRing.{ℤR}
-use Rattle.algebra.specs.RingSolver.{_⊞_, _⊠_, ⊝_, ring}
-use Rattle.polynomial.specs.Polynomial.{Term, add-exponents, times, product}
 use Rattle.fixed.specs.Fixed.{span-limit, residual, round, round-up}
 use Rattle.fixed.specs.FixedLaws.{round-neg, residual-neg}
-use Rattle.calculus.specs.Monomial.{same, less, degree}
-use Rattle.calculus.specs.Terms.{Terms, term, select, sum-ℕ, size, map-coefficients, is-nonzero}
-use Rattle.calculus.specs.Terms.{drop-zeros, insert, collect}
+use Rattle.calculus.specs.Monomial.{degree}
+use Rattle.calculus.specs.Terms.{Terms, term, sum-ℕ, size, map-coefficients, is-nonzero, drop-zeros, collect}
 use Rattle.calculus.specs.Model.{Model, most-terms, span}
 use Rattle.calculus.specs.Refusal.{over-span, too-many-terms, Answer, accepted, refused, require, _then_}
 use Rattle.calculus.specs.Operations.{limited, negate, products, within-order, above-order, kept, rounding, swept}
 use Rattle.calculus.specs.Operations.{carried, error, multiply}
 use Rattle.calculus.specs.SumLaws.{ℕ-addition, sum-map-coefficients, sum-cong}
+use Rattle.calculus.specs.TurnedLaws.{turned, size-turned, length-turned, turned-twice, select-turned}
+use Rattle.calculus.specs.TurnedLaws.{collect-turned, product-turned-first, product-turned-second}
 
--- ---- terms with all signs turned
--- one term
-abbrev turn : Term ℤ → Term ℤ
-turn t = term (negℤ (t .coefficient)) (t .exponents)
-
--- all terms
-abbrev turned : Terms → Terms
-turned = map-coefficients negℤ
-
--- a sum of what does not see the sign
-pub size-turned : (p : Terms) → size (turned p) ≡ size p
-unfolding size
-size-turned p = sum-map-coefficients ℕ-addition (λ k c. natAbs c) negℤ p
-    ∙ sum-cong ℕ-addition _ (λ k c. natAbs c) (λ k c. natAbs-neg c) p
-
-pub length-turned : (p : Terms) → length (turned p) ≡ length p
-unfolding map-coefficients
-length-turned p = length-map p _
-
-turned-twice : (p : Terms) → turned (turned p) ≡ p
-unfolding map-coefficients
-turned-twice [] = refl
-turned-twice (t ∷ p) = ap₂ _∷_ (λ i. term (negℤ-negℤ (t .coefficient) i) (t .exponents)) (turned-twice p)
-
-turned-++ : (p q : Terms) → turned (p ++ q) ≡ turned p ++ turned q
-unfolding map-coefficients
-turned-++ [] q = refl
-turned-++ (t ∷ p) q = ap (λ r. turn t ∷ r) (turned-++ p q)
-
--- selecting by a test that does not see the sign
-select-turned : (f : List ℕ → ℤ → Bool) → ((k : List ℕ) (c : ℤ) → f k (negℤ c) ≡ f k c)
-    → (p : Terms) → select f (turned p) ≡ turned (select f p)
-unfolding select map-coefficients
-select-turned f e [] = refl
-select-turned f e (t ∷ p) =
-    ap (λ b. elim b as (λ b. Terms) [ true ↦ turn t ∷ select f (turned p) | false ↦ select f (turned p) ])
-    (e (t .exponents) (t .coefficient))
-    ∙ go (f (t .exponents) (t .coefficient)) (select-turned f e p)
-  where
-    go : (b : Bool) → select f (turned p) ≡ turned (select f p)
-        → elim b as (λ b. Terms) [ true ↦ turn t ∷ select f (turned p) | false ↦ select f (turned p) ]
-        ≡ turned (elim b as (λ b. Terms) [ true ↦ t ∷ select f p | false ↦ select f p ])
-    go true ih = ap (λ q. turn t ∷ q) ih
-    go false ih = ih
-
--- collecting
-insert-turned : (t : Term ℤ) (p : Terms) → insert (turn t) (turned p) ≡ turned (insert t p)
-unfolding insert map-coefficients
-insert-turned t [] = refl
-insert-turned t (s ∷ p) =
-    go (same (t .exponents) (s .exponents)) (less (t .exponents) (s .exponents)) (insert-turned t p)
-  where
-    joined : negℤ (t .coefficient) +ℤ negℤ (s .coefficient) ≡ negℤ (t .coefficient +ℤ s .coefficient)
-    joined = ring 2 ℤR (λ a b. ⊝ a ⊞ ⊝ b) (λ a b. ⊝ (a ⊞ b)) refl (t .coefficient) (s .coefficient)
-
-    go : (b c : Bool) → insert (turn t) (turned p) ≡ turned (insert t p)
-        → elim b as (λ b. Terms) [
-          | true ↦ term (negℤ (t .coefficient) +ℤ negℤ (s .coefficient)) (s .exponents) ∷ turned p
-          | false ↦ elim c as (λ c. Terms) [
-            | true ↦ turn t ∷ (turn s ∷ turned p)
-            | false ↦ turn s ∷ insert (turn t) (turned p)
-          ]
-        ]
-        ≡ turned (elim b as (λ b. Terms) [
-          | true ↦ term (t .coefficient +ℤ s .coefficient) (s .exponents) ∷ p
-          | false ↦ elim c as (λ c. Terms) [ true ↦ t ∷ (s ∷ p) | false ↦ s ∷ insert t p ]
-        ])
-    go true c ih = ap (λ z. term z (s .exponents) ∷ turned p) joined
-    go false true ih = refl
-    go false false ih = ap (λ q. turn s ∷ q) ih
-
-collect-turned : (p : Terms) → collect (turned p) ≡ turned (collect p)
-unfolding collect map-coefficients
-collect-turned [] = refl
-collect-turned (t ∷ p) = ap (insert (turn t)) (collect-turned p) ∙ insert-turned t (collect p)
-
--- ---- products
--- a factor's signs are the product's: those of the first,
-neg-times : (a b : ℤ) → negℤ a *ℤ b ≡ negℤ (a *ℤ b)
-neg-times a b = ring 2 ℤR (λ a b. ⊝ a ⊠ b) (λ a b. ⊝ (a ⊠ b)) refl a b
-
-times-turned-first : (t : Term ℤ) (q : Terms) → times ℤR (turn t) q ≡ turned (times ℤR t q)
-unfolding times map-coefficients
-times-turned-first t [] = refl
-times-turned-first t (s ∷ q) = ap₂ (λ z r. term z (add-exponents (t .exponents) (s .exponents)) ∷ r)
-    (neg-times (t .coefficient) (s .coefficient)) (times-turned-first t q)
-
-product-turned-first : (p q : Terms) → product ℤR (turned p) q ≡ turned (product ℤR p q)
-unfolding product map-coefficients
-product-turned-first [] q = refl
-product-turned-first (t ∷ p) q =
-    ap₂ _++_ (times-turned-first t q) (product-turned-first p q) ∙ sym (turned-++ (times ℤR t q) (product ℤR p q))
-
--- and those of the second
-times-neg : (a b : ℤ) → a *ℤ negℤ b ≡ negℤ (a *ℤ b)
-times-neg a b = ring 2 ℤR (λ a b. a ⊠ ⊝ b) (λ a b. ⊝ (a ⊠ b)) refl a b
-
-times-turned-second : (t : Term ℤ) (q : Terms) → times ℤR t (turned q) ≡ turned (times ℤR t q)
-unfolding times map-coefficients
-times-turned-second t [] = refl
-times-turned-second t (s ∷ q) = ap₂ (λ z r. term z (add-exponents (t .exponents) (s .exponents)) ∷ r)
-    (times-neg (t .coefficient) (s .coefficient)) (times-turned-second t q)
-
-product-turned-second : (p q : Terms) → product ℤR p (turned q) ≡ turned (product ℤR p q)
-unfolding product
-product-turned-second [] q = unfold map-coefficients in refl
-product-turned-second (t ∷ p) q =
-    ap₂ _++_ (times-turned-second t q) (product-turned-second p q) ∙ sym (turned-++ (times ℤR t q) (product ℤR p q))
-
--- so z turns at every monomial
+-- ---- z
+-- z turns at every monomial
 pub products-first : (f g : Model) → products (negate f) g ≡ turned (products f g)
 unfolding products negate
 products-first f g = ap collect (product-turned-first (f .terms) (g .terms)) ∙ collect-turned _
@@ -225,15 +116,13 @@ module _ (d : ℕ) (f g : Model) where
   -- the first factor turned: the product turned with the same radius, or the same refusal
   pub mirrored-first : multiply d (negate f) g ≡ mirrored (multiply d f g)
   mirrored-first = multiply-turned d (negate f) g f g (unfold negate in refl)
-      (unfold carried negate in ap (λ a. a * g .radius + size (g .terms) * f .radius + f .radius * g .radius)
-      (size-turned (f .terms)))
+      (unfold carried negate in omega (arith, ap (λ a. a * g .radius) (size-turned (f .terms))))
       (products-first f g)
 
   -- the second
   pub mirrored-second : multiply d f (negate g) ≡ mirrored (multiply d f g)
   mirrored-second = multiply-turned d f (negate g) f g refl
-      (unfold carried negate in ap (λ b. size (f .terms) * g .radius + b * f .radius + f .radius * g .radius)
-      (size-turned (g .terms)))
+      (unfold carried negate in omega (arith, ap (λ b. b * f .radius) (size-turned (g .terms))))
       (products-second f g)
 
 -- both turned: the product stays

@@ -31,7 +31,7 @@ use Rattle.calculus.specs.TermsLaws.{rising-map-coefficients, nonzero-dr
 use Rattle.calculus.specs.FitsLaws.{fits-by, fits-length, fits-degree, kept-fits}
 use Rattle.calculus.specs.SumLaws.{ℕ-addition, sum-split}
 use Rattle.calculus.specs.CanonicalLaws.{canonical-rising}
-use Rattle.calculus.specs.MirrorLaws.{size-turned, length-turned}
+use Rattle.calculus.specs.TurnedLaws.{size-turned, length-turned}
 use Rattle.calculus.specs.ProductLaws.{products-rising, kept-rising}
 
 -- ---- the rules of a model, in two parts
