@@ -58,7 +58,7 @@ edges =
     ∷ model 3 0 (at-key 3 0x0080 (minus 1048576) ∷ at-key 3 0x0800 (pos 1048576) ∷ []) ∷ [])
     (input 0 ∷ input 1 ∷ multiply 0 1 ∷ []))
     (gives (model 3 4194304 []) (ends (minus 4194304) (pos 4194304)) (ends (minus 33554432) (pos 33554432)))
-    -- -1 times 0.75: z below 0 is rounded down, and not toward 0
+    -- -1 times 0.75: z below 0 goes to the nearest, and not toward 0
     ∷ row 3 (book 1 2 [] (constant (minus 1) ∷ constant (pos 786432) ∷ multiply 0 1 ∷ []))
     (gives (model 1 1 (at-key 1 0x0000 (minus 1) ∷ [])) (ends (minus 2) (pos 0)) (ends (minus 4) (pos 0)))
     -- 72 terms and a span above 2^30: 8 comes before 7
