@@ -229,14 +229,25 @@ pub fn sweep(f: &Model, threshold: i128) -> Model {
     swept
 }
 
-/// The constant coefficient, minus and plus the sum of the other |c| and e.
+/// The constant coefficient, minus and plus e and what the other terms count:
+/// between 0 and c where all exponents are even, otherwise between -|c| and |c|.
 pub fn range(f: &Model) -> Ends {
-    let middle = f.constant_coefficient();
-    let reach = f.span() - middle.abs();
-    Ends {
-        low: middle - reach,
-        high: middle + reach,
+    let mut ends = Ends {
+        low: -f.radius,
+        high: f.radius,
+    };
+    for (monomial, &c) in &f.polynomial {
+        let (low, high) = if *monomial == ONE {
+            (c, c)
+        } else if monomial.iter().all(|exponent| exponent % 2 == 0) {
+            (c.min(0), c.max(0))
+        } else {
+            (-c.abs(), c.abs())
+        };
+        ends.low += low;
+        ends.high += high;
     }
+    ends
 }
 
 /// The integral over the box; each term is rounded by itself.

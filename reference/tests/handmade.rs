@@ -144,7 +144,7 @@ fn substitution_goes_by_horner() {
     // times g: x^2 by 1, exactly, and the radius 1 × 1/2 rounds up to 1.
     let models = [model(0, &[(0x2000, 3)]), model(0, &[(0x1000, HALF)])];
     let steps = [input(0), input(1), Step::substitute(0, 1, 1)];
-    let expected = "radius 1\nterm 2 1\nrange -2 2\nintegral -2 3\n";
+    let expected = "radius 1\nterm 2 1\nrange -1 2\nintegral -2 3\n";
     assert_eq!(lines(2, &models, &steps), expected);
 }
 
@@ -170,7 +170,7 @@ fn substitution_merges_monomials() {
 fn a_sweep_spares_the_constant() {
     let models = [model(1, &[(0, 2), (0x1000, -2), (0x2000, 3)])];
     let steps = [input(0), Step::sweep(0, 2)];
-    let expected = "radius 3\nterm 0 2\nterm 2 3\nrange -4 8\nintegral 0 12\n";
+    let expected = "radius 3\nterm 0 2\nterm 2 3\nrange -1 8\nintegral 0 12\n";
     assert_eq!(lines(2, &models, &steps), expected);
 }
 
@@ -178,7 +178,7 @@ fn a_sweep_spares_the_constant() {
 fn an_integral_rounds_each_term() {
     // 4/3 - 8/9 in two variables: 1 - 1 below, 2 - 0 above, and 4 × 1 for the radius.
     let models = [model(1, &[(0x0200, 1), (0x2200, -2)])];
-    let expected = "radius 1\nterm 0 2 1\nterm 2 2 -2\nrange -4 4\nintegral -4 6\n";
+    let expected = "radius 1\nterm 0 2 1\nterm 2 2 -2\nrange -3 2\nintegral -4 6\n";
     assert_eq!(lines_of(2, 4, &models, &[input(0)]), expected);
 }
 

@@ -57,11 +57,12 @@ fn a_closer_proposal() {
     // g h - f has no terms and radius 16384; times w, of sum U + U/4: 20480 = beta.
     // 1 - w g = x²/16: mu = 65536.
     // 20480 × U / (U - 65536) = 20480 × 16/15 = 21845.33, up to 21846.
-    // The integral of -x²/16 is -43690.67, and 2 × 21846 to either side.
+    // The range is 262144 + 65536 + 21846 below and 262144 + 21846 above. The
+    // integral of -x²/16 is -43690.67, and 2 × 21846 to either side.
     let h = model(0, &[(0x1000, UNIT / 4), (0x2000, -UNIT / 16)]);
     let w = model(0, &[(0, UNIT), (0x1000, -UNIT / 4)]);
     let expected = "radius 21846\nterm 1 262144\nterm 2 -65536\n\
-        range -349526 349526\nintegral -87383 2\n";
+        range -349526 283990\nintegral -87383 2\n";
     let models = [quarter(), one_and_quarter(), h, w];
     assert_eq!(quotient_lines(1, 2, models), expected);
 }

@@ -13,10 +13,11 @@ fn sheet() -> Vec<u8> {
     bytes_of_hex(SHEET).expect("the paper's digits")
 }
 
+/// As CR 3 has it.
 #[test]
 fn sample_1_a_square() {
     let expected = "radius 0\nterm 0 262144\nterm 1 1048576\nterm 2 1048576\n\
-        range -1835008 2359296\nintegral 1223338 1223339\n";
+        range -786432 2359296\nintegral 1223338 1223339\n";
     assert_eq!(lines_of_sheet(&sheet()), expected);
 }
 
@@ -120,7 +121,7 @@ fn sample_11_a_sweep() {
 #[test]
 fn sample_12_an_integral_of_minus_two_thirds() {
     let models = [model(0, &[(0x2000, -1)])];
-    let expected = "radius 0\nterm 2 -1\nrange -1 1\nintegral -1 0\n";
+    let expected = "radius 0\nterm 2 -1\nrange -1 0\nintegral -1 0\n";
     assert_eq!(lines(2, &models, &[input(0)]), expected);
 }
 

@@ -241,9 +241,11 @@ fn base_with_model(random: &mut Random, n: u8, d: u8) -> (Draft, usize) {
 /// A base whose model of the given number has two terms or more.
 fn base_with_terms(random: &mut Random, n: u8, d: u8) -> (Draft, usize) {
     let (mut draft, number) = base_with_model(random, n, d);
-    let scale = *random.pick(&models::SCALES);
-    let count = random.size(2, 12);
-    draft.models[number] = models::of_scale(random, n, d, count, scale);
+    while draft.models[number].terms.len() < 2 {
+        let scale = *random.pick(&models::SCALES);
+        let count = random.size(2, 12);
+        draft.models[number] = models::of_scale(random, n, d, count, scale);
+    }
     (draft, number)
 }
 

@@ -9,7 +9,7 @@ use super::sound::{self, Shape};
 use super::{Expected, Kind};
 use crate::book::{Step, ADD, MOST_STEPS, MULTIPLY, SUBTRACT};
 
-pub const KINDS: [Kind; 18] = [
+pub const KINDS: [Kind; 19] = [
     kind("7 by a sum of constants", span_by_sum),
     kind("7 by a difference", span_by_difference),
     kind("7 by radii added", span_by_radii),
@@ -28,6 +28,7 @@ pub const KINDS: [Kind; 18] = [
     kind("8 and 7 together", terms_and_span),
     kind("9 by a constant", leaves_by_constant),
     kind("9 by a radius only", leaves_by_radius),
+    kind("9 by an even power", leaves_by_even_power),
     kind("9 where the variable is missing", leaves_without_variable),
     kind("7, 8 or 12 by a quotient", refused_quotient),
     kind("12 by a quotient", uncertified_quotient),
@@ -280,14 +281,37 @@ fn leaves_by_radius(random: &mut Random) -> Made {
     refused(random, draft, 9)
 }
 
-/// Coefficients within U together, and a radius one too large.
+/// Coefficients within U together, all of one sign, so that they meet at a corner
+/// of the box, and a radius one too large.
 fn inside_model(random: &mut Random, n: u8, d: u8) -> DraftModel {
     let scale = models::Scale::Inside;
     let count = random.size(0, 4);
     let mut model = models::of_scale(random, n, d, count, scale);
+    let sign = random.sign() as i32;
+    model
+        .terms
+        .iter_mut()
+        .for_each(|(_, c)| *c = sign * c.abs());
     model.radius = 0;
     model.radius = (UNIT as u64 - model.span() + 1) as u32;
     model
+}
+
+/// From one end of the box to one beyond the other: at 0 it is at the one end, and
+/// the even power takes it to the other.
+fn leaves_by_even_power(random: &mut Random) -> Made {
+    let n = random.byte(1, 4);
+    let mut draft = before_of(random, n, 2);
+    let v = random.byte(1, n);
+    let f = draft.push(Step::variable(v));
+    let power = u16::from(2 * random.byte(1, draft.d / 2));
+    let key = power << (16 - 4 * u32::from(v));
+    let sign = random.sign() as i32;
+    let end = sign * UNIT as i32;
+    let g = DraftModel::new(0, &[(0, -end), (key, 2 * end + sign)]);
+    let g = draft.push_input(g);
+    draft.push(Step::substitute(f, g, v));
+    refused(random, draft, 9)
 }
 
 fn leaves_without_variable(random: &mut Random) -> Made {

@@ -65,7 +65,8 @@ fn substitute(random: &mut Random) -> Call {
         // Most models leave the box; this one has the best chance to stay.
         let n = f.n.clamp(1, 4);
         let count = random.size(0, 12);
-        let inside = models::of_scale(random, n, order.clamp(1, 15), count, Scale::Inside);
+        let scale = *random.pick(&[Scale::Inside, Scale::Even]);
+        let inside = models::of_scale(random, n, order.clamp(1, 15), count, scale);
         *g = stored(random, n, &inside);
     }
     let i = small_number(random, 1, f.n.clamp(1, 4));

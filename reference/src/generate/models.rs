@@ -25,9 +25,12 @@ pub enum Scale {
     /// Small coefficients and a radius that leaves little or no room for the
     /// rounding of a substitution.
     Brim,
+    /// Even powers about a constant, whose range reaches the ends of the box or
+    /// next to them, though the span may be three times as large.
+    Even,
 }
 
-pub const SCALES: [Scale; 7] = [
+pub const SCALES: [Scale; 8] = [
     Scale::Tiny,
     Scale::Inside,
     Scale::Unit,
@@ -35,6 +38,7 @@ pub const SCALES: [Scale; 7] = [
     Scale::Wide,
     Scale::Full,
     Scale::Brim,
+    Scale::Even,
 ];
 
 /// A random key of n exponents with total degree at most `degree`.
@@ -87,13 +91,20 @@ pub fn keys(random: &mut Random, n: u8, degree: u8, count: usize) -> Vec<u16> {
 
 /// A random sound model with at most `most_terms` terms.
 pub fn model(random: &mut Random, n: u8, d: u8, most_terms: usize) -> DraftModel {
-    let scale = *random.pick(&SCALES);
+    // Even powers more often than the others, as order 1 makes constants of them.
+    let scale = match random.below(4) {
+        0 => Scale::Even,
+        _ => *random.pick(&SCALES),
+    };
     let count = random.size(0, most_terms);
     of_scale(random, n, d, count, scale)
 }
 
 /// A random sound model of a scale, with `count` terms or as many as there are.
 pub fn of_scale(random: &mut Random, n: u8, d: u8, count: usize, scale: Scale) -> DraftModel {
+    if scale == Scale::Even {
+        return of_even_powers(random, n, d, count);
+    }
     let keys = keys(random, n, d, count);
     let span = span_of(random, keys.len(), scale);
     let mut left = span;
@@ -115,6 +126,42 @@ pub fn of_scale(random: &mut Random, n: u8, d: u8, count: usize, scale: Scale) -
     }
 }
 
+/// A constant from -U to U and even powers, of which the positive ones reach up
+/// to U and the negative ones down to -U, or either one further.
+fn of_even_powers(random: &mut Random, n: u8, d: u8, count: usize) -> DraftModel {
+    let constant = match random.below(4) {
+        0 => random.sign() * UNIT,
+        1 => 0,
+        _ => random.between(-UNIT, UNIT),
+    };
+    let radius = radius_up_to(random, UNIT - constant.abs());
+    let mut above = UNIT - constant - radius;
+    let mut below = UNIT + constant - radius;
+    // Twice the exponents of any monomial of half the degree.
+    let keys = keys(random, n, d / 2, count);
+    let mut terms = Vec::new();
+    for key in keys.into_iter().map(|key| 2 * key).filter(|&key| key != 0) {
+        let upwards = random.one_in(2);
+        let left = if upwards { &mut above } else { &mut below };
+        let size = match random.below(3) {
+            0 => *left,
+            _ => random.between(0, *left),
+        };
+        *left -= size;
+        if size > 0 {
+            terms.push((key, (if upwards { size } else { -size }) as i32));
+        }
+    }
+    if constant != 0 {
+        terms.insert(0, (0, constant as i32));
+    }
+    let beyond = u32::from(random.one_in(6));
+    DraftModel {
+        radius: radius as u32 + beyond,
+        terms,
+    }
+}
+
 /// A span that leaves at least 1 for each coefficient.
 fn span_of(random: &mut Random, count: usize, scale: Scale) -> i64 {
     let least = count as i64;
@@ -123,7 +170,7 @@ fn span_of(random: &mut Random, count: usize, scale: Scale) -> i64 {
         Scale::Inside => UNIT,
         Scale::Unit => 8 * UNIT,
         Scale::Halves => 64 * UNIT,
-        Scale::Wide | Scale::Full => LARGEST_SPAN,
+        Scale::Wide | Scale::Full | Scale::Even => LARGEST_SPAN,
     };
     match scale {
         Scale::Full => most,

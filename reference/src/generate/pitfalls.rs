@@ -11,6 +11,7 @@ pub fn samples() -> Vec<Sample> {
     halves(&mut list);
     collecting(&mut list);
     ends_of_the_box(&mut list);
+    even_powers(&mut list);
     orders_in_substitutions(&mut list);
     room_in_substitutions(&mut list);
     chains(&mut list);
@@ -88,6 +89,48 @@ fn ends_of_the_box(list: &mut Samples) {
     list.refuse("g leaving where f lacks the variable", &without, (9, 2));
     let radius = put_in(&square, &DraftModel::new(1 << 20, &[]), 2);
     list.accept("g of radius U only", &radius);
+}
+
+/// Even powers count between 0 and c: what stays in the box by that, and what
+/// leaves it by 1; and quotients that are certified by that.
+fn even_powers(list: &mut Samples) {
+    let with = |radius: u32, c0: i32, key: u16, c: i32| {
+        let g = DraftModel::new(radius, &[(0, c0), (key, c)]);
+        put_in(&power(1), &g, 4)
+    };
+    list.accept("1 - 2 x^2 put in", &with(0, UNIT, 0x2000, -2 * UNIT));
+    list.accept("2 x^4 - 1 put in", &with(0, -UNIT, 0x4000, 2 * UNIT));
+    let beyond = with(0, UNIT, 0x2000, -2 * UNIT - 1);
+    list.refuse("1 - 2 x^2 and 1 more below", &beyond, (9, 2));
+    let beyond = with(0, -UNIT, 0x4000, 2 * UNIT + 1);
+    list.refuse("2 x^4 - 1 and 1 more above", &beyond, (9, 2));
+    list.refuse("1 + x^2", &with(0, UNIT, 0x2000, 1), (9, 2));
+    let radius = with(1, UNIT, 0x2000, -2 * UNIT);
+    list.refuse("1 - 2 x^2 with a radius", &radius, (9, 2));
+    list.refuse("1 - 2 x^3", &with(0, UNIT, 0x3000, -2), (9, 2));
+    // x^2 y^2 is even, and x^2 y is not.
+    let both = |key: u16| {
+        let models = [power(1), DraftModel::new(0, &[(0, UNIT), (key, -UNIT)])];
+        with_inputs(2, 4, &models, Step::substitute(0, 1, 1))
+    };
+    list.accept("1 - x^2 y^2", &both(0x2200));
+    list.accept("1 - y^2", &both(0x0200));
+    list.refuse("1 - x^2 y", &both(0x2100), (9, 2));
+    list.refuse("1 - x y", &both(0x1100), (9, 2));
+    // w = 1: 1 - w g is -c x^2, and mu is the size of c. The dividend is 0, as
+    // anything else becomes too large where mu is next to U.
+    let over = |c: i32, w: i32| {
+        let g = DraftModel::new(0, &[(0, UNIT), (0x2000, c)]);
+        let zero = DraftModel::default();
+        let models = [zero.clone(), g, zero, constant(0, w)];
+        with_inputs(1, 2, &models, Step::quotient(0, 1, 2, 3))
+    };
+    list.accept("mu of an even power at U - 1", &over(UNIT - 1, UNIT));
+    list.refuse("mu of an even power at U", &over(UNIT, UNIT), (12, 4));
+    // w = 1/2: 1/2 - 3/4 x^2 lies from -1/4 to 1/2.
+    list.accept("over 1 + 3/2 x^2", &over(3 * HALF, HALF));
+    list.accept("over 1 + 3 x^2, mu at U - 1", &over(3 * UNIT - 2, HALF));
+    list.refuse("over 1 + 3 x^2, mu at U", &over(3 * UNIT, HALF), (12, 4));
 }
 
 fn orders_in_substitutions(list: &mut Samples) {

@@ -3,7 +3,7 @@
 
 use super::random::Random;
 use crate::model::{degree, Model, LARGEST_SPAN, UNIT};
-use crate::operations::{add, constant, multiply, subtract, sweep, Cause};
+use crate::operations::{add, constant, multiply, range, subtract, sweep, Cause, Ends};
 
 /// A proposal for one quotient.
 #[derive(Clone, Debug, PartialEq, Eq)]
@@ -40,9 +40,10 @@ fn polynomial_of(f: &Model) -> Model {
     }
 }
 
-/// The constant 1 / c, with c the constant coefficient of g.
+/// The constant 1 / c, with c the middle of g's range.
 pub fn middle_inverse(g: &Model) -> Option<Model> {
-    let inverse = (UNIT * UNIT).checked_div(g.constant_coefficient())?;
+    let Ends { low, high } = range(g);
+    let inverse = (UNIT * UNIT).checked_div((low + high) / 2)?;
     let fits = inverse != 0 && inverse.abs() <= LARGEST_SPAN;
     fits.then(|| constant(g.n, inverse))
 }

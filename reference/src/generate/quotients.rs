@@ -34,11 +34,12 @@ const fn way(name: &'static str, refusal: u8, make: fn(&mut Random) -> Operands)
 }
 
 /// Every form can be refused by its terms and by its span.
-pub const REFUSED: [Way; 19] = [
+pub const REFUSED: [Way; 20] = [
     way("12 by a w of zero", 12, zero_w),
     way("12 by a g without a middle", 12, no_middle),
     way("12 by a w of the wrong sign", 12, wrong_sign),
     way("12 by mu at U", 12, mu_at_unit),
+    way("12 by an even power", 12, mu_by_even_power),
     way("12 by the radius of g", 12, wide_divisor),
     way("8 by g h", 8, terms_by_product),
     way("7 by g h", 7, span_by_product),
@@ -142,8 +143,30 @@ fn large_constants(random: &mut Random) -> (i64, i64) {
 
 // Accepted.
 
-/// A model whose constant coefficient outweighs everything else.
+/// A model that is nowhere zero: its constant coefficient outweighs everything
+/// else, or its even powers lead away from zero.
 pub fn divisor(random: &mut Random, n: u8, d: u8, most_terms: usize) -> DraftModel {
+    if d >= 2 && random.one_in(3) {
+        return even_divisor(random, n, d, most_terms);
+    }
+    outweighing(random, n, d, most_terms)
+}
+
+/// c × (1 + s), with s a sum of even powers up to several times 1.
+fn even_divisor(random: &mut Random, n: u8, d: u8, most_terms: usize) -> DraftModel {
+    let middle = random.between(1 << 17, 1 << 21);
+    let sign = random.sign();
+    let count = random.size(1, most_terms);
+    let keys = models::keys(random, n, d / 2, count);
+    let mut terms = vec![(0, (sign * middle) as i32)];
+    for key in keys.into_iter().map(|key| 2 * key).filter(|&key| key != 0) {
+        terms.push((key, (sign * random.between(1, 2 * middle)) as i32));
+    }
+    DraftModel::new(random.below(900) as u32, &terms)
+}
+
+/// A model whose constant coefficient outweighs everything else.
+fn outweighing(random: &mut Random, n: u8, d: u8, most_terms: usize) -> DraftModel {
     let power = random.byte(16, 23);
     let middle = random.between(1 << power, 2 << power);
     let count = random.size(0, most_terms);
@@ -207,7 +230,7 @@ fn no_middle(random: &mut Random) -> Operands {
 fn wrong_sign(random: &mut Random) -> Operands {
     let (n, d) = any_n_and_order(random);
     let f = small(random, n, d, 6);
-    let g = divisor(random, n, d, 4);
+    let g = outweighing(random, n, d, 4);
     let w = proposals::middle_inverse(&g.model(n)).expect("a divisor has a middle");
     let mut w = DraftModel::of(&w);
     w.terms.iter_mut().for_each(|(_, c)| *c = -*c);
@@ -227,11 +250,24 @@ fn mu_at_unit(random: &mut Random) -> Operands {
     operands(random, n, d, f, g, constant(0), constant(UNIT))
 }
 
+/// g = 1 + c × x^k with k even and c from 1 on, or from -1 on down, and w = 1: x^k
+/// takes 1 - w × g to -c or c.
+fn mu_by_even_power(random: &mut Random) -> Operands {
+    let (n, d) = (random.byte(1, 4), random.byte(2, 15));
+    let f = small(random, n, d, 6);
+    let power = u16::from(2 * random.byte(1, d / 2));
+    let key = (power << 12) >> (4 * random.below(u64::from(n)));
+    let size = *random.pick(&[UNIT, UNIT + 1, 3 * UNIT]);
+    let c = (random.sign() * size) as i32;
+    let g = DraftModel::new(0, &[(0, 1 << 20), (key, c)]);
+    operands(random, n, d, f, g, constant(0), constant(UNIT))
+}
+
 /// A good w, but the radius of g reaches across zero.
 fn wide_divisor(random: &mut Random) -> Operands {
     let (n, d) = any_n_and_order(random);
     let f = small(random, n, d, 6);
-    let mut g = divisor(random, n, d, 3);
+    let mut g = outweighing(random, n, d, 3);
     let w = proposals::middle_inverse(&g.model(n)).expect("a divisor has a middle");
     g.radius = g.terms[0].1.unsigned_abs() + random.below(3_000) as u32 + 64;
     operands(random, n, d, f, g, constant(0), DraftModel::of(&w))

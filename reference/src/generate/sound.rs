@@ -9,7 +9,7 @@ use crate::book::{
     SoundBook, Step, ADD, INPUT, MOST_MODELS, MOST_STEPS, MULTIPLY, NEGATE, SUBTRACT,
 };
 use crate::model::Model;
-use crate::operations::{self, Cause};
+use crate::operations::{self, Cause, Ends};
 use crate::{run, sheet};
 
 /// How large sheets may become.
@@ -233,7 +233,10 @@ impl Runner {
     /// An earlier step that is nowhere zero, or a new one.
     fn divisor(&mut self, random: &mut Random, draft: &mut Draft, room: &mut Room) -> Option<u8> {
         let order = self.book.order;
-        let nonzero = |f: &Model| 2 * f.constant_coefficient().abs() > f.span();
+        let nonzero = |f: &Model| {
+            let Ends { low, high } = operations::range(f);
+            low > 0 || high < 0
+        };
         let earlier: Vec<usize> = (0..self.results.len())
             .filter(|&number| nonzero(&self.results[number]))
             .collect();
