@@ -82,6 +82,14 @@ times a b = call-multiply 1 (one-term 1 0x0000 a) (one-term 1 0x0000 b)
 unfoldable pub about : ℤ → Model
 about c = model 1 1 (at-key 1 0x0000 c ∷ [])
 
+-- a + b x^2 with radius e, in units of 1/U
+unfoldable pub constant-and-square : (a e b : ℕ) → Model
+constant-and-square a e b = model 1 e (at-key 1 0x0000 (pos a) ∷ at-key 1 0x2000 (pos b) ∷ [])
+
+-- b x^2 - a, in units of 1/U
+unfoldable pub square-minus : (a b : ℕ) → Model
+square-minus a b = model 1 0 (at-key 1 0x0000 (minus a) ∷ at-key 1 0x2000 (pos b) ∷ [])
+
 -- ---- the table; the line is 5 + 3x
 unfoldable pub call-edges : List Call-edge
 call-edges =
@@ -154,11 +162,33 @@ call-edges =
     ∷ gives 16 (times (pos 1) (pos 524287)) (model 1 1 []) ∷ gives 16 (times (minus 1) (pos 524287)) (model 1 1 [])
     ∷ gives 16 (times (pos 1) (pos 524288)) (model 1 1 []) ∷ gives 16 (times (pos 524288) (minus 1)) (model 1 1 [])
     ∷ gives 16 (times (pos 1) (pos 524289)) (about (pos 1)) ∷ gives 16 (times (minus 1) (pos 524289)) (about (minus 1))
+    -- the range: every exponent counts, and not the degree: xy, x^2 y, x^2 y^2
+    ∷ gives-ends 17 (call-range (one-term 2 0x1100 (pos 7))) (ends (minus 7) (pos 7))
+    ∷ gives-ends 17 (call-range (one-term 2 0x2100 (pos 7))) (ends (minus 7) (pos 7))
+    ∷ gives-ends 17 (call-range (one-term 2 0x2200 (pos 7))) (ends (pos 0) (pos 7))
+    -- an even power below 0: -x^2
+    ∷ gives-ends 18 (call-range (one-term 1 0x2000 (minus 7))) (ends (minus 7) (pos 0))
+    -- the constant is not among them: 5 + 3x^2, 5 alone, -5 alone
+    ∷ gives-ends 19 (call-range (constant-and-square 5 0 3)) (ends (pos 5) (pos 8))
+    ∷ gives-ends 19 (call-range (one-term 1 0x0000 (pos 5))) (ends (pos 5) (pos 5))
+    ∷ gives-ends 19 (call-range (one-term 1 0x0000 (minus 5))) (ends (minus 5) (minus 5))
+    -- each term by itself: 3x + 4x^2
+    ∷ gives-ends 20 (call-range (model 1 0 (at-key 1 0x1000 (pos 3) ∷ at-key 1 0x2000 (pos 4) ∷ [])))
+    (ends (minus 3) (pos 7))
+    -- the radius counts on both sides: alone, and beside x^2
+    ∷ gives-ends 21 (call-range (model 1 3 [])) (ends (minus 3) (pos 3))
+    ∷ gives-ends 21 (call-range (constant-and-square 5 2 3)) (ends (pos 3) (pos 10))
+    -- 9 by this range: 2x^2 - 1 put in for x, then reaching one unit too high, then one too low
+    ∷ gives 22 (call-substitute 2 1 (one-term 1 0x1000 (pos 1048576)) (square-minus 1048576 2097152))
+    (square-minus 1048576 2097152)
+    ∷ refuses 22 (call-substitute 2 1 (one-term 1 0x1000 (pos 1048576)) (square-minus 1048576 2097153)) 9 0
+    ∷ refuses 22 (call-substitute 2 1 (one-term 1 0x1000 (pos 1048576)) (square-minus 1048577 2097152)) 9 0
     ∷ []
 
 -- each call hands back what its row says
 pub call-edges-hold : map (λ r. r .given) call-edges ≡ map (λ r. r .wanted) call-edges
 unfolding
     calls forms one-term terms-from
-    back gives refuses gives-ends refuses-ends bad cube two-variables outside near-limit times about call-edges
+    back gives refuses gives-ends refuses-ends bad cube two-variables outside near-limit times about
+    constant-and-square square-minus call-edges
 call-edges-hold = refl

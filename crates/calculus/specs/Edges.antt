@@ -107,7 +107,7 @@ edges =
     (model 2 0 (terms-from 0 64 (pos 1))
     ∷ model 2 0 (at-key 2 0x0000 (minus 1) ∷ at-key 2 0x8000 (pos 1) ∷ []) ∷ [])
     (input 0 ∷ input 1 ∷ add 0 1 ∷ []))
-    (gives (model 2 0 (terms-from 1 64 (pos 1))) (ends (minus 64) (pos 64)) (ends (pos 2) (pos 18)))
+    (gives (model 2 0 (terms-from 1 64 (pos 1))) (ends (minus 48) (pos 64)) (ends (pos 2) (pos 18)))
     ∷ row 13 (book 2 14 (model 2 0 (terms-from 0 64 (pos 1)) ∷ one-term 2 0x8000 (pos 1) ∷ [])
     (input 0 ∷ input 1 ∷ add 0 1 ∷ []))
     (stopped too-many-terms 2)

@@ -40,6 +40,8 @@ pub mod UnitLaws
 pub mod ValueLaws
 pub mod EnclosureLaws
 pub mod RangeLaws
+pub mod SymmetricRange
+pub mod RangeInsideLaws
 pub mod SubstituteLaws
 pub mod QuotientLaws
 pub mod EvaluateLaws
@@ -51,6 +53,7 @@ pub mod ClaimProof
 pub mod ClaimFacts
 pub mod JumpFacts
 pub mod QuotientFacts
+pub mod RangeFacts
 -- A mirrored factor.
 pub mod MirrorLaws
 pub mod MirrorStepLaws

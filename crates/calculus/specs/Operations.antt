@@ -113,13 +113,30 @@ is-constant k = eqb (degree k) 0
 unfoldable pub constant-part : Model → ℤ
 constant-part m = sum-ℤ (λ k c. c) (select (λ k c. is-constant k) (m .terms))
 
--- the sum of the other |c| and e
-unfoldable pub variation : Model → ℕ
-variation m = size (select (λ k c. not (is-constant k)) (m .terms)) + m .radius
+-- all exponents are even: such a term, if it is not the constant, counts as lying between 0 and c; any other between
+-- -|c| and |c|
+unfoldable pub is-even : List ℕ → Bool
+is-even k = all-even (length k) k
 
--- the constant coefficient, minus and plus the sum of the other |c| and e
+-- so it can lie below 0 unless it is even and c is not below 0
+unfoldable pub can-fall : List ℕ → ℤ → Bool
+can-fall k c = not (is-constant k) && not (is-even k && leZ (pos 0) c)
+
+-- and above 0 unless it is even and c is not above 0
+unfoldable pub can-rise : List ℕ → ℤ → Bool
+can-rise k c = not (is-constant k) && not (is-even k && leZ c (pos 0))
+
+-- the sum of the |c| that can lie below 0, and e
+unfoldable pub below : Model → ℕ
+below m = size (select can-fall (m .terms)) + m .radius
+
+-- the sum of the |c| that can lie above 0, and e
+unfoldable pub above : Model → ℕ
+above m = size (select can-rise (m .terms)) + m .radius
+
+-- the constant coefficient, minus the one sum and plus the other
 unfoldable pub range : Model → Ends
-range m = record { low = constant-part m -ℤ pos (variation m); high = constant-part m +ℤ pos (variation m) }
+range m = record { low = constant-part m -ℤ pos (below m); high = constant-part m +ℤ pos (above m) }
 
 -- ---- substitute g for variable i in f, with order d
 -- the range lies from -U to U

@@ -1,0 +1,214 @@
+-- Facts beside the range. It cannot be narrower: both ends of one even power are attained. And a book whose
+-- substitution the symmetric range refused runs, with everything that the claim asks for.
+use mathlib.Core.Path.{_≡_, refl, sym, _∙_, ap, ap₂, subst}
+use mathlib.Core.Bool.{Bool, true, false, not, _&&_}
+use mathlib.Core.List.{List, [], _∷_}
+use Prim.Native.Nat.{ℕ, zero, suc, _+_, _*_, _≤_}
+use native.Mathlib.Omega.{arith}
+use borrow.Author.Tests.{ne-eqb}
+use lib.Dec.{leb·zero, leb·suc-zero}
+use lib.IntN.{ℤ, pos, negsuc, negℤ, _+ℤ_, natAbs}
+use lib.Signed.{leZ, _≤ℤ_}
+use Rattle.algebra.specs.Ring.{Ring, pow}
+use Rattle.algebra.specs.RingLaws.{zero-+, zero-*, pow-one}
+use Rattle.algebra.specs.RingSolver.{𝟎, 𝟏, _⊞_, _⊠_, ring}
+use Rattle.algebra.specs.Ordered.{abs}
+use Rattle.algebra.specs.IntegerRing.{ℤR}
+use Rattle.algebra.specs.Rational.{ℚ, _+ℚ_, _*ℚ_, whole, _≤ℚ_}
+use Rattle.algebra.specs.RationalRing.{ℚR}
+use Rattle.algebra.specs.RationalOrder.{ℚO}
+use Rattle.algebra.specs.RationalLaws.{≤-whole}
+use Rattle.polynomial.specs.Polynomial.{monomial, eval}
+use Rattle.polynomial.specs.Box.{none, more}
+use Rattle.polynomial.specs.Integral.{even, first, rest, all-even}
+use Rattle.fixed.specs.Fixed.{U}
+use Rattle.calculus.specs.Monomial.{degree}
+use Rattle.calculus.specs.Terms.{term, select, sum-over, size}
+use Rattle.calculus.specs.Model.{Model, _-ℚ_, Point, In-box, value, Within}
+use Rattle.calculus.specs.Refusal.{done}
+use Rattle.calculus.specs.Operations.{Ends, is-constant, constant-part, is-even, can-fall, can-rise, below, above, range}
+use Rattle.calculus.specs.Book.{input, variable, multiply, substitute, Book, summary, run}
+use Rattle.calculus.specs.Outcome.{Function}
+use Rattle.calculus.specs.Claim.{Lies, Given, Claim}
+use Rattle.calculus.specs.Forms.{at-key, model, book, ends, minus, forms}
+use Rattle.calculus.specs.Computing.{runs}
+use Rattle.calculus.specs.SymmetricRange.{variation, symmetric-range, symmetric-in-box}
+use Rattle.calculus.specs.UnitLaws.{natural, natural-≤, natural-nonneg, abs-whole}
+use Rattle.calculus.specs.ValueLaws.{scaled-value, Near, U-value, near-at, abs-zero}
+use Rattle.calculus.specs.SumLaws.{ℕ-addition, if-ℤ, if-so}
+use Rattle.calculus.specs.RangeLaws.{steady-sum, below-sum, above-sum}
+use Rattle.calculus.specs.RangeInsideLaws.{Inside}
+use Rattle.calculus.specs.ClaimProof.{claim}
+use Rattle.calculus.specs.JumpFacts.{Jump, jumping, jumping-within, left, left-inside}
+use Rattle.calculus.specs.ChainLaws.{_≤≤_, _≡≤_, _≤≡_, equal}
+open Ring ℚR using (+-neg)
+
+-- ---- both ends of one even power are attained
+-- c x^e, in units of 1/U, radius 0
+unfoldable pub power : (c : ℤ) (e : ℕ) → Model
+power c e = record { vars = 1; radius = 0; terms = term c (e ∷ []) ∷ [] }
+
+-- the smaller of 0 and c
+unfoldable pub smaller : ℤ → ℤ
+smaller (pos n) = pos 0
+smaller (negsuc n) = negsuc n
+
+-- the larger of 0 and c
+unfoldable pub larger : ℤ → ℤ
+larger (pos n) = pos n
+larger (negsuc n) = pos 0
+
+-- U times the value of the model's own polynomial is z at a point of the box
+pub record Attained (m : Model) (z : ℤ) : Type 0 where
+  pub point : Point
+  pub inside : In-box (m .vars) point
+  pub reached : natural U *ℚ value m point ≡ whole z
+
+zero-power : (e : ℕ) → 1 ≤ e → pow ℚR (natural 0) e ≡ natural 0
+unfolding pow
+zero-power zero l = absurd (omega arith)
+zero-power (suc e) l = zero-* ℚR (pow ℚR (natural 0) e)
+
+-- a model's own polynomial is within it
+value-within : (m : Model) → Within (value m) m
+unfolding Within Near
+value-within m x b = near-at m x (value m x)
+    (ap (λ v. abs ℚO (v -ℚ scaled-value (m .terms) x)) (U-value m x) ∙ ap (abs ℚO) (+-neg _)
+    ≡≤ abs-zero
+    ≤≤ natural-nonneg (m .radius))
+
+module _ (e : ℕ) (some : 1 ≤ e) (h : even e ≡ true) where
+  not-constant : is-constant (e ∷ []) ≡ false
+  unfolding is-constant degree
+  not-constant = ne-eqb (e + 0) 0 (λ z. omega (arith, some, z))
+
+  all-are-even : is-even (e ∷ []) ≡ true
+  unfolding is-even all-even first rest
+  all-are-even = ap (λ b. elim b as (λ b. Bool) [ true ↦ true | false ↦ false ]) h
+
+  -- its range is from the one to the other
+  no-constant : (c : ℤ) → constant-part (power c e) ≡ pos 0
+  unfolding power sum-over if-so
+  no-constant c = steady-sum (power c e) ∙ ap (λ a. if-ℤ a c +ℤ pos 0) not-constant
+
+  falls : (c : ℤ) → below (power c e) ≡ if-so ℕ-addition (not (leZ (pos 0) c)) (natAbs c) + 0 + 0
+  unfolding power sum-over can-fall
+  falls c = below-sum (power c e)
+      ∙ ap₂ (λ a b. if-so ℕ-addition (not a && not (b && leZ (pos 0) c)) (natAbs c) + 0 + 0) not-constant all-are-even
+
+  rises : (c : ℤ) → above (power c e) ≡ if-so ℕ-addition (not (leZ c (pos 0))) (natAbs c) + 0 + 0
+  unfolding power sum-over can-rise
+  rises c = above-sum (power c e)
+      ∙ ap₂ (λ a b. if-so ℕ-addition (not a && not (b && leZ c (pos 0))) (natAbs c) + 0 + 0) not-constant all-are-even
+
+  pub power-range : (c : ℤ) → range (power c e) ≡ record { low = smaller c; high = larger c }
+  unfolding range smaller larger if-so
+  power-range (pos zero) = rw (no-constant (pos 0), falls (pos 0), rises (pos 0)) refl
+  power-range (pos (suc n)) =
+      let z : 0 + (suc n + 0 + 0) ≡ suc n = omega arith in
+      rw (
+        no-constant (pos (suc n)),
+        falls (pos (suc n)),
+        rises (pos (suc n)),
+        leb·zero (suc n),
+        leb·suc-zero n,
+      )
+      (ap (λ i. record { low = pos 0; high = pos i }) z)
+  power-range (negsuc n) =
+      let z : suc n + 0 + 0 ≡ suc n = omega arith in
+      rw (no-constant (negsuc n), falls (negsuc n), rises (negsuc n))
+      (ap (λ i. record { low = pos 0 +ℤ negℤ (pos i); high = pos 0 }) z
+      ∙ ap (λ l. record { low = l; high = pos 0 }) (zero-+ ℤR (negsuc n)))
+
+  -- at 0 its value is 0, at 1 it is c
+  at-zero : (c : ℤ) → Attained (power c e) (pos 0)
+  unfolding power scaled-value sum-over monomial
+  at-zero c = record {
+    point = natural 0 ∷ [];
+    inside = more (abs-zero ≤≤ natural-≤ 0 1 (omega arith)) none;
+    reached = U-value (power c e) (natural 0 ∷ []) 
+        ∙ ap (λ p. whole c *ℚ (p *ℚ natural 1) +ℚ natural 0) (zero-power e some)
+        ∙ ring 1 ℚR (λ c. c ⊠ (𝟎 ⊠ 𝟏) ⊞ 𝟎) (λ c. 𝟎) refl (whole c);
+  }
+
+  at-one : (c : ℤ) → Attained (power c e) c
+  unfolding power scaled-value sum-over monomial
+  at-one c = record {
+    point = natural 1 ∷ [];
+    inside = more (equal (abs-whole (pos 1))) none;
+    reached = U-value (power c e) (natural 1 ∷ []) ∙ ap (λ p. whole c *ℚ (p *ℚ natural 1) +ℚ natural 0) (pow-one ℚR e)
+        ∙ ring 1 ℚR (λ c. c ⊠ (𝟏 ⊠ 𝟏) ⊞ 𝟎) (λ c. c) refl (whole c);
+  }
+
+  -- both ends of its range are attained
+  pub low-attained : (c : ℤ) → Attained (power c e) (range (power c e) .low)
+  unfolding smaller
+  low-attained c = subst (λ (r : Ends). Attained (power c e) (r .low)) (sym (power-range c)) (go c)
+    where
+      go : (c : ℤ) → Attained (power c e) (smaller c)
+      go (pos n) = at-zero (pos n)
+      go (negsuc n) = at-one (negsuc n)
+
+  pub high-attained : (c : ℤ) → Attained (power c e) (range (power c e) .high)
+  unfolding larger
+  high-attained c = subst (λ (r : Ends). Attained (power c e) (r .high)) (sym (power-range c)) (go c)
+    where
+      go : (c : ℤ) → Attained (power c e) (larger c)
+      go (pos n) = at-one (pos n)
+      go (negsuc n) = at-zero (negsuc n)
+
+  -- so ends that hold every function within the model hold its range
+  pub power-narrowest : (c : ℤ) (r : Ends)
+      → ((f : Function) → Within f (power c e) → (x : Point) → In-box 1 x → Lies (f x) r)
+      → Inside (range (power c e)) r
+  power-narrowest c r hold = record {
+    low = ≤-whole (r .low) _ (hold (value m) (value-within m) (l .point) (unfold power in l .inside) .from ≤≡ l .reached);
+    high = ≤-whole _ (r .high)
+        (sym (u .reached) ≡≤ hold (value m) (value-within m) (u .point) (unfold power in u .inside) .to);
+  }
+    where
+      m : Model
+      m = power c e
+
+      l : Attained m (range m .low)
+      l = low-attained c
+
+      u : Attained m (range m .high)
+      u = high-attained c
+
+-- ---- a book that the symmetric range refused with 9
+-- 2x^2 - 1, made so much smaller that with the radius 3 it just stays in the box
+unfoldable pub folding : Model
+folding = model 1 3 (at-key 1 0x0000 (minus 1048573) ∷ at-key 1 0x2000 (pos 2097146) ∷ [])
+
+-- a function within it, put in for x in x^2
+unfoldable pub folded : Book
+folded = book 1 4 (folding ∷ []) (variable 1 ∷ multiply 0 0 ∷ input 0 ∷ substitute 1 2 1 ∷ [])
+
+-- its result: 1 - 4x^2 + 4x^4, smaller by as much, radius 19
+unfoldable pub folded-result : Model
+folded-result = model 1 19
+    (at-key 1 0x0000 (pos 1048570) ∷ at-key 1 0x2000 (minus 4194280) ∷ at-key 1 0x4000 (pos 4194280) ∷ [])
+
+-- by the symmetric range what is put in reached from -3145722 to 1048576 and left the box
+pub folding-refused : symmetric-in-box folding ≡ false
+unfolding runs forms symmetric-in-box symmetric-range variation folding
+folding-refused = refl
+
+-- it reaches from -1048576 to 1048576
+pub folding-range : range folding ≡ ends (minus 1048576) (pos 1048576)
+unfolding runs forms folding
+folding-range = refl
+
+-- and the book runs to its end
+pub folded-runs : run folded ≡ done (summary folded-result)
+unfolding runs forms folding folded folded-result
+folded-runs = refl
+
+-- so the claim holds of it
+pub folded-claim : Claim folded (summary folded-result)
+folded-claim = claim folded (summary folded-result) folded-runs
+
+-- and what it asks for is there: functions within the model, also such as are no polynomials, and a point
+pub folded-given : (j : Jump) → Given folded (jumping j folded) left
+folded-given j = record { functions = jumping-within j folded; point = unfold folded forms in left-inside }
