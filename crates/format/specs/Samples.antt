@@ -51,11 +51,11 @@ worked = "02 00 00 01 00 00 00 00" ∷ "01 00 00 00 00 00 08 00" ∷ "04 00 01 0
 -- the samples 1 to 13 in order: what document 01 says of each, and the rest of its answer
 unfoldable pub samples : List Sample
 samples =
-    -- the sheet above: range -1835008 to 2359296, integral 1223338 to 1223339
+    -- the sheet above: range -786432 to 2359296, integral 1223338 to 1223339
     sample 1 worked
     (gives
     (model 1 0 (at-key 1 0x0000 (pos 262144) ∷ at-key 1 0x1000 (pos 1048576) ∷ at-key 1 0x2000 (pos 1048576) ∷ []))
-    (ends (minus 1835008) (pos 2359296)) (ends (pos 1223338) (pos 1223339)))
+    (ends (minus 786432) (pos 2359296)) (ends (pos 1223338) (pos 1223339)))
     -- the same with order 1: radius 1048576, integral -1572864 to 2621440
     ∷ sample 2 ("02 00 00 01 00 00 00 00" ∷ "01 00 00 00 00 00 08 00" ∷ "04 00 01 00 00 00 00 00" ∷
     "06 02 02 00 00 00 00 00" ∷ "01 01 00 04 00 00 4D 4B" ∷ [])
@@ -108,7 +108,7 @@ samples =
     (gives line (ends (pos 2) (pos 8)) (ends (pos 10) (pos 10)))
     -- the single term of key hex 2000, coefficient -1: integral -1 to 0
     ∷ sample 12 ("00 00 00 00 01 00 20 FF FF FF FF" ∷ "00 00 00 00 00 00 00 00" ∷ "01 02 01 01 0B 00 4D 4B" ∷ [])
-    (gives (model 1 0 (at-key 1 0x2000 (minus 1) ∷ [])) (ends (minus 1) (pos 1)) (ends (minus 1) (pos 0)))
+    (gives (model 1 0 (at-key 1 0x2000 (minus 1) ∷ [])) (ends (minus 1) (pos 0)) (ends (minus 1) (pos 0)))
     -- a wrong mark together with n = 0 gets 2
     ∷ sample 13 ("02 00 00 01 00 00 00 00" ∷ "01 00 00 00 00 00 08 00" ∷ "04 00 01 00 00 00 00 00" ∷
     "06 02 02 00 00 00 00 00" ∷ "00 02 00 04 00 00 4D 4C" ∷ [])
@@ -127,6 +127,6 @@ sheets-run = refl
 
 -- the lines of the sheet that document 01 prints
 pub worked-lines : printed (hex worked) ≡ text (
-    "radius 0\nterm 0 262144\nterm 1 1048576\nterm 2 1048576\nrange -1835008 2359296\nintegral 1223338 1223339\n")
+    "radius 0\nterm 0 262144\nterm 1 1048576\nterm 2 1048576\nrange -786432 2359296\nintegral 1223338 1223339\n")
 unfolding prints sheet-forms
 worked-lines = refl

@@ -1,0 +1,34 @@
+-- Sheets that the symmetric range refused and that are accepted: the claim holds of each. The same as books, with what
+-- the symmetric range said of them, stand in the crate calculus under this name.
+use mathlib.Core.Path.{_≡_, refl}
+use mathlib.Core.List.{List, [], _∷_}
+use Prim.Native.Nat.{ℕ}
+use Rattle.calculus.specs.Refusal.{done, _followed-by_}
+use Rattle.calculus.specs.Book.{summary}
+use Rattle.calculus.specs.RangeFacts.{folding, folded, folded-result}
+use Rattle.format.specs.HeldBook.{view-book}
+use Rattle.format.specs.Format.{read, run-sheet}
+use Rattle.format.specs.SheetClaim.{Sheet-claim}
+use Rattle.format.specs.SheetClaimProof.{sheet-claim}
+use Rattle.format.specs.Computing.{reads}
+use Rattle.format.specs.Samples.{hex, sheet-forms}
+
+-- ---- by 9: a function within 2x^2 - 1 put in for x in x^2
+unfoldable pub folded-sheet : List ℕ
+folded-sheet = hex ("03 00 00 00 02 00 00 03 00 F0 FF 00 20 FA FF 1F 00" ∷ "02 00 00 01 00 00 00 00" ∷
+    "06 00 00 00 00 00 00 00" ∷ "00 00 00 00 00 00 00 00" ∷ "07 01 02 01 00 00 00 00" ∷
+    "01 04 01 04 11 00 4D 4B" ∷ [])
+
+pub folded-sheet-runs : run-sheet folded-sheet ≡ done (summary folded-result)
+unfolding reads sheet-forms folded-sheet folded-result
+folded-sheet-runs = refl
+
+pub folded-sheet-claim : Sheet-claim folded-sheet (summary folded-result)
+folded-sheet-claim = sheet-claim folded-sheet (summary folded-result) folded-sheet-runs
+
+-- it reads as the book whose hypotheses are met there
+pub folded-sheet-reads : read folded-sheet followed-by (λ h. done (view-book h)) ≡ done folded
+unfolding reads sheet-forms folding folded folded-sheet
+folded-sheet-reads = refl
+
+-- ---- by 12
