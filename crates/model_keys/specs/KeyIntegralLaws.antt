@@ -1,14 +1,16 @@
--- Which keys count in an integral, and by what their coefficients are divided: digit by digit, and by monomials.
+-- Which keys have even exponents only, and by what an integral divides: digit by digit, by the word, and by monomials.
 use mathlib.Core.Path.{_≡_, refl, sym, _∙_, ap, ap₂}
 use mathlib.Core.Bool.{Bool, true, false, _&&_, Bool·not-not}
 use mathlib.Core.List.{List, [], _∷_, _++_}
-use Prim.Native.Nat.{ℕ, zero, suc, _+_, _-_, _*_, _/_, _%_, _≤_}
+use Prim.Native.Nat.{ℕ, zero, suc, _+_, _-_, _*_, _/_, _%_, _^_, _≤_, _<_}
 use native.Mathlib.Numerals.{add-one}
 use native.Mathlib.Omega.{arith}
 use native.Mathlib.Nat as NatL
-use borrow.Author.Tests.{eq-eqb, ne-eqb}
-use lib.Dec.{T, eqb}
+use borrow.Author.Tests.{ne-eqb}
+use lib.Bits.{bitAnd, and-block, and-mask}
+use lib.Dec.{T, eqb, eqb·suc-zero, lit<}
 use lib.ListN.{length}
+use lib.Pow.{pow-pos}
 use Rattle.polynomial.specs.Integral.{even, first, rest, all-even, divisor}
 use Rattle.calculus.specs.Monomial.{zeros}
 use Rattle.calculus.specs.Key.{decode, key-width, key-exponents, key-fits, monomial-of}
@@ -17,20 +19,14 @@ use Rattle.model_keys.specs.Keys.{key-even, key-divisor}
 
 -- ---- digit by digit
 -- even: no remainder by 2
-pub even-mod : (n : ℕ) → even n ≡ eqb (n % 2) 0
+even-mod : (n : ℕ) → even n ≡ eqb (n % 2) 0
 unfolding even
 even-mod zero = refl
 even-mod (suc zero) = refl
 even-mod (suc (suc n)) =
     let e : n % 2 ≡ suc (suc n) % 2 = omega arith in Bool·not-not (even n) ∙ even-mod n ∙ ap (λ i. eqb i 0) e
 
-pub is-even : (n : ℕ) → n % 2 ≡ 0 → even n ≡ true
-is-even n h = even-mod n ∙ eq-eqb (n % 2) 0 h
-
-pub is-odd : (n : ℕ) → (n % 2 ≡ 0 → ⊥) → even n ≡ false
-is-odd n h = even-mod n ∙ ne-eqb (n % 2) 0 h
-
-pub all-even-key : (z : ℕ) → key-even z
+all-even-key : (z : ℕ) → key-even z
     ≡ even (z / 4096) && even (z % 4096 / 256) && even (z % 4096 % 256 / 16) && even (z % 4096 % 256 % 16)
 unfolding all-even first rest decode key-width
 all-even-key z = four (even (z / 4096)) (even (z % 4096 / 256)) (even (z % 4096 % 256 / 16)) _
@@ -49,6 +45,33 @@ all-even-key z = four (even (z / 4096)) (even (z % 4096 / 256)) (even (z % 4096 
     four true true false d = refl
     four true false c d = refl
     four false b c d = refl
+
+-- ---- as one test of the word: the lowest bits of all digits
+-- the bit of the first digit, and those of the others
+first-bit : (k z s : ℕ) → s < 2 ^ k → bitAnd z (1 * 2 ^ k + s) ≡ z / 2 ^ k % 2 * 2 ^ k + bitAnd (z % 2 ^ k) s
+first-bit k z s h = ap (λ y. bitAnd y (1 * 2 ^ k + s)) (sym (NatL.div-add-mod' z (2 ^ k)))
+    ∙ and-block k (z / 2 ^ k) 1 (z % 2 ^ k) s (NatL.mod-lt z (pow-pos k)) h
+    ∙ ap (λ d. d * 2 ^ k + bitAnd (z % 2 ^ k) s) (and-mask (z / 2 ^ k) 1)
+
+lowest-bits : (z : ℕ) → bitAnd z 0x1111
+    ≡ z / 4096 % 2 * 4096
+    + (z % 4096 / 256 % 2 * 256 + (z % 4096 % 256 / 16 % 2 * 16 + z % 4096 % 256 % 16 % 2))
+lowest-bits z = first-bit 12 z 0x111 (lit< tt)
+    ∙ ap (λ y. z / 4096 % 2 * 4096 + y) (first-bit 8 (z % 4096) 0x11 (lit< tt)
+    ∙ ap (λ y. z % 4096 / 256 % 2 * 256 + y) (first-bit 4 (z % 4096 % 256) 1 (lit< tt)
+    ∙ ap (λ y. z % 4096 % 256 / 16 % 2 * 16 + y) (and-mask (z % 4096 % 256 % 16) 1)))
+
+no-bits : (a b c d : ℕ) → eqb (a * 4096 + (b * 256 + (c * 16 + d))) 0 ≡ eqb a 0 && eqb b 0 && eqb c 0 && eqb d 0
+no-bits (suc a) b c d = rw (eqb·suc-zero a) (ne-eqb (suc a * 4096 + (b * 256 + (c * 16 + d))) 0 (λ h. omega (arith, h)))
+no-bits zero (suc b) c d = rw (eqb·suc-zero b) (ne-eqb (zero * 4096 + (suc b * 256 + (c * 16 + d))) 0 (λ h. omega (arith, h)))
+no-bits zero zero (suc c) d = rw (eqb·suc-zero c) (ne-eqb (zero * 4096 + (zero * 256 + (suc c * 16 + d))) 0 (λ h. omega (arith, h)))
+no-bits zero zero zero (suc d) = rw (eqb·suc-zero d) (ne-eqb (zero * 4096 + (zero * 256 + (zero * 16 + suc d))) 0 (λ h. omega (arith, h)))
+no-bits zero zero zero zero = refl
+
+pub word-even : (z : ℕ) → eqb (bitAnd z 0x1111) 0 ≡ key-even z
+word-even z = ap (λ y. eqb y 0) (lowest-bits z)
+    ∙ no-bits (z / 4096 % 2) (z % 4096 / 256 % 2) (z % 4096 % 256 / 16 % 2) (z % 4096 % 256 % 16 % 2)
+    ∙ sym (all-even-key z ∙ ap₂ _&&_ (ap₂ _&&_ (ap₂ _&&_ (even-mod _) (even-mod _)) (even-mod _)) (even-mod _))
 
 pub divisor-key : (z : ℕ) → key-divisor z
     ≡ (z / 4096 + 1) * ((z % 4096 / 256 + 1) * ((z % 4096 % 256 / 16 + 1) * (z % 4096 % 256 % 16 + 1)))
@@ -89,9 +112,11 @@ module _ (n z : ℕ) (l : n ≤ key-width) (f : T (key-fits key-width n z)) wher
   places : key-width ≡ length (monomial-of n z) + (key-width - n)
   places = omega (arith, monomial-length n z l f)
 
+  pub even-exponents : all-even (length (monomial-of n z)) (monomial-of n z) ≡ key-even z
+  even-exponents = sym (ap₂ all-even places digits ∙ all-even-++ (monomial-of n z) (key-width - n))
+
   pub even-monomial : all-even n (monomial-of n z) ≡ key-even z
-  even-monomial = ap (λ i. all-even i (monomial-of n z)) (sym (monomial-length n z l f))
-      ∙ sym (ap₂ all-even places digits ∙ all-even-++ (monomial-of n z) (key-width - n))
+  even-monomial = ap (λ i. all-even i (monomial-of n z)) (sym (monomial-length n z l f)) ∙ even-exponents
 
   pub divisor-monomial : divisor n (monomial-of n z) ≡ key-divisor z
   divisor-monomial = ap (λ i. divisor i (monomial-of n z)) (sym (monomial-length n z l f))

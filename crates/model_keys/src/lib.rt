@@ -93,22 +93,14 @@ pub fn degree(key: u16) -> u16
     key / FIRST + low / SECOND + lower / THIRD + lower % THIRD
 }
 
+// The lowest bits of all exponents.
+const LOWEST_BITS: u16 = 0x1111;
+
 // Whether all exponents are even.
 pub fn all_even(key: u16) -> bool
     ensures { λ r. ⌜ r ≡ key-even key ⌝ }
 {
-    let low = key % FIRST;
-    let lower = low % SECOND;
-    if key / FIRST % 2 != 0 {
-        return false;
-    }
-    if low / SECOND % 2 != 0 {
-        return false;
-    }
-    if lower / THIRD % 2 != 0 {
-        return false;
-    }
-    lower % THIRD % 2 == 0
+    key & LOWEST_BITS == 0
 }
 
 // The product of (exponent + 1).

@@ -1,1 +1,3 @@
+pub mod KeyRange
 pub mod RangeSizeLaws
+pub mod RangeLoopLaws

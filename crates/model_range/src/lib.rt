@@ -3,43 +3,52 @@ ghost use mathlib.Core.Path.{_≡_};
 ghost use lib.Dec.{T};
 ghost use Rattle.calculus.specs.Model.{«most-degree», sound};
 ghost use Rattle.calculus.specs.Refusal.{done};
-ghost use Rattle.calculus.specs.Operations.{«constant-part», variation, range, «range-in-box»};
+ghost use Rattle.calculus.specs.Operations.{range, «range-in-box»};
 ghost use Rattle.model_types.specs.ModelStruct.{view, bounds};
+ghost use Rattle.model_range.specs.KeyRange.{«key-steady», «key-fall», «key-rise»};
 
-// The constant coefficient.
-fn constant_part(m: model_types::Model) -> i64
-    requires { ⌜ T (sound most-degree (view m)) ⌝ }
-    ensures { λ r. ⌜ r ≡ constant-part (view m) ⌝ }
+// What a term counts in the constant part.
+fn steady(key: u16, coefficient: i64) -> i64
+    ensures { λ r. ⌜ r ≡ key-steady key coefficient ⌝ }
 {
-    let count = m.count;
-    let mut total: i64 = 0;
-    let mut i = 0;
-    while i < count {
-        let t = m.terms[i];
-        i += 1;
-        if t.key == 0 {
-            total = fixed::sum(total, t.coefficient);
-        }
+    if key == 0 {
+        return coefficient;
     }
-    total
+    0
 }
 
-// The sum of the other coefficients' sizes and the radius.
-fn variation(m: model_types::Model) -> u64
-    requires { ⌜ T (sound most-degree (view m)) ⌝ }
-    ensures { λ r. ⌜ r ≡ variation (view m) ⌝ }
+// How far a term other than the constant can fall below 0.
+fn fall(key: u16, coefficient: i64) -> u64
+    ensures { λ r. ⌜ r ≡ key-fall key coefficient ⌝ }
 {
-    let count = m.count;
-    let mut total: u64 = 0;
-    let mut i = 0;
-    while i < count {
-        let t = m.terms[i];
-        i += 1;
-        if t.key != 0 {
-            total += fixed::magnitude(t.coefficient);
-        }
+    let size = fixed::magnitude(coefficient);
+    if key == 0 {
+        return 0;
     }
-    total + m.radius
+    if 0 <= coefficient {
+        if model_keys::all_even(key) {
+            return 0;
+        }
+        return size;
+    }
+    size
+}
+
+// How far it can rise above 0.
+fn rise(key: u16, coefficient: i64) -> u64
+    ensures { λ r. ⌜ r ≡ key-rise key coefficient ⌝ }
+{
+    let size = fixed::magnitude(coefficient);
+    if key == 0 {
+        return 0;
+    }
+    if coefficient <= 0 {
+        if model_keys::all_even(key) {
+            return 0;
+        }
+        return size;
+    }
+    size
 }
 
 // The range.
@@ -47,11 +56,23 @@ pub fn range_of(m: model_types::Model) -> model_types::Bounds
     requires { ⌜ T (sound most-degree (view m)) ⌝ }
     ensures { λ r. ⌜ r ≡ bounds (done (range (view m))) ⌝ }
 {
-    let middle = constant_part(m);
-    let around = fixed::signed(variation(m));
+    let count = m.count;
+    let mut middle: i64 = 0;
+    let mut below: u64 = 0;
+    let mut above: u64 = 0;
+    let mut i = 0;
+    while i < count {
+        let t = m.terms[i];
+        i += 1;
+        middle = fixed::sum(middle, steady(t.key, t.coefficient));
+        below += fall(t.key, t.coefficient);
+        above += rise(t.key, t.coefficient);
+    }
+    let down = fixed::signed(below + m.radius);
+    let up = fixed::signed(above + m.radius);
     model_types::Bounds {
-        low: fixed::difference(middle, around),
-        high: fixed::sum(middle, around),
+        low: fixed::difference(middle, down),
+        high: fixed::sum(middle, up),
         verdict: model_types::Verdict::Accepted,
     }
 }

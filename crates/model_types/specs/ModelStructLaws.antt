@@ -22,7 +22,7 @@ use Rattle.calculus.specs.Terms.{Terms, term, every, select, sum-over, sum-ℕ,
 use Rattle.calculus.specs.Operations.{constant, variable}
 use Rattle.calculus.specs.TermsLaws.{every-head, every-tail, by-select}
 pub use Rattle.calculus.specs.LoopLaws.{select-++}
-use Rattle.calculus.specs.SumLaws.{Addition, sum-snoc, sum-split, ℕ-addition, at-term}
+use Rattle.calculus.specs.SumLaws.{Addition, sum-snoc, sum-split, ℕ-addition, at-term, if-so}
 use Rattle.calculus.specs.Model as C
 use Rattle.calculus.specs.Model.{zero-model, most-terms, most-vars, most-degree, between, fits, sound, span}
 use Rattle.calculus.specs.Tests.{vars-sound}
@@ -284,6 +284,21 @@ module _ {A : Type 0} (N : Addition A) (g : List ℕ → ℤ → A) (f : List �
         sum = h .sum ∙ ap (sum-over (N .plus) (N .nothing) g)
             (sym (select-same (m .n) i (m .terms) (omega arith) f (subst (λ b. T (not b)) (sym t) tt)));
       }
+
+      -- either, told by what is added: the summand, or nothing where it does not pass
+      pub summed-turn : (next : A)
+          → next ≡ N .plus total (if-so N (f (summand .exponents) (summand .coefficient))
+          (g (summand .exponents) (summand .coefficient)))
+          → Summed N g f m next (i + 1)
+      unfolding if-so
+      summed-turn next e = go (f (summand .exponents) (summand .coefficient)) refl e
+        where
+          go : (b : Bool) → f (summand .exponents) (summand .coefficient) ≡ b
+              → next ≡ N .plus total (if-so N b (g (summand .exponents) (summand .coefficient)))
+              → Summed N g f m next (i + 1)
+          go true t k = summed-more t next k
+          go false t k = subst (λ x. Summed N g f m x (i + 1))
+              (sym (k ∙ N .plus-comm total (N .nothing) ∙ N .plus-nothing total)) (summed-same t)
 
 -- ---- sums of natural numbers
 module _ (g : List ℕ → ℤ → ℕ) where

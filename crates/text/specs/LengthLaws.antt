@@ -23,13 +23,13 @@ use Rattle.calculus.specs.Refusal.{Refusal, bad-length, bad-mark, bad-limits, b
 use Rattle.calculus.specs.Refusal.{over-span, too-many-terms, leaves-box, variables-differ, short-buffer}
 use Rattle.calculus.specs.Refusal.{uncertified}
 use Rattle.calculus.specs.Refusal.{number, Result, done, stopped}
-use Rattle.calculus.specs.Operations.{Ends, range, integral, integral-sum, constant-part, variation}
+use Rattle.calculus.specs.Operations.{Ends, range, integral, integral-sum, constant-part, below, above}
 use Rattle.calculus.specs.Book.{Summary, summary}
 use Rattle.calculus.specs.FitsLaws.{fits-length, fits-degree}
 use Rattle.calculus.specs.SoundLaws.{sound-parts}
 use Rattle.model_types.specs.ModelStructLaws.{vars-range, sound-vars}
 use Rattle.model.specs.OperationContracts.{rule}
-use Rattle.model.specs.OperationLaws.{range-within, integral-within, volume-le}
+use Rattle.model.specs.OperationLaws.{below-within, above-within, integral-within, volume-le}
 use Rattle.format.specs.Bytes.{join}
 use Rattle.format.specs.Format.{run-sheet}
 use Rattle.format.specs.Lines.{text, decimal, signed-decimal, term-line, ends-line, radius-line, refusal-line}
@@ -158,8 +158,8 @@ module _ (m : Model) (h : T (sound most-degree m)) where
   range-small = omega (
     arith,
     ends-length 9 (text "range") (range m)
-        (omega (arith, small, range-within m, natAbs-sub (constant-part m) (variation m)))
-        (omega (arith, small, range-within m, natAbs-add (constant-part m) (pos (variation m)))),
+        (omega (arith, small, below-within m, natAbs-sub (constant-part m) (below m)))
+        (omega (arith, small, above-within m, natAbs-add (constant-part m) (pos (above m)))),
   )
 
   volume : span m * 2 ^ m .vars ≤ 2 ^ 31 * 16

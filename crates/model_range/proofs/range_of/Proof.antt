@@ -1,64 +1,221 @@
--- `range_of` is the constant coefficient, minus and plus the variation; both are within the span.
-use mathlib.Core.Path.{_≡_, _∙_, ap, ap₂}
-use Prim.Native.Nat.{_+_, _^_, _<_}
+-- `range_of` counts the terms in one walk; all its sums are within the span.
+use mathlib.Core.Path.{_≡_, sym, _∙_, ap, ap₂}
+use Prim.Native.Nat.{_+_, _-_, _^_, _≤_, _<_}
 use native.Mathlib.Omega.{arith}
 use borrow.Author.Needs.{needs}
 use lib.IntN.{pos, natAbs, _+ℤ_, _-ℤ_}
+use lib.ListN.{length, getD, length-map}
+use mir.Facts.{toZ-ofZ}
 use mir.Syntax.{w64}
 use mir.Val.{toZ, ofZ}
 use Rattle.fixed.specs.FixedLaws.{span-fits}
 use Rattle.fixed.specs.MachineLaws.{answered}
-use Rattle.calculus.specs.Operations.{constant-part, variation, range}
-use Rattle.model_types.specs.ModelStruct.{view, bounds}
-use Rattle.model_types.specs.ModelStructLaws.{limits}
-use Rattle.model_range.specs.RangeSizeLaws.{range-within}
+use Rattle.calculus.specs.Model.{Model, most-terms}
+use Rattle.calculus.specs.Operations.{constant-part, below, above, range}
+use Rattle.model_types.specs.declared.Term.{Term}
+use Rattle.model_types.specs.ModelStruct.{zero-term, view, bounds}
+use Rattle.model_types.specs.ModelStructLaws.{Limits, limits}
+use Rattle.model_range.specs.KeyRange.{key-steady, key-fall, key-rise}
+use Rattle.model_range.specs.RangeSizeLaws.{below-within, above-within}
+use Rattle.model_range.specs.RangeLoopLaws.{Counted, counted-first, counted-turn, steady-room, fall-room, rise-room}
+use Rattle.model_range.specs.RangeLoopLaws.{below-small, above-small, middle-end, below-end, above-end}
 use Rattle.model_range.proofs.range_of.Statement.{statement}
 use Rattle.model_range.proofs.range_of.Tie as tie
 
-room : (c : tie.Start) → natAbs (constant-part (view (c .args .m))) + variation (view (c .args .m)) < 2 ^ 63
-room c = omega (arith, span-fits, limits _ _ (c .pre) .small, range-within (view (c .args .m)))
+abbrev Inv-loop : tie.InvT-loop
+Inv-loop m count middle₀ below₀ above₀ i₀ middle below above i = Counted m (toZ w64 middle) below above i
 
-middle : (c : tie.After-constant-part) → toZ w64 (ofZ w64 (c .constant-part .result))
-    ≡ constant-part (view (c .before .args .m))
-middle c = answered (c .constant-part .ok) (c .constant-part .ensures)
+abbrev μ-loop : tie.MeasureT-loop
+μ-loop m count middle₀ below₀ above₀ i₀ middle below above i = count - i
 
-around : (c : tie.After-signed) → toZ w64 (ofZ w64 (c .signed .result))
-    ≡ pos (variation (view (c .before .before .before .args .m)))
-around c = answered (c .signed .ok) (c .signed .ensures ∙ ap pos (c .before .variation .ensures))
+module _ (c : tie.Start Inv-loop μ-loop) where
+  whole : length (c .args .t1 .terms) ≡ 64
+  whole = simp length-map at (c .good .0 .1 .1 .1 .1 .1 .0 .1 .0 .1)
 
-constant-part-requires : tie.Need-constant-part-requires
-constant-part-requires c κs = search needs
+  known : Limits (c .args .t1)
+  known = limits _ _ (c .pre)
 
-variation-requires : tie.Need-variation-requires
-variation-requires c κs = search needs
+  few : c .args .t1 .count ≤ 64
+  unfolding most-terms
+  few = known .few
 
-signed-requires : tie.Need-signed-requires
-signed-requires c κs = omega (arith, c .variation .ensures, room (c .before .before))
+  long : c .args .t1 .count ≤ length (c .args .t1 .terms)
+  long = omega (arith, few, whole)
 
-difference-requires : tie.Need-difference-requires
-difference-requires c κs = rw (middle (c .before .before), around c) (room (c .before .before .before))
+loop-holds : tie.Need-loop-holds Inv-loop μ-loop
+loop-holds c = counted-first _ (c .pre) (long c)
 
-sum-requires : tie.Need-sum-requires
-sum-requires c κs =
-    rw (middle (c .before .before .before), around (c .before)) (room (c .before .before .before .before))
+mul-t : tie.Need-mul-t Inv-loop μ-loop
+mul-t c = omega (arith, few (c .before .before))
 
-returns : tie.Need-returns
+element-copy-out-t : tie.Need-element-copy-out-t Inv-loop μ-loop
+element-copy-out-t c = omega (arith, few (c .before .before))
+
+add-i : tie.Need-add-i Inv-loop μ-loop
+add-i c = omega (arith, few (c .before .before .before))
+
+-- ---- one turn: what the three functions give of the term at hand
+module _ (c : tie.After-steady Inv-loop μ-loop) where
+  abbrev place : tie.At-loop Inv-loop μ-loop
+  place = c .before .before .before .before
+
+  abbrev start : tie.Start Inv-loop μ-loop
+  start = place .before
+
+  abbrev at : Term
+  at = getD (start .args .t1 .terms) (place .loop .i) zero-term
+
+  inside : place .loop .i < start .args .t1 .count
+  inside = c .before .before .before .loop-test .taken
+
+  read-back : toZ w64 (ofZ w64 (at .coefficient)) ≡ at .coefficient
+  read-back = toZ-ofZ (record { sfits = c .before .struct-told .given .1 .0 .1 })
+
+  steady-is : toZ w64 (ofZ w64 (c .steady .result)) ≡ key-steady (at .key) (at .coefficient)
+  steady-is = answered (c .steady .ok) (c .steady .ensures ∙ ap (key-steady (at .key)) read-back)
+
+fall-is : (c : tie.After-fall Inv-loop μ-loop) → c .fall .result
+    ≡ key-fall (at (c .before .before .before) .key) (at (c .before .before .before) .coefficient)
+fall-is c = c .fall .ensures ∙ ap (key-fall _) (read-back (c .before .before .before))
+
+rise-is : (c : tie.After-rise Inv-loop μ-loop) → c .rise .result
+    ≡ key-rise (at (c .before .before .before .before .before) .key)
+    (at (c .before .before .before .before .before) .coefficient)
+rise-is c = c .rise .ensures ∙ ap (key-rise _) (read-back (c .before .before .before .before .before))
+
+steady-requires : tie.Need-steady-requires Inv-loop μ-loop
+steady-requires c κs = search needs
+
+sum-requires : tie.Need-sum-requires Inv-loop μ-loop
+sum-requires c κs = rw (steady-is c) (omega (
+  arith,
+  span-fits,
+  known (start c) .small,
+  steady-room _ (start c .pre) (long (start c)) _ _ _ _ (place c .loop .inv) (inside c),
+))
+
+fall-requires : tie.Need-fall-requires Inv-loop μ-loop
+fall-requires c κs = search needs
+
+add-below : tie.Need-add-below Inv-loop μ-loop
+add-below c =
+    let t = c .before .before .before in
+    omega (
+      arith,
+      span-fits,
+      known (start t) .small,
+      fall-is c,
+      fall-room _ (start t .pre) (long (start t)) _ _ _ _ (place t .loop .inv) (inside t),
+    )
+
+rise-requires : tie.Need-rise-requires Inv-loop μ-loop
+rise-requires c κs = search needs
+
+add-above : tie.Need-add-above Inv-loop μ-loop
+add-above c =
+    let t = c .before .before .before .before .before in
+    omega (
+      arith,
+      span-fits,
+      known (start t) .small,
+      rise-is c,
+      rise-room _ (start t .pre) (long (start t)) _ _ _ _ (place t .loop .inv) (inside t),
+    )
+
+loop-less : tie.Need-loop-less Inv-loop μ-loop
+loop-less c = omega arith
+
+loop-again : tie.Need-loop-again Inv-loop μ-loop
+loop-again c =
+    let s = c .before .before .before .before in
+    let t = s .before in
+    counted-turn _ (start t .pre) (long (start t)) _ _ _ _ (place t .loop .inv) (inside t) _ _ _
+    (answered (s .sum .ok) (s .sum .ensures ∙ ap (λ z. toZ w64 (place t .loop .middle) +ℤ z) (steady-is t)))
+    (ap (λ x. place t .loop .below + x) (fall-is (c .before .before)))
+    (ap (λ x. place t .loop .above + x) (rise-is c))
+
+-- ---- the ends
+module _ (c : tie.After-loop Inv-loop μ-loop) where
+  abbrev first : tie.Start Inv-loop μ-loop
+  first = c .before .before
+
+  abbrev seen : Model
+  seen = view (first .args .t1)
+
+  middle-is : toZ w64 (c .before .loop .middle) ≡ constant-part seen
+  middle-is = middle-end _ (first .pre) (long first) _ _ _ _ (c .before .loop .inv) (c .loop-test .left)
+
+  below-is : c .before .loop .below + first .args .t1 .radius ≡ below seen
+  below-is = below-end _ (first .pre) (long first) _ _ _ _ (c .before .loop .inv) (c .loop-test .left)
+
+  above-is : c .before .loop .above + first .args .t1 .radius ≡ above seen
+  above-is = above-end _ (first .pre) (long first) _ _ _ _ (c .before .loop .inv) (c .loop-test .left)
+
+  below-room : natAbs (constant-part seen) + below seen < 2 ^ 63
+  below-room = omega (arith, span-fits, known first .small, below-within seen)
+
+  above-room : natAbs (constant-part seen) + above seen < 2 ^ 63
+  above-room = omega (arith, span-fits, known first .small, above-within seen)
+
+down-is : (c : tie.After-signed Inv-loop μ-loop) → toZ w64 (ofZ w64 (c .signed .result)) ≡ pos (below (seen (c .before)))
+down-is c = answered (c .signed .ok) (c .signed .ensures ∙ ap pos (below-is (c .before)))
+
+up-is : (c : tie.After-signed2 Inv-loop μ-loop) → toZ w64 (ofZ w64 (c .signed2 .result))
+    ≡ pos (above (seen (c .before .before)))
+up-is c = answered (c .signed2 .ok) (c .signed2 .ensures ∙ ap pos (above-is (c .before .before)))
+
+add-signed : tie.Need-add-signed Inv-loop μ-loop
+add-signed c = omega (arith, below-is c, below-room c)
+
+signed-requires : tie.Need-signed-requires Inv-loop μ-loop
+signed-requires c κs = omega (arith, below-is c, below-room c)
+
+add-signed-2 : tie.Need-add-signed-2 Inv-loop μ-loop
+add-signed-2 c = omega (arith, above-is (c .before), above-room (c .before))
+
+signed-requires-2 : tie.Need-signed-requires-2 Inv-loop μ-loop
+signed-requires-2 c κs = omega (arith, above-is (c .before), above-room (c .before))
+
+difference-requires : tie.Need-difference-requires Inv-loop μ-loop
+difference-requires c κs = rw (middle-is (c .before .before), down-is (c .before)) (below-room (c .before .before))
+
+sum-requires-2 : tie.Need-sum-requires-2 Inv-loop μ-loop
+sum-requires-2 c κs =
+    let l = c .before .before .before in rw (middle-is l, up-is (c .before)) (above-room l)
+
+returns : tie.Need-returns Inv-loop μ-loop
 unfolding range bounds
 returns c =
-    let a = c .before .before in
-    let m = middle (a .before .before) in
+    let d = c .before in
+    let u = d .before in
+    let m = middle-is (u .before .before) in
     rw (
-      answered (c .before .difference .ok) (c .before .difference .ensures ∙ ap₂ _-ℤ_ m (around a)),
-      answered (c .sum .ok) (c .sum .ensures ∙ ap₂ _+ℤ_ m (around a)),
+      answered (d .difference .ok) (d .difference .ensures ∙ ap₂ _-ℤ_ m (down-is (u .before))),
+      answered (c .sum2 .ok) (c .sum2 .ensures ∙ ap₂ _+ℤ_ m (up-is u)),
     )
 
 pub range-of-spec : {M : Type 1} → statement M
 range-of-spec =
     tie.close
     (tie.spec
-    constant-part-requires
-    variation-requires
-    signed-requires
-    difference-requires
+    Inv-loop
+    μ-loop
+    loop-holds
+    mul-t
+    element-copy-out-t
+    add-i
+    steady-requires
     sum-requires
+    fall-requires
+    add-below
+    rise-requires
+    add-above
+    loop-less
+    loop-again
+    add-signed
+    signed-requires
+    add-signed-2
+    signed-requires-2
+    difference-requires
+    sum-requires-2
     returns)
