@@ -2,31 +2,32 @@
 -- substitution the symmetric range refused runs, with everything that the claim asks for.
 use mathlib.Core.Path.{_≡_, refl, sym, _∙_, ap, ap₂, subst}
 use mathlib.Core.Bool.{Bool, true, false, not, _&&_}
-use mathlib.Core.List.{List, [], _∷_}
+use mathlib.Core.List.{[], _∷_}
 use Prim.Native.Nat.{ℕ, zero, suc, _+_, _*_, _≤_}
 use native.Mathlib.Omega.{arith}
 use borrow.Author.Tests.{ne-eqb}
 use lib.Dec.{leb·zero, leb·suc-zero}
 use lib.IntN.{ℤ, pos, negsuc, negℤ, _+ℤ_, natAbs}
-use lib.Signed.{leZ, _≤ℤ_}
+use lib.Signed.{leZ}
 use Rattle.algebra.specs.Ring.{Ring, pow}
 use Rattle.algebra.specs.RingLaws.{zero-+, zero-*, pow-one}
 use Rattle.algebra.specs.RingSolver.{𝟎, 𝟏, _⊞_, _⊠_, ring}
 use Rattle.algebra.specs.Ordered.{abs}
 use Rattle.algebra.specs.IntegerRing.{ℤR}
-use Rattle.algebra.specs.Rational.{ℚ, _+ℚ_, _*ℚ_, whole, _≤ℚ_}
+use Rattle.algebra.specs.Rational.{ℚ, _+ℚ_, _*ℚ_, whole}
 use Rattle.algebra.specs.RationalRing.{ℚR}
 use Rattle.algebra.specs.RationalOrder.{ℚO}
 use Rattle.algebra.specs.RationalLaws.{≤-whole}
-use Rattle.polynomial.specs.Polynomial.{monomial, eval}
+use Rattle.polynomial.specs.Polynomial.{monomial}
 use Rattle.polynomial.specs.Box.{none, more}
 use Rattle.polynomial.specs.Integral.{even, first, rest, all-even}
 use Rattle.fixed.specs.Fixed.{U}
 use Rattle.calculus.specs.Monomial.{degree}
-use Rattle.calculus.specs.Terms.{term, select, sum-over, size}
+use Rattle.calculus.specs.Terms.{term, sum-over}
 use Rattle.calculus.specs.Model.{Model, _-ℚ_, Point, In-box, value, Within}
 use Rattle.calculus.specs.Refusal.{done}
-use Rattle.calculus.specs.Operations.{Ends, is-constant, constant-part, is-even, can-fall, can-rise, below, above, range}
+use Rattle.calculus.specs.Operations.{Ends, is-constant, constant-part, is-even, can-fall, can-rise, below}
+use Rattle.calculus.specs.Operations.{above, range}
 use Rattle.calculus.specs.Book.{input, variable, multiply, substitute, Book, summary, run}
 use Rattle.calculus.specs.Outcome.{Function}
 use Rattle.calculus.specs.Claim.{Lies, Given, Claim}
@@ -126,7 +127,7 @@ module _ (e : ℕ) (some : 1 ≤ e) (h : even e ≡ true) where
   at-zero c = record {
     point = natural 0 ∷ [];
     inside = more (abs-zero ≤≤ natural-≤ 0 1 (omega arith)) none;
-    reached = U-value (power c e) (natural 0 ∷ []) 
+    reached = U-value (power c e) (natural 0 ∷ [])
         ∙ ap (λ p. whole c *ℚ (p *ℚ natural 1) +ℚ natural 0) (zero-power e some)
         ∙ ring 1 ℚR (λ c. c ⊠ (𝟎 ⊠ 𝟏) ⊞ 𝟎) (λ c. 𝟎) refl (whole c);
   }
@@ -162,7 +163,8 @@ module _ (e : ℕ) (some : 1 ≤ e) (h : even e ≡ true) where
       → ((f : Function) → Within f (power c e) → (x : Point) → In-box 1 x → Lies (f x) r)
       → Inside (range (power c e)) r
   power-narrowest c r hold = record {
-    low = ≤-whole (r .low) _ (hold (value m) (value-within m) (l .point) (unfold power in l .inside) .from ≤≡ l .reached);
+    low = ≤-whole (r .low) _
+        (hold (value m) (value-within m) (l .point) (unfold power in l .inside) .from ≤≡ l .reached);
     high = ≤-whole _ (r .high)
         (sym (u .reached) ≡≤ hold (value m) (value-within m) (u .point) (unfold power in u .inside) .to);
   }
@@ -190,13 +192,13 @@ unfoldable pub folded-result : Model
 folded-result = model 1 19
     (at-key 1 0x0000 (pos 1048570) ∷ at-key 1 0x2000 (minus 4194280) ∷ at-key 1 0x4000 (pos 4194280) ∷ [])
 
--- by the symmetric range what is put in reached from -3145722 to 1048576 and left the box
+-- by the symmetric range what is put in reaches below -U and leaves the box
 pub folding-refused : symmetric-in-box folding ≡ false
 unfolding runs forms symmetric-in-box symmetric-range variation folding
 folding-refused = refl
 
--- it reaches from -1048576 to 1048576
-pub folding-range : range folding ≡ ends (minus 1048576) (pos 1048576)
+-- it reaches from -U to U
+pub folding-range : range folding ≡ ends (minus U) (pos U)
 unfolding runs forms folding
 folding-range = refl
 

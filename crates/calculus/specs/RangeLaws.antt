@@ -9,7 +9,7 @@ use lib.Signed.{leZ, leZ-yes}
 use Rattle.algebra.specs.Ring.{Ring}
 use Rattle.algebra.specs.RingLaws.{zero-*}
 use Rattle.algebra.specs.RingSolver.{𝟎, 𝟏, _⊞_, _⊟_, _⊠_, ⊝_, ring}
-use Rattle.algebra.specs.Ordered.{Ordered, abs}
+use Rattle.algebra.specs.Ordered.{abs}
 use Rattle.algebra.specs.OrderedLaws.{abs-le, le-abs, neg-le-abs, +-mono, *-mono, neg-mono}
 use Rattle.algebra.specs.Rational.{ℚ, _+ℚ_, _*ℚ_, negℚ, whole, _≤ℚ_}
 use Rattle.algebra.specs.RationalRing.{ℚR}
@@ -21,8 +21,8 @@ use Rattle.fixed.specs.Fixed.{U}
 use Rattle.calculus.specs.Monomial.{degree}
 use Rattle.calculus.specs.Terms.{Terms, sum-over, sum-ℕ, sum-ℤ, size}
 use Rattle.calculus.specs.Model.{Model, _-ℚ_, Point, In-box}
-use Rattle.calculus.specs.Operations.{is-constant, constant-part, is-even, can-fall, can-rise, below, above, range}
-use Rattle.calculus.specs.Operations.{range-in-box}
+use Rattle.calculus.specs.Operations.{is-constant, constant-part, is-even, can-fall, can-rise, below, above}
+use Rattle.calculus.specs.Operations.{range, range-in-box}
 use Rattle.calculus.specs.Claim.{Lies}
 use Rattle.calculus.specs.TestLaws.{and-left, and-right}
 use Rattle.calculus.specs.MonomialLaws.{monomial-constant}
@@ -30,7 +30,6 @@ use Rattle.calculus.specs.SumLaws.{ℕ-addition, ℤ-addition, if-ℤ, i
 use Rattle.calculus.specs.UnitLaws.{natural, natural-+, U-cancel}
 use Rattle.calculus.specs.ValueLaws.{term-value, scaled-value, Near, scaled-nil, scaled-cons, term-≤}
 use Rattle.calculus.specs.ChainLaws.{_≤≤_, _≡≤_, _≤≡_, equal}
-open Ordered ℚO using (≤-refl)
 open Ring ℚR using (*-one)
 
 -- ---- one term: what it counts in the constant part, below it and above it

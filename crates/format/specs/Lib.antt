@@ -23,7 +23,7 @@ pub mod PlaceLaws
 -- The claim about a sheet, and its proof.
 pub mod SheetClaim
 pub mod SheetClaimProof
-pub mod RangeFacts
+pub mod RangeSheetFacts
 -- What loops that walk forward need.
 pub mod ReadLoopLaws
 pub mod WriteLoopLaws

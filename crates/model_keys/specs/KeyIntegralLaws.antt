@@ -61,11 +61,16 @@ lowest-bits z = first-bit 12 z 0x111 (lit< tt)
     ∙ ap (λ y. z % 4096 / 256 % 2 * 256 + y) (first-bit 4 (z % 4096 % 256) 1 (lit< tt)
     ∙ ap (λ y. z % 4096 % 256 / 16 % 2 * 16 + y) (and-mask (z % 4096 % 256 % 16) 1)))
 
+-- together they are 0 only where each is
+some : (z : ℕ) → 1 ≤ z → eqb z 0 ≡ false
+some z h = ne-eqb z 0 (λ e. omega (arith, h, e))
+
 no-bits : (a b c d : ℕ) → eqb (a * 4096 + (b * 256 + (c * 16 + d))) 0 ≡ eqb a 0 && eqb b 0 && eqb c 0 && eqb d 0
-no-bits (suc a) b c d = rw (eqb·suc-zero a) (ne-eqb (suc a * 4096 + (b * 256 + (c * 16 + d))) 0 (λ h. omega (arith, h)))
-no-bits zero (suc b) c d = rw (eqb·suc-zero b) (ne-eqb (zero * 4096 + (suc b * 256 + (c * 16 + d))) 0 (λ h. omega (arith, h)))
-no-bits zero zero (suc c) d = rw (eqb·suc-zero c) (ne-eqb (zero * 4096 + (zero * 256 + (suc c * 16 + d))) 0 (λ h. omega (arith, h)))
-no-bits zero zero zero (suc d) = rw (eqb·suc-zero d) (ne-eqb (zero * 4096 + (zero * 256 + (zero * 16 + suc d))) 0 (λ h. omega (arith, h)))
+no-bits (suc a) b c d = rw (eqb·suc-zero a) (some (suc a * 4096 + (b * 256 + (c * 16 + d))) (omega arith))
+no-bits zero (suc b) c d = rw (eqb·suc-zero b) (some (zero * 4096 + (suc b * 256 + (c * 16 + d))) (omega arith))
+no-bits zero zero (suc c) d = rw (eqb·suc-zero c) (some (zero * 4096 + (zero * 256 + (suc c * 16 + d))) (omega arith))
+no-bits zero zero zero (suc d) =
+    rw (eqb·suc-zero d) (some (zero * 4096 + (zero * 256 + (zero * 16 + suc d))) (omega arith))
 no-bits zero zero zero zero = refl
 
 pub word-even : (z : ℕ) → eqb (bitAnd z 0x1111) 0 ≡ key-even z

@@ -11,10 +11,18 @@ use Rattle.model_keys.specs.Keys.{key-even}
 unfoldable pub key-steady : ℕ → ℤ → ℤ
 key-steady z c = if-ℤ (eqb z 0) c
 
--- below it: |c| of any other key, but nothing where all exponents are even and c is not below 0
+-- below it, where all exponents are even: |c|, but nothing where c is not below 0
+unfoldable pub even-fall : ℤ → ℕ
+even-fall c = if-so ℕ-addition (not (leZ (pos 0) c)) (natAbs c)
+
+-- above it: |c|, but nothing where c is not above 0
+unfoldable pub even-rise : ℤ → ℕ
+even-rise c = if-so ℕ-addition (not (leZ c (pos 0))) (natAbs c)
+
+-- below it, of any key but 0: |c|, but nothing where all exponents are even and c is not below 0
 unfoldable pub key-fall : ℕ → ℤ → ℕ
 key-fall z c = if-so ℕ-addition (not (eqb z 0) && not (key-even z && leZ (pos 0) c)) (natAbs c)
 
--- above it: |c| of any other key, but nothing where all exponents are even and c is not above 0
+-- above it: |c|, but nothing where all exponents are even and c is not above 0
 unfoldable pub key-rise : ℕ → ℤ → ℕ
 key-rise z c = if-so ℕ-addition (not (eqb z 0) && not (key-even z && leZ c (pos 0))) (natAbs c)

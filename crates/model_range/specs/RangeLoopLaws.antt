@@ -19,7 +19,7 @@ use Rattle.model_keys.specs.KeyIntegralLaws.{even-exponents}
 use Rattle.model_types.specs.declared.Model.{Model}
 use Rattle.model_types.specs.declared.Term.{Term}
 use Rattle.model_types.specs.ModelStruct.{zero-term, view, view-term}
-use Rattle.model_types.specs.ModelStructLaws.{read, term-at, limits, key-fits-at, Summed, summed-first, summed-end}
+use Rattle.model_types.specs.ModelStructLaws.{read, limits, key-fits-at, Summed, summed-first, summed-end}
 use Rattle.model_types.specs.ModelStructLaws.{summed-turn, sum-room, sum-select-le, read-within-span}
 use Rattle.model_range.specs.KeyRange.{key-steady, key-fall, key-rise}
 
@@ -44,7 +44,8 @@ module _ (m : Model) (h : T (sound most-degree (view m))) (w : m .count ≤ leng
   }
 
   -- a sum of sizes is within the span, with the radius
-  sizes-small : (f : List ℕ → ℤ → Bool) (total i : ℕ) → Summed ℕ-addition (λ k c. natAbs c) f m total i → total + m .radius ≤ span (view m)
+  sizes-small : (f : List ℕ → ℤ → Bool) (total i : ℕ) → Summed ℕ-addition (λ k c. natAbs c) f m total i
+      → total + m .radius ≤ span (view m)
   unfolding size
   sizes-small f total i s = omega (
     arith,
@@ -54,12 +55,6 @@ module _ (m : Model) (h : T (sound most-degree (view m))) (w : m .count ≤ leng
   )
 
   module _ (z : ℤ) (b a i : ℕ) (s : Counted m z b a i) where
-    pub below-small : b + m .radius ≤ span (view m)
-    below-small = sizes-small can-fall b i (s .in-below)
-
-    pub above-small : a + m .radius ≤ span (view m)
-    above-small = sizes-small can-rise a i (s .in-above)
-
     pub middle-end : m .count ≤ i → z ≡ constant-part (view m)
     unfolding constant-part
     middle-end l = summed-end ℤ-addition _ _ m w z i (s .in-middle) l
@@ -80,7 +75,8 @@ module _ (m : Model) (h : T (sound most-degree (view m))) (w : m .count ≤ leng
       fits = key-fits-at most-degree m i (omega arith) h w l
 
       constant-key : is-constant (monomial-of (m .n) (at .key)) ≡ eqb (at .key) 0
-      constant-key = constant-monomial (m .n) (at .key) (limits most-degree m h .width) (fits-below (m .n) (at .key) fits)
+      constant-key = constant-monomial (m .n) (at .key) (limits most-degree m h .width)
+          (fits-below (m .n) (at .key) fits)
 
       even-key : is-even (monomial-of (m .n) (at .key)) ≡ key-even (at .key)
       unfolding is-even

@@ -1,5 +1,5 @@
 -- `range_of` counts the terms in one walk; all its sums are within the span.
-use mathlib.Core.Path.{_≡_, sym, _∙_, ap, ap₂}
+use mathlib.Core.Path.{_≡_, _∙_, ap, ap₂}
 use Prim.Native.Nat.{_+_, _-_, _^_, _≤_, _<_}
 use native.Mathlib.Omega.{arith}
 use borrow.Author.Needs.{needs}
@@ -17,8 +17,9 @@ use Rattle.model_types.specs.ModelStruct.{zero-term, view, bounds}
 use Rattle.model_types.specs.ModelStructLaws.{Limits, limits}
 use Rattle.model_range.specs.KeyRange.{key-steady, key-fall, key-rise}
 use Rattle.model_range.specs.RangeSizeLaws.{below-within, above-within}
-use Rattle.model_range.specs.RangeLoopLaws.{Counted, counted-first, counted-turn, steady-room, fall-room, rise-room}
-use Rattle.model_range.specs.RangeLoopLaws.{below-small, above-small, middle-end, below-end, above-end}
+use Rattle.model_range.specs.RangeLoopLaws.{Counted, counted-first, counted-turn}
+use Rattle.model_range.specs.RangeLoopLaws.{steady-room, fall-room, rise-room}
+use Rattle.model_range.specs.RangeLoopLaws.{middle-end, below-end, above-end}
 use Rattle.model_range.proofs.range_of.Statement.{statement}
 use Rattle.model_range.proofs.range_of.Tie as tie
 
@@ -157,7 +158,8 @@ module _ (c : tie.After-loop Inv-loop μ-loop) where
   above-room : natAbs (constant-part seen) + above seen < 2 ^ 63
   above-room = omega (arith, span-fits, known first .small, above-within seen)
 
-down-is : (c : tie.After-signed Inv-loop μ-loop) → toZ w64 (ofZ w64 (c .signed .result)) ≡ pos (below (seen (c .before)))
+down-is : (c : tie.After-signed Inv-loop μ-loop) → toZ w64 (ofZ w64 (c .signed .result))
+    ≡ pos (below (seen (c .before)))
 down-is c = answered (c .signed .ok) (c .signed .ensures ∙ ap pos (below-is (c .before)))
 
 up-is : (c : tie.After-signed2 Inv-loop μ-loop) → toZ w64 (ofZ w64 (c .signed2 .result))

@@ -1,5 +1,5 @@
 -- `steady` is the coefficient at key 0.
-use mathlib.Core.Path.{_≡_, refl, sym, _∙_, ap}
+use mathlib.Core.Path.{refl}
 use borrow.Author.Tests.{eq-eqb, ne-eqb}
 use mir.Facts.{toZ-ofZ}
 use Rattle.calculus.specs.SumLaws.{if-so}

@@ -1,5 +1,5 @@
--- Sheets that the symmetric range refused and that are accepted: the claim holds of each. The same as books, with what
--- the symmetric range said of them, stand in the crate calculus under this name.
+-- Sheets that the symmetric range refused and that are accepted: the claim holds of each. As books, with what the
+-- symmetric range says of them and with functions and a point for the claim, they stand in calculus/RangeFacts.
 use mathlib.Core.Path.{_≡_, refl}
 use mathlib.Core.List.{List, [], _∷_}
 use Prim.Native.Nat.{ℕ}
