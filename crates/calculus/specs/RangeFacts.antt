@@ -214,3 +214,5 @@ folded-claim = claim folded (summary folded-result) folded-runs
 -- and what it asks for is there: functions within the model, also such as are no polynomials, and a point
 pub folded-given : (j : Jump) → Given folded (jumping j folded) left
 folded-given j = record { functions = jumping-within j folded; point = unfold folded forms in left-inside }
+
+-- ---- a book that it refused with 12

@@ -1,13 +1,14 @@
 -- The range lies inside the symmetric one: what stays in the box by that stays in it by the range.
-use mathlib.Core.Path.{_≡_}
+use mathlib.Core.Path.{_≡_, ap}
 use mathlib.Core.Bool.{Bool, true, false, not, _&&_}
 use mathlib.Core.List.{List, [], _∷_}
-use Prim.Native.Nat.{ℕ, _≤_}
+use Prim.Native.Nat.{ℕ, zero, suc, _+_, _≤_, max}
 use native.Mathlib.Omega.{arith}
 use lib.Dec.{T, le→leb}
-use lib.IntN.{ℤ, pos, negℤ, natAbs}
+use lib.IntN.{ℤ, pos, negsuc, negℤ, _+ℤ_, _-ℤ_, natAbs}
 use lib.Signed.{leZ, _≤ℤ_, leZ-yes}
-use Rattle.algebra.specs.IntegerRing.{ℤO}
+use Rattle.algebra.specs.Integer.{natAbs-add, natAbs-neg}
+use Rattle.algebra.specs.IntegerRing.{ℤR, ℤO}
 use Rattle.algebra.specs.OrderedLaws.{+-mono, neg-mono}
 use Rattle.fixed.specs.Fixed.{U}
 use Rattle.calculus.specs.Terms.{Terms, select, sum-over, sum-ℕ, size}
@@ -81,3 +82,27 @@ in-box-kept m h = both (leZ (negℤ (pos U)) (range m .low)) _
     (range-inside m .low) .le)
     (ℤO .≤-trans {c = pos U} (range-inside m .high)
     (leZ-yes (and-right (leZ (negℤ (pos U)) (symmetric-range m .low)) _ h)) .le)
+
+-- ---- and no end is larger in size: the larger symmetric end has the size of the constant part and all that varies
+larger-end : (c : ℤ) (v : ℕ) → max (natAbs (c -ℤ pos v)) (natAbs (c +ℤ pos v)) ≡ natAbs c + v
+larger-end (pos n) v = omega (arith, natAbs-add (pos n) (negℤ (pos v)), natAbs-neg (pos v))
+larger-end (negsuc n) zero =
+    let e : natAbs (negsuc n +ℤ pos 0) ≡ suc n = ap natAbs (ℤR .+-zero (negsuc n)) in
+    let l : natAbs (negsuc n -ℤ pos 0) ≡ suc n = e in
+    omega arith
+larger-end (negsuc n) (suc v) = omega (arith, natAbs-add (negsuc n) (pos (suc v)))
+
+within : (c : ℤ) (b v : ℕ) → b ≤ v → (natAbs (c -ℤ pos b) ≤ natAbs c + v) × (natAbs (c +ℤ pos b) ≤ natAbs c + v)
+within c b v h = (
+  omega (arith, natAbs-add c (negℤ (pos b)), natAbs-neg (pos b)),
+  omega (arith, natAbs-add c (pos b)),
+)
+
+pub sizes-inside : (m : Model) → max (natAbs (range m .low)) (natAbs (range m .high))
+    ≤ max (natAbs (symmetric-range m .low)) (natAbs (symmetric-range m .high))
+unfolding range symmetric-range
+sizes-inside m = rw (larger-end (constant-part m) (variation m)) (omega (
+  arith,
+  within (constant-part m) (below m) (variation m) (below-varies m) .0,
+  within (constant-part m) (above m) (variation m) (above-varies m) .1,
+))
