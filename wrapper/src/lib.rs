@@ -12,7 +12,7 @@
 //! let sum = hechroung::add(&x, &half).accepted()?;
 //! let square = hechroung::multiply(2, &sum, &sum).accepted()?;
 //! let ends = range(&square).accepted()?;
-//! assert_eq!((ends.low, ends.high), (-1_835_008, 2_359_296));
+//! assert_eq!((ends.low, ends.high), (-786_432, 2_359_296));
 //! # Ok::<(), hechroung::Refusal>(())
 //! ```
 
