@@ -1,12 +1,12 @@
--- Facts beside the range. It cannot be narrower: both ends of one even power are attained. And a book whose
--- substitution the symmetric range refused runs, with everything that the claim asks for.
+-- Facts beside the range. It cannot be narrower: both ends of one even power are attained. And books that the symmetric
+-- range refused, a substitution and a quotient, run, with everything that the claim asks for.
 use mathlib.Core.Path.{_≡_, refl, sym, _∙_, ap, ap₂, subst}
 use mathlib.Core.Bool.{Bool, true, false, not, _&&_}
 use mathlib.Core.List.{[], _∷_}
 use Prim.Native.Nat.{ℕ, zero, suc, _+_, _*_, _≤_}
 use native.Mathlib.Omega.{arith}
 use borrow.Author.Tests.{ne-eqb}
-use lib.Dec.{leb·zero, leb·suc-zero}
+use lib.Dec.{ltb, leb·zero, leb·suc-zero}
 use lib.IntN.{ℤ, pos, negsuc, negℤ, _+ℤ_, natAbs}
 use lib.Signed.{leZ}
 use Rattle.algebra.specs.Ring.{Ring, pow}
@@ -24,12 +24,12 @@ use Rattle.polynomial.specs.Integral.{even, first, rest, all-even}
 use Rattle.fixed.specs.Fixed.{U}
 use Rattle.calculus.specs.Monomial.{degree}
 use Rattle.calculus.specs.Terms.{term, sum-over}
-use Rattle.calculus.specs.Model.{Model, _-ℚ_, Point, In-box, value, Within}
-use Rattle.calculus.specs.Refusal.{done}
+use Rattle.calculus.specs.Model.{Model, one-model, _-ℚ_, Point, In-box, value, Within}
+use Rattle.calculus.specs.Refusal.{accepted, done}
 use Rattle.calculus.specs.Operations.{Ends, is-constant, constant-part, is-even, can-fall, can-rise, below}
-use Rattle.calculus.specs.Operations.{above, range}
-use Rattle.calculus.specs.Book.{input, variable, multiply, substitute, Book, summary, run}
-use Rattle.calculus.specs.Outcome.{Function}
+use Rattle.calculus.specs.Operations.{above, range, deviation, largest-end}
+use Rattle.calculus.specs.Book.{input, constant, variable, multiply, substitute, quotient, Book, summary, run}
+use Rattle.calculus.specs.Outcome.{Function, functions}
 use Rattle.calculus.specs.Claim.{Lies, Given, Claim}
 use Rattle.calculus.specs.Forms.{at-key, model, book, ends, minus, forms}
 use Rattle.calculus.specs.Computing.{runs}
@@ -212,7 +212,46 @@ pub folded-claim : Claim folded (summary folded-result)
 folded-claim = claim folded (summary folded-result) folded-runs
 
 -- and what it asks for is there: functions within the model, also such as are no polynomials, and a point
-pub folded-given : (j : Jump) → Given folded (jumping j folded) left
-folded-given j = record { functions = jumping-within j folded; point = unfold folded forms in left-inside }
+pub folded-given : (j : Jump) → Given folded (functions (jumping j folded)) left
+folded-given j = record { inputs = jumping-within j folded; point = unfold folded forms in left-inside }
 
 -- ---- a book that it refused with 12
+-- 7/4 - 3/2 x^2, from 1/4 to 7/4: what is divided by
+unfoldable pub bending : Model
+bending = model 1 0 (at-key 1 0x0000 (pos 1835008) ∷ at-key 1 0x2000 (minus 1572864) ∷ [])
+
+-- a function of at most 3/U divided by it; the proposal is 0 for the quotient and 1 for the inverse
+unfoldable pub bent : Book
+bent = book 1 2 (model 1 3 [] ∷ bending ∷ [])
+    (input 0 ∷ input 1 ∷ constant (pos 0) ∷ constant (pos U) ∷ quotient 0 1 2 3 ∷ [])
+
+-- 1 - w g, which is -3/4 + 3/2 x^2, from -3/4 to 3/4
+unfoldable pub bent-form : Model
+bent-form = model 1 0 (at-key 1 0x0000 (minus 786432) ∷ at-key 1 0x2000 (pos 1572864) ∷ [])
+
+-- the result: no terms, radius 3 × U / (U - 3/4 U)
+unfoldable pub bent-result : Model
+bent-result = model 1 12 []
+
+-- its second form
+pub bent-deviates : deviation 2 bending (one-model 1) ≡ accepted bent-form
+unfolding runs forms bending bent-form
+bent-deviates = refl
+
+-- by the symmetric range that form reaches the unit, so that mu certifies nothing
+pub bent-refused : ltb (largest-end (symmetric-range bent-form)) U ≡ false
+unfolding runs forms symmetric-range variation bent-form
+bent-refused = refl
+
+-- and the book runs to its end
+pub bent-runs : run bent ≡ done (summary bent-result)
+unfolding runs forms bending bent bent-result
+bent-runs = refl
+
+-- so the claim holds of it
+pub bent-claim : Claim bent (summary bent-result)
+bent-claim = claim bent (summary bent-result) bent-runs
+
+-- and what it asks for is there
+pub bent-given : (j : Jump) → Given bent (functions (jumping j bent)) left
+bent-given j = record { inputs = jumping-within j bent; point = unfold bent forms in left-inside }

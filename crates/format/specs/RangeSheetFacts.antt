@@ -5,7 +5,7 @@ use mathlib.Core.List.{List, [], _∷_}
 use Prim.Native.Nat.{ℕ}
 use Rattle.calculus.specs.Refusal.{done, _followed-by_}
 use Rattle.calculus.specs.Book.{summary}
-use Rattle.calculus.specs.RangeFacts.{folding, folded, folded-result}
+use Rattle.calculus.specs.RangeFacts.{folding, folded, folded-result, bending, bent, bent-result}
 use Rattle.format.specs.HeldBook.{view-book}
 use Rattle.format.specs.Format.{read, run-sheet}
 use Rattle.format.specs.SheetClaim.{Sheet-claim}
@@ -31,4 +31,19 @@ pub folded-sheet-reads : read folded-sheet followed-by (λ h. done (view-book h)
 unfolding reads sheet-forms folding folded folded-sheet
 folded-sheet-reads = refl
 
--- ---- by 12
+-- ---- by 12: a function of at most 3/U divided by 7/4 - 3/2 x^2
+unfoldable pub bent-sheet : List ℕ
+bent-sheet = hex ("03 00 00 00 00" ∷ "00 00 00 00 02 00 00 00 00 1C 00 00 20 00 00 E8 FF" ∷ "00 00 00 00 00 00 00 00" ∷
+    "00 01 00 00 00 00 00 00" ∷ "01 00 00 00 00 00 00 00" ∷ "01 00 00 00 00 00 10 00" ∷ "09 00 01 02 03 00 00 00" ∷
+    "01 02 02 05 16 00 4D 4B" ∷ [])
+
+pub bent-sheet-runs : run-sheet bent-sheet ≡ done (summary bent-result)
+unfolding reads sheet-forms bent-sheet bent-result
+bent-sheet-runs = refl
+
+pub bent-sheet-claim : Sheet-claim bent-sheet (summary bent-result)
+bent-sheet-claim = sheet-claim bent-sheet (summary bent-result) bent-sheet-runs
+
+pub bent-sheet-reads : read bent-sheet followed-by (λ h. done (view-book h)) ≡ done bent
+unfolding reads sheet-forms bending bent bent-sheet
+bent-sheet-reads = refl
