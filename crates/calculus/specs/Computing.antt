@@ -36,7 +36,7 @@ unfolding
     R.require R._then_
     O.limited O.constant O.variable O.negate O.add O.subtract
     O.products O.within-order O.above-order O.carried O.rounding O.swept O.error O.kept O.multiply
-    O.is-constant O.constant-part O.is-even O.can-fall O.can-rise O.below O.above O.range O.range-in-box
+    O.is-constant O.constant-part O.even-powers O.can-fall O.can-rise O.below O.above O.range O.range-in-box
     O.largest-exponent O.part-terms O.part O.horner O.widen O.substitute
     O.bare O.defect O.deviation O.largest-end O.largest-value O.quotient-radius O.certified O.quotient
     O.is-small O.sweep O.integral-sum O.integral

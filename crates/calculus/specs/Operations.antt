@@ -115,16 +115,16 @@ constant-part m = sum-ℤ (λ k c. c) (select (λ k c. is-constant k) (m .terms)
 
 -- all exponents are even: such a term, if it is not the constant, counts as lying between 0 and c; any other between
 -- -|c| and |c|
-unfoldable pub is-even : List ℕ → Bool
-is-even k = all-even (length k) k
+unfoldable pub even-powers : List ℕ → Bool
+even-powers k = all-even (length k) k
 
 -- so it can lie below 0 unless it is even and c is not below 0
 unfoldable pub can-fall : List ℕ → ℤ → Bool
-can-fall k c = not (is-constant k) && not (is-even k && leZ (pos 0) c)
+can-fall k c = not (is-constant k) && not (even-powers k && leZ (pos 0) c)
 
 -- and above 0 unless it is even and c is not above 0
 unfoldable pub can-rise : List ℕ → ℤ → Bool
-can-rise k c = not (is-constant k) && not (is-even k && leZ c (pos 0))
+can-rise k c = not (is-constant k) && not (even-powers k && leZ c (pos 0))
 
 -- the sum of the |c| that can lie below 0, and e
 unfoldable pub below : Model → ℕ

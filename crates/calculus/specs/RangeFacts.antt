@@ -26,7 +26,7 @@ use Rattle.calculus.specs.Monomial.{degree}
 use Rattle.calculus.specs.Terms.{term, sum-over}
 use Rattle.calculus.specs.Model.{Model, one-model, _-ℚ_, Point, In-box, value, Within}
 use Rattle.calculus.specs.Refusal.{accepted, done}
-use Rattle.calculus.specs.Operations.{Ends, is-constant, constant-part, is-even, can-fall, can-rise, below}
+use Rattle.calculus.specs.Operations.{Ends, is-constant, constant-part, even-powers, can-fall, can-rise, below}
 use Rattle.calculus.specs.Operations.{above, range, deviation, largest-end}
 use Rattle.calculus.specs.Book.{input, constant, variable, multiply, substitute, quotient, Book, summary, run}
 use Rattle.calculus.specs.Outcome.{Function, functions}
@@ -83,8 +83,8 @@ module _ (e : ℕ) (some : 1 ≤ e) (h : even e ≡ true) where
   unfolding is-constant degree
   not-constant = ne-eqb (e + 0) 0 (λ z. omega (arith, some, z))
 
-  all-are-even : is-even (e ∷ []) ≡ true
-  unfolding is-even all-even first rest
+  all-are-even : even-powers (e ∷ []) ≡ true
+  unfolding even-powers all-even first rest
   all-are-even = ap (λ b. elim b as (λ b. Bool) [ true ↦ true | false ↦ false ]) h
 
   -- its range is from the one to the other

@@ -13,8 +13,8 @@ use Rattle.algebra.specs.OrderedLaws.{+-mono, neg-mono}
 use Rattle.fixed.specs.Fixed.{U}
 use Rattle.calculus.specs.Terms.{Terms, select, sum-over, sum-ℕ, size}
 use Rattle.calculus.specs.Model.{Model}
-use Rattle.calculus.specs.Operations.{Ends, is-constant, constant-part, is-even, can-fall, can-rise, below, above}
-use Rattle.calculus.specs.Operations.{range, range-in-box}
+use Rattle.calculus.specs.Operations.{Ends, is-constant, constant-part, even-powers, can-fall, can-rise, below}
+use Rattle.calculus.specs.Operations.{above, range, range-in-box}
 use Rattle.calculus.specs.SymmetricRange.{variation, symmetric-range, symmetric-in-box}
 use Rattle.calculus.specs.TestLaws.{and-left, and-right, both}
 use Rattle.calculus.specs.SumLaws.{ℕ-addition, if-so, sum-select}
@@ -45,8 +45,8 @@ below-varies m = omega (
   arith,
   below-sum m,
   varies-sum m,
-  sum-mono fall varies (λ k c. unfold can-fall varies in fewer (not (is-constant k)) (not (is-even k && leZ (pos 0) c))
-      (natAbs c)) (m .terms),
+  sum-mono fall varies (λ k c. unfold can-fall varies in
+      fewer (not (is-constant k)) (not (even-powers k && leZ (pos 0) c)) (natAbs c)) (m .terms),
 )
 
 pub above-varies : (m : Model) → above m ≤ variation m
@@ -55,8 +55,8 @@ above-varies m = omega (
   arith,
   above-sum m,
   varies-sum m,
-  sum-mono rise varies (λ k c. unfold can-rise varies in fewer (not (is-constant k)) (not (is-even k && leZ c (pos 0)))
-      (natAbs c)) (m .terms),
+  sum-mono rise varies (λ k c. unfold can-rise varies in
+      fewer (not (is-constant k)) (not (even-powers k && leZ c (pos 0))) (natAbs c)) (m .terms),
 )
 
 -- ---- so the ends lie inside

@@ -21,7 +21,7 @@ use Rattle.fixed.specs.Fixed.{U}
 use Rattle.calculus.specs.Monomial.{degree}
 use Rattle.calculus.specs.Terms.{Terms, sum-over, sum-ℕ, sum-ℤ, size}
 use Rattle.calculus.specs.Model.{Model, _-ℚ_, Point, In-box}
-use Rattle.calculus.specs.Operations.{is-constant, constant-part, is-even, can-fall, can-rise, below, above}
+use Rattle.calculus.specs.Operations.{is-constant, constant-part, even-powers, can-fall, can-rise, below, above}
 use Rattle.calculus.specs.Operations.{range, range-in-box}
 use Rattle.calculus.specs.Claim.{Lies}
 use Rattle.calculus.specs.TestLaws.{and-left, and-right}
@@ -68,17 +68,19 @@ module _ {n : ℕ} {x : Point} (b : In-box n x) where
   at-constant k c h = ap (λ m. whole c *ℚ m) (monomial-constant k x (eqb→eq (degree k) 0 h)) ∙ *-one _
 
   term-from : (k : List ℕ) (c : ℤ) → whole (steady k c) -ℚ natural (fall k c) ≤ℚ term-value x k c
-  unfolding can-fall is-even
-  term-from k c = from-cases c (term-value x k c) (term-≤ b k c) (is-constant k) (is-even k && leZ (pos 0) c)
+  unfolding can-fall even-powers
+  term-from k c = from-cases c (term-value x k c) (term-≤ b k c) (is-constant k) (even-powers k && leZ (pos 0) c)
       (at-constant k c)
       (λ h. sym (zero-* ℚR (monomial ℚR k x))
-      ≡≤ *-mono ℚO (monomial-even ℚO k x (and-left (is-even k) _ h)) (whole-≤ (leZ-yes (and-right (is-even k) _ h))))
+      ≡≤ *-mono ℚO (monomial-even ℚO k x (and-left (even-powers k) _ h))
+      (whole-≤ (leZ-yes (and-right (even-powers k) _ h))))
 
   term-to : (k : List ℕ) (c : ℤ) → term-value x k c ≤ℚ whole (steady k c) +ℚ natural (rise k c)
-  unfolding can-rise is-even
-  term-to k c = to-cases c (term-value x k c) (term-≤ b k c) (is-constant k) (is-even k && leZ c (pos 0))
+  unfolding can-rise even-powers
+  term-to k c = to-cases c (term-value x k c) (term-≤ b k c) (is-constant k) (even-powers k && leZ c (pos 0))
       (at-constant k c)
-      (λ h. *-mono ℚO (monomial-even ℚO k x (and-left (is-even k) _ h)) (whole-≤ (leZ-yes (and-right (is-even k) _ h)))
+      (λ h. *-mono ℚO (monomial-even ℚO k x (and-left (even-powers k) _ h))
+      (whole-≤ (leZ-yes (and-right (even-powers k) _ h)))
       ≤≡ zero-* ℚR (monomial ℚR k x))
 
   -- ---- all terms

@@ -13,7 +13,7 @@ use Rattle.calculus.specs.MonomialKeyLaws.{fits-below, constant-monomial}
 use Rattle.calculus.specs.Terms.{size}
 use Rattle.calculus.specs.SumLaws.{ℕ-addition, ℤ-addition, if-ℤ, if-so}
 use Rattle.calculus.specs.Model.{most-degree, span, sound}
-use Rattle.calculus.specs.Operations.{is-constant, constant-part, is-even, can-fall, can-rise, below, above}
+use Rattle.calculus.specs.Operations.{is-constant, constant-part, even-powers, can-fall, can-rise, below, above}
 use Rattle.model_keys.specs.Keys.{key-even}
 use Rattle.model_keys.specs.KeyIntegralLaws.{even-exponents}
 use Rattle.model_types.specs.declared.Model.{Model}
@@ -78,8 +78,8 @@ module _ (m : Model) (h : T (sound most-degree (view m))) (w : m .count ≤ leng
       constant-key = constant-monomial (m .n) (at .key) (limits most-degree m h .width)
           (fits-below (m .n) (at .key) fits)
 
-      even-key : is-even (monomial-of (m .n) (at .key)) ≡ key-even (at .key)
-      unfolding is-even
+      even-key : even-powers (monomial-of (m .n) (at .key)) ≡ key-even (at .key)
+      unfolding even-powers
       even-key = even-exponents (m .n) (at .key) (limits most-degree m h .width) fits
 
       -- the coefficient fits beside the sum
