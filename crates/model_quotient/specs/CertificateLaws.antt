@@ -18,7 +18,7 @@ use Rattle.calculus.specs.Model as C
 use Rattle.calculus.specs.Model.{most-degree, most-terms, sound, span}
 use Rattle.calculus.specs.Refusal as R
 use Rattle.calculus.specs.Refusal.{uncertified, stopped, at-place, require}
-use Rattle.calculus.specs.Operations.{limited, widen, bare, range, constant-part, variation, defect, deviation}
+use Rattle.calculus.specs.Operations.{limited, widen, bare, range, constant-part, below, above, defect, deviation}
 use Rattle.calculus.specs.Operations.{largest-end, largest-value, quotient-radius, certified, quotient}
 use Rattle.calculus.specs.SoundLaws.{sound-parts}
 use Rattle.model_types.specs.declared.Term.{Term}
@@ -32,7 +32,7 @@ use Rattle.model_types.specs.ModelStructLaws.{limits, vars-range, sound-vars, v
 use Rattle.model_types.specs.ResultLaws.{sound-order, taken-sound, taken-then, refused-then}
 use Rattle.model_limits.specs.Limits.{Packed}
 use Rattle.model_limits.specs.LimitLaws.{pack-packed}
-use Rattle.model_range.specs.RangeSizeLaws.{range-within}
+use Rattle.model_range.specs.RangeSizeLaws.{below-within, above-within}
 use Rattle.model_proposal.specs.Proposal.{Proposal}
 use Rattle.model_proposal.specs.FormLaws.{struct-vars, defect-sound, deviation-sound}
 use Rattle.model_quotient.specs.Certificate.{with-radius, judged, Judged}
@@ -43,10 +43,11 @@ pub largest-within : (m : C.Model) → largest-value m ≤ span m
 unfolding largest-value largest-end range
 largest-within m = omega (
   arith,
-  natAbs-add (constant-part m) (negℤ (pos (variation m))),
-  natAbs-neg (pos (variation m)),
-  natAbs-add (constant-part m) (pos (variation m)),
-  range-within m,
+  natAbs-add (constant-part m) (negℤ (pos (below m))),
+  natAbs-neg (pos (below m)),
+  natAbs-add (constant-part m) (pos (above m)),
+  below-within m,
+  above-within m,
 )
 
 -- ---- the certificate
