@@ -41,6 +41,23 @@ type Call = unsafe extern "C" fn(
     numbers_length: usize,
 ) -> u8;
 
+type Ends = unsafe extern "C" fn(
+    code: u8,
+    n: u8,
+    count: usize,
+    radius: u64,
+    keys: *const u16,
+    keys_length: usize,
+    coefficients: *const i64,
+    coefficients_length: usize,
+    x1: i64,
+    x2: i64,
+    x3: i64,
+    x4: i64,
+    ends: *mut i64,
+    ends_length: usize,
+) -> u8;
+
 type Run = unsafe extern "C" fn(
     sheet: *const u8,
     sheet_length: usize,
@@ -65,6 +82,7 @@ type Record = unsafe extern "C" fn(
 /// The functions of one build. It stays loaded until the program ends.
 pub struct Library {
     call: Call,
+    ends: Ends,
     run: Run,
     record: Record,
 }
@@ -80,6 +98,12 @@ pub struct Answer {
 }
 
 impl Answer {
+    /// The same without the ends of the range, which come first.
+    pub fn without_range(mut self) -> Answer {
+        self.ends[..2].fill(0);
+        self
+    }
+
     const EMPTY: Answer = Answer {
         refusal: 0,
         numbers: [0; 4],
@@ -95,12 +119,16 @@ impl Library {
         // SAFETY: the path ends with a zero. The library has no code that runs when it is loaded.
         let library = unsafe { dlopen(file.as_ptr(), RTLD_NOW) };
         assert!(!library.is_null(), "{path}: {}", why());
-        // SAFETY: the three functions have these signatures, by the header that all builds share.
+        // SAFETY: the functions have these signatures, by the header that all builds share.
         unsafe {
             Library {
                 call: std::mem::transmute::<*mut c_void, Call>(function(
                     library,
                     c"hechroung_call",
+                )),
+                ends: std::mem::transmute::<*mut c_void, Ends>(function(
+                    library,
+                    c"hechroung_ends",
                 )),
                 run: std::mem::transmute::<*mut c_void, Run>(function(library, c"hechroung_run")),
                 record: std::mem::transmute::<*mut c_void, Record>(function(
@@ -144,6 +172,32 @@ impl Library {
             )
         };
         answer
+    }
+
+    /// The two ends of the range.
+    pub fn range(&self, f: &Model) -> [i64; 2] {
+        let mut ends = [0; 2];
+        // SAFETY: as in `multiply`.
+        let refusal = unsafe {
+            (self.ends)(
+                1,
+                f.n,
+                f.count,
+                f.radius,
+                f.keys.as_ptr(),
+                f.keys.len(),
+                f.coefficients.as_ptr(),
+                f.coefficients.len(),
+                0,
+                0,
+                0,
+                0,
+                ends.as_mut_ptr(),
+                ends.len(),
+            )
+        };
+        assert_eq!(refusal, 0, "the model is sound");
+        ends
     }
 
     pub fn run(&self, sheet: &[u8]) -> Answer {

@@ -1,6 +1,7 @@
 //! Two builds of the library by turns in one run, on the same inputs: for each row the ratio of their times, new / old,
 //! once for each seed. Every answer of one is compared with the other's, and the run stops where they differ.
-//! usage: versus NEW.so OLD.so SEEDS
+//! usage: versus NEW.so OLD.so SEEDS [ranges-differ]; with the last word the ends of ranges are not compared, for two
+//! builds with different rules for them
 
 mod inputs;
 mod loaded;
@@ -19,6 +20,13 @@ const SHEET_ROUNDS: usize = 60;
 /// The longest record: a model of 64 terms of 6 bytes, and more than its head.
 const ROOM: usize = 1_024;
 
+/// Whether both builds have one rule for ranges.
+#[derive(Clone, Copy, PartialEq)]
+enum Ranges {
+    Alike,
+    Differ,
+}
+
 /// The new build and the old one.
 type Builds = [Library; 2];
 
@@ -30,15 +38,18 @@ type Measure = Box<dyn Fn(&Builds, &mut Random) -> Times>;
 
 fn main() {
     let words: Vec<String> = std::env::args().skip(1).collect();
-    let [new, old, seeds] = &words[..] else {
-        panic!("usage: versus NEW.so OLD.so SEEDS");
+    let ([new, old, seeds], ranges) = (match &words[..] {
+        [first @ .., last] if last == "ranges-differ" => (first, Ranges::Differ),
+        all => (all, Ranges::Alike),
+    }) else {
+        panic!("usage: versus NEW.so OLD.so SEEDS [ranges-differ]");
     };
     let seeds: u64 = seeds.parse().expect("SEEDS is a number");
     assert!(seeds > 0, "at least one seed");
     let builds = [Library::load(new), Library::load(old)];
     println!("| Seeds: {seeds} | New, µs | Old, µs | New / old, median | Lowest | Highest |");
     println!("|---|---|---|---|---|---|");
-    for (name, measure) in rows() {
+    for (name, measure) in rows(ranges) {
         let times: Vec<Times> = (0..seeds)
             .map(|seed| measure(&builds, &mut Random::new(seed)))
             .collect();
@@ -46,7 +57,7 @@ fn main() {
     }
 }
 
-fn rows() -> Vec<(&'static str, Measure)> {
+fn rows(ranges: Ranges) -> Vec<(&'static str, Measure)> {
     vec![
         (
             "product, sparse 64 x 64, refused",
@@ -59,10 +70,18 @@ fn rows() -> Vec<(&'static str, Measure)> {
         ("product, sparse 1 x 1", product(1, 15, Kind::Kept)),
         ("product, sparse 8 x 8", product(8, 15, Kind::Kept)),
         ("product, sparse 24 x 24", product(24, 15, Kind::Kept)),
-        ("run, typical", run(typical)),
-        ("run, largest", run(|random| largest(random, STEPS))),
-        ("run, largest, 1 step", run(|random| largest(random, 1))),
-        ("run, largest, 8 steps", run(|random| largest(random, 8))),
+        ("range, sparse, 64 terms", range(64, 15, ranges)),
+        ("range, dense, 15 terms", range(15, 4, ranges)),
+        ("run, typical", run(typical, ranges)),
+        ("run, largest", run(|random| largest(random, STEPS), ranges)),
+        (
+            "run, largest, 1 step",
+            run(|random| largest(random, 1), ranges),
+        ),
+        (
+            "run, largest, 8 steps",
+            run(|random| largest(random, 8), ranges),
+        ),
         ("tests 1 to 6, largest", Box::new(tests)),
     ]
 }
@@ -83,11 +102,35 @@ fn product(terms: usize, order: u8, kind: Kind) -> Measure {
     })
 }
 
-fn run(sheet: impl Fn(&mut Random) -> Vec<u8> + 'static) -> Measure {
+fn range(terms: usize, order: u8, ranges: Ranges) -> Measure {
+    Box::new(move |builds, random| {
+        let models: Vec<_> = (0..PRODUCTS)
+            .map(|_| factors(random, terms, order, Kind::Kept).0)
+            .collect();
+        for f in &models {
+            let [new, old] = builds.each_ref().map(|build| build.range(f));
+            assert!(
+                ranges == Ranges::Differ || new == old,
+                "both builds give one range"
+            );
+        }
+        best(PRODUCT_ROUNDS, PRODUCTS, |way, input| {
+            let _ = black_box(builds[way].range(&models[input]));
+        })
+    })
+}
+
+fn run(sheet: impl Fn(&mut Random) -> Vec<u8> + 'static, ranges: Ranges) -> Measure {
     Box::new(move |builds, random| {
         let sheets: Vec<_> = (0..SHEETS).map(|_| sheet(random)).collect();
         for sheet in &sheets {
-            let [new, old] = builds.each_ref().map(|build| build.run(sheet));
+            let [new, old] = builds.each_ref().map(|build| {
+                let answer = build.run(sheet);
+                match ranges {
+                    Ranges::Alike => answer,
+                    Ranges::Differ => answer.without_range(),
+                }
+            });
             assert_eq!(new, old, "both builds give one result");
             assert_eq!(new.refusal, 0, "the sheet is accepted");
         }
