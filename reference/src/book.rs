@@ -29,6 +29,7 @@ pub const MULTIPLY: u8 = 6;
 pub const SUBSTITUTE: u8 = 7;
 pub const SWEEP: u8 = 8;
 pub const QUOTIENT: u8 = 9;
+pub const ANTIDERIVATIVE: u8 = 10;
 
 impl Step {
     const ZEROS: Step = Step {
@@ -99,6 +100,14 @@ impl Step {
         }
     }
 
+    /// The antiderivative of step a in variable v.
+    pub fn antiderivative(a: u8, v: u8) -> Step {
+        Step {
+            v,
+            ..Step::one(ANTIDERIVATIVE, a)
+        }
+    }
+
     pub fn to_bytes(self) -> [u8; 8] {
         let [v0, v1, v2, v3] = self.value.to_le_bytes();
         [self.code, self.a, self.b, self.v, v0, v1, v2, v3]
@@ -137,6 +146,7 @@ impl Step {
                 let step_w = usize::try_from(self.value).is_ok_and(|w| w < number);
                 earlier(self.a) && earlier(self.b) && earlier(self.v) && step_w
             }
+            ANTIDERIVATIVE => earlier(self.a) && variable && no_b && no_value,
             SWEEP => earlier(self.a) && (0..=LARGEST_SPAN).contains(&value) && no_b && no_v,
             _ => false,
         }

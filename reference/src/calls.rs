@@ -100,6 +100,13 @@ pub fn quotient(
     ModelAnswer::from(try_quotient([f, g, h, w], order))
 }
 
+/// The antiderivative of f in variable i (from 1) that is zero wherever that
+/// variable is 0. Tests 3 (the order), 5 and 6 (the variable); nothing else can
+/// be refused.
+pub fn antiderivative(f: &StoredModel, i: u8, order: u8) -> ModelAnswer {
+    ModelAnswer::from(try_antiderivative(f, i, order))
+}
+
 /// Tests 5.
 pub fn range(f: &StoredModel) -> EndsAnswer {
     EndsAnswer::from(only_model(f).map(|f| operations::range(&f)))
@@ -171,6 +178,13 @@ fn try_sweep(f: &StoredModel, threshold: i64) -> Result<Model, Refusal> {
     let threshold = i128::from(threshold);
     require((0..=LARGEST_SPAN).contains(&threshold), Refusal::Step(0))?;
     Ok(operations::sweep(&f, threshold))
+}
+
+fn try_antiderivative(f: &StoredModel, i: u8, order: u8) -> Result<Model, Refusal> {
+    let order = handed_order(order)?;
+    let f = f.sound(order).ok_or(Refusal::Model(0))?;
+    let i = handed_variable(i, f.n)?;
+    Ok(operations::antiderivative(&f, i, order))
 }
 
 fn try_evaluate(f: &StoredModel, point: &[i64; MOST_VARIABLES]) -> Result<Ends, Refusal> {
@@ -272,6 +286,11 @@ pub enum Call {
         w: Box<StoredModel>,
         order: u8,
     },
+    Antiderivative {
+        f: Box<StoredModel>,
+        i: u8,
+        order: u8,
+    },
     Range {
         f: Box<StoredModel>,
     },
@@ -324,6 +343,7 @@ impl Call {
             Call::Substitute { .. } => "substitute",
             Call::Sweep { .. } => "sweep",
             Call::Quotient { .. } => "quotient",
+            Call::Antiderivative { .. } => "antiderivative",
             Call::Range { .. } => "range",
             Call::Integral { .. } => "integral",
             Call::Evaluate { .. } => "evaluate",
@@ -342,6 +362,7 @@ impl Call {
             Call::Substitute { f, g, i, order } => substitute(f, g, *i, *order).into(),
             Call::Sweep { f, threshold } => sweep(f, *threshold).into(),
             Call::Quotient { f, g, h, w, order } => quotient(f, g, h, w, *order).into(),
+            Call::Antiderivative { f, i, order } => antiderivative(f, *i, *order).into(),
             Call::Range { f } => range(f).into(),
             Call::Integral { f } => integral(f).into(),
             Call::Evaluate { f, point } => evaluate(f, point).into(),

@@ -92,7 +92,7 @@ pub fn multiply(f: &Model, g: &Model, order: u32) -> Result<Model, Cause> {
     let mut polynomial = Polynomial::new();
     for (monomial, z) in collected_products(&f.polynomial, &g.polynomial) {
         let kept = degree(&monomial) <= order;
-        let c = if kept { nearest_unit(z) } else { 0 };
+        let c = if kept { nearest(z, UNIT) } else { 0 };
         // With c = 0 this is |z|, which covers the degrees above the order.
         excess += (z - c * UNIT).abs();
         if c != 0 {
@@ -121,11 +121,12 @@ fn monomial_product(left: &Monomial, right: &Monomial) -> Monomial {
     std::array::from_fn(|i| left[i] + right[i])
 }
 
-/// z / U rounded to the nearest whole number; halfway cases go to the even one.
-fn nearest_unit(z: i128) -> i128 {
-    let below = divided_down(z, UNIT);
-    let rest = z - below * UNIT;
-    match rest.cmp(&(UNIT / 2)) {
+/// Rounded to the nearest whole number; halfway cases go to the even one. The
+/// divisor is positive.
+fn nearest(number: i128, divisor: i128) -> i128 {
+    let below = divided_down(number, divisor);
+    let rest = number - below * divisor;
+    match (2 * rest).cmp(&divisor) {
         Ordering::Less => below,
         Ordering::Greater => below + 1,
         Ordering::Equal => below + below.rem_euclid(2),
@@ -227,6 +228,32 @@ pub fn sweep(f: &Model, threshold: i128) -> Model {
         }
     }
     swept
+}
+
+/// The antiderivative in variable i (from 1) that is zero wherever that variable
+/// is 0. Neither more terms nor a larger span can come of it: a term's rounded
+/// share and what it adds to the radius are together at most |c|.
+pub fn antiderivative(f: &Model, i: usize, order: u32) -> Model {
+    let mut gathered = Model::zero(f.n);
+    gathered.radius = f.radius;
+    for (monomial, &c) in &f.polynomial {
+        let mut raised = *monomial;
+        raised[i - 1] += 1;
+        let k = i128::from(raised[i - 1]);
+        if degree(&raised) > order {
+            gathered.radius += divided_up(c.abs(), k);
+            continue;
+        }
+        let share = nearest(c, k);
+        if share * k != c {
+            // Counted also where the share is 0 and dropped.
+            gathered.radius += 1;
+        }
+        if share != 0 {
+            gathered.polynomial.insert(raised, share);
+        }
+    }
+    gathered
 }
 
 /// The constant coefficient, minus and plus e and what the other terms count:

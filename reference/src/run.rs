@@ -1,8 +1,8 @@
 //! Running a sheet or a book.
 
 use crate::book::{
-    Book, SoundBook, Step, ADD, CONSTANT, INPUT, MULTIPLY, NEGATE, QUOTIENT, SUBSTITUTE, SUBTRACT,
-    SWEEP, VARIABLE,
+    Book, SoundBook, Step, ADD, ANTIDERIVATIVE, CONSTANT, INPUT, MULTIPLY, NEGATE, QUOTIENT,
+    SUBSTITUTE, SUBTRACT, SWEEP, VARIABLE,
 };
 use crate::model::Model;
 use crate::operations::{self, Cause, Ends};
@@ -100,6 +100,7 @@ pub fn perform(step: &Step, book: &SoundBook, earlier: &[Model]) -> Result<Model
             let (f, g) = (&earlier[a], &earlier[b]);
             operations::quotient(f, g, &earlier[v], &earlier[w], book.order)
         }
+        ANTIDERIVATIVE => Ok(operations::antiderivative(&earlier[a], v, book.order)),
         _ => unreachable!("test 6 leaves only the codes above"),
     }
 }

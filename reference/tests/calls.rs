@@ -208,7 +208,7 @@ fn every_call_reaches_its_refusals() {
     let product = [(3, 0), (5, 0), (5, 1), (7, 0), (8, 0), (10, 0)];
     let substitution = [(6, 0), (9, 0)];
     let quotient = [(5, 2), (5, 3), (12, 0)];
-    let expected: [(&str, Vec<(u8, usize)>); 12] = [
+    let expected: [(&str, Vec<(u8, usize)>); 13] = [
         ("constant", vec![(3, 0), (6, 0)]),
         ("variable", vec![(3, 0), (6, 0)]),
         ("negate", vec![(5, 0)]),
@@ -218,6 +218,7 @@ fn every_call_reaches_its_refusals() {
         ("substitute", [product.as_slice(), &substitution].concat()),
         ("quotient", [product.as_slice(), &quotient].concat()),
         ("sweep", vec![(5, 0), (6, 0)]),
+        ("antiderivative", vec![(3, 0), (5, 0), (6, 0)]),
         ("range", vec![(5, 0)]),
         ("integral", vec![(5, 0)]),
         ("evaluate", vec![(5, 0), (6, 0), (7, 0), (9, 0)]),

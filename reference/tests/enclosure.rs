@@ -17,6 +17,7 @@ struct Total {
     sheets: usize,
     points: usize,
     points_too_large: usize,
+    points_not_promised: usize,
     integrals: usize,
 }
 
@@ -25,13 +26,18 @@ impl Total {
         self.sheets += 1;
         self.points += checked.points;
         self.points_too_large += checked.points_too_large;
+        self.points_not_promised += checked.points_not_promised;
         self.integrals += usize::from(checked.integral);
     }
 
     fn print(&self, name: &str) {
         println!(
-            "{name}: {} sheets, {} points ({} too large), {} integrals",
-            self.sheets, self.points, self.points_too_large, self.integrals
+            "{name}: {} sheets, {} points ({} too large, {} not promised), {} integrals",
+            self.sheets,
+            self.points,
+            self.points_too_large,
+            self.points_not_promised,
+            self.integrals
         );
     }
 }
@@ -298,7 +304,7 @@ fn outcomes_of_quotients_put_in_are_exact() {
             Fraction::zero(),
             Fraction::zero(),
         ];
-        let found = outcome_at(&book, &[], &point, &SizeLimit::default());
+        let found = outcome_at(&book, &[], &[], &point, &SizeLimit::default());
         // q = (x/4) / (1 + x/4) = x / (4 + x), and q / (4 + q) = x / (16 + 5 x).
         let expected = Fraction::of(numerator, 16 * denominator + 5 * numerator);
         assert_eq!(found, Ok(expected));

@@ -282,8 +282,8 @@ fn operands_are_earlier_steps() {
         lines(1, &[], &[Step::quotient(0, 0, 0, 0)]),
         "refused 6 0\n"
     );
-    // Code 10 is none.
-    assert_eq!(with(Step { code: 10, ..kept }), "refused 6 2\n");
+    // Codes from 11 on are none.
+    assert_eq!(with(Step { code: 11, ..kept }), "refused 6 2\n");
 }
 
 fn refusal(models: [StoredModel; 4], order: u8) -> Option<(u8, usize)> {

@@ -4,7 +4,8 @@
 mod common;
 
 use common::pair;
-use reference::book::{Book, Step, ADD, MULTIPLY, NEGATE, QUOTIENT, SUBSTITUTE, SUBTRACT, SWEEP};
+use reference::book::{Book, Step, ADD, ANTIDERIVATIVE, MULTIPLY, NEGATE};
+use reference::book::{QUOTIENT, SUBSTITUTE, SUBTRACT, SWEEP};
 use reference::generate::{self, books, damage, faults, hostile, noise, sound};
 use reference::generate::{Expected, Random, Sample};
 use reference::operations::Ends;
@@ -204,7 +205,7 @@ impl Uses {
         for step in steps {
             let uses = |number: u8| from_quotient[usize::from(number)];
             let comes_from_one = match step.code {
-                NEGATE | SWEEP => uses(step.a),
+                NEGATE | SWEEP | ANTIDERIVATIVE => uses(step.a),
                 ADD | SUBTRACT | MULTIPLY | SUBSTITUTE => uses(step.a) || uses(step.b),
                 code => code == QUOTIENT,
             };

@@ -2,7 +2,9 @@
 
 use super::fraction::Fraction;
 use super::function::InputFunction;
-use super::outcome::{has_quotient, outcome_at, outcome_polynomial, NoOutcome, Point};
+use super::outcome::{
+    has_quotient, is_promised, outcome_at, outcome_polynomials, NoOutcome, Point,
+};
 use super::polynomial::{ExactPolynomial, SizeLimit};
 use crate::book::SoundBook;
 use crate::model::UNIT;
@@ -15,6 +17,8 @@ use crate::sheet;
 pub struct Checked {
     pub points: usize,
     pub points_too_large: usize,
+    /// Points of a sheet for which nothing is promised with these functions.
+    pub points_not_promised: usize,
     pub integral: bool,
 }
 
@@ -49,7 +53,8 @@ pub fn check_sheet(
 }
 
 /// Checks a claimed result, wherever it came from. Of a sheet with a quotient the
-/// integral is not claimed.
+/// integral is not claimed; of one with an antiderivative nothing is, unless all
+/// functions are polynomials and no quotient feeds an antiderivative.
 pub fn check_result(
     book: &SoundBook,
     result: &RunResult,
@@ -58,12 +63,17 @@ pub fn check_result(
 ) -> Result<Checked, Violation> {
     let limit = SizeLimit::default();
     let mut checked = Checked::default();
-    let polynomial = polynomial_outcome(book, functions, &limit);
+    if !is_promised(book, functions) {
+        checked.points_not_promised = points.len();
+        return Ok(checked);
+    }
+    let polynomials = outcome_polynomials(book, functions, &limit);
+    let polynomial = polynomials.last().and_then(Option::as_ref);
     for point in points {
-        match outcome_at(book, functions, point, &limit) {
+        match outcome_at(book, functions, &polynomials, point, &limit) {
             Ok(outcome) => {
                 check_point(result, &outcome, point)?;
-                check_agreement(polynomial.as_ref(), &outcome, point)?;
+                check_agreement(polynomial, &outcome, point)?;
                 checked.points += 1;
             }
             Err(NoOutcome::TooLarge) => checked.points_too_large += 1,
@@ -75,22 +85,13 @@ pub fn check_result(
             }
         }
     }
-    let with_integral = polynomial.filter(|_| !has_quotient(book));
+    let all_polynomials = functions.iter().all(|f| f.as_polynomial().is_some());
+    let with_integral = polynomial.filter(|_| all_polynomials && !has_quotient(book));
     if let Some(polynomial) = with_integral {
-        check_integral(book.n, result, &polynomial)?;
+        check_integral(book.n, result, polynomial)?;
         checked.integral = true;
     }
     Ok(checked)
-}
-
-fn polynomial_outcome(
-    book: &SoundBook,
-    functions: &[InputFunction],
-    limit: &SizeLimit,
-) -> Option<ExactPolynomial> {
-    let inputs: Option<Vec<&ExactPolynomial>> =
-        functions.iter().map(InputFunction::as_polynomial).collect();
-    outcome_polynomial(book, &inputs?, limit)
 }
 
 fn check_point(result: &RunResult, outcome: &Fraction, point: &Point) -> Result<(), Violation> {

@@ -4,8 +4,8 @@ use super::fraction::Fraction;
 use super::function::InputFunction;
 use super::polynomial::{ExactPolynomial, SizeLimit};
 use crate::book::{
-    SoundBook, Step, ADD, CONSTANT, INPUT, MULTIPLY, NEGATE, QUOTIENT, SUBSTITUTE, SUBTRACT, SWEEP,
-    VARIABLE,
+    SoundBook, Step, ADD, ANTIDERIVATIVE, CONSTANT, INPUT, MULTIPLY, NEGATE, QUOTIENT, SUBSTITUTE,
+    SUBTRACT, SWEEP, VARIABLE,
 };
 use crate::model::{MOST_VARIABLES, UNIT};
 
@@ -15,7 +15,8 @@ pub type Point = [Fraction; MOST_VARIABLES];
 /// Why there is no outcome.
 #[derive(Clone, Copy, Debug, PartialEq, Eq)]
 pub enum NoOutcome {
-    /// The numbers pass the limit; nothing is known.
+    /// The numbers pass the limit, or an antiderivative has no polynomial to be
+    /// taken of; nothing is known.
     TooLarge,
     /// The substitution of this step left the box, which an accepted sheet
     /// must not do.
@@ -25,16 +26,19 @@ pub enum NoOutcome {
 }
 
 /// The outcome of the last step at a point. Quotients that it does not use must
-/// have one as well: their divisors are never zero either.
+/// have one as well: their divisors are never zero either. An antiderivative's
+/// outcome comes from the outcomes as polynomials, one for each step.
 pub fn outcome_at(
     book: &SoundBook,
     functions: &[InputFunction],
+    polynomials: &[Option<ExactPolynomial>],
     point: &Point,
     limit: &SizeLimit,
 ) -> Result<Fraction, NoOutcome> {
     let mut outcomes = Outcomes {
         book,
         functions,
+        polynomials,
         limit,
         visited: Vec::new(),
     };
@@ -63,11 +67,51 @@ pub fn has_quotient(book: &SoundBook) -> bool {
     !quotients(book).is_empty()
 }
 
+/// Whether anything is promised for these functions. With an antiderivative in the
+/// sheet that takes polynomials as inputs, and no quotient that feeds one.
+pub fn is_promised(book: &SoundBook, functions: &[InputFunction]) -> bool {
+    let polynomials = functions.iter().all(|f| f.as_polynomial().is_some());
+    !has_antiderivative(book) || polynomials && !quotient_feeds_antiderivative(book)
+}
+
+/// Whether the sheet has an antiderivative.
+pub fn has_antiderivative(book: &SoundBook) -> bool {
+    book.steps.iter().any(|step| step.code == ANTIDERIVATIVE)
+}
+
+/// Whether a quotient feeds an antiderivative, directly or through other steps.
+pub fn quotient_feeds_antiderivative(book: &SoundBook) -> bool {
+    let fed = fed_by_quotient(&book.steps);
+    let steps = book.steps.iter();
+    steps
+        .zip(fed)
+        .any(|(step, fed)| step.code == ANTIDERIVATIVE && fed)
+}
+
+/// For each step whether it is a quotient or takes one in, directly or through
+/// other steps.
+pub fn fed_by_quotient(steps: &[Step]) -> Vec<bool> {
+    let mut fed: Vec<bool> = Vec::new();
+    for step in steps {
+        let (a, b, _) = operands(step);
+        let takes_one = match step.code {
+            INPUT | CONSTANT | VARIABLE => false,
+            NEGATE | SWEEP | ANTIDERIVATIVE => fed[a],
+            ADD | SUBTRACT | MULTIPLY | SUBSTITUTE => fed[a] || fed[b],
+            QUOTIENT => true,
+            _ => unreachable!("test 6 leaves only the codes above"),
+        };
+        fed.push(takes_one);
+    }
+    fed
+}
+
 /// Outcomes by point and step. Each point is visited once, however often
 /// substitutions lead there.
 struct Outcomes<'a> {
     book: &'a SoundBook,
     functions: &'a [InputFunction],
+    polynomials: &'a [Option<ExactPolynomial>],
     limit: &'a SizeLimit,
     visited: Vec<(Point, Vec<Option<Fraction>>)>,
 }
@@ -101,6 +145,15 @@ impl Outcomes<'_> {
             return Err(NoOutcome::TooLarge);
         }
         Ok(function.at(point))
+    }
+
+    fn of_polynomial(&self, number: usize, here: usize) -> Result<Fraction, NoOutcome> {
+        let point = &self.visited[here].0;
+        let polynomial = self.polynomials[number].as_ref();
+        polynomial
+            .filter(|polynomial| polynomial.bits_at(point) <= self.limit.bits)
+            .map(|polynomial| polynomial.at(point))
+            .ok_or(NoOutcome::TooLarge)
     }
 
     fn of_step(&mut self, number: usize, here: usize) -> Result<Fraction, NoOutcome> {
@@ -141,38 +194,39 @@ impl Outcomes<'_> {
                 let quotient = dividend.divided_by(&divisor);
                 quotient.ok_or(NoOutcome::ZeroDivisor(number))
             }
+            ANTIDERIVATIVE => self.of_polynomial(number, here),
             _ => unreachable!("test 6 leaves only the codes above"),
         }
     }
 }
 
-/// The outcome as a polynomial, or none if it is above the limit or comes from
-/// a quotient.
-pub fn outcome_polynomial(
+/// The outcome of each step as a polynomial, or none if it is above the limit or
+/// comes from a quotient or from a function that is no polynomial.
+pub fn outcome_polynomials(
     book: &SoundBook,
-    inputs: &[&ExactPolynomial],
+    functions: &[InputFunction],
     limit: &SizeLimit,
-) -> Option<ExactPolynomial> {
+) -> Vec<Option<ExactPolynomial>> {
     let mut outcomes: Vec<Option<ExactPolynomial>> = Vec::new();
     for step in &book.steps {
-        let outcome = polynomial_of_step(step, inputs, &outcomes, limit);
+        let outcome = polynomial_of_step(step, functions, &outcomes, limit);
         outcomes.push(outcome);
     }
-    outcomes.pop().flatten()
+    outcomes
 }
 
 /// A step too large to write down is none, and so is what depends on it; the
 /// last step may do without it.
 fn polynomial_of_step(
     step: &Step,
-    inputs: &[&ExactPolynomial],
+    functions: &[InputFunction],
     earlier: &[Option<ExactPolynomial>],
     limit: &SizeLimit,
 ) -> Option<ExactPolynomial> {
     let (a, b, v) = operands(step);
     let outcome = |number: usize| earlier[number].as_ref();
     match step.code {
-        INPUT => Some(inputs[a].clone()),
+        INPUT => functions[a].as_polynomial().cloned(),
         CONSTANT => Some(ExactPolynomial::constant(&constant_value(step))),
         VARIABLE => Some(ExactPolynomial::variable(v)),
         NEGATE => Some(outcome(a)?.negated()),
@@ -182,6 +236,7 @@ fn polynomial_of_step(
         SUBSTITUTE => outcome(a)?.substituted(v, outcome(b)?, limit),
         SWEEP => outcome(a).cloned(),
         QUOTIENT => None,
+        ANTIDERIVATIVE => outcome(a)?.antiderivative(v, limit),
         _ => unreachable!("test 6 leaves only the codes above"),
     }
 }

@@ -153,6 +153,32 @@ impl ExactPolynomial {
         Some(total)
     }
 
+    /// The antiderivative in variable i (from 1) that is zero wherever that
+    /// variable is 0, or none if it is above the limit.
+    pub fn antiderivative(&self, i: usize, limit: &SizeLimit) -> Option<ExactPolynomial> {
+        let raised = |exponents: &Exponents| {
+            let mut raised = *exponents;
+            raised[i - 1] += 1;
+            raised
+        };
+        // Every coefficient goes over one multiple of all new exponents.
+        let multiple = self.terms.keys().fold(Integer::one(), |multiple, e| {
+            let k = Integer::from(i128::from(e[i - 1]) + 1);
+            let common = multiple.greatest_common_divisor(&k);
+            &multiple * &k.divided_exactly(&common)
+        });
+        let share = |(exponents, c): (&Exponents, &Integer)| {
+            let raised = raised(exponents);
+            let k = Integer::from(i128::from(raised[i - 1]));
+            (raised, c * &multiple.divided_exactly(&k))
+        };
+        let total = ExactPolynomial {
+            terms: self.terms.iter().map(share).collect(),
+            denominator: &self.denominator * &multiple,
+        };
+        total.is_within(limit).then_some(total)
+    }
+
     /// What multiplies each power of variable i (from 1).
     fn split(&self, i: usize) -> BTreeMap<u32, ExactPolynomial> {
         let mut parts = BTreeMap::new();

@@ -7,7 +7,8 @@ use super::random::Random;
 use super::sound::{self, Shape};
 use super::{Expected, Kind};
 use crate::book::{
-    Step, ADD, CONSTANT, INPUT, MULTIPLY, NEGATE, QUOTIENT, SUBSTITUTE, SUBTRACT, SWEEP,
+    Step, ADD, ANTIDERIVATIVE, CONSTANT, INPUT, MULTIPLY, NEGATE, QUOTIENT, SUBSTITUTE, SUBTRACT,
+    SWEEP,
 };
 use crate::sheet::{LONGEST_SHEET, SHORTEST_SHEET, TRAILER_LENGTH};
 
@@ -438,7 +439,7 @@ fn model_and_step(random: &mut Random) -> Made {
     let (mut draft, number) = base_with_terms(random, n, d);
     draft.models[number].terms[0].1 = 0;
     let step = random.size(0, draft.steps.len() - 1);
-    draft.steps[step].code = random.byte(QUOTIENT + 1, 255);
+    draft.steps[step].code = random.byte(ANTIDERIVATIVE + 1, 255);
     broken_model(&draft, number)
 }
 
@@ -473,6 +474,7 @@ fn unnamed_field(random: &mut Random) -> Made {
             ADD | SUBTRACT | MULTIPLY => b"vw",
             SUBSTITUTE => b"w",
             SWEEP => b"bv",
+            ANTIDERIVATIVE => b"bw",
             _ => b"abw",
         };
         let small = if random.one_in(2) {
@@ -505,7 +507,17 @@ fn operand_not_earlier(random: &mut Random) -> Made {
         } else {
             (early, late)
         };
-        match random.byte(NEGATE, SWEEP) {
+        let codes = [
+            NEGATE,
+            ADD,
+            SUBTRACT,
+            MULTIPLY,
+            SUBSTITUTE,
+            SWEEP,
+            ANTIDERIVATIVE,
+        ];
+        match *random.pick(&codes) {
+            ANTIDERIVATIVE => Step::antiderivative(late, v),
             NEGATE => Step::one(NEGATE, late),
             SUBSTITUTE => Step::substitute(a, b, v),
             SWEEP => Step::sweep(late, 1),
@@ -574,9 +586,9 @@ fn unknown_code(random: &mut Random) -> Made {
     broken_step(random, |random, draft, number| {
         let mut step = kept_step(random, draft, number);
         step.code = if random.one_in(3) {
-            QUOTIENT + 1
+            ANTIDERIVATIVE + 1
         } else {
-            random.byte(QUOTIENT + 1, 255)
+            random.byte(ANTIDERIVATIVE + 1, 255)
         };
         step
     })
@@ -589,10 +601,10 @@ fn wrong_variable(random: &mut Random) -> Made {
             1 => draft.n + 1,
             _ => random.byte(draft.n + 1, 255),
         };
-        if number > 0 && random.one_in(2) {
-            Step::substitute(0, 0, v)
-        } else {
-            Step::variable(v)
+        match random.below(3) {
+            0 if number > 0 => Step::substitute(0, 0, v),
+            1 if number > 0 => Step::antiderivative(0, v),
+            _ => Step::variable(v),
         }
     })
 }

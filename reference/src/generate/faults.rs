@@ -9,7 +9,7 @@ use super::sound::{self, Shape};
 use super::{Expected, Kind};
 use crate::book::{Step, ADD, MOST_STEPS, MULTIPLY, SUBTRACT};
 
-pub const KINDS: [Kind; 19] = [
+pub const KINDS: [Kind; 20] = [
     kind("7 by a sum of constants", span_by_sum),
     kind("7 by a difference", span_by_difference),
     kind("7 by radii added", span_by_radii),
@@ -29,6 +29,7 @@ pub const KINDS: [Kind; 19] = [
     kind("9 by a constant", leaves_by_constant),
     kind("9 by a radius only", leaves_by_radius),
     kind("9 by an even power", leaves_by_even_power),
+    kind("9 by the growth of an antiderivative", leaves_by_growth),
     kind("9 where the variable is missing", leaves_without_variable),
     kind("7, 8 or 12 by a quotient", refused_quotient),
     kind("12 by a quotient", uncertified_quotient),
@@ -311,6 +312,21 @@ fn leaves_by_even_power(random: &mut Random) -> Made {
     let g = DraftModel::new(0, &[(0, -end), (key, 2 * end + sign)]);
     let g = draft.push_input(g);
     draft.push(Step::substitute(f, g, v));
+    refused(random, draft, 9)
+}
+
+/// 1 + c × x gathered is x + c/2 × x^2, and just inside without the 1 that c adds
+/// to the radius: as an odd c of a tiny size, or as one swept above the order.
+fn leaves_by_growth(random: &mut Random) -> Made {
+    let mut draft = before(random);
+    let v = random.byte(1, draft.n);
+    let key = 1_u16 << (16 - 4 * u32::from(v));
+    let f = draft.push(Step::variable(v));
+    let sign = random.sign() as i32;
+    let flow = DraftModel::new(0, &[(0, sign * UNIT as i32), (key, sign)]);
+    let flow = draft.push_input(flow);
+    let gathered = draft.push(Step::antiderivative(flow, v));
+    draft.push(Step::substitute(f, gathered, v));
     refused(random, draft, 9)
 }
 

@@ -2,12 +2,14 @@
 
 use super::random::Random;
 use crate::book::SoundBook;
+use crate::exact::outcome::has_antiderivative;
 use crate::exact::{ExactPolynomial, Fraction, InputFunction, Point};
 use crate::model::{Model, MOST_VARIABLES, UNIT};
 
-/// One function within each model of a book.
+/// One function within each model of a book. Where an antiderivative is taken they
+/// are mostly polynomials, as nothing is promised of others.
 pub fn within_models(random: &mut Random, book: &SoundBook) -> Vec<InputFunction> {
-    let jumping = random.one_in(4);
+    let jumping = random.one_in(if has_antiderivative(book) { 24 } else { 4 });
     let models = book.models.iter();
     models
         .map(|model| {

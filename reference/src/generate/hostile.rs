@@ -8,7 +8,7 @@ use crate::calls::Call;
 use crate::stored::{StoredModel, StoredTerm};
 
 /// How many kinds of single calls there are.
-pub const CALLS: u64 = 12;
+pub const CALLS: u64 = 13;
 
 /// A single call of any kind, one for each number from 0; numbers are
 /// independent of each other.
@@ -42,7 +42,8 @@ fn call_of_kind(random: &mut Random, kind: u64) -> Call {
         8 => Call::Range { f: one(random) },
         9 => Call::Integral { f: one(random) },
         10 => evaluate(random),
-        _ => quotient(random),
+        11 => quotient(random),
+        _ => antiderivative(random),
     }
 }
 
@@ -71,6 +72,26 @@ fn substitute(random: &mut Random) -> Call {
     }
     let i = small_number(random, 1, f.n.clamp(1, 4));
     Call::Substitute { f, g, i, order }
+}
+
+/// Often of a scale at which most divisions are inexact, and of a degree that the
+/// raised exponent takes above the order.
+fn antiderivative(random: &mut Random) -> Call {
+    let order = small_number(random, 1, 15);
+    let n = random.byte(1, 4);
+    let mut f = model(random, n, order);
+    if random.one_in(2) {
+        let count = random.size(0, 64);
+        let scale = *random.pick(&[Scale::Tiny, Scale::Inside, Scale::Full]);
+        let small = models::of_scale(random, n, order.clamp(1, 15), count, scale);
+        f = stored(random, n, &small);
+    }
+    let i = small_number(random, 1, f.n.clamp(1, 4));
+    Call::Antiderivative {
+        f: Box::new(f),
+        i,
+        order,
+    }
 }
 
 fn evaluate(random: &mut Random) -> Call {

@@ -53,6 +53,11 @@ pub fn key(random: &mut Random, n: u8, degree: u8) -> u16 {
         .fold(0, |key, exponent| key << 4 | exponent)
 }
 
+/// The total degree of a key's monomial.
+pub fn degree(key: u16) -> u8 {
+    (0..4).map(|i| (key >> (4 * i) & 15) as u8).sum()
+}
+
 /// How many monomials of n variables have a degree of at most `degree`.
 pub fn monomial_count(n: u8, degree: u8) -> usize {
     all_keys(n, degree).len()
@@ -61,10 +66,7 @@ pub fn monomial_count(n: u8, degree: u8) -> usize {
 /// All keys of n exponents with total degree at most `degree`, rising.
 pub fn all_keys(n: u8, degree: u8) -> Vec<u16> {
     let hidden = 0xFFFF_u16.checked_shr(4 * u32::from(n)).unwrap_or(0);
-    let allowed = |key: &u16| {
-        let total: u16 = (0..4).map(|i| key >> (4 * i) & 15).sum();
-        key & hidden == 0 && total <= u16::from(degree)
-    };
+    let allowed = |key: &u16| key & hidden == 0 && self::degree(*key) <= degree;
     (0..=u16::MAX).filter(allowed).collect()
 }
 

@@ -1,6 +1,7 @@
 //! Named sheets at the places where errors are plausible.
 
 use super::draft::{Draft, DraftModel};
+use super::models;
 use super::samples::{constants, input, one_variable, with_inputs, Samples, HALF, LARGEST, UNIT};
 use super::Sample;
 use crate::book::{Step, ADD, MULTIPLY, NEGATE, SUBTRACT};
@@ -17,6 +18,8 @@ pub fn samples() -> Vec<Sample> {
     chains(&mut list);
     quotients(&mut list);
     quotients_in_chains(&mut list);
+    antiderivatives(&mut list);
+    antiderivatives_in_chains(&mut list);
     two_faults(&mut list);
     faults_not_used(&mut list);
     list.into_vec()
@@ -297,6 +300,121 @@ fn quotients_in_chains(list: &mut Samples) {
     list.accept("quotients over quotients", &draft);
     draft.push(Step::quotient(3, last, 3, 3));
     list.refuse("one quotient too many", &draft, (12, 8));
+}
+
+/// Ties, what rounds to zero, exponents 14 and 15, and what is above the order.
+fn antiderivatives(list: &mut Samples) {
+    let of = |d: u8, radius: u32, terms: &[(u16, i32)]| {
+        let model = DraftModel::new(radius, terms);
+        with_inputs(1, d, &[model], Step::antiderivative(0, 1))
+    };
+    for c in -6..=6 {
+        for power in [1, 2, 3] {
+            if c != 0 {
+                let draft = of(4, 1, &[(power << 12, c)]);
+                list.accept(&format!("{c} x^{power} gathered"), &draft);
+                let draft = of(power as u8, 1, &[(power << 12, c)]);
+                list.accept(&format!("{c} x^{power} gathered and swept"), &draft);
+            }
+        }
+    }
+    for c in [1, 14, 15, 16, 17, -17, UNIT, LARGEST, -LARGEST] {
+        list.accept(&format!("{c} x^14 gathered"), &of(15, 0, &[(0xE000, c)]));
+        list.accept(&format!("{c} x^15 gathered"), &of(15, 0, &[(0xF000, c)]));
+    }
+    list.accept("a radius gathered", &of(1, LARGEST as u32, &[]));
+    list.accept("nothing gathered", &of(1, 0, &[]));
+    // A full span of 64 odd units in four variables: each costs a radius of 1.
+    let keys = models::all_keys(4, 15)
+        .into_iter()
+        .filter(|&key| key >= 0x1000);
+    let mut terms: Vec<(u16, i32)> = keys.take(64).map(|key| (key, 1)).collect();
+    terms[0].1 = LARGEST - 63;
+    for d in [1, 2, 15] {
+        let kept = terms.iter().filter(|(key, _)| models::degree(*key) <= d);
+        let kept: Vec<(u16, i32)> = kept.copied().collect();
+        let full = DraftModel::new(0, &kept);
+        for v in 1..=4 {
+            let draft = with_inputs(
+                4,
+                d,
+                std::slice::from_ref(&full),
+                Step::antiderivative(0, v),
+            );
+            list.accept(
+                &format!("a full span gathered, order {d}, variable {v}"),
+                &draft,
+            );
+        }
+    }
+    let whole = of(2, 0, &[(0, UNIT)]);
+    for (name, step) in [
+        ("the step itself", Step::antiderivative(1, 1)),
+        ("variable 0", Step::antiderivative(0, 0)),
+        ("variable 2 of 1", Step::antiderivative(0, 2)),
+        (
+            "a field b",
+            Step {
+                b: 1,
+                ..Step::antiderivative(0, 1)
+            },
+        ),
+        (
+            "a value",
+            Step {
+                value: -1,
+                ..Step::antiderivative(0, 1)
+            },
+        ),
+    ] {
+        let mut draft = whole.clone();
+        draft.steps[1] = step;
+        list.refuse(&format!("an antiderivative of {name}"), &draft, (6, 1));
+    }
+}
+
+/// Antiderivatives taken again, put in, put into, divided and fed by a quotient.
+fn antiderivatives_in_chains(list: &mut Samples) {
+    for d in [1, 2, 15] {
+        let mut steps = vec![Step::constant(UNIT)];
+        for number in 0..20 {
+            steps.push(Step::antiderivative(number, 1));
+        }
+        let draft = one_variable(d, &[], &steps);
+        list.accept(&format!("1 gathered 20 times, order {d}"), &draft);
+        // Step 4 is a quotient, step 0 x/4.
+        let mut draft = quarters_quotient(d);
+        let gathered = draft.push(Step::antiderivative(4, 1));
+        list.accept(&format!("a quotient gathered, order {d}"), &draft);
+        draft.push(Step::substitute(gathered, gathered, 1));
+        list.accept(&format!("a gathered quotient put in, order {d}"), &draft);
+        let mut draft = quarters_quotient(d);
+        let gathered = draft.push(Step::antiderivative(0, 1));
+        draft.push(Step::substitute(4, gathered, 1));
+        list.accept(
+            &format!("gathered and put into a quotient, order {d}"),
+            &draft,
+        );
+        let divisor = draft.push(Step::two(ADD, gathered, 3));
+        draft.push(Step::quotient(gathered, divisor, gathered, 3));
+        list.accept(
+            &format!("gathered on both sides of a quotient, order {d}"),
+            &draft,
+        );
+        draft.push(Step::quotient(3, gathered, 3, 3));
+        let name = format!("over an antiderivative, which is 0 at 0, order {d}");
+        list.refuse(&name, &draft, (12, 9));
+    }
+    // x + x^2 / (2 U): within the box but for the 1 that the tie adds.
+    let flow = |c: i32| {
+        let models = [power(1), DraftModel::new(0, &[(0, UNIT - 1), (0x1000, c)])];
+        let mut draft = with_inputs(1, 2, &models, Step::antiderivative(1, 1));
+        draft.push(Step::substitute(0, 2, 1));
+        draft
+    };
+    list.accept("gathered to the end of the box", &flow(1));
+    list.accept("gathered below the end of the box", &flow(-2));
+    list.refuse("gathered beyond the end of the box", &flow(3), (9, 3));
 }
 
 /// Two faults at once: the first test decides.

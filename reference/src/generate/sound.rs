@@ -6,8 +6,10 @@ use super::proposals::{self, Proposal};
 use super::quotients;
 use super::random::Random;
 use crate::book::{
-    SoundBook, Step, ADD, INPUT, MOST_MODELS, MOST_STEPS, MULTIPLY, NEGATE, SUBTRACT,
+    SoundBook, Step, ADD, ANTIDERIVATIVE, INPUT, MOST_MODELS, MOST_STEPS, MULTIPLY, NEGATE,
+    SUBTRACT,
 };
+use crate::exact::outcome::fed_by_quotient;
 use crate::model::Model;
 use crate::operations::{self, Cause, Ends};
 use crate::{run, sheet};
@@ -65,6 +67,8 @@ fn grown(
     refused_one_in: Option<u64>,
 ) -> Draft {
     let mut runner = Runner::new(&draft);
+    // Of most sheets with antiderivatives something is promised.
+    runner.apart = !random.one_in(4);
     let steps = random.size(1, shape.steps);
     // Some sheets have many quotients, and some have none.
     let quotient_one_in = *random.pick(&[2, 6, 15, u64::MAX]);
@@ -108,8 +112,8 @@ pub fn well_formed_step(random: &mut Random, draft: &Draft) -> Step {
         (0, 0) => random.byte(1, 2),
         (0, _) => random.byte(0, 2),
         // Operations come more often than the steps that feed them.
-        (_, 0) => random.byte(1, 12),
-        (_, _) => random.byte(0, 12),
+        (_, 0) => random.byte(1, 14),
+        (_, _) => random.byte(0, 14),
     };
     let earlier = |random: &mut Random| random.size(0, number - 1) as u8;
     let v = random.byte(1, draft.n);
@@ -122,6 +126,7 @@ pub fn well_formed_step(random: &mut Random, draft: &Draft) -> Step {
         5 => Step::two(SUBTRACT, recent(random, number), earlier(random)),
         6 | 9 => Step::two(MULTIPLY, recent(random, number), earlier(random)),
         7 | 10 | 11 => Step::substitute(recent(random, number), earlier(random), v),
+        13 | 14 => Step::antiderivative(recent(random, number), v),
         // Without a proposal, mostly refused.
         12 => {
             let (a, b) = (recent(random, number), earlier(random));
@@ -174,6 +179,8 @@ struct Runner {
     results: Vec<Model>,
     /// Set once a refused step stays: the run ends there.
     ended: bool,
+    /// Whether no quotient may feed an antiderivative.
+    apart: bool,
 }
 
 impl Runner {
@@ -187,6 +194,7 @@ impl Runner {
             book,
             results: Vec::new(),
             ended: false,
+            apart: false,
         }
     }
 
@@ -195,6 +203,9 @@ impl Runner {
             let step = well_formed_step(random, draft);
             if self.ended {
                 return step;
+            }
+            if step.code == ANTIDERIVATIVE && self.keeps_apart(draft, step.a) {
+                continue;
             }
             match run::perform(&step, &self.book, &self.results) {
                 Ok(result) => {
@@ -209,6 +220,11 @@ impl Runner {
             }
         }
         self.plain_step(random, draft)
+    }
+
+    /// Whether the step takes in a quotient that must not feed an antiderivative.
+    fn keeps_apart(&self, draft: &Draft, number: u8) -> bool {
+        self.apart && fed_by_quotient(&draft.steps)[usize::from(number)]
     }
 
     /// Adds a quotient that is accepted, with its divisor and its proposal, if
@@ -243,6 +259,11 @@ impl Runner {
         if !earlier.is_empty() && random.one_in(2) {
             return Some(*random.pick(&earlier) as u8);
         }
+        if room.steps >= 7 && random.one_in(3) {
+            if let Some(gathered) = self.gathered_divisor(random, draft) {
+                return Some(gathered);
+            }
+        }
         if room.models == 0 || random.one_in(8) {
             let size = random.between(1 << 16, 1 << 24);
             let constant = Step::constant((random.sign() * size) as i32);
@@ -251,6 +272,24 @@ impl Runner {
         room.models -= 1;
         let model = quotients::divisor(random, draft.n, order as u8, 5);
         Some(self.add_input(draft, model))
+    }
+
+    /// An antiderivative plus a constant that outweighs it.
+    fn gathered_divisor(&mut self, random: &mut Random, draft: &mut Draft) -> Option<u8> {
+        let a = recent(random, self.results.len());
+        if self.keeps_apart(draft, a) {
+            return None;
+        }
+        let v = random.byte(1, draft.n);
+        let span = operations::antiderivative(self.result(a), v.into(), self.book.order).span();
+        // The sum has room where both are at most half the largest span.
+        let most = LARGEST_SPAN / 2;
+        let least = i64::try_from(span).ok().filter(|&span| span < most)?;
+        let size = random.between(least + 1, (2 * least + UNIT).min(most));
+        let gathered = self.add(draft, Step::antiderivative(a, v)).ok()?;
+        let constant = Step::constant((random.sign() * size) as i32);
+        let constant = self.add(draft, constant).ok()?;
+        self.add(draft, Step::two(ADD, gathered, constant)).ok()
     }
 
     fn add_quotient_of_inputs(&mut self, random: &mut Random, draft: &mut Draft, a: u8, b: u8) {
