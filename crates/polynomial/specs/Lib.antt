@@ -5,4 +5,5 @@ pub mod BoxLaws
 pub mod Integral
 pub mod Antiderivative
 pub mod AntiderivativeLaws
+pub mod VariableAntiderivativeLaws
 pub mod IntegralLaws

@@ -27,6 +27,19 @@ without v [] = []
 without zero (e ∷ es) = 0 ∷ es
 without (suc v) (e ∷ es) = e ∷ without v es
 
+-- the exponents with that of variable v, counted from 0, one higher; one that is not there was 0
+unfoldable pub raise : ℕ → List ℕ → List ℕ
+raise zero [] = 1 ∷ []
+raise zero (e ∷ es) = suc e ∷ es
+raise (suc v) [] = 0 ∷ raise v []
+raise (suc v) (e ∷ es) = e ∷ raise v es
+
+-- the exponents with that of variable v, counted from 0, one lower; 0 stays
+unfoldable pub lower : ℕ → List ℕ → List ℕ
+lower v [] = []
+lower zero (e ∷ es) = N.pred e ∷ es
+lower (suc v) (e ∷ es) = e ∷ lower v es
+
 -- the list with another element at place v, counted from 0: the point with another coordinate
 unfoldable pub replace {ℓ} : {A : Type ℓ} → ℕ → A → List A → List A
 replace v y [] = []
