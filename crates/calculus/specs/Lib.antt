@@ -28,6 +28,7 @@ pub mod CanonicalLaws
 pub mod TurnedLaws
 pub mod ProductLaws
 pub mod FitsLaws
+pub mod GrowthLaws
 pub mod LoopLaws
 -- Soundness of results.
 pub mod SoundLaws
@@ -44,6 +45,7 @@ pub mod SymmetricRange
 pub mod RangeInsideLaws
 pub mod SubstituteLaws
 pub mod QuotientLaws
+pub mod AntiderivativeLaws
 pub mod EvaluateLaws
 pub mod IntegralEndsLaws
 -- The claim.

@@ -11,7 +11,7 @@ use Rattle.algebra.specs.Ring.{Ring, pow}
 use Rattle.algebra.specs.RingLaws.{one-*}
 use Rattle.algebra.specs.Rational.{_*ℚ_}
 use Rattle.algebra.specs.RationalRing.{ℚR}
-use Rattle.polynomial.specs.Polynomial.{add-exponents, exponent, without, replace, monomial}
+use Rattle.polynomial.specs.Polynomial.{add-exponents, exponent, without, raise, replace, monomial}
 use Rattle.calculus.specs.Monomial.{less, degree, zeros, index-of, single}
 use Rattle.calculus.specs.Model.{Point}
 use Rattle.calculus.specs.Outcome.{coordinate}
@@ -50,6 +50,12 @@ length-without i [] = refl
 length-without zero (e ∷ k) = refl
 length-without (suc i) (e ∷ k) = ap suc (length-without i k)
 
+pub length-raise : (i : ℕ) (k : List ℕ) → i < length k → length (raise i k) ≡ length k
+unfolding raise
+length-raise i [] h = absurd (omega arith)
+length-raise zero (e ∷ k) h = refl
+length-raise (suc i) (e ∷ k) h = ap suc (length-raise i k (omega arith))
+
 -- ---- degrees
 pub degree-zeros : (n : ℕ) → degree (zeros n) ≡ 0
 unfolding zeros degree
@@ -72,6 +78,13 @@ degree-without i [] = omega arith
 degree-without zero (e ∷ k) = omega arith
 degree-without (suc i) (e ∷ k) = let h = degree-without i k in omega arith
 
+pub degree-raise : (i : ℕ) (k : List ℕ) → degree (raise i k) ≡ suc (degree k)
+unfolding raise degree
+degree-raise zero [] = refl
+degree-raise zero (e ∷ k) = omega arith
+degree-raise (suc i) [] = let h = degree-raise i [] in omega arith
+degree-raise (suc i) (e ∷ k) = let h = degree-raise i k in omega arith
+
 -- ---- order
 -- monomials with one exponent of variable i are ordered as they are without it
 pub less-without : (i : ℕ) (k l : List ℕ) → exponent i k ≡ exponent i l → T (less k l)
@@ -91,6 +104,24 @@ less-without (suc i) (x ∷ k) (y ∷ l) e h = cons-less x y (without i k) (with
   where
     go : (x < y) ⊎ ((x ≡ y) × T (less k l)) → (T (less k l) → T (less (without i k) (without i l)))
         → (x < y) ⊎ ((x ≡ y) × T (less (without i k) (without i l)))
+    go (inl g) f = inl g
+    go (inr g) f = inr (g .0, f (g .1))
+
+-- monomials that all have the variable keep their order when its exponents rise together
+pub less-raise : (i : ℕ) (k l : List ℕ) → i < length k → i < length l → T (less k l) → T (less (raise i k) (raise i l))
+unfolding raise
+less-raise i [] l a b h = absurd (omega arith)
+less-raise i (x ∷ k) [] a b h = absurd (omega arith)
+less-raise zero (x ∷ k) (y ∷ l) a b h = cons-less (suc x) (suc y) k l (go (less-cons x y k l h))
+  where
+    go : (x < y) ⊎ ((x ≡ y) × T (less k l)) → (suc x < suc y) ⊎ ((suc x ≡ suc y) × T (less k l))
+    go (inl g) = inl (omega arith)
+    go (inr g) = inr (ap suc (g .0), g .1)
+less-raise (suc i) (x ∷ k) (y ∷ l) a b h = cons-less x y (raise i k) (raise i l)
+    (go (less-cons x y k l h) (less-raise i k l (omega arith) (omega arith)))
+  where
+    go : (x < y) ⊎ ((x ≡ y) × T (less k l)) → (T (less k l) → T (less (raise i k) (raise i l)))
+        → (x < y) ⊎ ((x ≡ y) × T (less (raise i k) (raise i l)))
     go (inl g) f = inl g
     go (inr g) f = inr (g .0, f (g .1))
 

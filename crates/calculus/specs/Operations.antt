@@ -1,19 +1,19 @@
 -- The operations on models, each with its refusals.
 use mathlib.Core.Bool.{Bool, not, _&&_}
 use mathlib.Core.List.{List, [], _∷_, _++_}
-use Prim.Native.Nat.{ℕ, zero, suc, _+_, _-_, _*_, _^_, max}
+use Prim.Native.Nat.{ℕ, zero, suc, _+_, _-_, _*_, _%_, _^_, max}
 use lib.Dec.{eqb, leb, ltb}
 use lib.IntN.{ℤ, pos, negℤ, _+ℤ_, _-ℤ_, _*ℤ_, natAbs}
 use lib.ListN.{length}
 use lib.Signed.{leZ}
 use Rattle.algebra.specs.IntegerRing.{ℤR}
-use Rattle.polynomial.specs.Polynomial.{product, exponent, without}
+use Rattle.polynomial.specs.Polynomial.{product, exponent, without, raise}
 use Rattle.polynomial.specs.Integral.{all-even, divisor}
-use Rattle.fixed.specs.Division.{floor, ceiling, divided-up}
+use Rattle.fixed.specs.Division.{floor, ceiling, divided-up, nearest}
 use Rattle.fixed.specs.Fixed.{U, span-limit, round, residual, round-up}
 use Rattle.calculus.specs.Monomial.{degree, zeros, single, index-of}
-use Rattle.calculus.specs.Terms.{Terms, term, select, sum-ℕ, sum-ℤ, size, map-coefficients, map-monomials}
-use Rattle.calculus.specs.Terms.{drop-zeros, collect}
+use Rattle.calculus.specs.Terms.{Terms, term, select, sum-ℕ, sum-ℤ, size, map-coefficients, map-terms}
+use Rattle.calculus.specs.Terms.{map-monomials, drop-zeros, collect}
 use Rattle.calculus.specs.Model.{Model, one-model, most-degree, most-terms, span}
 use Rattle.calculus.specs.Refusal.{over-span, too-many-terms, leaves-box, uncertified, Answer, accepted, require}
 use Rattle.calculus.specs.Refusal.{_then_}
@@ -240,3 +240,32 @@ certified h beta mu = require (ltb mu U) uncertified (widen (quotient-radius bet
 unfoldable pub quotient : (d : ℕ) (f g h w : Model) → Answer Model
 quotient d f g h w =
     defect d f g h w then (λ y. deviation d g w then (λ z. certified h (largest-value y) (largest-value z)))
+
+-- ---- antiderivative in variable i, zero wherever that variable is 0, with order d (request 4)
+-- the terms of f with the exponent of variable i one higher, their coefficients as they were
+unfoldable pub raised : (i : ℕ) → Model → Terms
+raised i f = map-monomials (raise (index-of i)) (f .terms)
+
+-- c divided by k, the exponent of variable i, to the nearest with ties to even
+unfoldable pub divided : (i : ℕ) → Terms → Terms
+divided i = map-terms (λ j c. nearest c (exponent (index-of i) j))
+
+-- k does not divide c
+unfoldable pub is-inexact : (i : ℕ) → List ℕ → ℤ → Bool
+is-inexact i j c = not (eqb (natAbs c % exponent (index-of i) j) 0)
+
+-- 1 for each inexact division among terms whose new degree is at most d, those that round to zero included
+unfoldable pub growth-rounding : (d i : ℕ) → Model → ℕ
+growth-rounding d i f = sum-ℕ (λ j c. 1) (select (is-inexact i) (within-order d (raised i f)))
+
+-- |c| / k rounded up for each term above d, which is swept
+unfoldable pub growth-swept : (d i : ℕ) → Model → ℕ
+growth-swept d i f = sum-ℕ (λ j c. divided-up (natAbs c) (exponent (index-of i) j)) (above-order d (raised i f))
+
+-- zeros dropped; the radius grows by both
+unfoldable pub antiderivative : (d i : ℕ) → Model → Model
+antiderivative d i f = record {
+  vars = f .vars;
+  radius = f .radius + growth-rounding d i f + growth-swept d i f;
+  terms = drop-zeros (divided i (within-order d (raised i f)));
+}

@@ -2,34 +2,36 @@
 use mathlib.Core.Path.{_≡_, refl, sym, _∙_, ap}
 use mathlib.Core.Bool.{Bool, true, not, _&&_}
 use mathlib.Core.List.{List, [], _∷_, _++_}
-use Prim.Native.Nat.{ℕ, zero, suc, _+_, _≤_}
+use Prim.Native.Nat.{ℕ, zero, suc, _+_, _≤_, _<_}
 use native.Mathlib.Omega.{arith}
 use borrow.Author.Tests.{ne-eqb}
-use lib.Dec.{T, eqb, leb, eqb→eq, leb→le, le→leb, lit≤}
+use lib.Dec.{T, eqb, leb, eqb→eq, eqb-refl, leb→le, le→leb, lit≤}
 use lib.IntN.{ℤ, pos, negsuc, negℤ, natAbs}
 use lib.ListN.{length}
-use Rattle.polynomial.specs.Polynomial.{exponent, without}
+use Rattle.polynomial.specs.Polynomial.{exponent, without, raise}
 use Rattle.fixed.specs.Fixed.{U, span-limit}
 use Rattle.fixed.specs.FixedLaws.{U-pos, U-within}
-use Rattle.calculus.specs.Monomial.{zeros, index-of, single}
+use Rattle.calculus.specs.Monomial.{degree, zeros, index-of, single}
 use Rattle.calculus.specs.Terms.{Terms, term, every, select, sum-over, size, map-monomials}
 use Rattle.calculus.specs.Terms.{rising-from, rising, is-nonzero, nonzero, drop-zeros, collect}
 use Rattle.calculus.specs.Model.{Model, zero-model, one-model, most-vars, most-terms, between, span, fits, sound}
 use Rattle.calculus.specs.Refusal.{over-span, too-many-terms, leaves-box, uncertified}
 use Rattle.calculus.specs.Operations.{limited, constant, variable, negate, add, subtract, products}
 use Rattle.calculus.specs.Operations.{kept, multiply, range-in-box, largest-exponent, part-terms, part, horner}
-use Rattle.calculus.specs.Operations.{widen, substitute, is-small, sweep, bare, certified, quotient}
+use Rattle.calculus.specs.Operations.{widen, substitute, is-small, sweep, bare, certified, quotient, raised, divided}
+use Rattle.calculus.specs.Operations.{within-order, growth-rounding, growth-swept, antiderivative}
 use Rattle.calculus.specs.TestLaws.{and-left, and-right, both}
 use Rattle.calculus.specs.RefusalLaws.{If-accepted, holds, require-accepted, then-accepted, weaken, always}
 use Rattle.calculus.specs.MonomialLaws.{length-zeros, length-single, length-without, degree-zeros}
-use Rattle.calculus.specs.MonomialLaws.{degree-single, degree-without, less-without}
+use Rattle.calculus.specs.MonomialLaws.{degree-single, degree-without, less-without, length-raise, less-raise}
 use Rattle.calculus.specs.TermsLaws.{by-select, length-select, every-nil, every-cons, every-++}
-use Rattle.calculus.specs.TermsLaws.{every-select, every-map-coefficients}
-use Rattle.calculus.specs.TermsLaws.{every-map-monomials, every-collect, rising-head, rising-rest}
+use Rattle.calculus.specs.TermsLaws.{every-select, every-selected, every-implies, every-both, every-map-coefficients}
+use Rattle.calculus.specs.TermsLaws.{every-map-monomials, every-map-terms, every-collect, rising-head, rising-rest}
 use Rattle.calculus.specs.TermsLaws.{rising-cons, rising-below, rising-any, rising-select}
-use Rattle.calculus.specs.TermsLaws.{rising-map-coefficients, nonzero-drop-zeros}
+use Rattle.calculus.specs.TermsLaws.{rising-map-coefficients, rising-map-terms, rising-map-monomials, nonzero-drop-zeros}
 use Rattle.calculus.specs.FitsLaws.{fits-by, fits-length, fits-degree, kept-fits}
 use Rattle.calculus.specs.SumLaws.{ℕ-addition, sum-split}
+use Rattle.calculus.specs.GrowthLaws.{antiderivative-length, growth-le}
 use Rattle.calculus.specs.CanonicalLaws.{canonical-rising}
 use Rattle.calculus.specs.TurnedLaws.{size-turned, length-turned}
 use Rattle.calculus.specs.ProductLaws.{products-rising, kept-rising}
@@ -335,6 +337,54 @@ module _ (n d : ℕ) where
       bounds = unfold sweep span in record {
         count = let e = length-select large (f .terms) in let c = h .1 .count in omega arith;
         small-span = let e = split in let c = h .1 .small-span in omega arith;
+      }
+
+  -- ---- antiderivative: no coefficient is larger than it was, and what is lost goes into the radius
+  raised-length : (i : ℕ) → index-of i < n → (f : Model) → Canonical n d f
+      → T (every (λ k c. eqb (length k) n) (raised i f))
+  unfolding raised
+  raised-length i l f h = every-map-monomials (λ k c. eqb (length k) n) (raise (index-of i))
+      (λ k c t. rw (length-raise (index-of i) k (rw (eqb→eq (length k) n t) l)) t) (f .terms)
+      (every-implies (λ k c. fits n d k) (λ k c. eqb (length k) n)
+      (λ k c t. rw (fits-length n d k t) (eqb-refl n)) (f .terms) (h .fitting))
+
+  raised-rising : (i : ℕ) → index-of i < n → (f : Model) → Canonical n d f → T (rising (raised i f))
+  unfolding raised
+  raised-rising i l f h = rising-map-monomials (fits n d) (raise (index-of i))
+      (λ j k s t q. less-raise (index-of i) j k (rw (fits-length n d j s) l) (rw (fits-length n d k t) l) q)
+      (f .terms) (h .fitting) (h .rising-terms)
+
+  pub antiderivative-sound : (i : ℕ) → index-of i < n → (f : Model) → Sound n d f → Sound n d (antiderivative d i f)
+  antiderivative-sound i l f h = (canonical, bounds)
+    where
+      inside : List ℕ → ℤ → Bool
+      inside k c = leb (degree k) d
+
+      canonical : Canonical n d (antiderivative d i f)
+      canonical = record {
+        vars = unfold antiderivative in h .0 .vars;
+        fitting = unfold antiderivative drop-zeros divided within-order in
+            every-select (λ k c. fits n d k) (λ k c. is-nonzero c) _
+            (every-map-terms (λ k c. fits n d k) _ (λ k c t. t) _
+            (every-both (λ k c. eqb (length k) n) inside (λ k c. fits n d k)
+            (λ k c s t. fits-by n d k (eqb→eq (length k) n s) (leb→le (degree k) d t)) _
+            (every-select (λ k c. eqb (length k) n) inside _ (raised-length i l f (h .0)))
+            (every-selected inside _)));
+        nonzero-terms = unfold antiderivative in nonzero-drop-zeros _;
+        rising-terms = unfold antiderivative drop-zeros divided within-order in
+            rising-select (λ k c. is-nonzero c) _ (rising-map-terms _ _
+            (rising-select inside _ (raised-rising i l f (h .0))));
+      }
+
+      fits-span : span f ≤ span-limit
+          → size (antiderivative d i f .terms) + (growth-rounding d i f + growth-swept d i f) ≤ size (f .terms)
+          → span (antiderivative d i f) ≤ span-limit
+      fits-span c e = unfold span antiderivative in omega arith
+
+      bounds : Bounded (antiderivative d i f)
+      bounds = record {
+        count = let e = antiderivative-length d i f in let c = h .1 .count in omega arith;
+        small-span = fits-span (h .1 .small-span) (growth-le d i f);
       }
 
 -- the model of 1 is the constant 1

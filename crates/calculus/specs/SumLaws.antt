@@ -2,7 +2,7 @@
 use mathlib.Core.Path.{_≡_, refl, sym, _∙_, ap, fun-ext}
 use mathlib.Core.Bool.{Bool, true, false, not}
 use mathlib.Core.List.{List, [], _∷_, _++_}
-use Prim.Native.Nat.{ℕ, _+_}
+use Prim.Native.Nat.{ℕ, _+_, _≤_}
 use native.Mathlib.Omega.{arith}
 use lib.IntN.{ℤ, pos, _+ℤ_}
 use Rattle.algebra.specs.Ring.{Ring}
@@ -11,8 +11,8 @@ use Rattle.algebra.specs.IntegerRing.{ℤR}
 use Rattle.algebra.specs.Rational.{ℚ}
 use Rattle.algebra.specs.RationalRing.{ℚR}
 use Rattle.polynomial.specs.Polynomial.{Term}
-use Rattle.calculus.specs.Terms.{Terms, select, sum-over, map-coefficients, map-monomials, is-nonzero, drop-zeros}
-use Rattle.calculus.specs.Terms.{insert, collect}
+use Rattle.calculus.specs.Terms.{Terms, select, sum-over, sum-ℕ, map-coefficients, map-terms, map-monomials}
+use Rattle.calculus.specs.Terms.{is-nonzero, drop-zeros, insert, collect}
 use Rattle.calculus.specs.TermsLaws.{by-select, by-insert, zero-coefficient}
 
 -- a commutative addition with its zero
@@ -182,11 +182,39 @@ module _ {A : Type 0} (N : Addition A) where
   sum-map-coefficients g u [] = refl
   sum-map-coefficients g u (t ∷ p) = ap (plus (g (t .exponents) (u (t .coefficient)))) (sum-map-coefficients g u p)
 
+  pub sum-map-terms : (g : List ℕ → ℤ → A) (u : List ℕ → ℤ → ℤ) (p : Terms)
+      → sum-over plus nothing g (map-terms u p) ≡ sum-over plus nothing (λ k c. g k (u k c)) p
+  unfolding sum-over map-terms
+  sum-map-terms g u [] = refl
+  sum-map-terms g u (t ∷ p) =
+      ap (plus (g (t .exponents) (u (t .exponents) (t .coefficient)))) (sum-map-terms g u p)
+
+  -- two sums are one
+  pub sum-both : (g h : List ℕ → ℤ → A) (p : Terms)
+      → plus (sum-over plus nothing g p) (sum-over plus nothing h p)
+      ≡ sum-over plus nothing (λ k c. plus (g k c) (h k c)) p
+  unfolding sum-over
+  sum-both g h [] = plus-nothing nothing
+  sum-both g h (t ∷ p) = plus-assoc _ _ _ ∙ ap (plus (at-term g t)) (plus-swap _ _ _) ∙ sym (plus-assoc _ _ _)
+      ∙ ap (plus (plus (at-term g t) (at-term h t))) (sum-both g h p)
+
   pub sum-map-monomials : (g : List ℕ → ℤ → A) (u : List ℕ → List ℕ) (p : Terms)
       → sum-over plus nothing g (map-monomials u p) ≡ sum-over plus nothing (λ k c. g (u k) c) p
   unfolding sum-over map-monomials
   sum-map-monomials g u [] = refl
   sum-map-monomials g u (t ∷ p) = ap (plus (g (u (t .exponents)) (t .coefficient))) (sum-map-monomials g u p)
+
+-- sums of naturals keep the order
+pub sum-mono : (g h : List ℕ → ℤ → ℕ) → ((k : List ℕ) (c : ℤ) → g k c ≤ h k c)
+    → (p : Terms) → sum-ℕ g p ≤ sum-ℕ h p
+unfolding sum-over
+sum-mono g h l [] = omega arith
+sum-mono g h l (t ∷ p) =
+    let e = l (t .exponents) (t .coefficient) in let k = sum-mono g h l p in omega arith
+
+-- a natural, or 0
+abbrev pub if-ℕ : Bool → ℕ → ℕ
+if-ℕ = if-so ℕ-addition
 
 -- an integer, or 0
 abbrev pub if-ℤ : Bool → ℤ → ℤ

@@ -48,6 +48,10 @@ size = sum-ℕ (λ k c. natAbs c)
 unfoldable pub map-coefficients : (ℤ → ℤ) → Terms → Terms
 map-coefficients f = map (λ t. term (f (t .coefficient)) (t .exponents))
 
+-- every coefficient put through f, which is given its monomial too
+unfoldable pub map-terms : (List ℕ → ℤ → ℤ) → Terms → Terms
+map-terms f = map (λ t. term (f (t .exponents) (t .coefficient)) (t .exponents))
+
 -- every monomial put through f
 unfoldable pub map-monomials : (List ℕ → List ℕ) → Terms → Terms
 map-monomials f = map (λ t. term (t .coefficient) (f (t .exponents)))

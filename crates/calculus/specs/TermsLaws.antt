@@ -11,8 +11,8 @@ use Rattle.algebra.specs.LexicographicLaws.{same-ok, less-trans, less-total}
 use Rattle.algebra.specs.IntegerRing.{ℤR}
 use Rattle.polynomial.specs.Polynomial.{Term, add-exponents, times, product}
 use Rattle.calculus.specs.Monomial.{same, less}
-use Rattle.calculus.specs.Terms.{Terms, term, every, select, map-coefficients, map-monomials, rising-from, rising}
-use Rattle.calculus.specs.Terms.{is-nonzero, nonzero, drop-zeros, insert, collect}
+use Rattle.calculus.specs.Terms.{Terms, term, every, select, map-coefficients, map-terms, map-monomials}
+use Rattle.calculus.specs.Terms.{rising-from, rising, is-nonzero, nonzero, drop-zeros, insert, collect}
 use Rattle.calculus.specs.TestLaws.{and-left, and-right, both}
 
 -- ---- by cases
@@ -113,6 +113,13 @@ module _ (f : List ℕ → ℤ → Bool) where
   every-map-coefficients u i [] h = h
   every-map-coefficients u i (t ∷ p) h =
       every-cons _ _ (i _ _ (every-head t p h)) (every-map-coefficients u i p (every-tail t p h))
+
+  pub every-map-terms : (u : List ℕ → ℤ → ℤ) → ((k : List ℕ) (c : ℤ) → T (f k c) → T (f k (u k c)))
+      → (p : Terms) → T (every f p) → T (every f (map-terms u p))
+  unfolding map-terms
+  every-map-terms u i [] h = h
+  every-map-terms u i (t ∷ p) h =
+      every-cons _ _ (i _ _ (every-head t p h)) (every-map-terms u i p (every-tail t p h))
 
   pub every-map-monomials : (u : List ℕ → List ℕ) → ((k : List ℕ) (c : ℤ) → T (f k c) → T (f (u k) c))
       → (p : Terms) → T (every f p) → T (every f (map-monomials u p))
@@ -223,6 +230,37 @@ module _ (u : ℤ → ℤ) where
   unfolding map-coefficients rising
   rising-map-coefficients [] h = h
   rising-map-coefficients (t ∷ p) h = rising-from-map (t .exponents) p h
+
+module _ (u : List ℕ → ℤ → ℤ) where
+  rising-from-map-terms : (j : List ℕ) (p : Terms) → T (rising-from j p) → T (rising-from j (map-terms u p))
+  unfolding map-terms
+  rising-from-map-terms j [] h = h
+  rising-from-map-terms j (t ∷ p) h =
+      rising-cons j _ _ (rising-head j t p h) (rising-from-map-terms (t .exponents) p (rising-rest j t p h))
+
+  pub rising-map-terms : (p : Terms) → T (rising p) → T (rising (map-terms u p))
+  unfolding map-terms rising
+  rising-map-terms [] h = h
+  rising-map-terms (t ∷ p) h = rising-from-map-terms (t .exponents) p h
+
+-- where u keeps the order of the monomials that pass f, it keeps terms rising whose monomials pass
+module _ (f : List ℕ → Bool) (u : List ℕ → List ℕ)
+    (keeps : (j k : List ℕ) → T (f j) → T (f k) → T (less j k) → T (less (u j) (u k))) where
+  rising-from-moved : (j : List ℕ) (p : Terms) → T (f j) → T (every (on-monomials f) p) → T (rising-from j p)
+      → T (rising-from (u j) (map-monomials u p))
+  unfolding map-monomials
+  rising-from-moved j [] t e h = unfold rising-from in tt
+  rising-from-moved j (s ∷ p) t e h = rising-cons (u j) _ _
+      (keeps j (s .exponents) t (every-head (on-monomials f) s p e) (rising-head j s p h))
+      (rising-from-moved (s .exponents) p (every-head (on-monomials f) s p e) (every-tail (on-monomials f) s p e)
+      (rising-rest j s p h))
+
+  pub rising-map-monomials : (p : Terms) → T (every (on-monomials f) p) → T (rising p)
+      → T (rising (map-monomials u p))
+  unfolding map-monomials rising
+  rising-map-monomials [] e h = tt
+  rising-map-monomials (t ∷ p) e h = rising-from-moved (t .exponents) p (every-head (on-monomials f) t p e)
+      (every-tail (on-monomials f) t p e) h
 
 rising-from-insert : (j : List ℕ) (t : Term ℤ) (p : Terms)
     → T (rising-from j p) → T (less j (t .exponents)) → T (rising-from j (insert t p))

@@ -96,6 +96,13 @@ module _ (a d : ℕ) (h : 0 < d) where
       let above : q < suc (divided-up a d) = NatL.lt-of-mul-lt-mul-left d (omega (arith, divided-up-ok)) in
       omega arith
 
+  -- and no larger than a
+  pub divided-up-le : divided-up a d ≤ a
+  divided-up-le =
+      let below : divided-up a d < suc a = NatL.lt-of-mul-lt-mul-left d
+      (omega (arith, divided-up-least, NatL.mul-le-mul-right a h)) in
+      omega arith
+
   -- by the remainder: the quotient where it divides, one more where it does not
   pub divided-up-exact : a % d ≡ 0 → a / d ≡ divided-up a d
   divided-up-exact e = sym (divided-up-unique (a / d) (omega (arith, parts)) (omega (arith, parts)))

@@ -2,7 +2,7 @@
 -- the sign turns with the argument, what divides is exact, and the order is kept.
 use mathlib.Core.Path.{_≡_, refl, sym, _∙_, ap, subst}
 use mathlib.Core.Bool.{Bool, true, false}
-use Prim.Native.Nat.{ℕ, zero, suc, _+_, _*_, _-_, _%_, _≤_, _<_}
+use Prim.Native.Nat.{ℕ, zero, suc, _+_, _*_, _-_, _/_, _%_, _≤_, _<_}
 use native.Mathlib.Decide.{decLe}
 use native.Mathlib.Nat as NatL
 use native.Mathlib.Omega.{arith}
@@ -231,3 +231,52 @@ left-le-abs z d h = smaller z (nearest z d) d h (nearest-le z d h) .0
 
 pub nearest-le-abs : (z : ℤ) (d : ℕ) → 0 < d → natAbs (nearest z d) ≤ natAbs z
 nearest-le-abs z d h = smaller z (nearest z d) d h (nearest-le z d h) .1
+
+-- what divides leaves nothing
+module _ (d : ℕ) (h : 0 < d) where
+  divides-pos : (n : ℕ) → n % d ≡ 0 → nearest (pos n) d *ℤ pos d ≡ pos n
+  divides-pos n e = ap (λ c. c *ℤ pos d) (ap (λ z. nearest z d) parts ∙ nearest-exact (pos (n / d)) d h) ∙ sym parts
+    where
+      parts : pos n ≡ pos (n / d) *ℤ pos d
+      parts = ap pos (let p = NatL.div-add-mod n d in let c : d * (n / d) ≡ n / d * d = NatL.mul-comm d (n / d) in omega arith)
+
+  pub nearest-divides : (z : ℤ) → natAbs z % d ≡ 0 → nearest z d *ℤ pos d ≡ z
+  nearest-divides (pos n) e = divides-pos n e
+  nearest-divides (negsuc n) e = ap (λ c. c *ℤ pos d) (nearest-neg (pos (suc n)) d h)
+      ∙ ring 2 ℤR (λ c d. ⊝ c ⊠ d) (λ c d. ⊝ (c ⊠ d)) refl (nearest (pos (suc n)) d) (pos d)
+      ∙ ap negℤ (divides-pos (suc n) e)
+
+-- what does not divide comes out smaller
+module _ (z : ℤ) (d : ℕ) (h : 0 < d) (l : 0 < natAbs z % d) where
+  -- no unit divides, and 0 is divided by all
+  large : 2 ≤ d
+  large = omega (arith, NatL.mod-lt (natAbs z) h)
+
+  not-zero : 0 < natAbs z
+  not-zero = omega (arith, NatL.div-add-mod (natAbs z) d)
+
+  shrinks : (c : ℤ) → Nearest z d c → natAbs c < natAbs z
+  shrinks (pos zero) m = not-zero
+  shrinks (pos (suc n)) m = go (decLe (suc (suc n)) (natAbs z))
+    where
+      twice-n : n * 2 ≤ n * d
+      twice-n = NatL.mul-le-mul-left n large
+
+      go : Dec (suc (suc n) ≤ natAbs z) → suc n < natAbs z
+      go (yes k) = k
+      go (no k) = absurd (omega (arith, even-parity (pos (suc n)) (m .tie (omega
+          (arith, m .half, apart z (pos (suc n)) d, natAbs-parts z, large, not-zero, twice-n))),
+          m .half, apart z (pos (suc n)) d, natAbs-parts z, large, not-zero, twice-n))
+  shrinks (negsuc n) m = go (decLe (suc (suc n)) (natAbs z))
+    where
+      twice-n : n * 2 ≤ n * d
+      twice-n = NatL.mul-le-mul-left n large
+
+      go : Dec (suc (suc n) ≤ natAbs z) → suc n < natAbs z
+      go (yes k) = k
+      go (no k) = absurd (omega (arith, even-parity (negsuc n) (m .tie (omega
+          (arith, m .half, apart z (negsuc n) d, natAbs-parts z, large, not-zero, twice-n))),
+          m .half, apart z (negsuc n) d, natAbs-parts z, large, not-zero, twice-n))
+
+  pub nearest-shrinks : natAbs (nearest z d) < natAbs z
+  nearest-shrinks = shrinks (nearest z d) (nearest-is z d h)
