@@ -22,10 +22,11 @@ pub data Step : Type 0 where
   substitute : (a b v : ℕ) → Step
   sweep : (a : ℕ) (value : ℤ) → Step
   quotient : (a b h w : ℕ) → Step
+  antiderivative : (a v : ℕ) → Step
 
--- their codes: 0 to 9, in this order
+-- their codes: 0 to 10, in this order
 abbrev pub last-code : ℕ
-last-code = 9
+last-code = 10
 
 -- the earlier steps that a step names, in order
 unfoldable pub operands : Step → List ℕ
@@ -39,6 +40,7 @@ operands (multiply a b) = a ∷ b ∷ []
 operands (substitute a b v) = a ∷ b ∷ []
 operands (sweep a value) = a ∷ []
 operands (quotient a b h w) = a ∷ b ∷ h ∷ w ∷ []
+operands (antiderivative a v) = a ∷ []
 
 -- a book (document 01's term): n, the order d, the models and the steps
 pub record Book : Type 0 where
@@ -80,6 +82,7 @@ step-sound book i (multiply a b) = ltb a i && ltb b i
 step-sound book i (substitute a b v) = ltb a i && ltb b i && variable-sound (book .vars) v
 step-sound book i (sweep a value) = ltb a i && threshold-sound value
 step-sound book i (quotient a b h w) = ltb a i && ltb b i && ltb h i && ltb w i
+step-sound book i (antiderivative a v) = ltb a i && variable-sound (book .vars) v
 
 -- the tests in order, then what is asked for
 unfoldable pub tested : {A : Type 0} → Book → Result A → Result A
@@ -109,6 +112,7 @@ run-step book r (multiply a b) = Op.multiply (book .order) (r a) (r b)
 run-step book r (substitute a b v) = Op.substitute (book .order) v (r a) (r b)
 run-step book r (sweep a value) = accepted (Op.sweep (natAbs value) (r a))
 run-step book r (quotient a b h w) = Op.quotient (book .order) (r a) (r b) (r h) (r w)
+run-step book r (antiderivative a v) = accepted (Op.antiderivative (book .order) v (r a))
 
 -- steps in order, each after the results so far; a refusal ends the run with the number of its step
 unfoldable pub run-steps : Book → List Model → List Step → Result (List Model)

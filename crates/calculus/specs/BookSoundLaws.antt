@@ -3,7 +3,7 @@ use mathlib.Core.Path.{_≡_, sym, subst}
 use mathlib.Core.Bool.{_&&_}
 use mathlib.Core.List.{List, [], _∷_, _++_}
 use Prim.Native.Nat.{ℕ, _<_, _≤_}
-use lib.Dec.{T, leb, eqb, eqb-refl, leb→le, ltb→lt}
+use lib.Dec.{T, leb, ltb, eqb, eqb-refl, leb→le, ltb→lt}
 use lib.IntN.{natAbs}
 use lib.ListN.{length}
 use Rattle.fixed.specs.Fixed.{span-limit}
@@ -11,17 +11,18 @@ use Rattle.calculus.specs.Model.{Model, zero-model, most-vars, most-degr
 use Rattle.calculus.specs.Refusal.{done}
 use Rattle.calculus.specs.Tests.{vars-sound, order-sound, constant-sound}
 use Rattle.calculus.specs.Book.{Step, input, constant, variable, negate, add, subtract, multiply, substitute}
-use Rattle.calculus.specs.Book.{sweep, quotient, Book, most-models, limits-sound, model-sound, step-sound}
-use Rattle.calculus.specs.Book.{model-of, result-of, run-step, run-steps, Summary, summary, run-sound}
+use Rattle.calculus.specs.Book.{sweep, quotient, antiderivative, Book, most-models, limits-sound, model-sound}
+use Rattle.calculus.specs.Book.{step-sound, model-of, result-of, run-step, run-steps, Summary, summary, run-sound}
 use Rattle.calculus.specs.TestLaws.{and-left, and-right, both}
 use Rattle.calculus.specs.RefusalLaws.{If-accepted, holds, If-done, is-done, if-done, followed-done, placed}
 use Rattle.calculus.specs.Refusal.{all-from}
 use Rattle.calculus.specs.SoundLaws as S
 use Rattle.calculus.specs.SoundLaws.{Sound, sound-parts, parts-sound, zero-sound, negate-sound, add-sound}
 use Rattle.calculus.specs.SoundLaws.{subtract-sound, multiply-sound, substitute-sound, sweep-sound}
-use Rattle.calculus.specs.SoundLaws.{quotient-sound}
+use Rattle.calculus.specs.SoundLaws.{quotient-sound, antiderivative-sound}
 use Rattle.calculus.specs.EachLaws.{All, nil, each-snoc, each-at, each-last}
-use Rattle.calculus.specs.BookLaws.{Passes, model-passes, model-vars, between-low, Ran, sound-ran, next-number}
+use Rattle.calculus.specs.BookLaws.{Passes, model-passes, model-vars, between-low, variable-inside, Ran}
+use Rattle.calculus.specs.BookLaws.{sound-ran, next-number}
 
 module _ (b : Book) (p : Passes b) where
   -- sound, of the book's variables and order
@@ -66,6 +67,8 @@ module _ (b : Book) (p : Passes b) where
   step-good i (substitute a c v) t g = substitute-sound (b .vars) (b .order) v _ _ (operand g a .0) (operand g c .0)
   step-good i (sweep a c) t g = holds (sweep-sound (b .vars) (b .order) (natAbs c) _ (operand g a))
   step-good i (quotient a c h w) t g = quotient-sound (b .vars) (b .order) _ _ _ _ (operand g h .0)
+  step-good i (antiderivative a v) t g = holds (antiderivative-sound (b .vars) (b .order) v
+      (variable-inside (b .vars) v (and-right (ltb a i) _ t)) _ (operand g a))
 
   -- every result so far is good, and so is every one to come
   pub run-good : (l : List Step) (results : List Model) → T (all-from (length results) (step-sound b) l)

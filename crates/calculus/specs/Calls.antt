@@ -57,6 +57,15 @@ call-evaluate Xs f =
     (require-at 0 (all-in-unit (take (f .vars) Xs)) leaves-box
     (at-place 0 (Op.evaluate (take (f .vars) Xs) f))))
 
+-- ---- the call of one model that takes an order
+-- 3, 5, 6: the order applies to the model
+unfoldable pub call-antiderivative : (d i : ℕ) → Model → Result Model
+call-antiderivative d i f =
+    require-at 0 (order-sound d) bad-limits
+    (require-at 0 (sound d f) bad-model
+    (require-at 0 (variable-sound (f .vars) i) bad-step
+    (done (Op.antiderivative d i f))))
+
 -- ---- calls of two models
 -- 5 at place 0 and at place 1, 10
 unfoldable pub require-two : {A : Type 0} → (d : ℕ) (f g : Model) → Result A → Result A

@@ -7,6 +7,7 @@
 --   Refusal, Operations, Tests, Book: the run of a book, which gives the last result, its range and its integral
 --   Outcome: the exact outcome, a function of the point and, where it is made as one, a polynomial
 use mathlib.Core.Path.{_≡_}
+use mathlib.Core.Bool.{Bool}
 use mathlib.Core.Option.{some}
 use Prim.Native.Nat.{ℕ, _<_}
 use lib.Dec.{T}
@@ -18,7 +19,8 @@ use Rattle.calculus.specs.Model.{Point, In-box, At, Within}
 use Rattle.calculus.specs.Operations.{Ends}
 use Rattle.calculus.specs.Book.{substitute, quotient, Book, model-of, Summary}
 use Rattle.calculus.specs.Outcome.{0ℚ, with-coordinate, ℚ-Polynomial, value-of, exact-integral, Outcome, Inputs}
-use Rattle.calculus.specs.Outcome.{polynomials, input-outcome, outcome-of, outcomes, outcome, no-quotient}
+use Rattle.calculus.specs.Outcome.{functions, polynomials, input-outcome, outcome-of, outcomes, outcome}
+use Rattle.calculus.specs.Outcome.{no-quotient, no-antiderivative, no-quotient-feeds}
 
 -- y times U is at least the low and at most the high end
 pub record Lies (y : ℚ) (e : Ends) : Type 0 where
@@ -29,9 +31,16 @@ pub record Lies (y : ℚ) (e : Ends) : Type 0 where
 unfoldable pub All-within : Book → Inputs → Type 0
 All-within book I = (a : ℕ) → a < length (book .models) → Within (input-outcome I a .at) (model-of book a)
 
--- what an exact outcome is made from: functions or polynomials within the models, and a point of the box
+-- what is promised, by the steps alone: to any functions where no step is an antiderivative, and to polynomials where
+-- no quotient feeds an antiderivative
+unfoldable pub promised : Book → Inputs → Bool
+promised book (functions F) = no-antiderivative (book .steps)
+promised book (polynomials Q) = no-quotient-feeds (book .steps)
+
+-- what an exact outcome is made from: functions or polynomials within the models, as promised, and a point of the box
 pub record Given (book : Book) (I : Inputs) (x : Point) : Type 0 where
   pub inputs : All-within book I
+  pub as-promised : T (promised book I)
   pub point : In-box (book .vars) x
 
 -- an outcome that is made as a polynomial, and has its value at every point of n coordinates

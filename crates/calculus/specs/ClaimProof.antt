@@ -12,16 +12,17 @@ use Rattle.algebra.specs.RationalOrder.{ℚO}
 use Rattle.polynomial.specs.BoxLaws.{box-length, box-replace}
 use Rattle.calculus.specs.Monomial.{index-of}
 use Rattle.calculus.specs.Model.{Model, zero-model, Point, In-box, Within}
+use Rattle.calculus.specs.Tests.{variable-sound}
 use Rattle.calculus.specs.Refusal.{leaves-box, uncertified, Answer, accepted, done}
 use Rattle.calculus.specs.Operations as Op
 use Rattle.calculus.specs.Operations.{range, integral, range-in-box}
 use Rattle.calculus.specs.Book.{Step, input, constant, variable, negate, add, subtract, multiply, substitute}
-use Rattle.calculus.specs.Book.{sweep, quotient, Book, step-sound, model-of, result-of, run-step, run-steps}
-use Rattle.calculus.specs.Book.{Summary, summary, last, run-sound, run}
+use Rattle.calculus.specs.Book.{sweep, quotient, antiderivative, Book, step-sound, model-of, result-of}
+use Rattle.calculus.specs.Book.{run-step, run-steps, Summary, summary, last, run-sound, run}
 use Rattle.calculus.specs.Outcome.{0ℚ, with-coordinate, ℚ-Polynomial, value-of, exact-integral, Outcome, Inputs}
 use Rattle.calculus.specs.Outcome.{polynomials, input-outcome, step-value, step-outcome, zero-outcome, outcome-of}
-use Rattle.calculus.specs.Outcome.{outcomes-after, outcomes, outcome}
-use Rattle.calculus.specs.Claim.{Lies, All-within, Claim}
+use Rattle.calculus.specs.Outcome.{outcomes-after, outcomes, outcome, antiderivative-of, mapped, value-of-made}
+use Rattle.calculus.specs.Claim.{Lies, All-within, Given, Is-polynomial, Claim}
 use Rattle.calculus.specs.TestLaws.{and-left, and-right}
 use Rattle.calculus.specs.RefusalLaws.{If-accepted, holds, vacuous, require-accepted, then-accepted, weaken}
 use Rattle.calculus.specs.RefusalLaws.{always, If-done, is-done, if-done, followed-done, placed, constantly}
@@ -32,11 +33,13 @@ use Rattle.calculus.specs.EnclosureLaws.{add-near, subtract-near, multip
 use Rattle.calculus.specs.RangeLaws.{range-encloses, in-box-encloses}
 use Rattle.calculus.specs.SubstituteLaws.{substitute-near}
 use Rattle.calculus.specs.QuotientLaws.{quotient-near, divisor-nonzero}
+use Rattle.calculus.specs.AntiderivativeLaws.{antiderivative-near}
 use Rattle.calculus.specs.IntegralEndsLaws.{integral-encloses}
 use Rattle.calculus.specs.EachLaws.{Each, nil, each-length, each-snoc, each-at, each-last}
 use Rattle.calculus.specs.BookLaws.{Passes, Done, run-done, model-passes, model-vars, variable-inside, Ran}
 use Rattle.calculus.specs.BookLaws.{sound-ran, next-number}
-use Rattle.calculus.specs.OutcomeLaws.{outcomes-before, polynomial-agrees, outcome-known}
+use Rattle.calculus.specs.OutcomeLaws.{outcomes-before, polynomial-agrees, outcome-known, Ready, promised-ready}
+use Rattle.calculus.specs.OutcomeLaws.{no-quotient-promised}
 
 -- ---- an operation's result has the number of variables of its first operand
 add-vars : (f g : Model) → If-accepted (λ r. r .vars ≡ f .vars) (Op.add f g)
@@ -83,7 +86,7 @@ follows (holds e) h = holds (record { vars = e; near = λ x b. get (h x b) })
     get (holds p) = p
 follows vacuous h = vacuous
 
-module _ (b : Book) (p : Passes b) (I : Inputs) (hI : All-within b I) where
+module _ (b : Book) (p : Passes b) (I : Inputs) (hI : All-within b I) (ready : Ready (b .vars) I [] (b .steps)) where
   abbrev n : ℕ
   n = b .vars
 
@@ -105,33 +108,52 @@ module _ (b : Book) (p : Passes b) (I : Inputs) (hI : All-within b I) where
       → If-accepted (λ m. m .vars ≡ result-of b results a .vars) r → If-accepted (λ m. m .vars ≡ n) r
   same-vars e a h = weaken (λ m k. k ∙ operand e a .vars) h
 
+  -- the antiderivative of an outcome that is a polynomial
+  antiderivative-follows : {os : List Outcome} {results : List Model} → Each (Follows n) os results → (a v : ℕ)
+      → T (variable-sound n v) → Is-polynomial n (outcome-of os a) → (x : Point) → In-box n x
+      → Near (Op.antiderivative (b .order) v (result-of b results a)) x
+      (value-of-made (mapped (antiderivative-of v) (outcome-of os a .polynomial)) x)
+  unfolding value-of-made mapped antiderivative-of
+  antiderivative-follows {os} {results} e a v t p x hx =
+      subst (λ q. Near (Op.antiderivative (b .order) v f) x (value-of-made (mapped (antiderivative-of v) q) x))
+      (sym (p .made)) (antiderivative-near (b .order) v hx (variable-inside n v t) f (p .polynomial)
+      (λ y hy. subst (Near f y) (p .same y (box-length ℚO hy)) (operand e a .near y hy)))
+    where
+      f : Model
+      f = result-of b results a
+
   step-follows : {os : List Outcome} {results : List Model} (i : ℕ) (s : Step) → T (step-sound b i s)
+      → ((a v : ℕ) → s ≡ antiderivative a v → Is-polynomial n (outcome-of os a))
       → Each (Follows n) os results → If-accepted (Follows n (step-outcome I (outcome-of os) s))
       (run-step b (result-of b results) s)
   unfolding step-outcome step-value run-step step-sound with-coordinate Op.constant Op.variable Op.negate Op.subtract
-      Op.sweep
-  step-follows i (input a) t e = let h = ltb→lt a (length (b .models)) t in
+      Op.sweep Op.antiderivative
+  step-follows i (input a) t r e = let h = ltb→lt a (length (b .models)) t in
       holds (record { vars = input-vars b p a h; near = input-follows a h })
-  step-follows i (constant c) t e = holds (record { vars = refl; near = λ x hx. constant-near n c x })
-  step-follows i (variable v) t e = holds
+  step-follows i (constant c) t r e = holds (record { vars = refl; near = λ x hx. constant-near n c x })
+  step-follows i (variable v) t r e = holds
       (record { vars = refl; near = λ x hx. variable-near n v (variable-inside n v t) hx })
-  step-follows i (negate a) t e =
+  step-follows i (negate a) t r e =
       holds (record { vars = operand e a .vars; near = λ x hx. negate-near _ x _ (operand e a .near x hx) })
-  step-follows i (add a c) t e = follows (same-vars e a (add-vars _ _))
+  step-follows i (add a c) t r e = follows (same-vars e a (add-vars _ _))
       (λ x hx. add-near _ _ x _ _ (operand e a .near x hx) (operand e c .near x hx))
-  step-follows i (subtract a c) t e = follows (same-vars e a (add-vars _ _))
+  step-follows i (subtract a c) t r e = follows (same-vars e a (add-vars _ _))
       (λ x hx. subtract-near _ _ x _ _ (operand e a .near x hx) (operand e c .near x hx))
-  step-follows i (multiply a c) t e = follows (same-vars e a (multiply-vars (b .order) _ _))
+  step-follows i (multiply a c) t r e = follows (same-vars e a (multiply-vars (b .order) _ _))
       (λ x hx. multiply-near (b .order) _ _ _ _ hx (operand e a .near x hx) (operand e c .near x hx))
-  step-follows {os} {results} i (substitute a c v) t e = follows (same-vars e a (substitute-vars (b .order) v _ _))
+  step-follows {os} {results} i (substitute a c v) t r e = follows (same-vars e a (substitute-vars (b .order) v _ _))
       (λ x hx. substitute-near v (outcome-of os c .at x) x (b .order) (result-of b results a)
       (result-of b results c) hx (operand e c .near x hx) _
       (variable-inside n v (and-right (ltb a i && ltb c i) _ t))
       (λ hy. operand e a .near _ (box-replace ℚO (index-of v) _ hy hx)))
-  step-follows i (sweep a c) t e =
+  step-follows i (sweep a c) t r e =
       holds (record { vars = operand e a .vars; near = λ x hx. sweep-near (natAbs c) _ _ hx (operand e a .near x hx) })
-  step-follows i (quotient a c h w) t e = follows (same-vars e h (quotient-vars (b .order) _ _ _ _))
+  step-follows i (quotient a c h w) t r e = follows (same-vars e h (quotient-vars (b .order) _ _ _ _))
       (λ x hx. quotient-near (b .order) _ _ _ _ _ _ hx (operand e a .near x hx) (operand e c .near x hx))
+  step-follows i (antiderivative a v) t r e = holds (record {
+    vars = operand e a .vars;
+    near = antiderivative-follows e a v (and-right (ltb a i) _ t) (r a v refl);
+  })
 
   -- a substitution that is accepted takes points of the box to points of the box
   substitution-stays : {os : List Outcome} {results : List Model} → Each (Follows n) os results
@@ -164,26 +186,26 @@ module _ (b : Book) (p : Passes b) (I : Inputs) (hI : All-within b I) where
   next results m s l h = rw (next-number results m) (and-right (step-sound b (length results) s) _ h)
 
   run-follows : (l : List Step) (os : List Outcome) (results : List Model)
-      → T (all-from (length results) (step-sound b) l)
+      → T (all-from (length results) (step-sound b) l) → Ready n I os l
       → Each (Follows n) os results → If-done (Each (Follows n) (outcomes-after I os l)) (run-steps b results l)
   unfolding outcomes-after run-steps
-  run-follows [] os results h e = is-done e
-  run-follows (s ∷ l) os results h e = followed-done
-      (placed (length results) (step-follows (length results) s (first (length results) s l h) e))
+  run-follows [] os results h r e = is-done e
+  run-follows (s ∷ l) os results h (Ready.next w r) e = followed-done
+      (placed (length results) (step-follows (length results) s (first (length results) s l h) w e))
       (λ m hm. run-follows l (os ++ (step-outcome I (outcome-of os) s ∷ [])) (results ++ (m ∷ []))
-      (next results m s l h) (each-snoc (Follows n) e hm))
+      (next results m s l h) r (each-snoc (Follows n) e hm))
 
   -- what the step s, where it is accepted, says of the outcome of an earlier step c holds along the run
   module _ (s : Step) (c : ℕ) (P : Outcome → Type 0) (earlier : (i : ℕ) → T (step-sound b i s) → c < i)
       (asked : (os : List Outcome) (results : List Model) → Each (Follows n) os results
       → If-accepted (λ m. P (outcome-of os c)) (run-step b (result-of b results) s)) where
     run-asked : (l : List Step) (os : List Outcome) (results : List Model)
-        → T (all-from (length results) (step-sound b) l)
+        → T (all-from (length results) (step-sound b) l) → Ready n I os l
         → Each (Follows n) os results → (i : ℕ) → getElem? l i ≡ some s
         → If-done (λ rs. P (outcome-of (outcomes-after I os l) c)) (run-steps b results l)
     unfolding run-steps outcomes-after
-    run-asked [] os results h e i g = let z : _≡_ {A = ℕ} 0 1 = cc in absurd (omega arith)
-    run-asked (t ∷ l) os results h e zero g = followed-done
+    run-asked [] os results h r e i g = let z : _≡_ {A = ℕ} 0 1 = cc in absurd (omega arith)
+    run-asked (t ∷ l) os results h r e zero g = followed-done
         (placed (length results)
         (subst (λ t. If-accepted (λ m. P (outcome-of os c)) (run-step b (result-of b results) t)) (sym is)
         (asked os results e)))
@@ -196,15 +218,15 @@ module _ (b : Book) (p : Passes b) (I : Inputs) (hI : All-within b I) where
         before = let q = earlier (length results)
             (subst (λ t. T (step-sound b (length results) t)) is (first (length results) t l h)) in
             let k = each-length (Follows n) e in omega arith
-    run-asked (t ∷ l) os results h e (suc i) g = followed-done
-        (placed (length results) (step-follows (length results) t (first (length results) t l h) e))
+    run-asked (t ∷ l) os results h (Ready.next w r) e (suc i) g = followed-done
+        (placed (length results) (step-follows (length results) t (first (length results) t l h) w e))
         (λ m hm. run-asked l (os ++ (step-outcome I (outcome-of os) t ∷ [])) (results ++ (m ∷ []))
-        (next results m t l h) (each-snoc (Follows n) e hm) i g)
+        (next results m t l h) r (each-snoc (Follows n) e hm) i g)
 
     all-asked : (r : Summary) → Ran b r → (i : ℕ) → getElem? (b .steps) i ≡ some s
         → P (outcome-of (outcomes I (b .steps)) c)
     unfolding outcomes
-    all-asked r ran i g = if-done (run-asked (b .steps) [] [] (p .steps) nil i g) (ran .ran)
+    all-asked r ran i g = if-done (run-asked (b .steps) [] [] (p .steps) ready nil i g) (ran .ran)
 
   -- the last outcome follows the result
   result-follows : (s : Summary) → Ran b s → Follows n (outcome I (b .steps)) (s .model)
@@ -212,7 +234,7 @@ module _ (b : Book) (p : Passes b) (I : Inputs) (hI : All-within b I) where
   result-follows s r = subst
       (λ (t : Summary). Follows n (last zero-outcome (outcomes-after I [] (b .steps))) (t .model)) (r .is-summary)
       (each-last (Follows n) zero-outcome (zero-model n) zero-follows
-      (if-done (run-follows (b .steps) [] [] (p .steps) nil) (r .ran)))
+      (if-done (run-follows (b .steps) [] [] (p .steps) ready nil) (r .ran)))
 
   -- every substitution stays in the box
   substitution-before : (i a c v : ℕ) → T (step-sound b i (substitute a c v)) → c < i
@@ -247,20 +269,27 @@ summary-integral b s r = subst (λ (t : Summary). t .integral ≡ integral (t .m
 -- it holds of every book that passes the tests and whose steps run
 pub claim-sound : (b : Book) (s : Summary) → Passes b → run-sound b ≡ done s → Claim b s
 claim-sound b s p h = record {
-  within-radius = λ I x g. near-at (s .model) x _ (result I (g .inputs) .near x (g .point));
+  within-radius = λ I x g. near-at (s .model) x _ (result I (g .inputs) (promise I x g) .near x (g .point));
   in-range = λ I x g. subst (Lies (outcome I (b .steps) .at x)) (sym (summary-range b s ran))
-      (range-encloses (s .model) _ (g .point) (result I (g .inputs) .near x (g .point)));
-  stays-in-box = λ I x g i a c v e. substitutions-stay b p I (g .inputs) s ran i a c v e x (g .point);
-  never-zero = λ I x g i a c h w e. quotients-divide b p I (g .inputs) s ran i a c h w e x (g .point);
+      (range-encloses (s .model) _ (g .point) (result I (g .inputs) (promise I x g) .near x (g .point)));
+  stays-in-box = λ I x g i a c v e.
+      substitutions-stay b p I (g .inputs) (promise I x g) s ran i a c v e x (g .point);
+  never-zero = λ I x g i a c h w e.
+      quotients-divide b p I (g .inputs) (promise I x g) s ran i a c h w e x (g .point);
   outcome-is-polynomial = λ Q z. outcome-known Q b (p .steps) z;
-  integral-in-ends = λ Q z hQ q m. integral-of Q q m (result (polynomials Q) hQ);
+  integral-in-ends = λ Q z hQ q m. integral-of Q q m (result (polynomials Q) hQ
+      (promised-ready b (polynomials Q) (p .steps) (no-quotient-promised Q b z)));
 }
   where
     ran : Ran b s
     ran = sound-ran b s h
 
-    result : (I : Inputs) → All-within b I → Follows (b .vars) (outcome I (b .steps)) (s .model)
-    result I hI = result-follows b p I hI s ran
+    promise : (I : Inputs) (x : Point) → Given b I x → Ready (b .vars) I [] (b .steps)
+    promise I x g = promised-ready b I (p .steps) (g .as-promised)
+
+    result : (I : Inputs) → All-within b I → Ready (b .vars) I [] (b .steps)
+        → Follows (b .vars) (outcome I (b .steps)) (s .model)
+    result I hI ready = result-follows b p I hI ready s ran
 
     integral-of : (Q : ℕ → ℚ-Polynomial) (q : ℚ-Polynomial) → outcome (polynomials Q) (b .steps) .polynomial ≡ some q
         → Follows (b .vars) (outcome (polynomials Q) (b .steps)) (s .model)
