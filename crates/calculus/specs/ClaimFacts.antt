@@ -1,12 +1,12 @@
 -- Facts beside the claim. It is not empty: every book has a point of the box and functions within its models, among
--- them polynomials. And it is not true of everything: each band alone, that of the radius, of the range and of the
+-- them polynomials, so that what is promised can be asked for. And it is not true of everything: each band alone, that of the radius, of the range and of the
 -- integral, refutes a wrong answer, whatever the rest of the answer is. JumpFacts goes on with functions that are no
 -- polynomials.
 use mathlib.Core.Path.{_≡_, refl, sym, _∙_, ap, ap₂}
 use mathlib.Core.List.{List, [], _∷_}
 use Prim.Native.Nat.{ℕ, zero, suc, _+_, _<_, _^_}
 use native.Mathlib.Omega.{arith}
-use lib.Dec.{leb→le}
+use lib.Dec.{T, leb→le}
 use lib.IntN.{pos, negsuc}
 use lib.ListN.{replicate}
 use Rattle.algebra.specs.Ring.{Ring, nat}
@@ -30,8 +30,9 @@ use Rattle.calculus.specs.Operations.{Ends, zero-ends}
 use Rattle.calculus.specs.Book.{constant, negate, Book, model-of, last}
 use Rattle.calculus.specs.Outcome.{Function, 0ℚ, ℚ-Polynomial, value-of, exact-integral, functions, polynomials}
 use Rattle.calculus.specs.Outcome.{input-outcome, step-value, step-polynomial, step-outcome, outcome-of}
-use Rattle.calculus.specs.Outcome.{outcomes-after, outcomes, outcome, is-quotient, no-quotient}
-use Rattle.calculus.specs.Claim.{Lies, All-within, Given, Claim}
+use Rattle.calculus.specs.Outcome.{outcomes-after, outcomes, outcome, no-antiderivative, no-quotient-feeds}
+use Rattle.calculus.specs.Claim.{Lies, All-within, promised, Given, Claim}
+use Rattle.calculus.specs.Computing.{promises}
 use Rattle.calculus.specs.UnitLaws.{natural, natural-*, natural-≤, natural-nonneg, abs-whole, U-times}
 use Rattle.calculus.specs.UnitLaws.{U-cancel}
 use Rattle.calculus.specs.ValueLaws.{Near, at-near, scaled-value, abs-zero, sum-≤}
@@ -70,8 +71,22 @@ unfolding origin
 origin-inside zero = none
 origin-inside (suc n) = more (abs-zero ≤≤ natural-≤ 0 1 (omega arith)) (origin-inside n)
 
-pub own-given : (b : Book) → Given b (functions (own b)) (origin (b .vars))
-own-given b = record { inputs = own-within b; point = origin-inside (b .vars) }
+-- where no step is an antiderivative
+pub own-given : (b : Book) → T (no-antiderivative (b .steps)) → Given b (functions (own b)) (origin (b .vars))
+own-given b z = record {
+  inputs = own-within b;
+  as-promised = unfold promised in z;
+  point = origin-inside (b .vars);
+}
+
+-- where no quotient feeds one
+pub own-polynomial-given : (b : Book) → T (no-quotient-feeds (b .steps))
+    → Given b (polynomials (own-polynomial b)) (origin (b .vars))
+own-polynomial-given b z = record {
+  inputs = own-polynomial-within b;
+  as-promised = unfold promised in z;
+  point = origin-inside (b .vars);
+}
 
 -- ---- each band alone refutes a wrong answer
 -- an inequality of whole numbers that is false
@@ -98,7 +113,7 @@ unfolding one-step outcome outcomes outcomes-after step-outcome step-value last 
 radius-refutes ms n r i c = false-≤ 1 0 (omega arith) (sym (abs-whole (pos 1)) ≡≤ ap (abs ℚO) (sym difference) ≡≤ near)
   where
     at : At (zero-model n) (origin 1) (pos 1 /U)
-    at = c .within-radius (functions (own (one-step ms))) (origin 1) (own-given (one-step ms))
+    at = c .within-radius (functions (own (one-step ms))) (origin 1) (own-given (one-step ms) (unfold promises in tt))
 
     near : abs ℚO (natural U *ℚ pos 1 /U -ℚ natural U *ℚ 0ℚ) ≤ℚ natural 0
     near = both-near (zero-model n) (zero-model n) (origin 1) (pos 1 /U) 0ℚ refl
@@ -114,13 +129,13 @@ unfolding one-step zero-ends outcome outcomes outcomes-after step-outcome step-v
 range-refutes m i c = false-≤ 1 0 (omega arith) (sym (U-times (pos 1)) ≡≤ lies .to)
   where
     lies : Lies (pos 1 /U) zero-ends
-    lies = c .in-range (functions (own (one-step []))) (origin 1) (own-given (one-step []))
+    lies = c .in-range (functions (own (one-step []))) (origin 1) (own-given (one-step []) (unfold promises in tt))
 
 -- 0 to 0 is not its integral
 pub integral-refutes : (m : Model) (r : Ends)
     → Claim (one-step []) (record { model = m; range = r; integral = zero-ends }) → ⊥
 unfolding one-step zero-ends outcome outcomes outcomes-after step-outcome step-polynomial last exact-integral
-    no-quotient is-quotient
+    promises
 integral-refutes m r c = false-≤ 2 0 (omega arith) (sym amount ≡≤ lies .to)
   where
     lies : Lies (exact-integral 1 (P.constant ℚR (pos 1 /U))) zero-ends
@@ -151,7 +166,7 @@ passing-refuted r i c = false-≤ 2 0 (omega arith) (sym (abs-whole (negsuc 1)) 
     m = Op.constant 1 (pos 1)
 
     at : At m (origin 1) (negℚ (pos 1 /U))
-    at = c .within-radius (functions (own negated)) (origin 1) (own-given negated)
+    at = c .within-radius (functions (own negated)) (origin 1) (own-given negated (unfold promises in tt))
 
     near : abs ℚO (natural U *ℚ negℚ (pos 1 /U) -ℚ natural U *ℚ pos 1 /U) ≤ℚ natural 0
     near = unfold Op.constant in both-near m m (origin 1) (negℚ (pos 1 /U)) (pos 1 /U) refl

@@ -11,11 +11,13 @@ use Rattle.calculus.specs.Operations as O
 use Rattle.calculus.specs.Tests as Te
 use Rattle.calculus.specs.Calls as C
 use Rattle.calculus.specs.Book as B
+use Rattle.calculus.specs.Outcome as Ou
+use Rattle.calculus.specs.Claim as Cl
 
 -- the numbers and the polynomials below the models
 unfoldable pub numbers : Unit {0}
 unfolding
-    P.add-exponents P.exponent P.without P.replace P.product P.times
+    P.add-exponents P.exponent P.without P.raise P.replace P.product P.times
     I.even I.first I.rest I.all-even I.divisor
     F.numbers
 numbers = tt
@@ -25,7 +27,7 @@ unfoldable pub models : Unit {0}
 unfolding
     Mo.degree Mo.zeros Mo.index-of Mo.single
     K.decode K.key-width
-    T.every T.select T.sum-over T.size T.map-coefficients T.map-monomials
+    T.every T.select T.sum-over T.size T.map-coefficients T.map-terms T.map-monomials
     T.rising-from T.rising T.is-nonzero T.nonzero T.drop-zeros T.insert T.collect
     M.zero-model M.one-model M.most-vars M.most-degree M.most-terms M.between M.span M.fits M.sound
 models = tt
@@ -39,6 +41,7 @@ unfolding
     O.is-constant O.constant-part O.even-powers O.can-fall O.can-rise O.below O.above O.range O.range-in-box
     O.largest-exponent O.part-terms O.part O.horner O.widen O.substitute
     O.bare O.defect O.deviation O.largest-end O.largest-value O.quotient-radius O.certified O.quotient
+    O.raised O.divided O.is-inexact O.growth-rounding O.growth-swept O.antiderivative
     O.is-small O.sweep O.integral-sum O.integral
 operations = tt
 
@@ -60,6 +63,16 @@ unfolding
     O.zero-ends O.put-constants O.evaluate
     Te.all-zero Te.all-in-unit
     C.call-constant C.call-variable C.call-negate C.call-sweep C.call-range C.call-integral C.call-evaluate
+    C.call-antiderivative
     C.require-two C.call-add C.call-subtract C.call-multiply C.call-substitute C.require-four C.call-quotient
     C.returned-model C.returned-ends
 calls = tt
+
+-- what is promised
+unfoldable pub promises : Unit {0}
+unfolding
+    B.operands
+    Ou.is-quotient Ou.is-antiderivative Ou.each-step Ou.no-quotient Ou.no-antiderivative
+    Ou.any-marked Ou.is-fed Ou.marks-after Ou.no-quotient-feeds
+    Cl.promised
+promises = tt

@@ -37,7 +37,7 @@ use Rattle.calculus.specs.Outcome.{Function, 0ℚ, coordinate, with-coor
 use Rattle.calculus.specs.Outcome.{functions, input-outcome, step-value, step-outcome, outcome-of}
 use Rattle.calculus.specs.Outcome.{outcomes-after, outcomes, outcome}
 use Rattle.calculus.specs.Claim.{All-within, Given, Claim}
-use Rattle.calculus.specs.Computing.{runs}
+use Rattle.calculus.specs.Computing.{runs, promises}
 use Rattle.calculus.specs.UnitLaws.{natural, natural-≤, abs-whole, U-times, U-times-≤}
 use Rattle.calculus.specs.ValueLaws.{Near, at-near, abs-zero}
 use Rattle.calculus.specs.EnclosureLaws.{zero-near}
@@ -63,7 +63,7 @@ jumping j b a x = elim (leℚ (coordinate 1 x) 0ℚ) [
   | false ↦ own b a x +ℚ height j (model-of b a)
 ]
 
-height-fits : (j : Jump) (m : Model) → abs ℚO (height j m) ≤ℚ pos (m .radius) /U
+pub height-fits : (j : Jump) (m : Model) → abs ℚO (height j m) ≤ℚ pos (m .radius) /U
 unfolding height
 height-fits up m = equal (abs-pos ℚO (radius-nonneg (m .radius)))
 height-fits down m = abs-neg-eq ℚO _ ≡≤ equal (abs-pos ℚO (radius-nonneg (m .radius)))
@@ -118,7 +118,11 @@ unfoldable pub woven-outcome : Jump → ℚ
 woven-outcome j = outcome (functions (jumping j woven)) (woven .steps) .at left
 
 pub given : (j : Jump) → Given woven (functions (jumping j woven)) left
-given j = record { inputs = jumping-within j woven; point = unfold woven in left-inside }
+given j = record {
+  inputs = jumping-within j woven;
+  as-promised = unfold promises woven in tt;
+  point = unfold woven in left-inside;
+}
 
 -- times U it is F(1) - 5 at the point -1, with 3 or -3 for F(1)
 module _ (j : Jump) where
@@ -293,6 +297,7 @@ same-point-refuted h = let k : U ≤ 0 = unfold zero-model in bounded (pos U) 0 
     at : At (zero-model 1) right (natural 1)
     at = h (functions (own put-zero)) right (record {
       inputs = own-within put-zero;
+      as-promised = unfold promises in tt;
       point = more (equal (abs-whole (pos 1))) none;
     })
 

@@ -56,6 +56,7 @@ pub mod ClaimFacts
 pub mod JumpFacts
 pub mod QuotientFacts
 pub mod RangeFacts
+pub mod AntiderivativeFacts
 -- A mirrored factor.
 pub mod MirrorLaws
 pub mod MirrorStepLaws

@@ -26,7 +26,7 @@ use Rattle.calculus.specs.Book.{input, constant, quotient, Book, model-o
 use Rattle.calculus.specs.Outcome.{0ℚ, coordinate, ℚ-Polynomial, value-of, Inputs, functions, input-outcome}
 use Rattle.calculus.specs.Outcome.{step-value, step-outcome, outcome-of, outcomes-after, outcomes, outcome}
 use Rattle.calculus.specs.Claim.{Given, Claim}
-use Rattle.calculus.specs.Computing.{runs}
+use Rattle.calculus.specs.Computing.{runs, promises}
 use Rattle.calculus.specs.UnitLaws.{natural, natural-*, abs-whole, U-times}
 use Rattle.calculus.specs.ValueLaws.{Near, at-near}
 use Rattle.calculus.specs.EnclosureLaws.{zero-near}
@@ -73,7 +73,11 @@ unfoldable pub halved-outcome : (e : ℕ) → Jump → ℚ
 halved-outcome e j = outcome (functions (jumping j (halved e))) (halved e .steps) .at right
 
 pub given : (e : ℕ) (j : Jump) → Given (halved e) (functions (jumping j (halved e))) right
-given e j = record { inputs = jumping-within j (halved e); point = unfold halved in right-inside }
+given e j = record {
+  inputs = jumping-within j (halved e);
+  as-promised = unfold promises halved in tt;
+  point = unfold halved in right-inside;
+}
 
 -- they are no polynomials
 pub halved-no-polynomial : (e : ℕ) (q : ℚ-Polynomial)

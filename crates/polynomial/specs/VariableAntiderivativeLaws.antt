@@ -159,7 +159,7 @@ module _ (F : Field) where
       m : Carrier
       m = monomial R (raise v (t .exponents)) xs
 
-  antiderivative-constant : (v : ℕ) (e y : Carrier) (xs : List Carrier) → v < length xs
+  pub antiderivative-constant : (v : ℕ) (e y : Carrier) (xs : List Carrier) → v < length xs
       → eval R (antiderivative-in F v (constant R e)) (replace v y xs) ≡ e * y
   antiderivative-constant v e y xs l = slice-antiderivative v (constant R e) y xs l ∙ sliced
     where
