@@ -8,8 +8,8 @@ use Rattle.calculus.specs.Model.{Model}
 use Rattle.calculus.specs.Refusal.{Result, Returned}
 use Rattle.calculus.specs.Operations.{Ends}
 use Rattle.calculus.specs.Calls.{call-constant, call-variable, call-negate, call-sweep, call-range, call-integral}
-use Rattle.calculus.specs.Calls.{call-evaluate, call-add, call-subtract, call-multiply, call-substitute}
-use Rattle.calculus.specs.Calls.{returned-model, returned-ends}
+use Rattle.calculus.specs.Calls.{call-evaluate, call-antiderivative, call-add, call-subtract, call-multiply}
+use Rattle.calculus.specs.Calls.{call-substitute, returned-model, returned-ends}
 use Rattle.calculus.specs.Computing.{calls}
 use Rattle.calculus.specs.Forms.{at-key, model, ends, minus, line, forms}
 use Rattle.calculus.specs.Edges.{one-term, terms-from}
@@ -89,6 +89,14 @@ constant-and-square a e b = model 1 e (at-key 1 0x0000 (pos a) ∷ at-key 1 0x20
 -- b x^2 - a, in units of 1/U
 unfoldable pub square-minus : (a b : ℕ) → Model
 square-minus a b = model 1 0 (at-key 1 0x0000 (minus a) ∷ at-key 1 0x2000 (pos b) ∷ [])
+
+-- the antiderivative of c x with order 2
+unfoldable pub integrated : ℤ → Result Model
+integrated c = call-antiderivative 2 1 (one-term 1 0x1000 c)
+
+-- c x^2 with a radius
+unfoldable pub square : (e : ℕ) → ℤ → Model
+square e c = model 1 e (at-key 1 0x2000 c ∷ [])
 
 -- ---- the table; the line is 5 + 3x
 unfoldable pub call-edges : List Call-edge
@@ -183,6 +191,39 @@ call-edges =
     (square-minus 1048576 2097152)
     ∷ refuses 22 (call-substitute 2 1 (one-term 1 0x1000 (pos 1048576)) (square-minus 1048576 2097153)) 9 0
     ∷ refuses 22 (call-substitute 2 1 (one-term 1 0x1000 (pos 1048576)) (square-minus 1048577 2097152)) 9 0
+    -- an antiderivative divides by the new exponent, here 2, halfway to the even; what is not exact costs 1
+    ∷ gives 23 (integrated (pos 1)) (model 1 1 []) ∷ gives 23 (integrated (minus 1)) (model 1 1 [])
+    ∷ gives 23 (integrated (pos 2)) (square 0 (pos 1)) ∷ gives 23 (integrated (minus 2)) (square 0 (minus 1))
+    ∷ gives 23 (integrated (pos 3)) (square 1 (pos 2)) ∷ gives 23 (integrated (minus 3)) (square 1 (minus 2))
+    ∷ gives 23 (integrated (pos 5)) (square 1 (pos 2)) ∷ gives 23 (integrated (minus 5)) (square 1 (minus 2))
+    -- below and above halfway, here of 3; one that rounds to zero costs 1 as the others do
+    ∷ gives 24 (call-antiderivative 3 1 (one-term 1 0x2000 (pos 1))) (model 1 1 [])
+    ∷ gives 24 (call-antiderivative 3 1 (one-term 1 0x2000 (minus 2))) (model 1 1 (at-key 1 0x3000 (minus 1) ∷ []))
+    ∷ gives 24 (call-antiderivative 3 1 (one-term 1 0x2000 (pos 3))) (one-term 1 0x3000 (pos 1))
+    -- exponent 14 at order 15, and exponent 15: degree 16 is above every order
+    ∷ gives 25 (call-antiderivative 15 1 (one-term 1 0xE000 (pos 30))) (one-term 1 0xF000 (pos 2))
+    ∷ gives 25 (call-antiderivative 15 1 (one-term 1 0xF000 (pos 16))) (model 1 1 [])
+    ∷ gives 25 (call-antiderivative 15 1 (one-term 1 0xF000 (minus 17))) (model 1 2 [])
+    -- the new degree is compared with the order, and what is swept is rounded up, of both signs: 5/3 and 5/2
+    ∷ gives 26 (call-antiderivative 2 1 (model 2 0 (at-key 2 0x1100 (minus 5) ∷ at-key 2 0x2000 (pos 5) ∷ [])))
+    (model 2 5 [])
+    ∷ gives 26 (call-antiderivative 3 1 (model 2 0 (at-key 2 0x1100 (minus 5) ∷ at-key 2 0x2000 (pos 5) ∷ [])))
+    (model 2 2 (at-key 2 0x2100 (minus 2) ∷ at-key 2 0x3000 (pos 2) ∷ []))
+    -- a radius only; a variable that does not occur; the old radius stays
+    ∷ gives 27 (call-antiderivative 1 1 (model 1 7 [])) (model 1 7 [])
+    ∷ gives 27 (call-antiderivative 2 1 (one-term 2 0x0100 (pos 7))) (one-term 2 0x1100 (pos 7))
+    ∷ gives 27 (call-antiderivative 2 2 (model 2 7 (at-key 2 0x0100 (pos 7) ∷ [])))
+    (model 2 8 (at-key 2 0x0200 (pos 4) ∷ []))
+    -- 3, then 5 with the order, then 6; never 7, even at the largest span
+    ∷ refuses 28 (call-antiderivative 0 9 bad) 3 0
+    ∷ refuses 28 (call-antiderivative 16 9 bad) 3 0
+    ∷ refuses 28 (call-antiderivative 2 9 bad) 5 0
+    ∷ refuses 28 (call-antiderivative 2 9 cube) 5 0
+    ∷ refuses 28 (call-antiderivative 3 0 cube) 6 0
+    ∷ refuses 28 (call-antiderivative 3 2 cube) 6 0
+    ∷ gives 28 (call-antiderivative 3 1 cube) (model 1 262144 [])
+    ∷ gives 28 (call-antiderivative 2 1 (model 1 1073741821 (at-key 1 0x1000 (pos 3) ∷ [])))
+    (model 1 1073741822 (at-key 1 0x2000 (pos 2) ∷ []))
     ∷ []
 
 -- each call hands back what its row says
@@ -190,5 +231,5 @@ pub call-edges-hold : map (λ r. r .given) call-edges ≡ map (λ r. r .wanted) 
 unfolding
     calls forms one-term terms-from
     back gives refuses gives-ends refuses-ends bad cube two-variables outside near-limit times about
-    constant-and-square square-minus call-edges
+    constant-and-square square-minus integrated square call-edges
 call-edges-hold = refl

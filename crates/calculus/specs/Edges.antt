@@ -10,7 +10,7 @@ use Rattle.calculus.specs.Model.{Model}
 use Rattle.calculus.specs.Refusal.{bad-limits, bad-model, bad-step, over-span, too-many-terms, leaves-box}
 use Rattle.calculus.specs.Refusal.{Result, stopped}
 use Rattle.calculus.specs.Book.{Step, input, constant, variable, negate, add, subtract, multiply, substitute}
-use Rattle.calculus.specs.Book.{sweep, Book, Summary, run}
+use Rattle.calculus.specs.Book.{sweep, antiderivative, Book, Summary, run}
 use Rattle.calculus.specs.Computing.{runs}
 use Rattle.calculus.specs.Forms.{at-key, model, book, ends, minus, gives, forms}
 
@@ -143,6 +143,14 @@ edges =
     ∷ row 20 (book 1 15 (one-term 1 0xF000 (pos 1048576) ∷ one-term 1 0x1000 (pos 524288) ∷ [])
     (input 0 ∷ input 1 ∷ substitute 0 1 1 ∷ []))
     (gives (one-term 1 0xF000 (pos 32)) (ends (minus 32) (pos 32)) (ends (pos 0) (pos 0)))
+    -- x, x^2/2, x^3/6: U/2 over 3 is not whole
+    ∷ row 21 (book 1 3 [] (variable 1 ∷ antiderivative 0 1 ∷ antiderivative 1 1 ∷ []))
+    (gives (model 1 1 (at-key 1 0x3000 (pos 174763) ∷ [])) (ends (minus 174764) (pos 174764)) (ends (minus 2) (pos 2)))
+    -- with order 2 the last is swept, U/2 over 3 rounded up
+    ∷ row 21 (book 1 2 [] (variable 1 ∷ antiderivative 0 1 ∷ antiderivative 1 1 ∷ []))
+    (gives (model 1 174763 []) (ends (minus 174763) (pos 174763)) (ends (minus 349526) (pos 349526)))
+    -- an antiderivative's operand is an earlier step, its variable 1 to n
+    ∷ broken 22 (antiderivative 1 1) ∷ broken 22 (antiderivative 0 0) ∷ broken 22 (antiderivative 0 2)
     ∷ []
 
 -- the run of each book gives what its row says

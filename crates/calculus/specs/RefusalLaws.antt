@@ -14,6 +14,12 @@ pub data If-accepted {A : Type 0} (P : A → Type 0) : Answer A → Type 0 where
   holds : {a : A} → P a → If-accepted P (accepted a)
   vacuous : {r : Refusal} → If-accepted P (refused r)
 
+-- a test that passes
+pub require-passed : {A : Type 0} (b : Bool) (r : Refusal) (a : Answer A) → T b → require b r a ≡ a
+unfolding require
+require-passed true r a t = refl
+require-passed false r a t = absurd t
+
 pub require-accepted : {A : Type 0} {P : A → Type 0} (b : Bool) (r : Refusal) (a : Answer A)
     → (T b → If-accepted P a) → If-accepted P (require b r a)
 unfolding require

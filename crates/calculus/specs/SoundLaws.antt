@@ -15,13 +15,14 @@ use Rattle.calculus.specs.Monomial.{degree, zeros, index-of, single}
 use Rattle.calculus.specs.Terms.{Terms, term, every, select, sum-over, size, map-monomials}
 use Rattle.calculus.specs.Terms.{rising-from, rising, is-nonzero, nonzero, drop-zeros, collect}
 use Rattle.calculus.specs.Model.{Model, zero-model, one-model, most-vars, most-terms, between, span, fits, sound}
-use Rattle.calculus.specs.Refusal.{over-span, too-many-terms, leaves-box, uncertified}
+use Rattle.calculus.specs.Refusal.{over-span, too-many-terms, leaves-box, uncertified, accepted}
 use Rattle.calculus.specs.Operations.{limited, constant, variable, negate, add, subtract, products}
 use Rattle.calculus.specs.Operations.{kept, multiply, range-in-box, largest-exponent, part-terms, part, horner}
 use Rattle.calculus.specs.Operations.{widen, substitute, is-small, sweep, bare, certified, quotient, raised, divided}
 use Rattle.calculus.specs.Operations.{within-order, growth-rounding, growth-swept, antiderivative}
 use Rattle.calculus.specs.TestLaws.{and-left, and-right, both}
-use Rattle.calculus.specs.RefusalLaws.{If-accepted, holds, require-accepted, then-accepted, weaken, always}
+use Rattle.calculus.specs.RefusalLaws.{If-accepted, holds, require-accepted, require-passed, then-accepted, weaken}
+use Rattle.calculus.specs.RefusalLaws.{always}
 use Rattle.calculus.specs.MonomialLaws.{length-zeros, length-single, length-without, degree-zeros}
 use Rattle.calculus.specs.MonomialLaws.{degree-single, degree-without, less-without, length-raise, less-raise}
 use Rattle.calculus.specs.TermsLaws.{by-select, length-select, every-nil, every-cons, every-++}
@@ -115,6 +116,32 @@ limited-bounded m h = require-accepted (leb (length (m .terms)) most-terms) too-
             (span m) span-limit s;
       },
     )))
+
+-- an antiderivative keeps the limits: no coefficient is larger than it was, and what is lost goes into the radius
+antiderivative-bounded : (d i : ℕ) (f : Model) → Bounded f → Bounded (antiderivative d i f)
+antiderivative-bounded d i f h = record {
+  count = let e = antiderivative-length d i f in let c = h .count in omega arith;
+  small-span = within (h .small-span) (growth-le d i f);
+}
+  where
+    within : span f ≤ span-limit
+        → size (antiderivative d i f .terms) + (growth-rounding d i f + growth-swept d i f) ≤ size (f .terms)
+        → span (antiderivative d i f) ≤ span-limit
+    within c e = unfold span antiderivative in omega arith
+
+-- so the limits would refuse none: neither 8 nor 7 can happen
+pub antiderivative-limits : (d i : ℕ) (f : Model) → Bounded f
+    → limited (antiderivative d i f) ≡ accepted (antiderivative d i f)
+unfolding limited
+antiderivative-limits d i f h =
+    require-passed (leb (length (m .terms)) most-terms) too-many-terms _ (le→leb (length (m .terms)) most-terms (b .count))
+    ∙ require-passed (leb (span m) span-limit) over-span _ (le→leb (span m) span-limit (b .small-span))
+  where
+    m : Model
+    m = antiderivative d i f
+
+    b : Bounded m
+    b = antiderivative-bounded d i f h
 
 -- U is not 0
 U-nonzero : is-nonzero (pos U) ≡ true
@@ -339,7 +366,7 @@ module _ (n d : ℕ) where
         small-span = let e = split in let c = h .1 .small-span in omega arith;
       }
 
-  -- ---- antiderivative: no coefficient is larger than it was, and what is lost goes into the radius
+  -- ---- antiderivative
   raised-length : (i : ℕ) → index-of i < n → (f : Model) → Canonical n d f
       → T (every (λ k c. eqb (length k) n) (raised i f))
   unfolding raised
@@ -355,7 +382,7 @@ module _ (n d : ℕ) where
       (f .terms) (h .fitting) (h .rising-terms)
 
   pub antiderivative-sound : (i : ℕ) → index-of i < n → (f : Model) → Sound n d f → Sound n d (antiderivative d i f)
-  antiderivative-sound i l f h = (canonical, bounds)
+  antiderivative-sound i l f h = (canonical, antiderivative-bounded d i f (h .1))
     where
       inside : List ℕ → ℤ → Bool
       inside k c = leb (degree k) d
@@ -374,17 +401,6 @@ module _ (n d : ℕ) where
         rising-terms = unfold antiderivative drop-zeros divided within-order in
             rising-select (λ k c. is-nonzero c) _ (rising-map-terms _ _
             (rising-select inside _ (raised-rising i l f (h .0))));
-      }
-
-      fits-span : span f ≤ span-limit
-          → size (antiderivative d i f .terms) + (growth-rounding d i f + growth-swept d i f) ≤ size (f .terms)
-          → span (antiderivative d i f) ≤ span-limit
-      fits-span c e = unfold span antiderivative in omega arith
-
-      bounds : Bounded (antiderivative d i f)
-      bounds = record {
-        count = let e = antiderivative-length d i f in let c = h .1 .count in omega arith;
-        small-span = fits-span (h .1 .small-span) (growth-le d i f);
       }
 
 -- the model of 1 is the constant 1
