@@ -1,11 +1,11 @@
--- Facts beside the claim with an antiderivative: a book with an antiderivative and then a quotient is promised its bands
--- and meets the hypotheses, one whose quotient feeds an antiderivative is not; the outcome follows the input and not the
--- model; and answers without the operand's radius or without either growth are refuted, as is an antiderivative that is
--- zero at -1.
+-- Facts beside the claim with an antiderivative: a book with an antiderivative and then a quotient is promised its
+-- bands and meets the hypotheses, one whose quotient feeds an antiderivative is not; the outcome follows the input and
+-- not the model; and answers without the operand's radius or without either growth are refuted, as is an antiderivative
+-- that is zero at -1.
 use mathlib.Core.Path.{_≡_, refl, sym, _∙_, ap, ap₂}
 use mathlib.Core.Bool.{true, false}
 use mathlib.Core.List.{List, [], _∷_}
-use Prim.Native.Nat.{ℕ, suc, _+_, _*_, _≤_}
+use Prim.Native.Nat.{ℕ, suc, _+_, _*_, _/_, _≤_}
 use native.Mathlib.Omega.{arith}
 use lib.IntN.{ℤ, pos, negsuc, natAbs}
 use Rattle.algebra.specs.Ring.{pow}
@@ -24,16 +24,19 @@ use Rattle.polynomial.specs.PolynomialLaws.{eval-sum, eval-constant}
 use Rattle.polynomial.specs.Antiderivative.{antiderivative-in}
 use Rattle.polynomial.specs.VariableAntiderivativeLaws.{antiderivative-constant}
 use Rattle.fixed.specs.Fixed.{U}
+use Rattle.fixed.specs.FixedLaws.{U-suc}
 use Rattle.calculus.specs.Monomial.{index-of}
 use Rattle.calculus.specs.Terms.{term}
 use Rattle.calculus.specs.Model.{Model, zero-model, _/U, _-ℚ_, distance, Point, In-box, polynomial, value, At}
 use Rattle.calculus.specs.Model.{Within}
 use Rattle.calculus.specs.Refusal.{done}
 use Rattle.calculus.specs.Operations.{Ends}
-use Rattle.calculus.specs.Book.{input, constant, negate, multiply, quotient, antiderivative, Book, model-of, Summary}
+use Rattle.calculus.specs.Book.{input, constant, negate, multiply, quotient, antiderivative, Book, model-of}
+use Rattle.calculus.specs.Book.{Summary}
 use Rattle.calculus.specs.Book.{summary, last, run}
 use Rattle.calculus.specs.Outcome.{0ℚ, ℚ-Polynomial, value-of, antiderivative-of, Inputs, functions, polynomials}
-use Rattle.calculus.specs.Outcome.{input-outcome, mapped, value-of-made, step-value, step-polynomial, step-outcome}
+use Rattle.calculus.specs.Outcome.{input-outcome, mapped, value-of-made, step-value, step-polynomial}
+use Rattle.calculus.specs.Outcome.{step-outcome}
 use Rattle.calculus.specs.Outcome.{outcome-of, outcomes-after, outcomes, outcome}
 use Rattle.calculus.specs.Claim.{All-within, promised, Given, Claim}
 use Rattle.calculus.specs.Computing.{runs, promises}
@@ -52,14 +55,14 @@ unfoldable pub mixed : Book
 mixed = record {
   vars = 1;
   order = 2;
-  models = record { vars = 1; radius = 1; terms = term (pos 1048576) (0 ∷ []) ∷ [] } ∷ [];
-  steps = input 0 ∷ antiderivative 0 1 ∷ constant (pos 2097152) ∷ constant (pos 524288) ∷ multiply 1 3
+  models = record { vars = 1; radius = 1; terms = term (pos U) (0 ∷ []) ∷ [] } ∷ [];
+  steps = input 0 ∷ antiderivative 0 1 ∷ constant (pos (2 * U)) ∷ constant (pos (U / 2)) ∷ multiply 1 3
       ∷ quotient 1 2 4 3 ∷ [];
 }
 
 -- its result: x/2 with radius 1
 unfoldable pub mixed-result : Model
-mixed-result = record { vars = 1; radius = 1; terms = term (pos 524288) (1 ∷ []) ∷ [] }
+mixed-result = record { vars = 1; radius = 1; terms = term (pos (U / 2)) (1 ∷ []) ∷ [] }
 
 pub mixed-runs : run mixed ≡ done (summary mixed-result)
 unfolding runs mixed mixed-result
@@ -92,7 +95,7 @@ fed = record {
   vars = 1;
   order = 2;
   models = record { vars = 1; radius = 1; terms = [] } ∷ [];
-  steps = input 0 ∷ constant (pos 1048576) ∷ quotient 0 1 0 1 ∷ negate 2 ∷ antiderivative 3 1 ∷ [];
+  steps = input 0 ∷ constant (pos U) ∷ quotient 0 1 0 1 ∷ negate 2 ∷ antiderivative 3 1 ∷ [];
 }
 
 pub fed-not-promised : (I : Inputs) → promised fed I ≡ false
@@ -250,20 +253,22 @@ module _ (d c : ℕ) where
           ≤≡ ap natural (unfold zero-model in (omega arith))
 
 pub without-rounding-refuted : (r i : Ends)
-    → Claim (term-book 2 1) (record { model = record { vars = 1; radius = 0; terms = [] }; range = r; integral = i }) → ⊥
+    → Claim (term-book 2 1) (record { model = record { vars = 1; radius = 0; terms = [] }; range = r; integral = i })
+    → ⊥
 without-rounding-refuted r i c = omega (arith, radius-enough 2 1 0 r i c)
 
 pub without-swept-refuted : (r i : Ends)
-    → Claim (term-book 1 2) (record { model = record { vars = 1; radius = 0; terms = [] }; range = r; integral = i }) → ⊥
+    → Claim (term-book 1 2) (record { model = record { vars = 1; radius = 0; terms = [] }; range = r; integral = i })
+    → ⊥
 without-swept-refuted r i c = omega (arith, radius-enough 1 2 0 r i c)
 
 -- ---- the antiderivative that is zero at -1: the claim would be false of this accepted book
 unfoldable pub ramp : Book
-ramp = record { vars = 1; order = 1; models = []; steps = constant (pos 1048576) ∷ antiderivative 0 1 ∷ [] }
+ramp = record { vars = 1; order = 1; models = []; steps = constant (pos U) ∷ antiderivative 0 1 ∷ [] }
 
 -- its result: x
 unfoldable pub ramp-result : Model
-ramp-result = record { vars = 1; radius = 0; terms = term (pos 1048576) (1 ∷ []) ∷ [] }
+ramp-result = record { vars = 1; radius = 0; terms = term (pos U) (1 ∷ []) ∷ [] }
 
 pub ramp-runs : run ramp ≡ done (summary ramp-result)
 unfolding runs ramp ramp-result
@@ -273,28 +278,28 @@ ramp-runs = refl
 unfoldable pub from-minus-one : Inputs → Point → ℚ
 from-minus-one I x = outcome I (ramp .steps) .at x -ℚ outcome I (ramp .steps) .at left
 
-ramp-at : (I : Inputs) (y : ℚ) → outcome I (ramp .steps) .at (y ∷ []) ≡ pos 1048576 /U *ℚ y
+ramp-at : (I : Inputs) (y : ℚ) → outcome I (ramp .steps) .at (y ∷ []) ≡ pos U /U *ℚ y
 unfolding ramp outcome outcomes outcomes-after step-outcome step-value step-polynomial outcome-of last mapped
     value-of-made antiderivative-of value-of index-of replace
-ramp-at I y = antiderivative-constant ℚF 0 (pos 1048576 /U) y (y ∷ []) (omega arith)
+ramp-at I y = antiderivative-constant ℚF 0 (pos U /U) y (y ∷ []) (omega arith)
 
 -- at 1 it is more than the outcome by 1
 above : (I : Inputs) → natural U *ℚ from-minus-one I right -ℚ natural U *ℚ outcome I (ramp .steps) .at right
-    ≡ whole (pos 1048576)
+    ≡ whole (pos U)
 unfolding from-minus-one left right
 above I = ap₂ (λ a b. natural U *ℚ (a -ℚ b) -ℚ natural U *ℚ a) (ramp-at I (natural 1)) (ramp-at I (whole (negsuc 0)))
     ∙ ap (λ z. natural U *ℚ (a *ℚ natural 1 -ℚ a *ℚ z) -ℚ natural U *ℚ (a *ℚ natural 1)) (whole-neg (pos 1))
     ∙ ring 2 ℚR (λ u a. u ⊠ (a ⊠ 𝟏 ⊟ a ⊠ (⊝ 𝟏)) ⊟ u ⊠ (a ⊠ 𝟏)) (λ u a. u ⊠ a) refl (natural U) a
-    ∙ U-times (pos 1048576)
+    ∙ U-times (pos U)
   where
     a : ℚ
-    a = pos 1048576 /U
+    a = pos U /U
 
 pub from-minus-one-refuted : ((I : Inputs) (x : Point) → Given ramp I x → At ramp-result x (from-minus-one I x)) → ⊥
 unfolding ramp-result
-from-minus-one-refuted h = let k : 1048576 ≤ 0 + 0 = bounded (pos 1048576) _ _ (above I)
+from-minus-one-refuted h = let k : U ≤ 0 + 0 = bounded (pos U) _ _ (above I)
     (both-near ramp-result ramp-result right _ _ refl (at-near ramp-result right _ (h I right given))
-    (at-near ramp-result right _ holds)) in omega arith
+    (at-near ramp-result right _ holds)) in omega (arith, U-suc)
   where
     I : Inputs
     I = polynomials (own-polynomial ramp)

@@ -1,7 +1,7 @@
 -- Facts beside the claim. It is not empty: every book has a point of the box and functions within its models, among
--- them polynomials, so that what is promised can be asked for. And it is not true of everything: each band alone, that of the radius, of the range and of the
--- integral, refutes a wrong answer, whatever the rest of the answer is. JumpFacts goes on with functions that are no
--- polynomials.
+-- them polynomials, so that what is promised can be asked for. And it is not true of everything: each band alone, that
+-- of the radius, of the range and of the integral, refutes a wrong answer, whatever the rest of the answer is.
+-- JumpFacts goes on with functions that are no polynomials.
 use mathlib.Core.Path.{_≡_, refl, sym, _∙_, ap, ap₂}
 use mathlib.Core.List.{List, [], _∷_}
 use Prim.Native.Nat.{ℕ, zero, suc, _+_, _<_, _^_}

@@ -33,7 +33,7 @@ use Rattle.calculus.specs.EnclosureLaws.{add-near, subtract-near, multip
 use Rattle.calculus.specs.RangeLaws.{range-encloses, in-box-encloses}
 use Rattle.calculus.specs.SubstituteLaws.{substitute-near}
 use Rattle.calculus.specs.QuotientLaws.{quotient-near, divisor-nonzero}
-use Rattle.calculus.specs.AntiderivativeLaws.{antiderivative-near}
+use Rattle.calculus.specs.AntiderivativeEnclosureLaws.{antiderivative-near}
 use Rattle.calculus.specs.IntegralEndsLaws.{integral-encloses}
 use Rattle.calculus.specs.EachLaws.{Each, nil, each-length, each-snoc, each-at, each-last}
 use Rattle.calculus.specs.BookLaws.{Passes, Done, run-done, model-passes, model-vars, variable-inside, Ran}

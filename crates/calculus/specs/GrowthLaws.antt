@@ -53,7 +53,8 @@ module _ (d i : ℕ) where
 
   pub rounding-sum : (f : Model) → growth-rounding d i f ≡ sum-ℕ rounding-of (f .terms)
   unfolding growth-rounding within-order raised
-  rounding-sum f = sum-select ℕ-addition _ _ _ ∙ sum-select ℕ-addition _ _ _ ∙ sum-map-monomials ℕ-addition _ up (f .terms)
+  rounding-sum f = sum-select ℕ-addition _ _ _ ∙ sum-select ℕ-addition _ _ _
+      ∙ sum-map-monomials ℕ-addition _ up (f .terms)
 
   -- and by being swept
   abbrev pub swept-of : List ℕ → ℤ → ℕ

@@ -45,7 +45,7 @@ pub mod SymmetricRange
 pub mod RangeInsideLaws
 pub mod SubstituteLaws
 pub mod QuotientLaws
-pub mod AntiderivativeLaws
+pub mod AntiderivativeEnclosureLaws
 pub mod EvaluateLaws
 pub mod IntegralEndsLaws
 -- The claim.

@@ -236,7 +236,8 @@ module _ (Q : ℕ → ℚ-Polynomial) where
   all-made [] e = e
   all-made (s ∷ l) e = all-made l (each-snoc Unmarked e (step-made s e))
 
-  outcome-made : (l : List Step) → T (not (last false (marks-after [] l))) → Made (outcome (polynomials Q) l .polynomial)
+  outcome-made : (l : List Step) → T (not (last false (marks-after [] l)))
+      → Made (outcome (polynomials Q) l .polynomial)
   unfolding outcome outcomes
   outcome-made l = each-last Unmarked zero-outcome false (λ z. unfold zero-outcome in made) (all-made l nil)
 
@@ -281,7 +282,8 @@ outcome-known Q b h z = outcome-unfed Q b h
 
 -- ---- what was promised without antiderivatives is promised still
 -- and polynomials are promised what they give,
-pub no-quotient-promised : (Q : ℕ → ℚ-Polynomial) (b : Book) → T (no-quotient (b .steps)) → T (promised b (polynomials Q))
+pub no-quotient-promised : (Q : ℕ → ℚ-Polynomial) (b : Book) → T (no-quotient (b .steps))
+    → T (promised b (polynomials Q))
 unfolding promised no-quotient-feeds is-fed
 no-quotient-promised Q b z = each-implies (λ s. not (is-quotient s)) _ (λ s h. not-and (is-antiderivative s) _
     (off-any (marks-off (b .steps) z nil) (operands s))) (b .steps) (unfold no-quotient in z)
@@ -345,9 +347,10 @@ module _ (Q : ℕ → ℚ-Polynomial) (b : Book) (marks : List Bool) where
 
 pub promised-ready : (b : Book) (I : Inputs) → T (all-from 0 (step-sound b) (b .steps)) → T (promised b I)
     → Ready (b .vars) I [] (b .steps)
-unfolding promised no-quotient-feeds
+unfolding promised no-quotient-feeds unfed
 promised-ready b (functions F) h z = functions-ready (b .vars) F (b .steps) z
-promised-ready b (polynomials Q) h z = unfold unfed in polynomials-ready Q b (marks-after [] (b .steps)) 0 (b .steps) h refl nil nil refl z
+promised-ready b (polynomials Q) h z =
+    polynomials-ready Q b (marks-after [] (b .steps)) 0 (b .steps) h refl nil nil refl z
 
 -- ---- as functions of the point, polynomials are their values, where no step is an antiderivative
 module _ (Q : ℕ → ℚ-Polynomial) where

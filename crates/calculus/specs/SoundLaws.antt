@@ -18,18 +18,23 @@ use Rattle.calculus.specs.Model.{Model, zero-model, one-model, most-vars
 use Rattle.calculus.specs.Refusal.{over-span, too-many-terms, leaves-box, uncertified, accepted}
 use Rattle.calculus.specs.Operations.{limited, constant, variable, negate, add, subtract, products}
 use Rattle.calculus.specs.Operations.{kept, multiply, range-in-box, largest-exponent, part-terms, part, horner}
-use Rattle.calculus.specs.Operations.{widen, substitute, is-small, sweep, bare, certified, quotient, raised, divided}
+use Rattle.calculus.specs.Operations.{widen, substitute, is-small, sweep, bare, certified, quotient, raised}
+use Rattle.calculus.specs.Operations.{divided}
 use Rattle.calculus.specs.Operations.{within-order, growth-rounding, growth-swept, antiderivative}
 use Rattle.calculus.specs.TestLaws.{and-left, and-right, both}
-use Rattle.calculus.specs.RefusalLaws.{If-accepted, holds, require-accepted, require-passed, then-accepted, weaken}
+use Rattle.calculus.specs.RefusalLaws.{If-accepted, holds, require-accepted, require-passed, then-accepted}
+use Rattle.calculus.specs.RefusalLaws.{weaken}
 use Rattle.calculus.specs.RefusalLaws.{always}
 use Rattle.calculus.specs.MonomialLaws.{length-zeros, length-single, length-without, degree-zeros}
 use Rattle.calculus.specs.MonomialLaws.{degree-single, degree-without, less-without, length-raise, less-raise}
 use Rattle.calculus.specs.TermsLaws.{by-select, length-select, every-nil, every-cons, every-++}
-use Rattle.calculus.specs.TermsLaws.{every-select, every-selected, every-implies, every-both, every-map-coefficients}
-use Rattle.calculus.specs.TermsLaws.{every-map-monomials, every-map-terms, every-collect, rising-head, rising-rest}
+use Rattle.calculus.specs.TermsLaws.{every-select, every-selected, every-implies, every-both}
+use Rattle.calculus.specs.TermsLaws.{every-map-coefficients}
+use Rattle.calculus.specs.TermsLaws.{every-map-monomials, every-map-terms, every-collect, rising-head}
+use Rattle.calculus.specs.TermsLaws.{rising-rest}
 use Rattle.calculus.specs.TermsLaws.{rising-cons, rising-below, rising-any, rising-select}
-use Rattle.calculus.specs.TermsLaws.{rising-map-coefficients, rising-map-terms, rising-map-monomials, nonzero-drop-zeros}
+use Rattle.calculus.specs.TermsLaws.{rising-map-coefficients, rising-map-terms, rising-map-monomials}
+use Rattle.calculus.specs.TermsLaws.{nonzero-drop-zeros}
 use Rattle.calculus.specs.FitsLaws.{fits-by, fits-length, fits-degree, kept-fits}
 use Rattle.calculus.specs.SumLaws.{ℕ-addition, sum-split}
 use Rattle.calculus.specs.GrowthLaws.{antiderivative-length, growth-le}
@@ -134,7 +139,8 @@ pub antiderivative-limits : (d i : ℕ) (f : Model) → Bounded f
     → limited (antiderivative d i f) ≡ accepted (antiderivative d i f)
 unfolding limited
 antiderivative-limits d i f h =
-    require-passed (leb (length (m .terms)) most-terms) too-many-terms _ (le→leb (length (m .terms)) most-terms (b .count))
+    require-passed (leb (length (m .terms)) most-terms) too-many-terms _
+    (le→leb (length (m .terms)) most-terms (b .count))
     ∙ require-passed (leb (span m) span-limit) over-span _ (le→leb (span m) span-limit (b .small-span))
   where
     m : Model

@@ -238,7 +238,7 @@ module _ (d : ℕ) (h : 0 < d) where
   divides-pos n e = ap (λ c. c *ℤ pos d) (ap (λ z. nearest z d) parts ∙ nearest-exact (pos (n / d)) d h) ∙ sym parts
     where
       parts : pos n ≡ pos (n / d) *ℤ pos d
-      parts = ap pos (let p = NatL.div-add-mod n d in let c : d * (n / d) ≡ n / d * d = NatL.mul-comm d (n / d) in omega arith)
+      parts = ap pos (omega (arith, e, NatL.div-add-mod n d, NatL.mul-comm d (n / d)))
 
   pub nearest-divides : (z : ℤ) → natAbs z % d ≡ 0 → nearest z d *ℤ pos d ≡ z
   nearest-divides (pos n) e = divides-pos n e
@@ -264,9 +264,17 @@ module _ (z : ℤ) (d : ℕ) (h : 0 < d) (l : 0 < natAbs z % d) where
 
       go : Dec (suc (suc n) ≤ natAbs z) → suc n < natAbs z
       go (yes k) = k
-      go (no k) = absurd (omega (arith, even-parity (pos (suc n)) (m .tie (omega
-          (arith, m .half, apart z (pos (suc n)) d, natAbs-parts z, large, not-zero, twice-n))),
-          m .half, apart z (pos (suc n)) d, natAbs-parts z, large, not-zero, twice-n))
+      go (no k) = absurd (omega (
+        arith,
+        even-parity (pos (suc n)) (m .tie (omega
+            (arith, m .half, apart z (pos (suc n)) d, natAbs-parts z, large, not-zero, twice-n))),
+        m .half,
+        apart z (pos (suc n)) d,
+        natAbs-parts z,
+        large,
+        not-zero,
+        twice-n,
+      ))
   shrinks (negsuc n) m = go (decLe (suc (suc n)) (natAbs z))
     where
       twice-n : n * 2 ≤ n * d
@@ -274,9 +282,17 @@ module _ (z : ℤ) (d : ℕ) (h : 0 < d) (l : 0 < natAbs z % d) where
 
       go : Dec (suc (suc n) ≤ natAbs z) → suc n < natAbs z
       go (yes k) = k
-      go (no k) = absurd (omega (arith, even-parity (negsuc n) (m .tie (omega
-          (arith, m .half, apart z (negsuc n) d, natAbs-parts z, large, not-zero, twice-n))),
-          m .half, apart z (negsuc n) d, natAbs-parts z, large, not-zero, twice-n))
+      go (no k) = absurd (omega (
+        arith,
+        even-parity (negsuc n) (m .tie (omega
+            (arith, m .half, apart z (negsuc n) d, natAbs-parts z, large, not-zero, twice-n))),
+        m .half,
+        apart z (negsuc n) d,
+        natAbs-parts z,
+        large,
+        not-zero,
+        twice-n,
+      ))
 
   pub nearest-shrinks : natAbs (nearest z d) < natAbs z
   nearest-shrinks = shrinks (nearest z d) (nearest-is z d h)

@@ -1,5 +1,5 @@
--- The antiderivative in one variable of a polynomial in several: it is 0 wherever that variable is 0, its derivative has
--- the polynomial's value, along a segment it is the antiderivative of the integral's own step, and on the box it is
+-- The antiderivative in one variable of a polynomial in several: it is 0 wherever that variable is 0, its derivative
+-- has the polynomial's value, along a segment it is the antiderivative of the integral's own step, and on the box it is
 -- bounded by what bounds the polynomial.
 use mathlib.Core.Path.{_≡_, refl, sym, _∙_, ap, ap₂, subst}
 use mathlib.Core.List.{List, [], _∷_}
@@ -45,7 +45,6 @@ module _ (F : Field) where
   infixl 60 _+_
   infixl 70 _*_
   infix 50 _≤_
-
   -- ---- the derivative of the antiderivative has the polynomial's value, at every point
   monomial-lower : (v : ℕ) (es : List ℕ) (xs : List Carrier)
       → monomial R (lower v (raise v es)) xs ≡ monomial R es xs
@@ -149,7 +148,8 @@ module _ (F : Field) where
       → eval R (antiderivative-in F v (scale R c p)) xs ≡ c * eval R (antiderivative-in F v p) xs
   unfolding antiderivative-in scale eval
   eval-antiderivative-scale v c [] xs = ring 1 R (λ c. 𝟎) (λ c. c ⊠ 𝟎) refl c
-  eval-antiderivative-scale v c (t ∷ p) xs = ap (λ z. c * t .coefficient * r * m + z) (eval-antiderivative-scale v c p xs)
+  eval-antiderivative-scale v c (t ∷ p) xs =
+      ap (λ z. c * t .coefficient * r * m + z) (eval-antiderivative-scale v c p xs)
       ∙ ring 5 R (λ c a r m z. c ⊠ a ⊠ r ⊠ m ⊞ c ⊠ z) (λ c a r m z. c ⊠ (a ⊠ r ⊠ m ⊞ z)) refl
       c (t .coefficient) r m (eval R (antiderivative-in F v p) xs)
     where

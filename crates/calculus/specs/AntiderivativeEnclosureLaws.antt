@@ -24,7 +24,8 @@ use Rattle.polynomial.specs.Polynomial.{eval, monomial, exponent}
 use Rattle.polynomial.specs.PolynomialLaws.{eval-sum, eval-negation}
 use Rattle.polynomial.specs.BoxLaws.{monomial-le}
 use Rattle.polynomial.specs.Antiderivative.{antiderivative-in}
-use Rattle.polynomial.specs.VariableAntiderivativeLaws.{exponent-raise, eval-antiderivative-sum, eval-antiderivative-scale}
+use Rattle.polynomial.specs.VariableAntiderivativeLaws.{exponent-raise, eval-antiderivative-sum}
+use Rattle.polynomial.specs.VariableAntiderivativeLaws.{eval-antiderivative-scale}
 use Rattle.polynomial.specs.VariableAntiderivativeLaws.{antiderivative-bounded}
 use Rattle.fixed.specs.Fixed.{U}
 use Rattle.fixed.specs.Division.{divided-up, nearest}
@@ -36,7 +37,8 @@ use Rattle.calculus.specs.Model.{Model, _/U, _-ℚ_, distance, Point, In
 use Rattle.calculus.specs.Operations.{is-inexact, growth-rounding, growth-swept, antiderivative}
 use Rattle.calculus.specs.Outcome.{ℚ-Polynomial, value-of}
 use Rattle.calculus.specs.SumLaws.{ℚ-addition, if-so, if-ℕ, if-ℚ}
-use Rattle.calculus.specs.GrowthLaws.{up, new-exponent, stays, new-exponent-pos, divided-sum, rounding-of, swept-of}
+use Rattle.calculus.specs.GrowthLaws.{up, new-exponent, stays, new-exponent-pos, divided-sum, rounding-of}
+use Rattle.calculus.specs.GrowthLaws.{swept-of}
 use Rattle.calculus.specs.GrowthLaws.{growth-sum}
 use Rattle.calculus.specs.UnitLaws.{natural, natural-+, natural-*, natural-≤, natural-nonneg, abs-whole, U-times}
 use Rattle.calculus.specs.UnitLaws.{U-times-≤, U-abs}
@@ -94,7 +96,8 @@ sums-≤ : (g h : List ℕ → ℤ → ℚ) (m : List ℕ → ℤ → ℕ)
     → abs ℚO (sum-over _+ℚ_ (natural 0) g p -ℚ sum-over _+ℚ_ (natural 0) h p) ≤ℚ natural (sum-ℕ m p)
 unfolding sum-over
 sums-≤ g h m l [] = ap (abs ℚO) (ring 0 ℚR (𝟎 ⊟ 𝟎) 𝟎 refl) ≡≤ abs-zero
-sums-≤ g h m l (t ∷ p) = ap (abs ℚO) (ring 4 ℚR (λ a b c d. a ⊞ b ⊟ (c ⊞ d)) (λ a b c d. (a ⊟ c) ⊞ (b ⊟ d)) refl _ _ _ _)
+sums-≤ g h m l (t ∷ p) = ap (abs ℚO)
+    (ring 4 ℚR (λ a b c d. a ⊞ b ⊟ (c ⊞ d)) (λ a b c d. (a ⊟ c) ⊞ (b ⊟ d)) refl _ _ _ _)
     ≡≤ sum-≤ _ _ _ _ (l (t .exponents) (t .coefficient)) (sums-≤ g h m l p)
 
 module _ (d i : ℕ) {n : ℕ} {x : Point} (b : In-box n x) where
@@ -178,7 +181,8 @@ module _ (d i : ℕ) {n : ℕ} {x : Point} (b : In-box n x) where
       A : ℚ-Polynomial → ℚ-Polynomial
       A = antiderivative-in ℚF (index-of i)
 
-      sums : f .radius + (growth-rounding d i f + growth-swept d i f) ≡ f .radius + growth-rounding d i f + growth-swept d i f
+      sums : f .radius + (growth-rounding d i f + growth-swept d i f)
+          ≡ f .radius + growth-rounding d i f + growth-swept d i f
       sums = omega arith
 
       difference : ℚ-Polynomial
