@@ -2,7 +2,7 @@
 -- there, so that it never passes a limit.
 use mathlib.Core.Path.{_≡_, refl, sym, _∙_, ap, ap₂}
 use mathlib.Core.Bool.{Bool, true, false, not}
-use mathlib.Core.List.{List, map}
+use mathlib.Core.List.{List, [], _∷_, map}
 use Prim.Native.Nat.{ℕ, zero, suc, _+_, _%_, _≤_, _<_}
 use native.Mathlib.Omega.{arith}
 use borrow.Author.Tests.{ne-eqb}
@@ -15,13 +15,14 @@ use Rattle.fixed.specs.Division.{divided-up, nearest}
 use Rattle.fixed.specs.DivisionLaws.{divided-up-le}
 use Rattle.fixed.specs.NearestLaws.{nearest-le-abs, nearest-shrinks}
 use Rattle.calculus.specs.Monomial.{degree, index-of}
-use Rattle.calculus.specs.Terms.{Terms, select, sum-over, sum-ℕ, size, map-terms, map-monomials, drop-zeros}
+use Rattle.calculus.specs.Terms.{Terms, term, select, sum-over, sum-ℕ, size, map-terms, map-monomials}
+use Rattle.calculus.specs.Terms.{is-nonzero, drop-zeros}
 use Rattle.calculus.specs.Model.{Model}
 use Rattle.calculus.specs.Operations.{within-order, above-order, raised, divided, is-inexact, growth-rounding}
 use Rattle.calculus.specs.Operations.{growth-swept, antiderivative}
 use Rattle.calculus.specs.TermsLaws.{length-select}
-use Rattle.calculus.specs.SumLaws.{Addition, ℕ-addition, if-so, if-ℕ, sum-drop-zeros, sum-map-terms, sum-select}
-use Rattle.calculus.specs.SumLaws.{sum-map-monomials, sum-both, sum-mono}
+use Rattle.calculus.specs.SumLaws.{Addition, ℕ-addition, if-so, if-ℕ, if-ℤ, sum-drop-zeros, sum-map-terms}
+use Rattle.calculus.specs.SumLaws.{sum-select, sum-map-monomials, sum-both, sum-mono}
 
 module _ (d i : ℕ) where
   -- the monomial with the exponent of variable i one higher
@@ -69,6 +70,54 @@ module _ (d i : ℕ) where
       ≡ sum-ℕ (λ k c. rounding-of k c + swept-of k c) (f .terms)
   growth-sum f = ap₂ _+_ (rounding-sum f) (swept-sum f) ∙ sum-both ℕ-addition rounding-of swept-of (f .terms)
 
+  -- ---- as terms: those that are swept have the coefficient 0, and are dropped with the zeros
+  abbrev pub new-coefficient : List ℕ → ℤ → ℤ
+  new-coefficient k c = if-ℤ (stays k) (nearest c (new-exponent k))
+
+  abbrev pub new-term : Term ℤ → Term ℤ
+  new-term t = term (new-coefficient (t .exponents) (t .coefficient)) (up (t .exponents))
+
+  -- a term raised, and divided
+  abbrev raised-term : Term ℤ → Term ℤ
+  raised-term t = term (t .coefficient) (up (t .exponents))
+
+  abbrev divided-term : Term ℤ → Term ℤ
+  divided-term t = term (nearest (t .coefficient) (exponent (index-of i) (t .exponents))) (t .exponents)
+
+  -- those of degree at most d, and those that are not 0
+  abbrev inside : Terms → Terms
+  inside = select (λ k c. leb (degree k) d)
+
+  abbrev present : Terms → Terms
+  present = select (λ k c. is-nonzero c)
+
+  new-terms : (p : Terms) → present (map divided-term (inside (map raised-term p))) ≡ present (map new-term p)
+  unfolding select if-so is-nonzero
+  new-terms [] = refl
+  new-terms (t ∷ p) = go (stays (t .exponents)) (new-terms p)
+    where
+      q : ℤ
+      q = nearest (t .coefficient) (new-exponent (t .exponents))
+
+      go : (b : Bool) → present (map divided-term (inside (map raised-term p))) ≡ present (map new-term p)
+          → present (map divided-term (elim b as (λ b. Terms) [
+            | true ↦ raised-term t ∷ inside (map raised-term p)
+            | false ↦ inside (map raised-term p)
+          ]))
+          ≡ elim (is-nonzero (if-ℤ b q)) as (λ b. Terms) [
+            | true ↦ term (if-ℤ b q) (up (t .exponents)) ∷ present (map new-term p)
+            | false ↦ present (map new-term p)
+          ]
+      go true h = ap (λ l. elim (is-nonzero q) as (λ b. Terms) [
+        | true ↦ term q (up (t .exponents)) ∷ l
+        | false ↦ l
+      ]) h
+      go false h = h
+
+  pub antiderivative-terms : (f : Model) → antiderivative d i f .terms ≡ drop-zeros (map new-term (f .terms))
+  unfolding antiderivative drop-zeros divided within-order raised map-terms map-monomials
+  antiderivative-terms f = new-terms (f .terms)
+
   -- ---- no more than what was there
   -- a quotient and 1, if it is not exact, are at most |c|
   inexact-le : (c : ℤ) (k : ℕ) → 0 < k → natAbs (nearest c k) + if-ℕ (not (eqb (natAbs c % k) 0)) 1 ≤ natAbs c
@@ -82,8 +131,12 @@ module _ (d i : ℕ) where
           = ap (λ b. if-ℕ (not b) 1) (ne-eqb (suc r) 0 (λ z. omega arith)) in
           omega arith
 
+  -- what one term adds to the radius
+  abbrev pub growth-of : List ℕ → ℤ → ℕ
+  growth-of k c = rounding-of k c + swept-of k c
+
   share : List ℕ → ℤ → ℕ
-  share k c = if-ℕ (stays k) (natAbs (nearest c (new-exponent k))) + (rounding-of k c + swept-of k c)
+  share k c = if-ℕ (stays k) (natAbs (nearest c (new-exponent k))) + growth-of k c
 
   share-le : (k : List ℕ) (c : ℤ) → share k c ≤ natAbs c
   unfolding share if-so is-inexact
@@ -94,6 +147,10 @@ module _ (d i : ℕ) where
           + if-ℕ (not b) (divided-up (natAbs c) (new-exponent k))) ≤ natAbs c
       go true = let l = inexact-le c (new-exponent k) (new-exponent-pos k) in omega arith
       go false = let l = divided-up-le (natAbs c) (new-exponent k) (new-exponent-pos k) in omega arith
+
+  pub growth-of-le : (k : List ℕ) (c : ℤ) → growth-of k c ≤ natAbs c
+  unfolding share
+  growth-of-le k c = let h = share-le k c in omega arith
 
   pub growth-le : (f : Model)
       → size (antiderivative d i f .terms) + (growth-rounding d i f + growth-swept d i f) ≤ size (f .terms)

@@ -56,6 +56,13 @@ length-raise i [] h = absurd (omega arith)
 length-raise zero (e ∷ k) h = refl
 length-raise (suc i) (e ∷ k) h = ap suc (length-raise i k (omega arith))
 
+-- one exponent higher is another exponent
+pub raise-replace : (i : ℕ) (k : List ℕ) → i < length k → raise i k ≡ replace i (suc (exponent i k)) k
+unfolding raise replace exponent
+raise-replace i [] h = absurd (omega arith)
+raise-replace zero (e ∷ k) h = refl
+raise-replace (suc i) (e ∷ k) h = ap (λ l. e ∷ l) (raise-replace i k (omega arith))
+
 -- ---- degrees
 pub degree-zeros : (n : ℕ) → degree (zeros n) ≡ 0
 unfolding zeros degree
