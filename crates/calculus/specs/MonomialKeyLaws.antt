@@ -136,6 +136,10 @@ monomial-digits n z t = by-fits (λ k. k ≡ key-exponents key-width n z) n z (�
 pub monomial-length : (n z : ℕ) → n ≤ key-width → T (key-fits key-width n z) → length (monomial-of n z) ≡ n
 monomial-length n z l t = ap length (monomial-digits n z t) ∙ length-monomial n z l
 
+-- of the key's degree
+pub monomial-degree : (n z : ℕ) → n ≤ key-width → T (key-fits key-width n z) → degree (monomial-of n z) ≡ key-degree z
+monomial-degree n z l t = ap degree (monomial-digits n z t) ∙ degree-monomial n z l t
+
 pub monomial-below : (n z : ℕ) → z < key-limit → Below 16 (monomial-of n z)
 unfolding key-limit
 monomial-below n z h = by-fits (Below 16) n z

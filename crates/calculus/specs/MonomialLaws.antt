@@ -85,6 +85,13 @@ degree-without i [] = omega arith
 degree-without zero (e ∷ k) = omega arith
 degree-without (suc i) (e ∷ k) = let h = degree-without i k in omega arith
 
+-- no exponent is more
+pub exponent-degree : (i : ℕ) (k : List ℕ) → exponent i k ≤ degree k
+unfolding exponent degree
+exponent-degree i [] = omega arith
+exponent-degree zero (e ∷ k) = omega arith
+exponent-degree (suc i) (e ∷ k) = let h = exponent-degree i k in omega arith
+
 pub degree-raise : (i : ℕ) (k : List ℕ) → degree (raise i k) ≡ suc (degree k)
 unfolding raise degree
 degree-raise zero [] = refl

@@ -1,0 +1,33 @@
+-- The antiderivative of one term by its key, and what the antiderivative of a model is asked of.
+use mathlib.Core.Bool.{Bool, not}
+use Prim.Native.Nat.{ℕ, _+_, _%_, _≤_}
+use lib.Dec.{T, eqb, ltb}
+use lib.IntN.{ℤ, natAbs}
+use Rattle.fixed.specs.Division.{divided-up, nearest}
+use Rattle.calculus.specs.Key.{key-degree}
+use Rattle.calculus.specs.SumLaws.{if-ℕ, if-ℤ}
+use Rattle.calculus.specs.Model.{most-degree, sound}
+use Rattle.model_types.specs.declared.Model.{Model}
+use Rattle.model_types.specs.ModelStruct.{view}
+use Rattle.model_keys.specs.Keys.{key-exponent}
+
+-- whether its new degree is at most d
+unfoldable pub key-stays : (d key : ℕ) → Bool
+key-stays d key = ltb (key-degree key) d
+
+-- its new coefficient, 0 where it is swept
+unfoldable pub key-coefficient : (d i key : ℕ) → ℤ → ℤ
+key-coefficient d i key c = if-ℤ (key-stays d key) (nearest c (key-exponent i key + 1))
+
+-- what it adds to the radius
+unfoldable pub key-growth : (d i key : ℕ) → ℤ → ℕ
+key-growth d i key c =
+    if-ℕ (key-stays d key) (if-ℕ (not (eqb (natAbs c % (key-exponent i key + 1)) 0)) 1)
+    + if-ℕ (not (key-stays d key)) (divided-up (natAbs c) (key-exponent i key + 1))
+
+-- a sound model of order d, and one of its variables
+pub record Integrand (d i : ℕ) (f : Model) : Type 0 where
+  pub order : d ≤ most-degree
+  pub model : T (sound d (view f))
+  pub first : 1 ≤ i
+  pub last : i ≤ f .n

@@ -1,0 +1,2 @@
+pub mod Antiderivatives
+pub mod PassLaws

@@ -1,0 +1,253 @@
+-- The pass over the terms: one turn keeps or drops a term, and adds to the radius.
+use mathlib.Core.Path.{_≡_, refl, sym, _∙_, ap, ap₂, subst}
+use mathlib.Core.Bool.{Bool, true, false, not}
+use mathlib.Core.List.{List, [], _∷_, _++_, map}
+use Prim.Native.Nat.{ℕ, suc, _+_, _%_, _≤_, _<_}
+use native.Mathlib.Omega.{arith}
+use native.Mathlib.Decide.{decLe}
+use borrow.Author.Tests.{le-leb, lt-leb, lt-ltb, le-ltb}
+use lib.Dec.{T, eqb, leb, ltb, ltb→lt}
+use lib.IntN.{ℤ, pos, natAbs}
+use lib.ListN.{length, getD, set, length-map, length-append}
+use Rattle.polynomial.specs.Polynomial as P
+use Rattle.polynomial.specs.Polynomial.{exponent, raise}
+use Rattle.polynomial.specs.VariableAntiderivativeLaws.{exponent-raise}
+use Rattle.fixed.specs.Division.{divided-up, nearest}
+use Rattle.calculus.specs.Monomial.{degree, index-of}
+use Rattle.calculus.specs.MonomialLaws.{index-suc, degree-raise, raise-replace, exponent-degree}
+use Rattle.calculus.specs.MonomialKeyLaws.{monomial-length, monomial-degree}
+use Rattle.calculus.specs.Key.{key-width, key-limit, key, key-fits, monomial-of, key-degree}
+use Rattle.calculus.specs.Terms.{Terms, term, select, sum-over, sum-ℕ, size, is-nonzero, drop-zeros}
+use Rattle.calculus.specs.TermsLaws.{length-select}
+use Rattle.calculus.specs.SumLaws.{ℕ-addition, if-so, if-ℕ, if-ℤ, sum-mono}
+use Rattle.calculus.specs.Model.{most-degree, most-terms, span}
+use Rattle.calculus.specs.Operations.{is-inexact, growth-rounding, growth-swept, antiderivative}
+use Rattle.calculus.specs.GrowthLaws.{up, new-exponent, stays, growth-of, growth-of-le, growth-sum, new-coefficient}
+use Rattle.calculus.specs.GrowthLaws.{new-term, antiderivative-terms}
+use Rattle.model_types.specs.declared.Term.{Term}
+use Rattle.model_types.specs.declared.Model.{Model}
+use Rattle.model_types.specs.ModelStruct.{zero-term, view-term, view, pack-term, pad, pack}
+use Rattle.model_types.specs.ModelStructLaws.{read, term-at, length-read, view-is, view-terms, map-more, sum-more}
+use Rattle.model_types.specs.ModelStructLaws.{select-in, select-out, packed-more, size-more, read-within-span}
+use Rattle.model_types.specs.ModelStructLaws.{Limits, limits, key-fits-at}
+use Rattle.model_keys.specs.Keys.{Slot, key-exponent, Raisable, key-raised}
+use Rattle.model_keys.specs.KeyExponentLaws.{monomial-exponent, monomial-raised}
+use Rattle.model_antiderivative.specs.Antiderivatives.{key-stays, key-coefficient, key-growth, Integrand}
+
+-- one more is at most d where the number is below it
+next-le : (a d : ℕ) → leb (a + 1) d ≡ ltb a d
+next-le a d = go (decLe (a + 1) d)
+  where
+    go : Dec (a + 1 ≤ d) → leb (a + 1) d ≡ ltb a d
+    go (yes l) = le-leb (a + 1) d l ∙ sym (lt-ltb a d (omega arith))
+    go (no l) = lt-leb (a + 1) d (omega arith) ∙ sym (le-ltb a d (omega arith))
+
+-- a coefficient that is not 0 is that of a term that stays
+pub nonzero-stays : (d i z : ℕ) (c : ℤ) → T (is-nonzero (key-coefficient d i z c)) → key-stays d z ≡ true
+unfolding key-coefficient if-so is-nonzero
+nonzero-stays d i z c = go (key-stays d z)
+  where
+    go : (b : Bool) → T (is-nonzero (if-ℤ b (nearest c (key-exponent i z + 1)))) → b ≡ true
+    go true h = refl
+    go false h = absurd h
+
+below : (d z : ℕ) → key-stays d z ≡ true → key-degree z < d
+unfolding key-stays
+below d z e = ltb→lt (key-degree z) d (subst T (sym e) tt)
+
+-- ---- a model in memory
+module _ (d i : ℕ) (f : Model) where
+  -- the terms before j, what becomes of them, and the term at j
+  abbrev before : ℕ → Terms
+  before j = read (f .n) j (f .terms)
+
+  abbrev turned : ℕ → Terms
+  turned j = map (new-term d i) (before j)
+
+  abbrev at : ℕ → Term
+  at j = getD (f .terms) j zero-term
+
+  abbrev next : ℕ → P.Term ℤ
+  next j = term-at (f .n) j (f .terms)
+
+  -- what is there after j terms
+  pub record Gathered (out : List Term) (count radius j : ℕ) : Type 0 where
+    pub within : j ≤ f .count
+    pub stored : out ≡ pad (map pack-term (drop-zeros (turned j)))
+    pub counted : count ≡ length (drop-zeros (turned j))
+    pub grown : radius ≡ f .radius + sum-ℕ (growth-of d i) (before j)
+
+-- ---- one term, by its key
+module _ {d i : ℕ} {f : Model} (s : Integrand d i f) (w : f .count ≤ length (f .terms)) where
+  pub known : Limits f
+  known = limits d f (s .model)
+
+  pub slot : Slot i
+  slot = record { first = s .first; last = omega (arith, s .last, known .width) }
+
+  module _ (j : ℕ) (h : j < f .count) where
+    fits-at : T (key-fits key-width (f .n) (at d i f j .key))
+    fits-at = key-fits-at d f j (s .order) (s .model) w h
+
+    exponent-at : new-exponent d i (next d i f j .exponents) ≡ key-exponent i (at d i f j .key) + 1
+    unfolding view-term
+    exponent-at = exponent-raise (index-of i) _
+        ∙ omega (arith, monomial-exponent (f .n) i (at d i f j .key) (known .width) (s .first) (s .last) fits-at)
+
+    degree-at : degree (up d i (next d i f j .exponents)) ≡ key-degree (at d i f j .key) + 1
+    unfolding view-term
+    degree-at = degree-raise (index-of i) _
+        ∙ omega (arith, monomial-degree (f .n) (at d i f j .key) (known .width) fits-at)
+
+    stays-at : stays d i (next d i f j .exponents) ≡ key-stays d (at d i f j .key)
+    unfolding key-stays
+    stays-at = ap (λ z. leb z d) degree-at ∙ next-le (key-degree (at d i f j .key)) d
+
+    pub coefficient-at : new-coefficient d i (next d i f j .exponents) (next d i f j .coefficient)
+        ≡ key-coefficient d i (at d i f j .key) (at d i f j .coefficient)
+    unfolding key-coefficient view-term
+    coefficient-at = ap₂ (λ b k. if-ℤ b (nearest (at d i f j .coefficient) k)) stays-at exponent-at
+
+    growth-at : growth-of d i (next d i f j .exponents) (next d i f j .coefficient) ≡ key-growth d i (at d i f j .key) (at d i f j .coefficient)
+    unfolding key-growth view-term is-inexact
+    growth-at = ap₂ (λ b k. if-ℕ b (if-ℕ (not (eqb (natAbs (at d i f j .coefficient) % k) 0)) 1)
+        + if-ℕ (not b) (divided-up (natAbs (at d i f j .coefficient)) k)) stays-at exponent-at
+
+    -- what stays has room in its key
+    pub raisable : key-stays d (at d i f j .key) ≡ true → Raisable i (at d i f j .key)
+    unfolding most-degree
+    raisable e = record {
+      slot = slot;
+      room = omega (
+        arith,
+        small,
+        s .order,
+        exponent-at,
+        degree-at,
+        exponent-degree (index-of i) (up d i (next d i f j .exponents)),
+      );
+    }
+      where
+        small : key-degree (at d i f j .key) + 1 ≤ d
+        small = omega (arith, below d (at d i f j .key) e)
+
+    -- the term as it is stored
+    pub term-packed : (t : Term) → t .key ≡ key-raised i (at d i f j .key)
+        → t .coefficient ≡ key-coefficient d i (at d i f j .key) (at d i f j .coefficient) → t ≡ pack-term (new-term d i (next d i f j))
+    term-packed t a b = ap₂ (λ (z : ℕ) (c : ℤ). record { key = z; coefficient = c }) (a ∙ sym raised-key) (b ∙ sym coefficient-at)
+        ∙ unpacked
+      where
+        raised-key : key key-width (up d i (next d i f j .exponents)) ≡ key-raised i (at d i f j .key)
+        raised-key = unfold view-term in (ap (key key-width) (raise-replace (index-of i) _
+            (omega (arith, s .last, index-suc i (s .first), monomial-length (f .n) (at d i f j .key) (known .width) fits-at)))
+            ∙ monomial-raised (f .n) i (at d i f j .key) (known .width) (s .first) (s .last) fits-at)
+
+        unpacked : record { key = key key-width (up d i (next d i f j .exponents));
+            coefficient = new-coefficient d i (next d i f j .exponents) (next d i f j .coefficient) } ≡ pack-term (new-term d i (next d i f j))
+        unpacked = unfold pack-term in refl
+
+  pub gathered-first : Gathered d i f (pad []) 0 (f .radius) 0
+  unfolding drop-zeros select sum-over
+  gathered-first = record { within = omega arith; stored = refl; counted = refl; grown = omega arith }
+
+  module _ {out : List Term} {count radius j : ℕ} (g : Gathered d i f out count radius j) where
+    -- there is room
+    pub gathered-room : count ≤ j
+    unfolding drop-zeros
+    gathered-room = omega (
+      arith,
+      g .counted,
+      length-select (λ k c. is-nonzero c) (turned d i f j),
+      length-map (before d i f j) (new-term d i),
+      length-read (f .n) j (f .terms) (omega (arith, g .within)),
+    )
+
+    pub gathered-end : f .count ≤ j
+        → record { n = f .n; count = count; radius = radius; terms = out } ≡ pack (antiderivative d i (view f))
+    gathered-end l =
+        ap₂ (λ (c : ℕ) (o : List Term). record { n = f .n; count = c; radius = radius; terms = o })
+        (g .counted ∙ ap length (sym same)) (g .stored ∙ ap (λ p. pad (map pack-term p)) (sym same))
+        ∙ packed radius-is
+      where
+        e : j ≡ f .count
+        e = omega (arith, g .within)
+
+        all : view f .terms ≡ before d i f j
+        all = view-terms f w ∙ ap (before d i f) (sym e)
+
+        same : antiderivative d i (view f) .terms ≡ drop-zeros (turned d i f j)
+        same = antiderivative-terms d i (view f) ∙ ap (λ p. drop-zeros (map (new-term d i) p)) all
+
+        radius-is : radius ≡ antiderivative d i (view f) .radius
+        radius-is = unfold antiderivative view in omega (
+          arith,
+          g .grown,
+          growth-sum d i (view f),
+          ap (sum-ℕ (growth-of d i)) all,
+        )
+
+        packed : {r : ℕ} → r ≡ antiderivative d i (view f) .radius
+            → record { n = f .n; count = length (antiderivative d i (view f) .terms); radius = r;
+            terms = pad (map pack-term (antiderivative d i (view f) .terms)) } ≡ pack (antiderivative d i (view f))
+        packed q = ap (λ (r : ℕ). record { n = f .n; count = length (antiderivative d i (view f) .terms); radius = r;
+            terms = pad (map pack-term (antiderivative d i (view f) .terms)) }) q ∙ (unfold pack antiderivative view in refl)
+
+    module _ (h : j < f .count) where
+      -- the radius stays within the span
+      pub gathered-within : radius + key-growth d i (at d i f j .key) (at d i f j .coefficient) ≤ span (view f)
+      unfolding size
+      gathered-within = omega (
+        arith,
+        g .grown,
+        growth-at j h,
+        sum-more (f .n) j (f .terms) (omega arith) ℕ-addition (growth-of d i),
+        sum-mono (growth-of d i) (λ k c. natAbs c) (growth-of-le d i) (before d i f (j + 1)),
+        read-within-span f (j + 1) w (omega arith),
+      )
+
+      more-grown : {r : ℕ} → r ≡ radius + key-growth d i (at d i f j .key) (at d i f j .coefficient)
+          → r ≡ f .radius + sum-ℕ (growth-of d i) (before d i f (j + 1))
+      more-grown e = omega (
+        arith,
+        e,
+        g .grown,
+        growth-at j h,
+        sum-more (f .n) j (f .terms) (omega arith) ℕ-addition (growth-of d i),
+      )
+
+      more-turned : turned d i f (j + 1) ≡ turned d i f j ++ (new-term d i (next d i f j) ∷ [])
+      more-turned = map-more (f .n) j (f .terms) (omega arith) (new-term d i)
+
+      -- a coefficient that is not 0 is kept
+      pub gathered-keep : {r : ℕ} → r ≡ radius + key-growth d i (at d i f j .key) (at d i f j .coefficient)
+          → T (is-nonzero (key-coefficient d i (at d i f j .key) (at d i f j .coefficient))) → j < most-terms
+          → {t : Term} → t .key ≡ key-raised i (at d i f j .key)
+          → t .coefficient ≡ key-coefficient d i (at d i f j .key) (at d i f j .coefficient)
+          → Gathered d i f (set out count t) (count + 1) r (j + 1)
+      gathered-keep e z k {t} a b = record {
+        within = omega arith;
+        stored = ap₂ (λ o t. set o count t) (g .stored) (term-packed j h t a b)
+            ∙ packed-more (drop-zeros (turned d i f j)) count _ (sym (g .counted)) (omega (arith, gathered-room))
+            ∙ ap (λ p. pad (map pack-term p)) (sym kept);
+        counted = ap (λ c. c + 1) (g .counted) ∙ sym (ap length kept ∙ length-append (drop-zeros (turned d i f j)) _);
+        grown = more-grown e;
+      }
+        where
+          kept : drop-zeros (turned d i f (j + 1)) ≡ drop-zeros (turned d i f j) ++ (new-term d i (next d i f j) ∷ [])
+          kept = ap drop-zeros more-turned ∙ (unfold drop-zeros in select-in (λ k c. is-nonzero c) (turned d i f j)
+              (new-term d i (next d i f j)) (subst (λ c. T (is-nonzero c)) (sym (coefficient-at j h)) z))
+
+      -- and 0 is dropped
+      pub gathered-drop : {r : ℕ} → r ≡ radius + key-growth d i (at d i f j .key) (at d i f j .coefficient)
+          → T (not (is-nonzero (key-coefficient d i (at d i f j .key) (at d i f j .coefficient))))
+          → Gathered d i f out count r (j + 1)
+      gathered-drop e z = record {
+        within = omega arith;
+        stored = g .stored ∙ ap (λ p. pad (map pack-term p)) (sym dropped);
+        counted = g .counted ∙ ap length (sym dropped);
+        grown = more-grown e;
+      }
+        where
+          dropped : drop-zeros (turned d i f (j + 1)) ≡ drop-zeros (turned d i f j)
+          dropped = ap drop-zeros more-turned ∙ (unfold drop-zeros in select-out (λ k c. is-nonzero c) (turned d i f j)
+              (new-term d i (next d i f j)) (subst (λ c. T (not (is-nonzero c))) (sym (coefficient-at j h)) z))
