@@ -8,14 +8,16 @@ use Rattle.calculus.specs.Model as C
 use Rattle.calculus.specs.Refusal.{Result}
 use Rattle.calculus.specs.Operations.{Ends}
 use Rattle.calculus.specs.Calls.{call-constant, call-variable, call-negate, call-add, call-subtract, call-multiply}
-use Rattle.calculus.specs.Calls.{call-substitute, call-sweep, call-range, call-integral, call-evaluate}
+use Rattle.calculus.specs.Calls.{call-substitute, call-sweep, call-antiderivative, call-range, call-integral}
+use Rattle.calculus.specs.Calls.{call-evaluate}
 use Rattle.model_types.specs.declared.Answer.{Answer}
 use Rattle.model_types.specs.declared.Bounds.{Bounds}
 use Rattle.model_types.specs.ModelStruct.{answer, bounds, verdict-number, verdict-place}
 use Rattle.c_models.specs.HandedModels.{lent, over, stored-keys, stored-coefficients, stored-numbers}
 
 -- ---- the calls by their codes
--- the call that a code names, 1 to 8 as for a sheet's steps; constant and variable take the n of the first model
+-- the call that a code names: 1 to 8 as for a sheet's steps, 9 the antiderivative; constant and variable take the n of
+-- the first model
 unfoldable pub model-call : (code d i : ℕ) (v : ℤ) (f g : C.Model) → Result C.Model
 model-call code d i v f g =
     cond (eqb code 1) (call-constant (f .vars) v)
@@ -25,7 +27,8 @@ model-call code d i v f g =
     (cond (eqb code 5) (call-subtract f g)
     (cond (eqb code 6) (call-multiply d f g)
     (cond (eqb code 7) (call-substitute d i f g)
-    (call-sweep v f)))))))
+    (cond (eqb code 8) (call-sweep v f)
+    (call-antiderivative d i f))))))))
 
 -- the call with two ends that a code names: 1 range, 2 integral, 3 evaluate
 unfoldable pub ends-call : (code : ℕ) → List ℤ → C.Model → Result Ends
@@ -54,7 +57,7 @@ stored-answer a ks cs ns =
 
 -- whether the code is known and the slices are long enough
 unfoldable pub call-fits : (code count₁ keys₁ coefficients₁ count₂ keys₂ coefficients₂ : ℕ) (room : Bool) → Bool
-call-fits code c₁ k₁ z₁ c₂ k₂ z₂ room = leb 1 code && leb code 8 && lent c₁ k₁ z₁ && lent c₂ k₂ z₂ && room
+call-fits code c₁ k₁ z₁ c₂ k₂ z₂ room = leb 1 code && leb code 9 && lent c₁ k₁ z₁ && lent c₂ k₂ z₂ && room
 
 -- a call that fits is answered, any other returns 255 and changes nothing
 unfoldable pub called : (fits : Bool) → Result C.Model → List ℕ → List ℤ → List ℕ → Called

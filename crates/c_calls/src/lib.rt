@@ -13,12 +13,12 @@ use model::Model;
 const ENDS: usize = 2;
 
 // The last code of a call that answers with a model, and of one that answers with two ends.
-const SWEEP: u8 = 8;
+const ANTIDERIVATIVE: u8 = 9;
 
 const EVALUATE: u8 = 3;
 
-// The call that a code names: 1 constant, 2 variable, 3 negate, 4 add, 5 subtract, 6 multiply, 7 substitute, any other
-// sweep. The constructors take the n of the first model.
+// The call that a code names: 1 constant, 2 variable, 3 negate, 4 add, 5 subtract, 6 multiply, 7 substitute, 8 sweep,
+// any other antiderivative. The constructors take the n of the first model.
 pub fn model_call(code: u8, d: u8, i: u8, value: i64, f: Model, g: Model) -> Answer
     ensures { λ r. ⌜ r ≡ answer (model-call code d i value (view f) (view g)) ⌝ }
 {
@@ -43,7 +43,10 @@ pub fn model_call(code: u8, d: u8, i: u8, value: i64, f: Model, g: Model) -> Ans
     if code == 7 {
         return model::substitute(d, i, f, g);
     }
-    model::sweep(f, value)
+    if code == 8 {
+        return model::sweep(f, value);
+    }
+    model::antiderivative(d, i, f)
 }
 
 // The call that a code names: 1 range, 2 integral, any other evaluate.
@@ -93,7 +96,7 @@ pub fn call_fits(
     if code < 1 {
         return false;
     }
-    if SWEEP < code {
+    if ANTIDERIVATIVE < code {
         return false;
     }
     if !c_models::lent(count1, keys1, coefficients1) {

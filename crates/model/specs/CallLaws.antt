@@ -9,9 +9,10 @@ use Rattle.calculus.specs.Refusal.{done, at-place, require-at, _followed-by_}
 use Rattle.calculus.specs.Operations as Op
 use Rattle.calculus.specs.Tests.{order-sound}
 use Rattle.calculus.specs.Calls.{require-two, call-negate, call-sweep, call-range, call-integral, call-evaluate}
-use Rattle.calculus.specs.Calls.{call-add, call-subtract, call-multiply, call-substitute, call-quotient}
-use Rattle.model_call_tests.specs.Admission.{single-model, sweeping, at-point, two-models, ordered, substituting}
-use Rattle.model_call_tests.specs.Admission.{dividing}
+use Rattle.calculus.specs.Calls.{call-antiderivative, call-add, call-subtract, call-multiply, call-substitute}
+use Rattle.calculus.specs.Calls.{call-quotient}
+use Rattle.model_call_tests.specs.Admission.{single-model, sweeping, at-point, integrating, two-models}
+use Rattle.model_call_tests.specs.Admission.{ordered, substituting, dividing}
 use Rattle.calculus.specs.RefusalLaws.{at-followed}
 use Rattle.model_call_tests.specs.AdmissionLaws.{two-followed, four-followed}
 
@@ -39,6 +40,12 @@ module _ (f : Model) where
   unfolding call-evaluate at-point _followed-by_
   evaluate-is Xs = sym (at-followed 0 _ _ _ _ ∙ ap (require-at 0 (sound most-degree f) _)
       (at-followed 0 _ _ _ _ ∙ ap (require-at 0 _ _) (at-followed 0 _ _ _ _)))
+
+  pub antiderivative-is : (d i : ℕ)
+      → call-antiderivative d i f ≡ (integrating d i f followed-by (λ u. done (Op.antiderivative d i f)))
+  unfolding call-antiderivative integrating _followed-by_
+  antiderivative-is d i = sym (at-followed 0 _ _ _ _ ∙ ap (require-at 0 (order-sound d) _)
+      (at-followed 0 _ _ _ _ ∙ ap (require-at 0 (sound d f) _) (at-followed 0 _ _ _ _)))
 
 -- ---- of two
 module _ (f g : Model) where

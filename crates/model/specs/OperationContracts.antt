@@ -1,6 +1,7 @@
 -- What the operations ask of operands that are known to be sound and of a table that is lent, and what they leave of
 -- that: handed on from the crates that make them.
 pub use Rattle.model_addition.specs.Addition.{Operands}
+pub use Rattle.model_antiderivative.specs.Antiderivatives.{Integrand}
 pub use Rattle.model_multiplication.specs.Factors.{Factors}
 pub use Rattle.model_substitution.specs.Substitute.{Substitution}
 pub use Rattle.model_proposal.specs.Proposal.{Proposal}

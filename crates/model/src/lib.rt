@@ -5,7 +5,8 @@
 ghost use mathlib.Core.Path.{_≡_};
 ghost use Rattle.calculus.specs.Model.{«zero-model», «one-model»};
 ghost use Rattle.calculus.specs.Calls.{call-negate, call-add, call-subtract, call-multiply, call-substitute};
-ghost use Rattle.calculus.specs.Calls.{call-sweep, call-range, call-integral, call-evaluate, call-quotient};
+ghost use Rattle.calculus.specs.Calls.{call-sweep, call-range, call-integral, call-evaluate, call-antiderivative};
+ghost use Rattle.calculus.specs.Calls.{call-quotient};
 ghost use Rattle.model_types.specs.ModelStruct.{view, pack, answer, bounds};
 pub use model_types::Answer;
 pub use model_types::Bounds;
@@ -58,6 +59,21 @@ pub fn sweep(m: Model, t: i64) -> Answer
     match v {
         Verdict::Accepted => Answer {
             model: model_unary::swept(m, fixed::magnitude(t)),
+            verdict: Verdict::Accepted,
+        },
+        Verdict::Refused(refusal, place) => model_types::refuse(refusal, place),
+    }
+}
+
+// The antiderivative in variable i, zero wherever that variable is 0: each c divided by its new exponent, with terms
+// above degree d swept into the radius. 3, 5, 6.
+pub fn antiderivative(d: u8, i: u8, f: Model) -> Answer
+    ensures { λ r. ⌜ r ≡ answer (call-antiderivative d i (view f)) ⌝ }
+{
+    let v = model_call_tests::integrating(d, i, f);
+    match v {
+        Verdict::Accepted => Answer {
+            model: model_antiderivative::integrated(d, i, f),
             verdict: Verdict::Accepted,
         },
         Verdict::Refused(refusal, place) => model_types::refuse(refusal, place),
@@ -183,6 +199,9 @@ pub use model_unary::negated;
 
 // Small terms swept into the radius: the model of `sweep`, for a sound one.
 pub use model_unary::swept;
+
+// The model of `antiderivative`, for a sound model of the order and one of its variables.
+pub use model_antiderivative::integrated;
 
 // The two ends of `range`, for a sound model.
 pub use model_range::range_of;

@@ -27,6 +27,13 @@ at-point Xs f =
     (require-at 0 (all-zero (drop (f .vars) Xs)) bad-step
     (require-at 0 (all-in-unit (take (f .vars) Xs)) leaves-box (done tt)))
 
+-- an antiderivative: 3, 5, 6
+unfoldable pub integrating : (d i : ℕ) → Model → Tests
+integrating d i f =
+    require-at 0 (order-sound d) bad-limits
+    (require-at 0 (sound d f) bad-model
+    (require-at 0 (variable-sound (f .vars) i) bad-step (done tt)))
+
 -- ---- calls of two models: 5, 5, 10
 unfoldable pub two-models : (d : ℕ) (f g : Model) → Tests
 two-models d f g = require-two d f g (done tt)

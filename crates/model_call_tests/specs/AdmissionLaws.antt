@@ -19,8 +19,8 @@ use Rattle.model_types.specs.declared.Refusal.{Refusal}
 use Rattle.model_types.specs.declared.Verdict.the-variants.{Accepted, Refused}
 use Rattle.model_types.specs.ModelStruct.{refusal, cause, verdict}
 use Rattle.model_types.specs.ModelStructLaws.{refusal-cause, cause-refusal}
-use Rattle.model_call_tests.specs.Admission.{Tests, single-model, sweeping, at-point, two-models, ordered}
-use Rattle.model_call_tests.specs.Admission.{substituting, dividing}
+use Rattle.model_call_tests.specs.Admission.{Tests, single-model, sweeping, at-point, integrating, two-models}
+use Rattle.model_call_tests.specs.Admission.{ordered, substituting, dividing}
 
 -- ---- a verdict's tests
 pub accepted-done : (t : Tests) → verdict t ≡ Accepted → t ≡ done tt
@@ -82,6 +82,26 @@ point-passed Xs f e =
     let first = passed-at 0 _ _ _ tt (accepted-done (at-point Xs f) e) in
     let unused = passed-at 0 _ _ _ tt (first .result) in
     record { model = first .test; coordinates = passed-at 0 _ _ _ tt (unused .result) .test }
+
+-- an antiderivative: the order, the model and its variable
+pub record Integrating (d i : ℕ) (f : Model) : Type 0 where
+  pub order : d ≤ most-degree
+  pub model : T (sound d f)
+  pub least : 1 ≤ i
+  pub most : i ≤ f .vars
+
+pub integrating-passed : (d i : ℕ) (f : Model) → verdict (integrating d i f) ≡ Accepted → Integrating d i f
+unfolding integrating order-sound variable-sound
+integrating-passed d i f e =
+    let limit = passed-at 0 _ _ _ tt (accepted-done (integrating d i f) e) in
+    let model = passed-at 0 _ _ _ tt (limit .result) in
+    let variable = passed-at 0 _ _ _ tt (model .result) .test in
+    record {
+      order = between-high 1 most-degree d (limit .test);
+      model = model .test;
+      least = between-low 1 (f .vars) i variable;
+      most = between-high 1 (f .vars) i variable;
+    }
 
 -- two models: both, and their variables
 pub record Two-models (d : ℕ) (f g : Model) (t : Tests) : Type 0 where

@@ -6,7 +6,7 @@ ghost use Prim.Native.Nat.{_≤_};
 ghost use Rattle.calculus.specs.Key.{«key-width»};
 ghost use Rattle.calculus.specs.Tests.{«all-zero», «all-in-unit»};
 ghost use Rattle.model_types.specs.ModelStruct.{view, verdict};
-ghost use Rattle.model_call_tests.specs.Admission.{«single-model», sweeping, «at-point»};
+ghost use Rattle.model_call_tests.specs.Admission.{«single-model», sweeping, «at-point», integrating};
 ghost use Rattle.model_call_tests.specs.Admission.{«two-models», ordered, substituting};
 ghost use Rattle.model_call_tests.specs.Admission.{«four-models», dividing};
 use model_types::Model;
@@ -31,6 +31,22 @@ pub fn sweeping(m: Model, t: i64) -> Verdict
         return Verdict::Refused(Refusal::BadModel, 0);
     }
     if !fixed::threshold_within_limits(t) {
+        return Verdict::Refused(Refusal::BadStep, 0);
+    }
+    Verdict::Accepted
+}
+
+// The tests of an antiderivative in variable i of m, with order d. 3, 5, 6.
+pub fn integrating(d: u8, i: u8, m: Model) -> Verdict
+    ensures { λ r. ⌜ r ≡ verdict (integrating d i (view m)) ⌝ }
+{
+    if !model_types::order_sound(d) {
+        return Verdict::Refused(Refusal::BadLimits, 0);
+    }
+    if !model_soundness::sound(m, d) {
+        return Verdict::Refused(Refusal::BadModel, 0);
+    }
+    if !model_types::from_one(m.n, i) {
         return Verdict::Refused(Refusal::BadStep, 0);
     }
     Verdict::Accepted

@@ -12,7 +12,7 @@ returns c = rw (lt-leb 1 _ (c .if1 .taken))
 
 returns-2 : tie.Need-returns-2
 unfolding call-fits
-returns-2 c = rw (le-leb 1 _ (c .before .if1 .left), lt-leb _ 8 (c .if2 .taken))
+returns-2 c = rw (le-leb 1 _ (c .before .if1 .left), lt-leb _ 9 (c .if2 .taken))
 
 lent-requires : tie.Need-lent-requires
 lent-requires c κs = search needs
@@ -23,7 +23,7 @@ returns-3 c =
     let e = c .before .before in
     rw (
       le-leb 1 _ (e .before .if1 .left),
-      le-leb _ 8 (e .if2 .left),
+      le-leb _ 9 (e .if2 .left),
       sym (c .before .lent .ensures) ∙ not-true _ (c .if3 .taken),
     )
 
@@ -37,7 +37,7 @@ returns-4 c =
     let e = l .before .before in
     rw (
       le-leb 1 _ (e .before .if1 .left),
-      le-leb _ 8 (e .if2 .left),
+      le-leb _ 9 (e .if2 .left),
       sym (l .before .lent .ensures) ∙ not-false _ (l .if3 .left),
       sym (c .before .lent2 .ensures) ∙ not-true _ (c .if4 .taken),
     )
@@ -49,7 +49,7 @@ returns-5 c =
     let e = l .before .before in
     rw (
       le-leb 1 _ (e .before .if1 .left),
-      le-leb _ 8 (e .if2 .left),
+      le-leb _ 9 (e .if2 .left),
       sym (l .before .lent .ensures) ∙ not-false _ (l .if3 .left),
       sym (c .before .lent2 .ensures) ∙ not-false _ (c .if4 .left),
     )

@@ -130,14 +130,34 @@ returns-8 c =
     let t = c .before in
     rw (
       c .sweep .ensures,
-      read-back (t .before .before .before .before .before .before .before),
-      ne-eqb _ 1 (t .before .before .before .before .before .before .if1 .left),
-      ne-eqb _ 2 (t .before .before .before .before .before .if2 .left),
-      ne-eqb _ 3 (t .before .before .before .before .if3 .left),
-      ne-eqb _ 4 (t .before .before .before .if4 .left),
-      ne-eqb _ 5 (t .before .before .if5 .left),
-      ne-eqb _ 6 (t .before .if6 .left),
-      ne-eqb _ 7 (t .if7 .left),
+      read-back (t .before .before .before .before .before .before .before .before),
+      ne-eqb _ 1 (t .before .before .before .before .before .before .before .if1 .left),
+      ne-eqb _ 2 (t .before .before .before .before .before .before .if2 .left),
+      ne-eqb _ 3 (t .before .before .before .before .before .if3 .left),
+      ne-eqb _ 4 (t .before .before .before .before .if4 .left),
+      ne-eqb _ 5 (t .before .before .before .if5 .left),
+      ne-eqb _ 6 (t .before .before .if6 .left),
+      ne-eqb _ 7 (t .before .if7 .left),
+      eq-eqb _ 8 (t .if8 .taken),
+    )
+
+antiderivative-requires : tie.Need-antiderivative-requires
+antiderivative-requires c κs = search needs
+
+returns-9 : tie.Need-returns-9
+unfolding model-call
+returns-9 c =
+    let t = c .before in
+    rw (
+      c .antiderivative .ensures,
+      ne-eqb _ 1 (t .before .before .before .before .before .before .before .if1 .left),
+      ne-eqb _ 2 (t .before .before .before .before .before .before .if2 .left),
+      ne-eqb _ 3 (t .before .before .before .before .before .if3 .left),
+      ne-eqb _ 4 (t .before .before .before .before .if4 .left),
+      ne-eqb _ 5 (t .before .before .before .if5 .left),
+      ne-eqb _ 6 (t .before .before .if6 .left),
+      ne-eqb _ 7 (t .before .if7 .left),
+      ne-eqb _ 8 (t .if8 .left),
     )
 
 pub model-call-spec : {M : Type 1} → statement M
@@ -159,4 +179,6 @@ model-call-spec =
     substitute-requires
     returns-7
     sweep-requires
-    returns-8)
+    returns-8
+    antiderivative-requires
+    returns-9)
