@@ -32,7 +32,7 @@ use Rattle.calculus.specs.Book.{input, constant, variable, multiply, sub
 use Rattle.calculus.specs.Outcome.{Function, functions}
 use Rattle.calculus.specs.Claim.{Lies, Given, Claim}
 use Rattle.calculus.specs.Forms.{at-key, model, book, ends, minus, forms}
-use Rattle.calculus.specs.Computing.{runs}
+use Rattle.calculus.specs.Computing.{runs, promises}
 use Rattle.calculus.specs.SymmetricRange.{variation, symmetric-range, symmetric-in-box}
 use Rattle.calculus.specs.UnitLaws.{natural, natural-≤, natural-nonneg, abs-whole}
 use Rattle.calculus.specs.ValueLaws.{scaled-value, Near, U-value, near-at, abs-zero}
@@ -213,7 +213,11 @@ folded-claim = claim folded (summary folded-result) folded-runs
 
 -- and what it asks for is there: functions within the model, also such as are no polynomials, and a point
 pub folded-given : (j : Jump) → Given folded (functions (jumping j folded)) left
-folded-given j = record { inputs = jumping-within j folded; point = unfold folded forms in left-inside }
+folded-given j = record {
+  inputs = jumping-within j folded;
+  as-promised = unfold promises folded forms in tt;
+  point = unfold folded forms in left-inside;
+}
 
 -- ---- a book that it refused with 12
 -- 7/4 - 3/2 x^2, from 1/4 to 7/4: what is divided by
@@ -254,4 +258,8 @@ bent-claim = claim bent (summary bent-result) bent-runs
 
 -- and what it asks for is there
 pub bent-given : (j : Jump) → Given bent (functions (jumping j bent)) left
-bent-given j = record { inputs = jumping-within j bent; point = unfold bent forms in left-inside }
+bent-given j = record {
+  inputs = jumping-within j bent;
+  as-promised = unfold promises bent forms in tt;
+  point = unfold bent forms in left-inside;
+}
