@@ -142,8 +142,10 @@ module _ {d i : ℕ} {f : Model} (s : Integrand d i f) (w : f .count ≤ length 
             (omega (arith, s .last, index-suc i (s .first), monomial-length (f .n) (at d i f j .key) (known .width) fits-at)))
             ∙ monomial-raised (f .n) i (at d i f j .key) (known .width) (s .first) (s .last) fits-at)
 
-        unpacked : record { key = key key-width (up d i (next d i f j .exponents));
-            coefficient = new-coefficient d i (next d i f j .exponents) (next d i f j .coefficient) } ≡ pack-term (new-term d i (next d i f j))
+        unpacked : record {
+          key = key key-width (up d i (next d i f j .exponents));
+          coefficient = new-coefficient d i (next d i f j .exponents) (next d i f j .coefficient);
+        } ≡ pack-term (new-term d i (next d i f j))
         unpacked = unfold pack-term in refl
 
   pub gathered-first : Gathered d i f (pad []) 0 (f .radius) 0
@@ -187,10 +189,18 @@ module _ {d i : ℕ} {f : Model} (s : Integrand d i f) (w : f .count ≤ length 
         )
 
         packed : {r : ℕ} → r ≡ antiderivative d i (view f) .radius
-            → record { n = f .n; count = length (antiderivative d i (view f) .terms); radius = r;
-            terms = pad (map pack-term (antiderivative d i (view f) .terms)) } ≡ pack (antiderivative d i (view f))
-        packed q = ap (λ (r : ℕ). record { n = f .n; count = length (antiderivative d i (view f) .terms); radius = r;
-            terms = pad (map pack-term (antiderivative d i (view f) .terms)) }) q ∙ (unfold pack antiderivative view in refl)
+            → record {
+              n = f .n;
+              count = length (antiderivative d i (view f) .terms);
+              radius = r;
+              terms = pad (map pack-term (antiderivative d i (view f) .terms));
+            } ≡ pack (antiderivative d i (view f))
+        packed q = ap (λ (r : ℕ). record {
+          n = f .n;
+          count = length (antiderivative d i (view f) .terms);
+          radius = r;
+          terms = pad (map pack-term (antiderivative d i (view f) .terms));
+        }) q ∙ (unfold pack antiderivative view in refl)
 
     module _ (h : j < f .count) where
       -- the radius stays within the span
