@@ -3,8 +3,9 @@ use mathlib.Core.Path.{_≡_, refl}
 use mathlib.Core.List.{List, [], _∷_, _++_, map}
 use Prim.Native.Nat.{ℕ, zero, suc, _*_}
 use Prim.Native.String.{String}
-use lib.IntN.{pos, negsuc}
+use lib.IntN.{pos, negsuc, negℤ}
 use lib.ListN.{replicate, length}
+use Rattle.fixed.specs.Fixed.{U}
 use Rattle.calculus.specs.Refusal.{uncertified, done, stopped}
 use Rattle.calculus.specs.Forms.{at-key, model, ends, gives}
 use Rattle.format.specs.Bytes.{join}
@@ -62,9 +63,9 @@ edges =
     ∷ edge 5 1 ("00 00 00 00 00" ∷ "00" ∷ "01 00 00 00 00 00 00 00" ∷ "01 02 01 01 06 00 4D 4B" ∷ [])
     ∷ edge 5 0 ("00" ∷ "01 00 00 00 00 00 00 00" ∷ "01 02 00 01 01 00 4D 4B" ∷ [])
     -- a model's fault comes before a step's
-    ∷ edge 5 0 ("01 00 00 40 00" ∷ "0A 00 00 00 00 00 00 00" ∷ "01 02 01 01 05 00 4D 4B" ∷ [])
+    ∷ edge 5 0 ("01 00 00 40 00" ∷ "0B 00 00 00 00 00 00 00" ∷ "01 02 01 01 05 00 4D 4B" ∷ [])
     -- another code; for each code a field that it does not name
-    ∷ edge 6 0 ("0A 00 00 00 00 00 00 00" ∷ "01 02 00 01 00 00 4D 4B" ∷ [])
+    ∷ edge 6 0 ("0B 00 00 00 00 00 00 00" ∷ "01 02 00 01 00 00 4D 4B" ∷ [])
     ∷ edge 6 0 ("00 00 00 00 00" ∷ "00 00 01 00 00 00 00 00" ∷ "01 02 01 01 05 00 4D 4B" ∷ [])
     ∷ edge 6 1 ("01 00 00 00 00 00 00 00" ∷ "01 01 00 00 00 00 00 00" ∷ "01 02 00 02 00 00 4D 4B" ∷ [])
     ∷ edge 6 1 ("01 00 00 00 00 00 00 00" ∷ "02 00 00 01 01 00 00 00" ∷ "01 02 00 02 00 00 4D 4B" ∷ [])
@@ -92,6 +93,17 @@ edges =
     ∷ edge 6 1 ("01 00 00 00 00 00 00 00" ∷ "09 00 00 00 00 01 00 00" ∷ "01 02 00 02 00 00 4D 4B" ∷ [])
     -- all of them earlier
     ∷ edge 0 0 ("01 00 00 00 00 00 00 00" ∷ "09 00 00 00 00 00 00 00" ∷ "01 02 00 02 00 00 4D 4B" ∷ [])
+    -- an antiderivative's a, v, b and value: its own number, no variable, one above n, what it does not name not 0
+    ∷ edge 6 1 ("01 00 00 00 00 00 00 00" ∷ "0A 01 00 01 00 00 00 00" ∷ "01 02 00 02 00 00 4D 4B" ∷ [])
+    ∷ edge 6 1 ("01 00 00 00 00 00 00 00" ∷ "0A 00 00 00 00 00 00 00" ∷ "01 02 00 02 00 00 4D 4B" ∷ [])
+    ∷ edge 6 1 ("01 00 00 00 00 00 00 00" ∷ "0A 00 00 02 00 00 00 00" ∷ "01 02 00 02 00 00 4D 4B" ∷ [])
+    ∷ edge 6 2 ("01 00 00 00 00 00 00 00" ∷ "01 00 00 00 00 00 00 00" ∷ "0A 00 01 01 00 00 00 00" ∷
+    "01 02 00 03 00 00 4D 4B" ∷ [])
+    ∷ edge 6 1 ("01 00 00 00 00 00 00 00" ∷ "0A 00 00 01 01 00 00 00" ∷ "01 02 00 02 00 00 4D 4B" ∷ [])
+    ∷ edge 6 1 ("01 00 00 00 00 00 00 00" ∷ "0A 00 00 01 FF FF FF FF" ∷ "01 02 00 02 00 00 4D 4B" ∷ [])
+    -- an earlier step, and the last of four variables
+    ∷ edge 0 0 ("01 00 00 00 00 00 00 00" ∷ "0A 00 00 01 00 00 00 00" ∷ "01 02 00 02 00 00 4D 4B" ∷ [])
+    ∷ edge 0 0 ("01 00 00 00 00 00 00 00" ∷ "0A 00 00 04 00 00 00 00" ∷ "04 02 00 02 00 00 4D 4B" ∷ [])
     -- the largest threshold, the least constant
     ∷ edge 0 0 ("01 00 00 00 00 00 00 00" ∷ "08 00 00 00 00 00 00 40" ∷ "01 02 00 02 00 00 4D 4B" ∷ [])
     ∷ edge 0 0 ("01 00 00 00 00 00 00 C0" ∷ "01 02 00 01 00 00 4D 4B" ∷ [])
@@ -120,6 +132,19 @@ pub edge-quotients : (run-sheet (quotient-sheet "09 00 01 02 03 00 00 00")
     "01 02 00 03 00 00 4D 4B" ∷ [])) ≡ stopped uncertified 2)
 unfolding reads sheet-forms quotient-sheet
 edge-quotients = (refl, refl, refl)
+
+-- ---- antiderivatives
+-- of 5 + 3 x with radius 2: 3 / 2 goes to 2 and costs 1; and one that a quotient, 1 / 1, feeds: it runs all the same,
+-- only the claim says nothing of it
+pub edge-antiderivatives : (run-sheet (hex ("02 00 00 00 02 00 00 05 00 00 00 00 10 03 00 00 00" ∷
+    "00 00 00 00 00 00 00 00" ∷ "0A 00 00 01 00 00 00 00" ∷ "01 02 01 02 11 00 4D 4B" ∷ []))
+    ≡ gives (model 1 3 (at-key 1 0x1000 (pos 5) ∷ at-key 1 0x2000 (pos 2) ∷ []))
+    (ends (negsuc 7) (pos 10)) (ends (negsuc 4) (pos 8)))
+    × (run-sheet (hex ("01 00 00 00 00 00 10 00" ∷ "09 00 00 00 00 00 00 00" ∷ "0A 01 00 01 00 00 00 00" ∷
+    "01 02 00 03 00 00 4D 4B" ∷ []))
+    ≡ gives (model 1 0 (at-key 1 0x1000 (pos U) ∷ [])) (ends (negℤ (pos U)) (pos U)) (ends (pos 0) (pos 0)))
+unfolding reads sheet-forms
+edge-antiderivatives = (refl, refl)
 
 -- ---- records
 -- the records of a sheet whose run would be refused: two models and three steps, and no trailer
@@ -166,8 +191,8 @@ pub edge-written : (all-written (small-book 2 1) (replicate 18 0xFF) ≡ (0, 0, 
     × (all-written (small-book 2 1) (replicate 16 0xFF) ≡ (0, 0, 16, small-sheet))
     × (all-written (small-book 2 1) (replicate 15 0xFF) ≡ (11, 0, 0, replicate 15 0xFF))
     × (all-written square-book (replicate 27 0) ≡ (0, 0, 27, square-sheet))
-    × (all-written (small-book 2 10) [] ≡ (6, 0, 0, []))
-    × (all-written (small-book 0 10) [] ≡ (3, 0, 0, []))
+    × (all-written (small-book 2 11) [] ≡ (6, 0, 0, []))
+    × (all-written (small-book 0 11) [] ≡ (3, 0, 0, []))
 unfolding writes sheet-forms small-book small-sheet square-book square-sheet all-written
 edge-written = (refl, refl, refl, refl, refl, refl)
 

@@ -8,7 +8,7 @@ use Rattle.calculus.specs.Tests.{constant-sound, variable-sound, threshold-soun
 use Rattle.calculus.specs.Book.{last-code}
 use Rattle.format.specs.HeldBook.{Held-step}
 
--- a: a model number (0), an earlier step (3 to 9), or 0
+-- a: a model number (0), an earlier step (3 to 10), or 0
 unfoldable pub limit-a : (models i code : ℕ) → ℕ
 limit-a m i code = cond (eqb code 0) m (cond (leb 3 code) i 1)
 
@@ -16,9 +16,13 @@ limit-a m i code = cond (eqb code 0) m (cond (leb 3 code) i 1)
 unfoldable pub limit-b : (i code : ℕ) → ℕ
 limit-b i code = cond ((leb 4 code && leb code 7) || eqb code 9) i 1
 
--- v: a variable (2 and 7), an earlier step (9), or 0
+-- the codes that name a variable by v
+unfoldable pub names-variable : (code : ℕ) → Bool
+names-variable code = eqb code 2 || eqb code 7 || eqb code 10
+
+-- v: a variable (2, 7 and 10), an earlier step (9), or 0
 unfoldable pub v-sound : (n i code v : ℕ) → Bool
-v-sound n i code v = cond (eqb code 2 || eqb code 7) (variable-sound n v) (cond (eqb code 9) (ltb v i) (eqb v 0))
+v-sound n i code v = cond (names-variable code) (variable-sound n v) (cond (eqb code 9) (ltb v i) (eqb v 0))
 
 -- an integer that is the number of a step before step i
 unfoldable pub earlier : (i : ℕ) → ℤ → Bool

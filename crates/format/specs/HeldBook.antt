@@ -13,7 +13,7 @@ use Rattle.calculus.specs.Model.{Model, zero-model}
 use Rattle.calculus.specs.Refusal.{bad-limits, bad-model, bad-step, Result, require-at, require-each}
 use Rattle.calculus.specs.Refusal.{all-from}
 use Rattle.calculus.specs.Book.{Step, input, constant, variable, negate, add, subtract, multiply, substitute, sweep}
-use Rattle.calculus.specs.Book.{quotient, Book, limits-sound, model-sound, step-sound}
+use Rattle.calculus.specs.Book.{quotient, antiderivative, Book, limits-sound, model-sound, step-sound}
 
 -- a term: its key and its coefficient
 pub record Held-term : Type 0 where
@@ -64,7 +64,7 @@ pub record Form : Type 0 where
 abbrev pub form : ℕ → Step → Form
 form unnamed step = record { unnamed = unnamed; step = step }
 
--- those of the codes 0 to 9, in order; a value below 0 names no step
+-- those of the codes 0 to 10, in order; a value below 0 names no step
 unfoldable pub forms : Held-step → List Form
 forms s =
     form (s .b + s .v + natAbs (s .value)) (input (s .a))
@@ -77,6 +77,7 @@ forms s =
     ∷ form (natAbs (s .value)) (substitute (s .a) (s .b) (s .v))
     ∷ form (s .b + s .v) (sweep (s .a) (s .value))
     ∷ form (minus (s .value)) (quotient (s .a) (s .b) (s .v) (natAbs (s .value)))
+    ∷ form (s .b + natAbs (s .value)) (antiderivative (s .a) (s .v))
     ∷ []
 
 -- the step of a form whose other fields are 0

@@ -12,8 +12,8 @@ use Rattle.calculus.specs.Model.{Model, most-vars, most-degree, zero-model, bet
 use Rattle.calculus.specs.Refusal.{bad-limits, bad-model, bad-step, Result, done, require-each}
 use Rattle.calculus.specs.Tests.{vars-sound, order-sound, variable-sound}
 use Rattle.calculus.specs.Book.{Step, input, constant, variable, negate, add, subtract, multiply, substitute, sweep}
-use Rattle.calculus.specs.Book.{quotient, Book, most-models, most-steps, limits-sound, model-sound, step-sound, run}
-use Rattle.calculus.specs.Book.{run-sound}
+use Rattle.calculus.specs.Book.{quotient, antiderivative, Book, most-models, most-steps, limits-sound, model-sound}
+use Rattle.calculus.specs.Book.{step-sound, run, run-sound}
 use Rattle.calculus.specs.TestLaws.{and-left, and-right, both}
 use Rattle.calculus.specs.Refusal.{all-from}
 use Rattle.calculus.specs.RefusalLaws.{require-at-passed, require-each-passed, Passed, passed-at, passed-each}
@@ -97,6 +97,7 @@ step-same b c i (multiply a e) p q = refl
 step-same b c i (substitute a e v) p q = ap (λ n. ltb a i && ltb e i && variable-sound n v) p
 step-same b c i (sweep a v) p q = refl
 step-same b c i (quotient a e k w) p q = refl
+step-same b c i (antiderivative a v) p q = ap (λ n. ltb a i && variable-sound n v) p
 
 -- ---- a step that passes is one
 pub record Stands-for (b : Book) (i : ℕ) (s : Held-step) : Type 0 where

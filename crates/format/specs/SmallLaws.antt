@@ -21,7 +21,7 @@ use Rattle.calculus.specs.SoundLaws.{Sound, sound-parts}
 use Rattle.calculus.specs.BookLaws.{between-high}
 use Rattle.format.specs.HeldBook.{Held-term, Held-model, Held-step, view-term, view-model}
 use Rattle.format.specs.HeldBook.{held-model-sound, held-step-sound}
-use Rattle.format.specs.Fields.{limit-a, limit-b, v-sound, earlier, value-sound}
+use Rattle.format.specs.Fields.{limit-a, limit-b, names-variable, v-sound, earlier, value-sound}
 use Rattle.format.specs.StepFieldLaws.{Fields, fields-of}
 
 -- ---- the numbers of a model that passes
@@ -107,7 +107,7 @@ step-facts b i s li lm ln h = record {
   b = let l = ltb→lt (s .b) _ (p .in-b) in
       let k = under-cond ((leb 4 (s .code) && leb (s .code) 7) || eqb (s .code) 9) i 1 64 li (omega arith) in
       omega arith;
-  v = let l = v-small (eqb (s .code) 2 || eqb (s .code) 7) (eqb (s .code) 9) (b .vars) i (s .v) 64 (omega arith) li
+  v = let l = v-small (names-variable (s .code)) (eqb (s .code) 9) (b .vars) i (s .v) 64 (omega arith) li
       (p .in-v) in omega arith;
   value = value-small (eqb (s .code) 1) (eqb (s .code) 8) (eqb (s .code) 9) i (s .value) li (p .in-value);
 }

@@ -12,10 +12,10 @@ use lib.Signed.{nonNeg}
 use Rattle.algebra.specs.Integer.{minus}
 use Rattle.calculus.specs.Tests.{constant-sound, variable-sound, threshold-sound}
 use Rattle.calculus.specs.Book.{Step, input, constant, variable, negate, add, subtract, multiply, substitute, sweep}
-use Rattle.calculus.specs.Book.{quotient, last-code, Book, step-sound}
+use Rattle.calculus.specs.Book.{quotient, antiderivative, last-code, Book, step-sound}
 use Rattle.calculus.specs.TestLaws.{and-left, and-right, both, same-tests}
 use Rattle.format.specs.HeldBook.{Held-step, Form, form, forms, step-of, view-step, held-step-sound}
-use Rattle.format.specs.Fields.{limit-a, limit-b, v-sound, earlier, value-sound, fields-sound}
+use Rattle.format.specs.Fields.{limit-a, limit-b, names-variable, v-sound, earlier, value-sound, fields-sound}
 
 -- ---- the two tests agree, code by code
 -- a form that gives a step passes with it
@@ -225,13 +225,29 @@ module _ (b : Book) (i : ℕ) (s : Held-step) where
         });
       })
 
+  by-antiderivative : accepts (step-of (some (form (s .b + size) (antiderivative (s .a) (s .v)))))
+      ≡ (a-before && ltb (s .b) 1 && variable-sound (b .vars) (s .v) && eqb size 0)
+  unfolding step-sound
+  by-antiderivative = by-form (form (s .b + size) (antiderivative (s .a) (s .v)))
+      a-before (ltb (s .b) 1) (variable-sound (b .vars) (s .v)) (eqb size 0)
+      (λ p. record {
+        in-a = and-left a-before _ (p .passes);
+        in-b = below-one (s .b) (omega (arith, p .unnamed));
+        in-v = and-right a-before _ (p .passes);
+        in-value = is-zero size (omega (arith, p .unnamed));
+      })
+      (λ q. record {
+        unnamed = omega (arith, under-one (s .b) (q .in-b), eqb→eq size 0 (q .in-value));
+        passes = both a-before _ (q .in-a) (q .in-v);
+      })
+
   beyond : last-code < s .code → accepts (step-of none) ≡ fields-sound (b .vars) (length (b .models)) i s
   unfolding step-of fields-sound
   beyond l = rw (lt-leb (s .code) last-code l)
 
   by-code : (c : ℕ) → s .code ≡ c
       → accepts (step-of (getElem? (forms s) c)) ≡ fields-sound (b .vars) (length (b .models)) i s
-  unfolding forms step-sound fields-sound limit-a limit-b v-sound value-sound
+  unfolding forms step-sound fields-sound limit-a limit-b names-variable v-sound value-sound
   by-code zero e = rw e (one-operand (input (s .a)) (ltb (s .a) (length (b .models))) refl)
   by-code (suc zero) e = rw e by-constant
   by-code (suc (suc zero)) e = rw e by-variable
@@ -242,7 +258,8 @@ module _ (b : Book) (i : ℕ) (s : Held-step) where
   by-code (suc (suc (suc (suc (suc (suc (suc zero))))))) e = rw e by-substitute
   by-code (suc (suc (suc (suc (suc (suc (suc (suc zero)))))))) e = rw e by-sweep
   by-code (suc (suc (suc (suc (suc (suc (suc (suc (suc zero))))))))) e = rw e by-quotient
-  by-code (suc (suc (suc (suc (suc (suc (suc (suc (suc (suc c)))))))))) e = beyond (omega arith)
+  by-code (suc (suc (suc (suc (suc (suc (suc (suc (suc (suc zero)))))))))) e = rw e by-antiderivative
+  by-code (suc (suc (suc (suc (suc (suc (suc (suc (suc (suc (suc c))))))))))) e = beyond (omega arith)
 
   -- THEOREM: test 6 is that of all fields
   pub step-by-fields : held-step-sound b i s ≡ fields-sound (b .vars) (length (b .models)) i s
