@@ -16,7 +16,7 @@ pub const MOST_MODELS: usize = 16;
 pub const MOST_STEPS: usize = 64;
 
 // The codes of steps: 0 to this, which is `last-code`.
-const LAST_CODE: u8 = 9;
+const LAST_CODE: u8 = 10;
 
 // A step: its code and its fields.
 pub struct Step {
@@ -160,6 +160,9 @@ fn v_sound(n: u8, i: usize, code: u8, v: u8) -> bool
         return model_types::from_one(n, v);
     }
     if code == 7 {
+        return model_types::from_one(n, v);
+    }
+    if code == 10 {
         return model_types::from_one(n, v);
     }
     if code == 9 {
