@@ -2,7 +2,6 @@
 -- that is what the book's step gives.
 use mathlib.Core.Path.{_≡_, refl, sym, _∙_, ap, subst}
 use mathlib.Core.Bool.{Bool, true, false}
-use mathlib.Core.Logic.{inl, inr}
 use mathlib.Core.Option.{Option, some, none}
 use Prim.Native.Nat.{ℕ, zero, suc, _≤_}
 use native.Mathlib.Omega.{arith}
@@ -21,9 +20,10 @@ use Rattle.model_types.specs.declared.Model.{Model}
 use Rattle.model_types.specs.declared.Answer.{Answer}
 use Rattle.model_types.specs.ModelStruct.{view, pack, answer}
 use Rattle.model_types.specs.ModelStructLaws.{vars-range}
-use Rattle.model.specs.OperationContracts.{Operands, Factors, Substitution}
+use Rattle.model.specs.OperationContracts.{Operands, Integrand, Factors, Substitution}
 use Rattle.model.specs.OperationLaws.{sound-order}
 use Rattle.format.specs.HeldBook.{Held-step, Form, forms, step-of, view-step}
+use Rattle.format.specs.Fields.{names-variable}
 use Rattle.sheet_step_answers.specs.Answers.{accepted-answer}
 use Rattle.sheet_steps.specs.Steps.{one-model, two-results, renumbered, form-answer, code-answer, step-answer}
 use Rattle.sheet_steps.specs.Steps.{Step-ready, Direct-ready}
@@ -38,10 +38,16 @@ module _ {n d : ℕ} {s : Held-step} {m f g : Model} (r : Step-ready n d s m f g
   in-range t = (between-low 1 n (s .v) t, between-high 1 n (s .v) t)
 
   of-variable : s .code ≡ 2 → (1 ≤ s .v) × (s .v ≤ n)
-  of-variable e = in-range (r .variable (inl e))
+  unfolding names-variable
+  of-variable e = in-range (r .variable (subst (λ c. T (names-variable c)) (sym e) tt))
 
   into-variable : s .code ≡ 7 → (1 ≤ s .v) × (s .v ≤ n)
-  into-variable e = in-range (r .variable (inr e))
+  unfolding names-variable
+  into-variable e = in-range (r .variable (subst (λ c. T (names-variable c)) (sym e) tt))
+
+  along-variable : s .code ≡ 10 → (1 ≤ s .v) × (s .v ≤ n)
+  unfolding names-variable
+  along-variable e = in-range (r .variable (subst (λ c. T (names-variable c)) (sym e) tt))
 
   operands : Operands f g
   operands = record {
@@ -68,14 +74,23 @@ module _ {n d : ℕ} {s : Held-step} {m f g : Model} (r : Step-ready n d s m f g
     last = subst (λ i. s .v ≤ i) (sym (r .first-vars)) (into-variable e .1);
   }
 
-  -- what a step asks that needs no table
-  pub direct-ready : (s .code ≡ 6 → ⊥) → (s .code ≡ 7 → ⊥) → Direct-ready n s m f g
-  direct-ready p q = record {
+  pub integrand : s .code ≡ 10 → Integrand d (s .v) f
+  integrand e = record {
+    order = r .order;
+    model = r .first;
+    first = along-variable e .0;
+    last = subst (λ i. s .v ≤ i) (sym (r .first-vars)) (along-variable e .1);
+  }
+
+  -- what a step asks that needs neither the table nor the order
+  pub direct-ready : (s .code ≡ 6 → ⊥) → (s .code ≡ 7 → ⊥) → (s .code ≡ 10 → ⊥) → Direct-ready n s m f g
+  direct-ready p q w = record {
     width = vars-range n (r .vars) .1;
     code = r .code;
     no-product = p;
     no-substitution = q;
     no-quotient = r .no-quotient;
+    no-antiderivative = w;
     input = input-sound;
     variable = of-variable;
     operands = operands;
@@ -133,7 +148,8 @@ module _ (b : Book) (r : ℕ → C.Model) (s : Held-step) (t : Step) (m : C.Mode
   by-code (suc (suc (suc (suc (suc (suc (suc zero))))))) h p e = ap (run-step b r) (form-step _ t h)
   by-code (suc (suc (suc (suc (suc (suc (suc (suc zero)))))))) h p e = ap (run-step b r) (form-step _ t h)
   by-code (suc (suc (suc (suc (suc (suc (suc (suc (suc zero))))))))) h p e = absurd (p refl)
-  by-code (suc (suc (suc (suc (suc (suc (suc (suc (suc (suc c)))))))))) h p e = no-form h
+  by-code (suc (suc (suc (suc (suc (suc (suc (suc (suc (suc zero)))))))))) h p e = ap (run-step b r) (form-step _ t h)
+  by-code (suc (suc (suc (suc (suc (suc (suc (suc (suc (suc (suc c))))))))))) h p e = no-form h
     where
       no-form : {A : Type 0} → step-of none ≡ some t → A
       no-form e = unfold step-of in let z : _≡_ {A = ℕ} 0 1 = cc in absurd (omega arith)

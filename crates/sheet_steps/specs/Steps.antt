@@ -2,7 +2,6 @@
 use mathlib.Core.Path.{_≡_}
 use mathlib.Core.Bool.{true}
 use mathlib.Core.List.{[], _∷_}
-use mathlib.Core.Logic.{_⊎_}
 use mathlib.Core.Option.{Option, some, none}
 use Prim.Native.Nat.{ℕ, _≤_}
 use lib.Dec.{T}
@@ -18,6 +17,7 @@ use Rattle.model_types.specs.declared.Model.{Model}
 use Rattle.model_types.specs.ModelStruct.{view}
 use Rattle.model.specs.OperationContracts.{Operands}
 use Rattle.format.specs.HeldBook.{Held-step, Form, forms}
+use Rattle.format.specs.Fields.{names-variable}
 
 -- ---- what it gives
 -- a book in n variables of order d with the one model m
@@ -54,21 +54,22 @@ pub record Step-ready (n d : ℕ) (s : Held-step) (m f g : Model) : Type 0 where
   pub order : d ≤ most-degree
   pub code : s .code ≤ last-code
   pub no-quotient : s .code ≡ 9 → ⊥
-  pub variable : (s .code ≡ 2) ⊎ (s .code ≡ 7) → T (variable-sound n (s .v))
+  pub variable : T (names-variable (s .code)) → T (variable-sound n (s .v))
   pub input : s .code ≡ 0 → T (sound d (view m))
   pub first : T (sound d (view f))
   pub first-vars : f .n ≡ n
   pub second : T (sound d (view g))
   pub second-vars : g .n ≡ n
 
--- one that is no product and no substitution either: a model that is sound, if it is an input, a variable among n, if
--- it names one, and two sound results
+-- one that is no product, no substitution and no antiderivative either: a model that is sound, if it is an input, a
+-- variable among n, if it is one, and two sound results
 pub record Direct-ready (n : ℕ) (s : Held-step) (m f g : Model) : Type 0 where
   pub width : n ≤ key-width
   pub code : s .code ≤ last-code
   pub no-product : s .code ≡ 6 → ⊥
   pub no-substitution : s .code ≡ 7 → ⊥
   pub no-quotient : s .code ≡ 9 → ⊥
+  pub no-antiderivative : s .code ≡ 10 → ⊥
   pub input : s .code ≡ 0 → T (sound most-degree (view m))
   pub variable : s .code ≡ 2 → (1 ≤ s .v) × (s .v ≤ n)
   pub operands : Operands f g

@@ -24,8 +24,9 @@ pub fn model_place(a: u8) -> usize
     }
 }
 
-// What a step gives whose operation needs no table, which is each but a product, a substitution and a quotient, with
-// the model that its field a names and the results that a and b name: the same for every order.
+// What a step gives whose operation needs neither a table nor the order, which is each but a product, a substitution, a
+// quotient and an antiderivative, with the model that its field a names and the results that a and b name: the same for
+// every order.
 fn direct_answer(n: u8, s: Step, input: Model, f: Model, g: Model) -> Answer
     requires { ⌜ Direct-ready n (held-step s) input f g ⌝ }
     ensures { λ r. ⌜ ((d : ℕ)
@@ -66,6 +67,7 @@ pub fn step_answer(
     match code {
         6 => model::multiplied(d, f, g, slots, keys, sums),
         7 => model::substituted(d, s.v, f, g, slots, keys, sums),
+        10 => sheet_step_answers::accepted(model::integrated(d, s.v, f)),
         _ => direct_answer(n, s, input, f, g),
     }
 }

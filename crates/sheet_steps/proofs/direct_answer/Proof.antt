@@ -137,7 +137,7 @@ is-sweep m =
     let p = m .before .pre in
     let low : 4 ≤ m .before .args .s .code =
     omega (arith, r .0 .0 .0 .0 .0 .1, r .0 .0 .0 .0 .1, r .0 .0 .0 .1, r .0 .0 .1) in
-    omega (arith, low, p .code, p .no-product, p .no-substitution, p .no-quotient, r .1, r .0 .1)
+    omega (arith, low, p .code, p .no-product, p .no-substitution, p .no-quotient, p .no-antiderivative, r .1, r .0 .1)
 
 returns-7 : tie.Need-returns-7
 unfolding codes held-step

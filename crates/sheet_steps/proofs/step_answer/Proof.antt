@@ -1,14 +1,19 @@
--- `step_answer` goes by the code: a product and a substitution are asked and answer what the step is asked and answers.
+-- `step_answer` goes by the code: a product, a substitution and an antiderivative are asked and answer what the step is
+-- asked and answers.
 use mathlib.Core.Path.{_≡_, refl}
 use Prim.Native.Nat.{ℕ}
+use borrow.Author.Needs.{needs}
 use Rattle.calculus.specs.Model as C
 use Rattle.calculus.specs.Refusal as R
-use Rattle.calculus.specs.Refusal.{at-place}
+use Rattle.calculus.specs.Refusal.{accepted, at-place}
 use Rattle.model_types.specs.declared.Answer.{Answer}
-use Rattle.model_types.specs.ModelStruct.{view, answer}
+use Rattle.model_types.specs.declared.Model.{Model}
+use Rattle.model_types.specs.ModelStruct.{view, pack, answer}
+use Rattle.sheet_step_answers.specs.Answers.{accepted-answer}
 use Rattle.sheet_book.specs.BookStruct.{held-step}
 use Rattle.sheet_steps.specs.Steps.{code-answer, step-answer}
-use Rattle.sheet_steps.specs.StepLaws.{factors, substitution, direct-ready, codes, answered-is}
+use Rattle.sheet_steps.specs.StepLaws.{factors, substitution, integrand, direct-ready, codes}
+use Rattle.sheet_steps.specs.StepLaws.{accepted-is, answered-is}
 use Rattle.sheet_steps.proofs.step_answer.Statement.{statement}
 use Rattle.sheet_steps.proofs.step_answer.Tie as tie
 
@@ -28,21 +33,43 @@ substituted-requires c κs =
     let p = start (c .before .before .before .before) .pre in
     (substitution (p .0) (c .before .before .before .match .keys2), p .1)
 
+integrated-requires : tie.Need-integrated-requires
+unfolding held-step
+integrated-requires c κs = integrand (start (c .before) .pre .0) (c .match .keys3)
+
+accepted-requires : tie.Need-accepted-requires
+accepted-requires c κs = search needs
+
 direct-answer-requires : tie.Need-direct-answer-requires
 unfolding held-step
 direct-answer-requires c κs =
     let r = c .match .rest in
-    direct-ready (start (c .before) .pre .0) (r .0 .1) (r .1)
+    direct-ready (start (c .before) .pre .0) (r .0 .0 .1) (r .0 .1) (r .1)
 
 -- ---- what they answer
 module _ (c : tie.Start) where
-  -- an operation that can be refused
-  answers : {r : Answer} (i : ℕ) (a : R.Answer C.Model) → r ≡ answer (at-place 0 a) → c .args .s .code ≡ i
-      → code-answer (c .args .n) (c .args .d) (held-step (c .args .s)) (view (c .args .input)) (view (c .args .f))
-      (view (c .args .g)) i ≡ a
-      → r
+  -- what a code gives
+  abbrev given : ℕ → R.Answer C.Model
+  given = code-answer (c .args .n) (c .args .d) (held-step (c .args .s)) (view (c .args .input)) (view (c .args .f))
+      (view (c .args .g))
+
+  -- what is answered
+  abbrev Answered : Answer → Type 0
+  Answered r =
+      r
       ≡ answer (at-place 0 (step-answer (c .args .n) (c .args .d) (held-step (c .args .s)) (view (c .args .input))
       (view (c .args .f)) (view (c .args .g))))
+
+  -- by an operation that cannot be refused
+  accepts : {r : Answer} {h : Model} (i : ℕ) (k : C.Model) → r ≡ accepted-answer h → h ≡ pack k
+      → c .args .s .code ≡ i → given i ≡ accepted k → Answered r
+  unfolding held-step
+  accepts =
+      accepted-is (c .args .n) (c .args .d) (held-step (c .args .s)) (c .args .input) (c .args .f) (c .args .g)
+
+  -- by one that can
+  answers : {r : Answer} (i : ℕ) (a : R.Answer C.Model) → r ≡ answer (at-place 0 a) → c .args .s .code ≡ i
+      → given i ≡ a → Answered r
   unfolding held-step
   answers =
       answered-is (c .args .n) (c .args .d) (held-step (c .args .s)) (c .args .input) (c .args .f) (c .args .g)
@@ -88,8 +115,17 @@ returns-2 c =
       substituted c .substituted .ensures .1,
     )
 
+-- the table is as it was lent
 returns-3 : tie.Need-returns-3
-returns-3 c = (
+unfolding codes held-step
+returns-3 c =
+    let m = c .before .before in (
+      accepts (start (m .before)) 10 _ (c .accepted .ensures) (c .before .integrated .ensures) (m .match .keys3) refl,
+      record { slots-length = refl; keys-length = refl; sums-length = refl },
+    )
+
+returns-4 : tie.Need-returns-4
+returns-4 c = (
   c .direct-answer .ensures (start (c .before .before) .args .d),
   record { slots-length = refl; keys-length = refl; sums-length = refl },
 )
@@ -100,6 +136,8 @@ step-answer-spec =
     (tie.spec
     multiplied-requires
     substituted-requires
+    integrated-requires
+    accepted-requires
     direct-answer-requires
     same-length
     same-length-2
@@ -109,4 +147,5 @@ step-answer-spec =
     same-length-5
     same-length-6
     returns-2
-    returns-3)
+    returns-3
+    returns-4)
