@@ -1,8 +1,7 @@
 -- The run of a book that passed the tests: one turn of its loop, with each way out.
 use mathlib.Core.Path.{_≡_, refl, sym, _∙_, ap, ap₂, subst}
-use mathlib.Core.Bool.{Bool, true, cond, _&&_, _||_}
+use mathlib.Core.Bool.{Bool, true, false, cond, _&&_, _||_}
 use mathlib.Core.List.{List, [], _∷_, _++_, map, map-append}
-use mathlib.Core.Logic.{_⊎_, inl, inr}
 use mathlib.Core.Option.{some}
 use Prim.Native.Nat.{ℕ, zero, suc, _+_, _-_, _<_, _≤_}
 use native.Mathlib.Numerals.{add-one}
@@ -41,7 +40,7 @@ use Rattle.format.specs.SmallLaws.{under-cond}
 use Rattle.format.specs.HeldBook.{Held-step, Held-book, view-model, view-step, view-book, outline, outline-of}
 use Rattle.format.specs.HeldBook.{held-step-sound, Held-passes}
 use Rattle.format.specs.HeldBookLaws.{In-limits, in-limits, steps-pass, view-at, view-passes}
-use Rattle.format.specs.Fields.{limit-a, limit-b, v-sound, earlier, value-sound}
+use Rattle.format.specs.Fields.{limit-a, limit-b, names-variable, v-sound, earlier, value-sound}
 use Rattle.format.specs.StepFieldLaws.{Fields, fields-of}
 use Rattle.sheet_steps.specs.Steps.{step-answer, Step-ready}
 use Rattle.sheet_steps.specs.StepLaws.{step-is, quotient-is}
@@ -72,6 +71,11 @@ passes-at : {A : Type 0} (ok : ℕ → A → Bool) (l : List A) (d : A) → T (a
 passes-at ok l d t j k =
     let e : 0 + j ≡ j = omega arith in
     subst (λ i. T (ok i (getD l j d))) e (all-from-at 0 ok l d t j k)
+
+-- a test of two that is chosen
+taken-test : (t x y : Bool) → T t → T (cond t x y) → T x
+taken-test true x y p q = q
+taken-test false x y p q = absurd p
 
 -- what is read past the end of an array of models
 abbrev pub empty-place : Model
@@ -192,7 +196,7 @@ module _ {h : Held-book} (p : Held-passes h) where
 
     -- so are the two others of a quotient
     pub third-place : s .code ≡ 9 → s .v < 64
-    unfolding v-sound
+    unfolding names-variable v-sound
     third-place e = omega (
       arith,
       ltb→lt (s .v) i (subst (λ c. T (v-sound (outline-of h .vars) i c (s .v))) e (fields .in-v)),
@@ -259,10 +263,9 @@ module _ {h : Held-book} (p : Held-passes h) where
           (and-right (eqb (model-of book (s .a) .vars) (h .n)) _
           (model-passes book passes (s .a) (omega (arith, model-place e, length-map (h .models) view-model))))
 
-      in-variable : (s .code ≡ 2) ⊎ (s .code ≡ 7) → T (variable-sound (h .n) (s .v))
+      in-variable : T (names-variable (s .code)) → T (variable-sound (h .n) (s .v))
       unfolding outline-of outline v-sound
-      in-variable (inl e) = subst (λ c. T (v-sound (h .n) i c (s .v))) e (fields .in-v)
-      in-variable (inr e) = subst (λ c. T (v-sound (h .n) i c (s .v))) e (fields .in-v)
+      in-variable t = taken-test (names-variable (s .code)) _ _ t (fields .in-v)
 
       pub step-ready : (s .code ≡ 9 → ⊥) → Step-ready (h .n) (h .d) s m f g
       step-ready other = record {
