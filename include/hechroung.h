@@ -55,15 +55,17 @@ struct hechroung_ends {
 };
 
 /* What a run gives: the last step's model, the ends of its range and of its integral over the box. Demand 3 of document
-   01 holds of it, for all functions within the sheet's models and all points of the box with fraction coordinates; of a
-   sheet with a quotient nothing is said about the integral. */
+   01 holds of it, for all functions within the sheet's models and all points of the box with fraction coordinates. Of a
+   sheet with an antiderivative it holds for all polynomials within them, unless a quotient feeds one, directly or
+   through other steps; of a sheet with a quotient nothing is said about the integral. */
 struct hechroung_summary {
     struct hechroung_model model;
     struct hechroung_ends range, integral;
 };
 
 /* A step of a book: the code of documents 01 and 02 and its fields; those that the code does not name are 0. Code 9, a
-   quotient, has f in a, g in b, step h in v and step w in value. */
+   quotient, has f in a, g in b, step h in v and step w in value; code 10, an antiderivative, has its step in a and its
+   variable, from 1, in v. */
 struct hechroung_step {
     uint8_t code, a, b, v;
     int64_t value;

@@ -5,7 +5,8 @@ use crate::{narrowed, refusal, Ends, Model, Refusal};
 use crate::{LONGEST_RECORD, MOST_MODELS, MOST_STEPS, MOST_TERMS};
 
 /// What a run gives: the last step's model, its range and its integral; beside a refusal the zero model and ends 0.
-/// Nothing is said about the integral of a sheet with a quotient.
+/// Of a sheet with an antiderivative the promise holds for polynomials within its models, unless a quotient feeds one;
+/// nothing is said about the integral of a sheet with a quotient.
 #[derive(Clone, Copy, Debug, PartialEq, Eq)]
 pub struct Summary {
     pub model: Model,
@@ -21,7 +22,8 @@ pub struct Written {
     pub refusal: Option<Refusal>,
 }
 
-/// A step: its code and its fields. A quotient, code 9, has f in a, g in b, step h in v and step w in value.
+/// A step: its code and its fields. A quotient, code 9, has f in a, g in b, step h in v and step w in value; an
+/// antiderivative, code 10, has its step in a and its variable, from 1, in v.
 #[derive(Clone, Copy, Debug, Default, PartialEq, Eq)]
 pub struct Step {
     pub code: u8,
