@@ -13,7 +13,7 @@ pub fits-room : (code c₁ k₁ z₁ c₂ k₂ z₂ k z n : ℕ) → call-fits c
 unfolding call-fits
 fits-room code c₁ k₁ z₁ c₂ k₂ z₂ k z n h =
     room-parts k z n
-    (and-right (leb 1 code && leb code 8 && lent c₁ k₁ z₁ && lent c₂ k₂ z₂) (model-room k z n) (subst T (sym h) tt))
+    (and-right (leb 1 code && leb code 9 && lent c₁ k₁ z₁ && lent c₂ k₂ z₂) (model-room k z n) (subst T (sym h) tt))
 
 pub fits-ends : (code c k z e : ℕ) → ends-call-fits code c k z e ≡ true → 2 ≤ e
 unfolding ends-call-fits

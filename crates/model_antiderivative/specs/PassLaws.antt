@@ -56,13 +56,10 @@ unfolding key-stays
 below d z e = ltb→lt (key-degree z) d (subst T (sym e) tt)
 
 -- ---- a model in memory
-module _ (d i : ℕ) (f : Model) where
-  -- the terms before j, what becomes of them, and the term at j
+module _ (f : Model) where
+  -- the terms before j, and the term at j
   abbrev before : ℕ → Terms
   before j = read (f .n) j (f .terms)
-
-  abbrev turned : ℕ → Terms
-  turned j = map (new-term d i) (before j)
 
   abbrev at : ℕ → Term
   at j = getD (f .terms) j zero-term
@@ -70,12 +67,17 @@ module _ (d i : ℕ) (f : Model) where
   abbrev next : ℕ → P.Term ℤ
   next j = term-at (f .n) j (f .terms)
 
+module _ (d i : ℕ) (f : Model) where
+  -- what becomes of the terms before j
+  abbrev turned : ℕ → Terms
+  turned j = map (new-term d i) (before f j)
+
   -- what is there after j terms
   pub record Gathered (out : List Term) (count radius j : ℕ) : Type 0 where
     pub within : j ≤ f .count
     pub stored : out ≡ pad (map pack-term (drop-zeros (turned j)))
     pub counted : count ≡ length (drop-zeros (turned j))
-    pub grown : radius ≡ f .radius + sum-ℕ (growth-of d i) (before j)
+    pub grown : radius ≡ f .radius + sum-ℕ (growth-of d i) (before f j)
 
 -- ---- one term, by its key
 module _ {d i : ℕ} {f : Model} (s : Integrand d i f) (w : f .count ≤ length (f .terms)) where
@@ -86,35 +88,36 @@ module _ {d i : ℕ} {f : Model} (s : Integrand d i f) (w : f .count ≤ length 
   slot = record { first = s .first; last = omega (arith, s .last, known .width) }
 
   module _ (j : ℕ) (h : j < f .count) where
-    fits-at : T (key-fits key-width (f .n) (at d i f j .key))
+    fits-at : T (key-fits key-width (f .n) (at f j .key))
     fits-at = key-fits-at d f j (s .order) (s .model) w h
 
-    exponent-at : new-exponent d i (next d i f j .exponents) ≡ key-exponent i (at d i f j .key) + 1
+    exponent-at : new-exponent d i (next f j .exponents) ≡ key-exponent i (at f j .key) + 1
     unfolding view-term
     exponent-at = exponent-raise (index-of i) _
-        ∙ omega (arith, monomial-exponent (f .n) i (at d i f j .key) (known .width) (s .first) (s .last) fits-at)
+        ∙ omega (arith, monomial-exponent (f .n) i (at f j .key) (known .width) (s .first) (s .last) fits-at)
 
-    degree-at : degree (up d i (next d i f j .exponents)) ≡ key-degree (at d i f j .key) + 1
+    degree-at : degree (up d i (next f j .exponents)) ≡ key-degree (at f j .key) + 1
     unfolding view-term
     degree-at = degree-raise (index-of i) _
-        ∙ omega (arith, monomial-degree (f .n) (at d i f j .key) (known .width) fits-at)
+        ∙ omega (arith, monomial-degree (f .n) (at f j .key) (known .width) fits-at)
 
-    stays-at : stays d i (next d i f j .exponents) ≡ key-stays d (at d i f j .key)
+    stays-at : stays d i (next f j .exponents) ≡ key-stays d (at f j .key)
     unfolding key-stays
-    stays-at = ap (λ z. leb z d) degree-at ∙ next-le (key-degree (at d i f j .key)) d
+    stays-at = ap (λ z. leb z d) degree-at ∙ next-le (key-degree (at f j .key)) d
 
-    pub coefficient-at : new-coefficient d i (next d i f j .exponents) (next d i f j .coefficient)
-        ≡ key-coefficient d i (at d i f j .key) (at d i f j .coefficient)
+    pub coefficient-at : new-coefficient d i (next f j .exponents) (next f j .coefficient)
+        ≡ key-coefficient d i (at f j .key) (at f j .coefficient)
     unfolding key-coefficient view-term
-    coefficient-at = ap₂ (λ b k. if-ℤ b (nearest (at d i f j .coefficient) k)) stays-at exponent-at
+    coefficient-at = ap₂ (λ b k. if-ℤ b (nearest (at f j .coefficient) k)) stays-at exponent-at
 
-    growth-at : growth-of d i (next d i f j .exponents) (next d i f j .coefficient) ≡ key-growth d i (at d i f j .key) (at d i f j .coefficient)
+    growth-at : growth-of d i (next f j .exponents) (next f j .coefficient)
+        ≡ key-growth d i (at f j .key) (at f j .coefficient)
     unfolding key-growth view-term is-inexact
-    growth-at = ap₂ (λ b k. if-ℕ b (if-ℕ (not (eqb (natAbs (at d i f j .coefficient) % k) 0)) 1)
-        + if-ℕ (not b) (divided-up (natAbs (at d i f j .coefficient)) k)) stays-at exponent-at
+    growth-at = ap₂ (λ b k. if-ℕ b (if-ℕ (not (eqb (natAbs (at f j .coefficient) % k) 0)) 1)
+        + if-ℕ (not b) (divided-up (natAbs (at f j .coefficient)) k)) stays-at exponent-at
 
     -- what stays has room in its key
-    pub raisable : key-stays d (at d i f j .key) ≡ true → Raisable i (at d i f j .key)
+    pub raisable : key-stays d (at f j .key) ≡ true → Raisable i (at f j .key)
     unfolding most-degree
     raisable e = record {
       slot = slot;
@@ -124,28 +127,34 @@ module _ {d i : ℕ} {f : Model} (s : Integrand d i f) (w : f .count ≤ length 
         s .order,
         exponent-at,
         degree-at,
-        exponent-degree (index-of i) (up d i (next d i f j .exponents)),
+        exponent-degree (index-of i) (up d i (next f j .exponents)),
       );
     }
       where
-        small : key-degree (at d i f j .key) + 1 ≤ d
-        small = omega (arith, below d (at d i f j .key) e)
+        small : key-degree (at f j .key) + 1 ≤ d
+        small = omega (arith, below d (at f j .key) e)
 
     -- the term as it is stored
-    pub term-packed : (t : Term) → t .key ≡ key-raised i (at d i f j .key)
-        → t .coefficient ≡ key-coefficient d i (at d i f j .key) (at d i f j .coefficient) → t ≡ pack-term (new-term d i (next d i f j))
-    term-packed t a b = ap₂ (λ (z : ℕ) (c : ℤ). record { key = z; coefficient = c }) (a ∙ sym raised-key) (b ∙ sym coefficient-at)
-        ∙ unpacked
+    pub term-packed : (t : Term) → t .key ≡ key-raised i (at f j .key)
+        → t .coefficient ≡ key-coefficient d i (at f j .key) (at f j .coefficient)
+        → t ≡ pack-term (new-term d i (next f j))
+    term-packed t a b = ap₂ (λ (z : ℕ) (c : ℤ). record { key = z; coefficient = c }) (a ∙ sym raised-key)
+        (b ∙ sym coefficient-at) ∙ unpacked
       where
-        raised-key : key key-width (up d i (next d i f j .exponents)) ≡ key-raised i (at d i f j .key)
+        raised-key : key key-width (up d i (next f j .exponents)) ≡ key-raised i (at f j .key)
         raised-key = unfold view-term in (ap (key key-width) (raise-replace (index-of i) _
-            (omega (arith, s .last, index-suc i (s .first), monomial-length (f .n) (at d i f j .key) (known .width) fits-at)))
-            ∙ monomial-raised (f .n) i (at d i f j .key) (known .width) (s .first) (s .last) fits-at)
+            (omega (
+              arith,
+              s .last,
+              index-suc i (s .first),
+              monomial-length (f .n) (at f j .key) (known .width) fits-at,
+            )))
+            ∙ monomial-raised (f .n) i (at f j .key) (known .width) (s .first) (s .last) fits-at)
 
         unpacked : record {
-          key = key key-width (up d i (next d i f j .exponents));
-          coefficient = new-coefficient d i (next d i f j .exponents) (next d i f j .coefficient);
-        } ≡ pack-term (new-term d i (next d i f j))
+          key = key key-width (up d i (next f j .exponents));
+          coefficient = new-coefficient d i (next f j .exponents) (next f j .coefficient);
+        } ≡ pack-term (new-term d i (next f j))
         unpacked = unfold pack-term in refl
 
   pub gathered-first : Gathered d i f (pad []) 0 (f .radius) 0
@@ -160,7 +169,7 @@ module _ {d i : ℕ} {f : Model} (s : Integrand d i f) (w : f .count ≤ length 
       arith,
       g .counted,
       length-select (λ k c. is-nonzero c) (turned d i f j),
-      length-map (before d i f j) (new-term d i),
+      length-map (before f j) (new-term d i),
       length-read (f .n) j (f .terms) (omega (arith, g .within)),
     )
 
@@ -174,8 +183,8 @@ module _ {d i : ℕ} {f : Model} (s : Integrand d i f) (w : f .count ≤ length 
         e : j ≡ f .count
         e = omega (arith, g .within)
 
-        all : view f .terms ≡ before d i f j
-        all = view-terms f w ∙ ap (before d i f) (sym e)
+        all : view f .terms ≡ before f j
+        all = view-terms f w ∙ ap (before f) (sym e)
 
         same : antiderivative d i (view f) .terms ≡ drop-zeros (turned d i f j)
         same = antiderivative-terms d i (view f) ∙ ap (λ p. drop-zeros (map (new-term d i) p)) all
@@ -188,35 +197,33 @@ module _ {d i : ℕ} {f : Model} (s : Integrand d i f) (w : f .count ≤ length 
           ap (sum-ℕ (growth-of d i)) all,
         )
 
-        packed : {r : ℕ} → r ≡ antiderivative d i (view f) .radius
-            → record {
-              n = f .n;
-              count = length (antiderivative d i (view f) .terms);
-              radius = r;
-              terms = pad (map pack-term (antiderivative d i (view f) .terms));
-            } ≡ pack (antiderivative d i (view f))
-        packed q = ap (λ (r : ℕ). record {
+        -- the antiderivative, with the radius r
+        whole : ℕ → Model
+        whole r = record {
           n = f .n;
           count = length (antiderivative d i (view f) .terms);
           radius = r;
           terms = pad (map pack-term (antiderivative d i (view f) .terms));
-        }) q ∙ (unfold pack antiderivative view in refl)
+        }
+
+        packed : {r : ℕ} → r ≡ antiderivative d i (view f) .radius → whole r ≡ pack (antiderivative d i (view f))
+        packed q = ap whole q ∙ (unfold pack antiderivative view in refl)
 
     module _ (h : j < f .count) where
       -- the radius stays within the span
-      pub gathered-within : radius + key-growth d i (at d i f j .key) (at d i f j .coefficient) ≤ span (view f)
+      pub gathered-within : radius + key-growth d i (at f j .key) (at f j .coefficient) ≤ span (view f)
       unfolding size
       gathered-within = omega (
         arith,
         g .grown,
         growth-at j h,
         sum-more (f .n) j (f .terms) (omega arith) ℕ-addition (growth-of d i),
-        sum-mono (growth-of d i) (λ k c. natAbs c) (growth-of-le d i) (before d i f (j + 1)),
+        sum-mono (growth-of d i) (λ k c. natAbs c) (growth-of-le d i) (before f (j + 1)),
         read-within-span f (j + 1) w (omega arith),
       )
 
-      more-grown : {r : ℕ} → r ≡ radius + key-growth d i (at d i f j .key) (at d i f j .coefficient)
-          → r ≡ f .radius + sum-ℕ (growth-of d i) (before d i f (j + 1))
+      more-grown : {r : ℕ} → r ≡ radius + key-growth d i (at f j .key) (at f j .coefficient)
+          → r ≡ f .radius + sum-ℕ (growth-of d i) (before f (j + 1))
       more-grown e = omega (
         arith,
         e,
@@ -225,14 +232,14 @@ module _ {d i : ℕ} {f : Model} (s : Integrand d i f) (w : f .count ≤ length 
         sum-more (f .n) j (f .terms) (omega arith) ℕ-addition (growth-of d i),
       )
 
-      more-turned : turned d i f (j + 1) ≡ turned d i f j ++ (new-term d i (next d i f j) ∷ [])
+      more-turned : turned d i f (j + 1) ≡ turned d i f j ++ (new-term d i (next f j) ∷ [])
       more-turned = map-more (f .n) j (f .terms) (omega arith) (new-term d i)
 
       -- a coefficient that is not 0 is kept
-      pub gathered-keep : {r : ℕ} → r ≡ radius + key-growth d i (at d i f j .key) (at d i f j .coefficient)
-          → T (is-nonzero (key-coefficient d i (at d i f j .key) (at d i f j .coefficient))) → j < most-terms
-          → {t : Term} → t .key ≡ key-raised i (at d i f j .key)
-          → t .coefficient ≡ key-coefficient d i (at d i f j .key) (at d i f j .coefficient)
+      pub gathered-keep : {r : ℕ} → r ≡ radius + key-growth d i (at f j .key) (at f j .coefficient)
+          → T (is-nonzero (key-coefficient d i (at f j .key) (at f j .coefficient))) → j < most-terms
+          → {t : Term} → t .key ≡ key-raised i (at f j .key)
+          → t .coefficient ≡ key-coefficient d i (at f j .key) (at f j .coefficient)
           → Gathered d i f (set out count t) (count + 1) r (j + 1)
       gathered-keep e z k {t} a b = record {
         within = omega arith;
@@ -243,13 +250,13 @@ module _ {d i : ℕ} {f : Model} (s : Integrand d i f) (w : f .count ≤ length 
         grown = more-grown e;
       }
         where
-          kept : drop-zeros (turned d i f (j + 1)) ≡ drop-zeros (turned d i f j) ++ (new-term d i (next d i f j) ∷ [])
+          kept : drop-zeros (turned d i f (j + 1)) ≡ drop-zeros (turned d i f j) ++ (new-term d i (next f j) ∷ [])
           kept = ap drop-zeros more-turned ∙ (unfold drop-zeros in select-in (λ k c. is-nonzero c) (turned d i f j)
-              (new-term d i (next d i f j)) (subst (λ c. T (is-nonzero c)) (sym (coefficient-at j h)) z))
+              (new-term d i (next f j)) (subst (λ c. T (is-nonzero c)) (sym (coefficient-at j h)) z))
 
       -- and 0 is dropped
-      pub gathered-drop : {r : ℕ} → r ≡ radius + key-growth d i (at d i f j .key) (at d i f j .coefficient)
-          → T (not (is-nonzero (key-coefficient d i (at d i f j .key) (at d i f j .coefficient))))
+      pub gathered-drop : {r : ℕ} → r ≡ radius + key-growth d i (at f j .key) (at f j .coefficient)
+          → T (not (is-nonzero (key-coefficient d i (at f j .key) (at f j .coefficient))))
           → Gathered d i f out count r (j + 1)
       gathered-drop e z = record {
         within = omega arith;
@@ -260,4 +267,4 @@ module _ {d i : ℕ} {f : Model} (s : Integrand d i f) (w : f .count ≤ length 
         where
           dropped : drop-zeros (turned d i f (j + 1)) ≡ drop-zeros (turned d i f j)
           dropped = ap drop-zeros more-turned ∙ (unfold drop-zeros in select-out (λ k c. is-nonzero c) (turned d i f j)
-              (new-term d i (next d i f j)) (subst (λ c. T (not (is-nonzero c))) (sym (coefficient-at j h)) z))
+              (new-term d i (next f j)) (subst (λ c. T (not (is-nonzero c))) (sym (coefficient-at j h)) z))

@@ -18,9 +18,9 @@ use Rattle.model_types.specs.declared.Term.{Term}
 use Rattle.model_types.specs.ModelStruct.{zero-term}
 use Rattle.model_types.specs.ModelStructLaws.{limits, within-span}
 use Rattle.model_antiderivative.specs.Antiderivatives.{key-coefficient, key-growth}
-use Rattle.model_antiderivative.specs.PassLaws.{known, slot, Gathered, gathered-first, gathered-room, gathered-end}
-use Rattle.model_antiderivative.specs.PassLaws.{gathered-within, gathered-keep, gathered-drop, raisable}
-use Rattle.model_antiderivative.specs.PassLaws.{nonzero-stays}
+use Rattle.model_antiderivative.specs.PassLaws.{known, slot, Gathered, gathered-first, gathered-room}
+use Rattle.model_antiderivative.specs.PassLaws.{gathered-end, gathered-within, gathered-keep, gathered-drop}
+use Rattle.model_antiderivative.specs.PassLaws.{raisable, nonzero-stays}
 use Rattle.model_types.specs.ZeroTestLaws.{zero-bits, nonzero-bits}
 use Rattle.model_antiderivative.proofs.integrated.Statement.{statement}
 use Rattle.model_antiderivative.proofs.integrated.Tie as tie
