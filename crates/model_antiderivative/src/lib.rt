@@ -48,10 +48,10 @@ fn growth(d: u8, i: u8, key: u16, coefficient: i64) -> u64
     if !stays(d, key) {
         return fixed::divided_up(size, k);
     }
-    if size % k == 0 {
-        return 0;
+    if size % k != 0 {
+        return 1;
     }
-    1
+    0
 }
 
 // The antiderivative in variable i of a sound model, with order d: one pass over the terms, which stay in order.

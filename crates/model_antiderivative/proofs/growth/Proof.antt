@@ -57,7 +57,7 @@ returns-2 c =
     let t = c .before .before in
     rw (
       sym (t .stays .ensures) ∙ not-false _ (c .before .if1 .left),
-      eq-eqb _ 0 (sym (rest-is t) ∙ c .if2 .taken),
+      ne-eqb _ 0 (λ e. c .if2 .taken (rest-is t ∙ e)),
     )
 
 returns-3 : tie.Need-returns-3
@@ -66,7 +66,7 @@ returns-3 c =
     let t = c .before .before in
     rw (
       sym (t .stays .ensures) ∙ not-false _ (c .before .if1 .left),
-      ne-eqb _ 0 (λ e. c .if2 .left (rest-is t ∙ e)),
+      eq-eqb _ 0 (sym (rest-is t) ∙ c .if2 .left),
     )
 
 pub growth-spec : {M : Type 1} → statement M
