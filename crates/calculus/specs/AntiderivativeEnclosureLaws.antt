@@ -1,16 +1,16 @@
 -- The antiderivative encloses: of a polynomial that is within the operand, the antiderivative is within the result.
-use mathlib.Core.Path.{_≡_, refl, sym, _∙_, ap, ap₂, subst}
+use mathlib.Core.Path.{_≡_, refl, sym, _∙_, ap, ap₂}
 use mathlib.Core.Bool.{Bool, true, false, not}
 use mathlib.Core.List.{List, [], _∷_, map}
 use Prim.Native.Nat.{ℕ, zero, suc, _+_, _*_, _%_, _≤_, _<_}
 use native.Mathlib.Omega.{arith}
 use borrow.Author.Tests.{ne-eqb}
-use lib.Dec.{eqb, leb}
+use lib.Dec.{eqb}
 use lib.IntN.{ℤ, pos, natAbs, _-ℤ_, _*ℤ_}
 use Rattle.algebra.specs.Ring.{Ring}
 use Rattle.algebra.specs.RingLaws.{zero-*, *-zero}
 use Rattle.algebra.specs.RingSolver.{𝟎, 𝟏, _⊞_, _⊟_, _⊠_, ⊝_, ring}
-use Rattle.algebra.specs.Ordered.{Ordered, abs}
+use Rattle.algebra.specs.Ordered.{abs}
 use Rattle.algebra.specs.OrderedLaws.{abs-mul, abs-pos, abs-prod, *-mono}
 use Rattle.algebra.specs.FieldLaws.{reciprocal-nonneg}
 use Rattle.algebra.specs.IntegerRing.{ℤR}
@@ -31,7 +31,7 @@ use Rattle.fixed.specs.Fixed.{U}
 use Rattle.fixed.specs.Division.{divided-up, nearest}
 use Rattle.fixed.specs.DivisionLaws.{divided-up-ok}
 use Rattle.fixed.specs.NearestLaws.{nearest-le, nearest-divides}
-use Rattle.calculus.specs.Monomial.{degree, index-of}
+use Rattle.calculus.specs.Monomial.{index-of}
 use Rattle.calculus.specs.Terms.{Terms, sum-over, sum-ℕ}
 use Rattle.calculus.specs.Model.{Model, _/U, _-ℚ_, distance, Point, In-box, polynomial, value, At}
 use Rattle.calculus.specs.Operations.{is-inexact, growth-rounding, growth-swept, antiderivative}
@@ -40,7 +40,7 @@ use Rattle.calculus.specs.SumLaws.{ℚ-addition, if-so, if-ℕ, if-ℚ}
 use Rattle.calculus.specs.GrowthLaws.{up, new-exponent, stays, new-exponent-pos, divided-sum, rounding-of}
 use Rattle.calculus.specs.GrowthLaws.{swept-of}
 use Rattle.calculus.specs.GrowthLaws.{growth-sum}
-use Rattle.calculus.specs.UnitLaws.{natural, natural-+, natural-*, natural-≤, natural-nonneg, abs-whole, U-times}
+use Rattle.calculus.specs.UnitLaws.{natural, natural-*, natural-≤, abs-whole, U-times}
 use Rattle.calculus.specs.UnitLaws.{U-times-≤, U-abs}
 use Rattle.calculus.specs.ValueLaws.{scaled-value, Near, near-at, term-value, sum-≤, abs-zero}
 use Rattle.calculus.specs.ChainLaws.{_≤≤_, _≡≤_, _≤≡_, equal}

@@ -4,12 +4,11 @@
 -- that is zero at -1.
 use mathlib.Core.Path.{_≡_, refl, sym, _∙_, ap, ap₂}
 use mathlib.Core.Bool.{true, false}
-use mathlib.Core.List.{List, [], _∷_}
-use Prim.Native.Nat.{ℕ, suc, _+_, _*_, _/_, _≤_}
+use mathlib.Core.List.{[], _∷_}
+use Prim.Native.Nat.{ℕ, _+_, _*_, _/_, _≤_}
 use native.Mathlib.Omega.{arith}
-use lib.IntN.{ℤ, pos, negsuc, natAbs}
+use lib.IntN.{pos, negsuc}
 use Rattle.algebra.specs.Ring.{pow}
-use Rattle.algebra.specs.RingLaws.{pow-one}
 use Rattle.algebra.specs.RingSolver.{𝟎, 𝟏, _⊞_, _⊟_, _⊠_, ⊝_, ring}
 use Rattle.algebra.specs.Ordered.{abs}
 use Rattle.algebra.specs.OrderedLaws.{abs-mul, abs-pos, *-mono}
@@ -27,7 +26,7 @@ use Rattle.fixed.specs.Fixed.{U}
 use Rattle.fixed.specs.FixedLaws.{U-suc}
 use Rattle.calculus.specs.Monomial.{index-of}
 use Rattle.calculus.specs.Terms.{term}
-use Rattle.calculus.specs.Model.{Model, zero-model, _/U, _-ℚ_, distance, Point, In-box, polynomial, value, At}
+use Rattle.calculus.specs.Model.{Model, zero-model, _/U, _-ℚ_, distance, Point, polynomial, value, At}
 use Rattle.calculus.specs.Model.{Within}
 use Rattle.calculus.specs.Refusal.{done}
 use Rattle.calculus.specs.Operations.{Ends}
@@ -40,13 +39,13 @@ use Rattle.calculus.specs.Outcome.{step-outcome}
 use Rattle.calculus.specs.Outcome.{outcome-of, outcomes-after, outcomes, outcome}
 use Rattle.calculus.specs.Claim.{All-within, promised, Given, Claim}
 use Rattle.calculus.specs.Computing.{runs, promises}
-use Rattle.calculus.specs.UnitLaws.{natural, natural-*, natural-≤, natural-nonneg, U-times}
+use Rattle.calculus.specs.UnitLaws.{natural, natural-*, natural-nonneg, U-times}
 use Rattle.calculus.specs.ValueLaws.{Near, at-near, abs-zero}
 use Rattle.calculus.specs.EnclosureLaws.{zero-near}
-use Rattle.calculus.specs.ChainLaws.{_≤≤_, _≡≤_, _≤≡_}
+use Rattle.calculus.specs.ChainLaws.{_≡≤_, _≤≡_}
 use Rattle.calculus.specs.ClaimFacts.{own-polynomial, own-polynomial-within, both-near}
 use Rattle.calculus.specs.ClaimProof.{claim}
-use Rattle.calculus.specs.JumpFacts.{Jump, up, down, height, height-fits, bounded, left, left-inside}
+use Rattle.calculus.specs.JumpFacts.{Jump, up, down, height, height-fits, bounded, left}
 use Rattle.calculus.specs.QuotientFacts.{right, right-inside}
 
 -- ---- what feeds an antiderivative

@@ -17,11 +17,11 @@ use Rattle.polynomial.specs.Polynomial as P
 use Rattle.polynomial.specs.Polynomial.{eval}
 use Rattle.polynomial.specs.PolynomialLaws.{eval-sum, eval-constant, eval-negation, eval-product, eval-substitute}
 use Rattle.calculus.specs.Monomial.{index-of, single}
-use Rattle.calculus.specs.Model.{_/U, _-ℚ_, Point}
+use Rattle.calculus.specs.Model.{_-ℚ_, Point}
 use Rattle.calculus.specs.Tests.{variable-sound}
 use Rattle.calculus.specs.Book.{Step, input, constant, variable, negate, add, subtract, multiply, substitute}
 use Rattle.calculus.specs.Book.{sweep, quotient, antiderivative, operands, Book, step-sound, last}
-use Rattle.calculus.specs.Outcome.{Function, 0ℚ, coordinate, with-coordinate, ℚ-Polynomial, value-of, Outcome}
+use Rattle.calculus.specs.Outcome.{Function, coordinate, with-coordinate, ℚ-Polynomial, value-of, Outcome}
 use Rattle.calculus.specs.Outcome.{Inputs, functions, polynomials, input-outcome, step-value, mapped, joined}
 use Rattle.calculus.specs.Outcome.{step-polynomial, step-outcome, zero-outcome, outcome-of, outcomes-after}
 use Rattle.calculus.specs.Outcome.{outcomes, outcome, is-quotient, is-antiderivative, each-step, no-quotient}

@@ -2,33 +2,32 @@
 use mathlib.Core.Path.{_≡_, refl, sym, _∙_, ap, ap₂, subst}
 use mathlib.Core.Bool.{Bool, true, false, not}
 use mathlib.Core.List.{List, [], _∷_, _++_, map}
-use Prim.Native.Nat.{ℕ, suc, _+_, _%_, _≤_, _<_}
+use Prim.Native.Nat.{ℕ, _+_, _%_, _≤_, _<_}
 use native.Mathlib.Omega.{arith}
 use native.Mathlib.Decide.{decLe}
 use borrow.Author.Tests.{le-leb, lt-leb, lt-ltb, le-ltb}
 use lib.Dec.{T, eqb, leb, ltb, ltb→lt}
-use lib.IntN.{ℤ, pos, natAbs}
+use lib.IntN.{ℤ, natAbs}
 use lib.ListN.{length, getD, set, length-map, length-append}
 use Rattle.polynomial.specs.Polynomial as P
-use Rattle.polynomial.specs.Polynomial.{exponent, raise}
 use Rattle.polynomial.specs.VariableAntiderivativeLaws.{exponent-raise}
 use Rattle.fixed.specs.Division.{divided-up, nearest}
 use Rattle.calculus.specs.Monomial.{degree, index-of}
 use Rattle.calculus.specs.MonomialLaws.{index-suc, degree-raise, raise-replace, exponent-degree}
 use Rattle.calculus.specs.MonomialKeyLaws.{monomial-length, monomial-degree}
-use Rattle.calculus.specs.Key.{key-width, key-limit, key, key-fits, monomial-of, key-degree}
+use Rattle.calculus.specs.Key.{key-width, key, key-fits, key-degree}
 use Rattle.calculus.specs.Terms.{Terms, term, select, sum-over, sum-ℕ, size, is-nonzero, drop-zeros}
 use Rattle.calculus.specs.TermsLaws.{length-select}
 use Rattle.calculus.specs.SumLaws.{ℕ-addition, if-so, if-ℕ, if-ℤ, sum-mono}
 use Rattle.calculus.specs.Model.{most-degree, most-terms, span}
-use Rattle.calculus.specs.Operations.{is-inexact, growth-rounding, growth-swept, antiderivative}
+use Rattle.calculus.specs.Operations.{is-inexact, antiderivative}
 use Rattle.calculus.specs.GrowthLaws.{up, new-exponent, stays, growth-of, growth-of-le, growth-sum, new-coefficient}
 use Rattle.calculus.specs.GrowthLaws.{new-term, antiderivative-terms}
 use Rattle.model_types.specs.declared.Term.{Term}
 use Rattle.model_types.specs.declared.Model.{Model}
 use Rattle.model_types.specs.ModelStruct.{zero-term, view-term, view, pack-term, pad, pack}
-use Rattle.model_types.specs.ModelStructLaws.{read, term-at, length-read, view-is, view-terms, map-more, sum-more}
-use Rattle.model_types.specs.ModelStructLaws.{select-in, select-out, packed-more, size-more, read-within-span}
+use Rattle.model_types.specs.ModelStructLaws.{read, term-at, length-read, view-terms, map-more, sum-more}
+use Rattle.model_types.specs.ModelStructLaws.{select-in, select-out, packed-more, read-within-span}
 use Rattle.model_types.specs.ModelStructLaws.{Limits, limits, key-fits-at}
 use Rattle.model_keys.specs.Keys.{Slot, key-exponent, Raisable, key-raised}
 use Rattle.model_keys.specs.KeyExponentLaws.{monomial-exponent, monomial-raised}

@@ -1,7 +1,6 @@
 // The antiderivative of a model in one of its variables.
 ghost use mathlib.Core.Path.{_≡_};
 ghost use Prim.Native.Nat.{_+_, _^_, _<_};
-ghost use lib.Dec.{leb};
 ghost use lib.IntN.{natAbs};
 ghost use Rattle.calculus.specs.Operations.{antiderivative};
 ghost use Rattle.model_keys.specs.Keys.{Slot, «key-exponent»};

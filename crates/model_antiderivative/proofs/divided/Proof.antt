@@ -1,15 +1,13 @@
 -- `divided` is 0 for a term that is swept, else the quotient to the nearest.
-use mathlib.Core.Path.{_≡_, sym, _∙_, ap, ap₂}
-use mathlib.Core.Bool.{true, false}
+use mathlib.Core.Path.{sym, _∙_, ap₂}
 use borrow.Author.Needs.{needs}
 use borrow.Author.Tests.{not-true, not-false}
 use native.Mathlib.Omega.{arith}
-use lib.IntN.{ℤ}
 use mir.Facts.{toZ-ofZ}
 use Rattle.fixed.specs.Division.{nearest}
 use Rattle.fixed.specs.MachineLaws.{answered}
-use Rattle.calculus.specs.SumLaws.{if-so, if-ℤ}
-use Rattle.model_antiderivative.specs.Antiderivatives.{key-stays, key-coefficient}
+use Rattle.calculus.specs.SumLaws.{if-so}
+use Rattle.model_antiderivative.specs.Antiderivatives.{key-coefficient}
 use Rattle.model_antiderivative.proofs.divided.Statement.{statement}
 use Rattle.model_antiderivative.proofs.divided.Tie as tie
 

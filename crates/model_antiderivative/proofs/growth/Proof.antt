@@ -1,16 +1,15 @@
 -- `growth` is what a term adds to the radius.
 use mathlib.Core.Path.{_≡_, sym, _∙_, ap, ap₂}
-use mathlib.Core.Bool.{true, false}
 use Prim.Native.Nat.{_+_, _%_}
 use borrow.Author.Needs.{needs}
 use borrow.Author.Tests.{not-true, not-false, eq-eqb, ne-eqb}
 use native.Mathlib.Omega.{arith}
-use lib.IntN.{ℤ, natAbs}
+use lib.IntN.{natAbs}
 use mir.Facts.{toZ-ofZ}
 use Rattle.fixed.specs.Division.{divided-up}
 use Rattle.calculus.specs.SumLaws.{if-so}
 use Rattle.model_keys.specs.Keys.{key-exponent}
-use Rattle.model_antiderivative.specs.Antiderivatives.{key-stays, key-growth}
+use Rattle.model_antiderivative.specs.Antiderivatives.{key-growth}
 use Rattle.model_antiderivative.proofs.growth.Statement.{statement}
 use Rattle.model_antiderivative.proofs.growth.Tie as tie
 
