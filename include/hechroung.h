@@ -74,9 +74,9 @@ struct hechroung_step {
 /* ---- the proved functions ---- */
 
 /* A call that answers with a model. Codes: 1 constant, 2 variable, 3 negate, 4 add, 5 subtract, 6 multiply,
-   7 substitute, 8 sweep. d is the order of multiply and substitute, i the variable of variable and substitute, from 1,
-   value the constant or the threshold; what a call does not name is not looked at, but the slices of both models are.
-   constant and variable take the n of the first model.
+   7 substitute, 8 sweep, 9 antiderivative. d is the order of multiply, substitute and antiderivative, i the variable of
+   variable, substitute and antiderivative, from 1, value the constant or the threshold; what a call does not name is
+   not looked at, but the slices of both models are. constant and variable take the n of the first model.
    Read: for each model at least min(count, 64) keys and as many coefficients.
    Written: keys and coefficients, at least 64 each, hold the answer's 64 places; numbers, at least 4, hold the
    refusal's place, n, the count and the radius. What lies behind stays. */
@@ -245,6 +245,13 @@ static inline uint8_t hechroung_substitute(uint8_t d, uint8_t i, const struct he
 static inline uint8_t hechroung_sweep(const struct hechroung_model *f, int64_t threshold,
                                       struct hechroung_model *answer) {
     return hechroung_called_(8, 0, 0, threshold, f, f, answer, NULL);
+}
+
+/* The antiderivative of f in variable i that is 0 wherever that variable is 0, with order d: a curve of what was
+   gathered from the middle of the box on. Refusals 3 (d), 5, 6 (i). */
+static inline uint8_t hechroung_antiderivative(uint8_t d, uint8_t i, const struct hechroung_model *f,
+                                               struct hechroung_model *answer) {
+    return hechroung_called_(9, d, i, 0, f, f, answer, NULL);
 }
 
 /* f / g with order d, from a proposal h for f / g and w for 1 / g, which are used without their radii. Refusals 3 (d),

@@ -1,6 +1,7 @@
 //! Prints tables of times, each row measured side by side in one run: the proved library, FLINT, and the second
 //! implementation. Inputs are used in turn, so that no branch predictor learns one of them.
 
+mod antiderivatives;
 mod flint;
 mod growth;
 mod inputs;
@@ -18,6 +19,7 @@ fn main() {
     let mut random = Random::new(seed);
     products::print(&mut random);
     quotients::print(seed);
+    antiderivatives::print(seed);
     sheets::print(&mut random);
     growth::print(&mut random);
 }

@@ -90,7 +90,8 @@ fn row(random: &mut Random, name: &str, terms: usize, order: u8, kind: Kind) {
     );
 }
 
-fn stored(model: &Model) -> StoredModel {
+/// The model as the second implementation takes it.
+pub fn stored(model: &Model) -> StoredModel {
     let terms = std::array::from_fn(|place| StoredTerm {
         key: model.keys[place],
         coefficient: model.coefficients[place],

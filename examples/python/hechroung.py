@@ -156,6 +156,11 @@ def quotient(d, f, g, h, w):
     return Model(n, radius, zip(keys[:count], coefficients[:count]))
 
 
+def antiderivative(d, i, f):
+    """The antiderivative of f in variable i that is 0 wherever that variable is 0, with order d."""
+    return _called(9, d, i, 0, f)
+
+
 def sweep(f, threshold):
     return _called(8, 0, 0, threshold, f)
 

@@ -226,6 +226,21 @@ pub fn sweep(f: &Model, threshold: i64) -> Answer {
     called(8, 0, 0, threshold, f.handed(), Handed::NONE)
 }
 
+/// The antiderivative of f in variable i that is 0 wherever that variable is 0; what is above degree d goes into the
+/// radius. Refusals 3, 5, 6.
+///
+/// ```
+/// use hechroung::{antiderivative, Model, UNIT};
+///
+/// let x = Model::variable(1, 1)?;
+/// let half_square = antiderivative(2, 1, &x).accepted()?;
+/// assert_eq!((half_square.keys[0], half_square.coefficients[0]), (0x2000, UNIT / 2));
+/// # Ok::<(), hechroung::Refusal>(())
+/// ```
+pub fn antiderivative(d: u8, i: u8, f: &Model) -> Answer {
+    called(9, d, i, 0, f.handed(), Handed::NONE)
+}
+
 /// The range over the box. Refusal 5.
 pub fn range(f: &Model) -> Bounds {
     bounds(1, f, [0; 4])

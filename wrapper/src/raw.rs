@@ -232,8 +232,8 @@ pub struct HandedBook<'a> {
 }
 
 /// A call that answers with a model. Codes: 1 constant, 2 variable, 3 negate, 4 add, 5 subtract, 6 multiply,
-/// 7 substitute, 8 sweep. It returns the refusal's number, 0 without one. 64 keys and 64 coefficients go into the
-/// slices, and the refusal's place, n, the count and the radius into `numbers`.
+/// 7 substitute, 8 sweep, 9 antiderivative. It returns the refusal's number, 0 without one. 64 keys and 64 coefficients
+/// go into the slices, and the refusal's place, n, the count and the radius into `numbers`.
 #[allow(clippy::too_many_arguments)]
 pub fn call(
     code: u8,

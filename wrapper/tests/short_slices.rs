@@ -263,7 +263,7 @@ fn a_call_needs_its_places_and_room() {
     let mut one = [i64::from(MARK)];
     assert_eq!(raw::ends(1, Handed::NONE, [0; 4], &mut one), MISUSED);
     assert_eq!(one, [i64::from(MARK)]);
-    for code in [0, 9, 255] {
+    for code in [0, 10, 255] {
         let mut room = Room::new([64, 64, 4, 2]);
         let none = Handed::NONE;
         let called = raw::call(
@@ -279,6 +279,53 @@ fn a_call_needs_its_places_and_room() {
         );
         assert_eq!(called, MISUSED, "code {code}");
         assert!(room.unchanged());
+    }
+}
+
+/// Code 9, the antiderivative: order and variable are tested, the second model is not looked at.
+#[test]
+fn an_antiderivative_takes_its_order_and_its_variable() {
+    let x = Handed {
+        n: 1,
+        count: 1,
+        radius: 7,
+        keys: &[0x1000],
+        coefficients: &[6],
+    };
+    let second = Handed {
+        n: 99,
+        radius: u64::MAX,
+        ..Handed::NONE
+    };
+    // The number, and the place, n, the count and the radius.
+    let expected = [
+        ((2, 1), 0, [0, 1, 1, 7]),
+        ((1, 1), 0, [0, 1, 0, 10]),
+        ((0, 1), 3, [0, 1, 0, 0]),
+        ((16, 9), 3, [0, 1, 0, 0]),
+        ((2, 0), 6, [0, 1, 0, 0]),
+        ((2, 2), 6, [0, 1, 0, 0]),
+    ];
+    for ((d, i), number, numbers) in expected {
+        let mut room = Room::new([64, 64, 4, 0]);
+        let called = raw::call(
+            9,
+            d,
+            i,
+            i64::MIN,
+            x,
+            second,
+            &mut room.keys,
+            &mut room.coefficients,
+            &mut room.numbers,
+        );
+        assert_eq!(
+            (called, &room.numbers[..]),
+            (number, &numbers[..]),
+            "{d} {i}"
+        );
+        let term = if numbers[2] == 1 { (0x2000, 3) } else { (0, 0) };
+        assert_eq!((room.keys[0], room.coefficients[0]), term, "{d} {i}");
     }
 }
 

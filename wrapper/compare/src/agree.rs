@@ -24,6 +24,11 @@ pub struct Tried {
     pub points: u64,
     /// Those of sheets with a quotient; of such a sheet no integral is tried.
     pub points_of_quotients: u64,
+    /// Those of sheets with an antiderivative.
+    pub points_of_antiderivatives: u64,
+    /// Those of sheets of which nothing is promised: a quotient feeds an antiderivative, or one is taken of functions
+    /// that are no polynomials.
+    pub points_not_promised: u64,
     pub points_too_large: u64,
     pub integrals: u64,
 }
@@ -103,6 +108,9 @@ fn proved_answer(call: &Call) -> Proved {
         Call::Quotient { f, g, h, w, order } => {
             let [f, g, h, w] = [f, g, h, w].map(|operand| to_model(operand));
             model(hechroung::quotient(*order, &f, &g, &h, &w))
+        }
+        Call::Antiderivative { f, i, order } => {
+            model(hechroung::antiderivative(*order, *i, &to_model(f)))
         }
         Call::Range { f } => Proved::Ends(hechroung::range(&to_model(f))),
         Call::Integral { f } => Proved::Ends(hechroung::integral(&to_model(f))),

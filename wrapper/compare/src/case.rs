@@ -166,6 +166,7 @@ fn push_call(bytes: &mut Vec<u8>, call: &Call) {
             push_models(bytes, &[], &[f]);
         }
         Call::Quotient { f, g, h, w, order } => push_models(bytes, &[12, *order], &[f, g, h, w]),
+        Call::Antiderivative { f, i, order } => push_models(bytes, &[13, *order, *i], &[f]),
     }
 }
 
@@ -267,6 +268,11 @@ fn take_call(bytes: &mut Bytes) -> Option<Call> {
             g: take_model(bytes)?,
             h: take_model(bytes)?,
             w: take_model(bytes)?,
+        },
+        13 => Call::Antiderivative {
+            order: bytes.byte()?,
+            i: bytes.byte()?,
+            f: take_model(bytes)?,
         },
         _ => return None,
     })

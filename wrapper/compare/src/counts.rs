@@ -6,7 +6,8 @@ use std::collections::BTreeMap;
 /// The refusals of documents 01 and 02.
 const REFUSALS: std::ops::RangeInclusive<u8> = 1..=12;
 /// Those that a kind of case has to reach.
-const REACHED: [(&str, &[u8]); 6] = [
+const REACHED: [(&str, &[u8]); 7] = [
+    ("antiderivative", &[3, 5, 6]),
     ("quotient", &[3, 5, 7, 8, 10, 12]),
     ("sheet", &[1, 2, 3, 4, 5, 6, 7, 8, 9, 12]),
     ("sheet written back", &[1, 2, 3, 4, 5, 6, 11]),
@@ -57,6 +58,8 @@ impl Counts {
     fn try_add(&mut self, tried: Tried) {
         self.tried.points += tried.points;
         self.tried.points_of_quotients += tried.points_of_quotients;
+        self.tried.points_of_antiderivatives += tried.points_of_antiderivatives;
+        self.tried.points_not_promised += tried.points_not_promised;
         self.tried.points_too_large += tried.points_too_large;
         self.tried.integrals += tried.integrals;
     }
@@ -99,10 +102,13 @@ impl Counts {
         }
         all.print("all");
         println!(
-            "enclosure tried with exact fractions: {} points ({} too large), {} of them with a quotient; {} integrals",
+            "enclosure tried with exact fractions: {} points ({} too large, {} not promised), {} of them with a \
+             quotient, {} with an antiderivative; {} integrals",
             self.tried.points,
             self.tried.points_too_large,
+            self.tried.points_not_promised,
             self.tried.points_of_quotients,
+            self.tried.points_of_antiderivatives,
             self.tried.integrals
         );
     }

@@ -1,5 +1,5 @@
 //! Single calls at the limits: 64 terms, spans about 2^30, degree 15, substituted models that just stay in the box,
-//! quotients whose mu is about U.
+//! quotients whose mu is about U, antiderivatives of full spans and of the highest degrees.
 
 use reference::calls::Call;
 use reference::generate::hostile;
@@ -11,14 +11,15 @@ use reference::stored::StoredModel;
 /// A call of any kind that a limit may refuse.
 pub fn call(random: &mut Random) -> Call {
     let n = random.byte(1, 4);
-    match random.below(14) {
+    match random.below(16) {
         0 | 1 => sum(random, n),
         2..=4 => product(random, n),
         5..=7 => substitution(random, n),
         8 => sweep(random, n),
         9 => evaluation(random, n),
         10 | 11 => quotient(random, n),
-        12 => Call::Range {
+        12 | 13 => antiderivative(random, n),
+        14 => Call::Range {
             f: at_span(random, n, 15),
         },
         _ => Call::Integral {
@@ -140,6 +141,23 @@ fn quotient(random: &mut Random, n: u8) -> Call {
         g,
         h: constant(random, n, h_value),
         w: constant(random, n, one),
+        order,
+    }
+}
+
+/// A full span, tiny coefficients of which most round, degrees next to the order: what is kept, dropped and swept.
+fn antiderivative(random: &mut Random, n: u8) -> Call {
+    let order = *random.pick(&[1, 2, 14, 15, 15]);
+    let count = *random.pick(&[1, 15, 63, 64]);
+    let keys = rising_keys(random, n, order, count);
+    let span = match random.below(3) {
+        0 => (keys.len() as i64) * 3,
+        1 => about(random, UNIT).max(keys.len() as i64),
+        _ => about(random, LARGEST_SPAN),
+    };
+    Call::Antiderivative {
+        f: with_span(random, n, &keys, span),
+        i: random.byte(1, n),
         order,
     }
 }

@@ -28,7 +28,7 @@ impl Shape {
     /// Mostly long enough.
     pub fn random(random: &mut Random) -> Shape {
         let code = if random.one_in(12) {
-            random.byte(9, 255)
+            random.byte(10, 255)
         } else {
             0
         };
@@ -137,7 +137,7 @@ fn compare_model(
         &mut coefficients,
         &mut stored,
     );
-    let fits = (1..=8).contains(&arguments.code)
+    let fits = (1..=9).contains(&arguments.code)
         && lent(&arguments.f, keys1, coefficients1)
         && lent(&arguments.g, keys2, coefficients2)
         && outputs[0] >= MOST_TERMS
@@ -374,6 +374,13 @@ fn arguments(call: &Call) -> Arguments {
         Call::Sweep { f, threshold } => Arguments {
             code: 8,
             value: *threshold,
+            f: to_model(f),
+            ..none
+        },
+        Call::Antiderivative { f, i, order } => Arguments {
+            code: 9,
+            d: *order,
+            i: *i,
             f: to_model(f),
             ..none
         },

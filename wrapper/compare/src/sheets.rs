@@ -4,7 +4,7 @@ use crate::agree::{pair, same, to_ends, to_model, to_refusal, Seen, Tried};
 use hechroung::{Step, Summary, Written};
 use reference::book::Book;
 use reference::exact::check_result;
-use reference::exact::outcome::has_quotient;
+use reference::exact::outcome::{has_antiderivative, has_quotient};
 use reference::generate::{functions, Random};
 use reference::model::{monomial_of_key, Model};
 use reference::operations::Ends;
@@ -74,14 +74,13 @@ fn enclosed(bytes: &[u8], summary: &Summary, seed: u64) -> Result<Tried, String>
     };
     let checked = check_result(&book, &result, &inside, &points)
         .map_err(|violation| format!("not enclosed: {violation:?}"))?;
-    let of_quotients = if has_quotient(&book) {
-        checked.points
-    } else {
-        0
-    };
+    let points = checked.points as u64;
+    let points_if = |holds: bool| if holds { points } else { 0 };
     Ok(Tried {
-        points: checked.points as u64,
-        points_of_quotients: of_quotients as u64,
+        points,
+        points_of_quotients: points_if(has_quotient(&book)),
+        points_of_antiderivatives: points_if(has_antiderivative(&book)),
+        points_not_promised: checked.points_not_promised as u64,
         points_too_large: checked.points_too_large as u64,
         integrals: u64::from(checked.integral),
     })

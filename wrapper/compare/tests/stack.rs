@@ -4,7 +4,7 @@
 
 use hechroung::raw::{self, Handed, HandedBook, HandedModels};
 use hechroung::{LONGEST_RECORD, LONGEST_SHEET, MOST_MODELS, MOST_STEPS, MOST_TERMS};
-use reference::book::{Book, Step, INPUT, MULTIPLY, QUOTIENT, SUBSTITUTE};
+use reference::book::{Book, Step, ANTIDERIVATIVE, INPUT, MULTIPLY, QUOTIENT, SUBSTITUTE};
 use reference::generate::{self, books, quotients, Draft, DraftModel, Random};
 use reference::sheet;
 use reference::stored::StoredModel;
@@ -307,21 +307,22 @@ fn heaviest_operands() -> [DraftModel; 4] {
     [1 << 19, 1 << 19, 1 << 20, 1 << 21].map(heaviest_model)
 }
 
-/// Sixteen such models; inputs, and then products, substitutions and quotients in turn up to 64 steps.
+/// Sixteen such models; inputs, and then products, substitutions, quotients and antiderivatives in turn up to 64 steps.
 fn heaviest_sheet() -> Vec<u8> {
     let mut models = heaviest_operands().to_vec();
     models.resize(MOST_MODELS, heaviest_model(1 << 19));
     let mut steps: Vec<Step> = (0..4).map(|model| Step::one(INPUT, model)).collect();
     while steps.len() < MOST_STEPS {
         let v = steps.len() as u8 % 4 + 1;
-        steps.push(match steps.len() % 3 {
+        steps.push(match steps.len() % 4 {
             0 => Step::two(MULTIPLY, 0, 1),
             1 => Step::substitute(0, 1, v),
+            2 => Step::antiderivative(0, v),
             _ => Step::quotient(0, 1, 2, 3),
         });
         assert!(matches!(
             steps.last().map(|step| step.code),
-            Some(MULTIPLY | SUBSTITUTE | QUOTIENT)
+            Some(MULTIPLY | SUBSTITUTE | QUOTIENT | ANTIDERIVATIVE)
         ));
     }
     Draft::new(4, 15, models, steps).bytes()
@@ -360,7 +361,7 @@ fn a_call_stays_within_its_figure() {
         let last = book.model_count.saturating_sub(1);
         pairs.push((Lent::new(&book.models[0]), Lent::new(&book.models[last])));
     }
-    for code in 1..=8 {
+    for code in 1..=9 {
         let mut accepted = 0;
         let used = pairs.iter().enumerate().map(|(k, (f, g))| {
             let (d, i) = (15 - (k % 15) as u8, 1 + (k % 4) as u8);

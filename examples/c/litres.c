@@ -1,0 +1,66 @@
+/* Flow over the milking time in, litres gathered out, with the band at the end of milking: the antiderivative as a
+   single call and as a step, then a lower order, a refusal and a misuse. examples/litres.md says what the lines are. */
+#include <hechroung.h>
+#include <inttypes.h>
+#include <stdio.h>
+
+/* HALF_TIME: minutes from the middle of the milking to its end, where x is 1. */
+enum { ORDER = 4, HALF_TIME = 3 };
+
+/* A number of hundredths in units, rounded toward 0. */
+static int64_t hundredths(int64_t value) { return HECHROUNG_UNIT * value / 100; }
+
+/* Litres since the start, where x is -1: the antiderivative is 0 in the middle, so its value at the start goes off. */
+static int gathered(uint8_t order, const struct hechroung_model *flow, struct hechroung_model *litres) {
+    struct hechroung_model from_middle, at_start, half_time;
+    return hechroung_antiderivative(order, 1, flow, &from_middle) ||
+           hechroung_constant(1, -HECHROUNG_UNIT, &at_start) ||
+           hechroung_substitute(order, 1, &from_middle, &at_start, &at_start, NULL) ||
+           hechroung_subtract(&from_middle, &at_start, litres, NULL) ||
+           hechroung_constant(1, HALF_TIME * HECHROUNG_UNIT, &half_time) ||
+           hechroung_multiply(order, litres, &half_time, litres, NULL);
+}
+
+int main(void) {
+    /* Litres a minute, to 0.05: 3.20 - 0.60 x - 2.40 x^2 + 0.40 x^3. Keys: x has hex 1000. */
+    struct hechroung_model flow = hechroung_zero(1), litres, lower;
+    const int64_t coefficients[4] = {hundredths(320), hundredths(-60), hundredths(-240), hundredths(40)};
+    flow.radius = (uint64_t)hundredths(5);
+    for (; flow.count < 4; flow.count++) {
+        flow.keys[flow.count] = (uint16_t)(flow.count << 12);
+        flow.coefficients[flow.count] = coefficients[flow.count];
+    }
+    if (gathered(ORDER, &flow, &litres)) return 1;
+    printf("radius %" PRIu64 "\n", litres.radius);
+    for (size_t i = 0; i < litres.count; i++)
+        printf("term %d %" PRId64 "\n", litres.keys[i] >> 12, litres.coefficients[i]);
+    for (int half = 0; half <= 2; half++) {
+        const int64_t point[4] = {(half - 1) * (int64_t)HECHROUNG_UNIT, 0, 0, 0};
+        struct hechroung_ends value;
+        if (hechroung_evaluate(&litres, point, &value)) return 1;
+        printf("after %d minutes %" PRId64 " %" PRId64 "\n", half * HALF_TIME, value.low, value.high);
+    }
+
+    /* the same as a sheet: the antiderivative is code 10, with its step in a and its variable in v */
+    const struct hechroung_step steps[7] = {{.code = 0},
+                                            {.code = 10, .v = 1},
+                                            {.code = 1, .value = -HECHROUNG_UNIT},
+                                            {.code = 7, .a = 1, .b = 2, .v = 1},
+                                            {.code = 5, .a = 1, .b = 3},
+                                            {.code = 1, .value = HALF_TIME * HECHROUNG_UNIT},
+                                            {.code = 6, .a = 4, .b = 5}};
+    struct hechroung_summary summary;
+    if (hechroung_run_models(1, ORDER, &flow, 1, steps, 7, &summary, NULL) || summary.model.count != litres.count ||
+        summary.model.radius != litres.radius ||
+        memcmp(summary.model.coefficients, litres.coefficients, sizeof litres.coefficients) != 0)
+        return 1;
+
+    /* one order less has no room for the fourth power: it goes into the radius */
+    if (gathered(3, &flow, &lower)) return 1;
+    printf("with order 3: radius %" PRIu64 "\n", lower.radius);
+
+    /* the flow has no second variable; the place of such a refusal is 0 */
+    printf("refused %d 0\n", hechroung_antiderivative(ORDER, 2, &flow, &lower));
+    printf("misused %d\n", hechroung_antiderivative(ORDER, 1, NULL, &lower));
+    return 0;
+}
