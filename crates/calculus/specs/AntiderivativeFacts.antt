@@ -88,6 +88,19 @@ pub mixed-claimed : At mixed-result right (outcome (polynomials (own-polynomial 
 unfolding summary
 mixed-claimed = claim mixed (summary mixed-result) mixed-runs .within-radius _ right mixed-given
 
+-- a quotient that stands beside an antiderivative, before it and without feeding it: promised too
+unfoldable pub beside : Book
+beside = record {
+  vars = 1;
+  order = 2;
+  models = record { vars = 1; radius = 1; terms = [] } ∷ [];
+  steps = input 0 ∷ constant (pos U) ∷ quotient 0 1 0 1 ∷ negate 0 ∷ antiderivative 3 1 ∷ [];
+}
+
+pub beside-promised : (Q : ℕ → ℚ-Polynomial) → promised beside (polynomials Q) ≡ true
+unfolding promises beside
+beside-promised Q = refl
+
 -- a quotient that feeds an antiderivative through another step: nothing is promised
 unfoldable pub fed : Book
 fed = record {

@@ -209,6 +209,9 @@ call-edges =
     (model 2 5 [])
     ∷ gives 26 (call-antiderivative 3 1 (model 2 0 (at-key 2 0x1100 (minus 5) ∷ at-key 2 0x2000 (pos 5) ∷ [])))
     (model 2 2 (at-key 2 0x2100 (minus 2) ∷ at-key 2 0x3000 (pos 2) ∷ []))
+    -- each by itself: 3/2 and 4/3 give 2 and 2, where their sum would give 3
+    ∷ gives 26 (call-antiderivative 2 1 (model 2 0 (at-key 2 0x1100 (pos 3) ∷ at-key 2 0x2000 (pos 4) ∷ [])))
+    (model 2 4 [])
     -- a radius only; a variable that does not occur; the old radius stays
     ∷ gives 27 (call-antiderivative 1 1 (model 1 7 [])) (model 1 7 [])
     ∷ gives 27 (call-antiderivative 2 1 (one-term 2 0x0100 (pos 7))) (one-term 2 0x1100 (pos 7))

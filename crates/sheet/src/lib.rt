@@ -56,9 +56,10 @@ fn run_passed(b: Book) -> Summary
 }
 
 // The run of a sheet, whatever its bytes are: tests 1 to 6, then its steps, which 7, 8, 9 or 12 can end. `exact` says
-// all that is answered. `encloses` says of an accepted sheet, for all functions within its models: the exact outcome
-// lies within the result's radius and inside its range, and on a sheet without a quotient, for polynomials, the exact
-// integral lies inside the integral's ends.
+// all that is answered. `encloses` says of an accepted sheet, for all functions within its models (with an
+// antiderivative among the steps: for all polynomials, where no quotient feeds one): the exact outcome lies within the
+// result's radius and inside its range; and on a sheet without a quotient, for polynomials, the exact integral lies
+// inside the integral's ends.
 pub fn run(sheet: &[u8]) -> Summary
     ensures exact { λ r. ⌜ Exact (now (sheet .entry)) r ⌝ }
     ensures encloses { λ r. ⌜ Encloses (now (sheet .entry)) r ⌝ }
