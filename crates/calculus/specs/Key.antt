@@ -55,11 +55,6 @@ monomial-of n z = elim (key-fits key-width n z) [
 unfoldable pub key-degree : ℕ → ℕ
 key-degree z = degree (key-exponents key-width key-width z)
 
--- ---- a wide key has eight bits for an exponent: that of a product is the sum of those of its factors
--- the wide key of a monomial in up to eight variables
-abbrev pub wide-key : List ℕ → ℕ
-wide-key = encode 256 8
-
 -- every exponent is below the base
 abbrev pub Below : ℕ → List ℕ → Type 0
 Below base [] = Unit {0}

@@ -1,11 +1,11 @@
 -- The digits of a key: one exponent, tests and products over all of them, and the way to wide keys and back.
 use mathlib.Core.Bool.{Bool}
 use mathlib.Core.List.{List}
-use Prim.Native.Nat.{ℕ, _+_, _-_, _*_, _^_, _≤_, _<_}
+use Prim.Native.Nat.{ℕ, _+_, _-_, _*_, _/_, _%_, _^_, _≤_, _<_}
 use Rattle.polynomial.specs.Polynomial.{exponent}
 use Rattle.polynomial.specs.Integral.{all-even, divisor}
-use Rattle.calculus.specs.Monomial.{index-of}
-use Rattle.calculus.specs.Key.{decode, key-width, key, key-exponents, wide-key}
+use Rattle.calculus.specs.Monomial.{degree, index-of}
+use Rattle.calculus.specs.Key.{encode, decode, key-width, key, key-exponents}
 
 -- ---- one exponent
 -- a variable whose exponent a key holds
@@ -39,14 +39,22 @@ key-even z = all-even key-width (key-exponents key-width key-width z)
 abbrev pub key-divisor : ℕ → ℕ
 key-divisor z = divisor key-width (key-exponents key-width key-width z)
 
--- ---- wide keys
+-- ---- wide keys: seven bits for an exponent and a last byte for the degree, since both add up in a product
+-- the wide key of a monomial in up to eight variables
+abbrev pub wide-key : List ℕ → ℕ
+wide-key k = encode 128 8 k * 256 + degree k
+
 -- the wide key of a key
 unfoldable pub widened : ℕ → ℕ
 widened z = wide-key (key-exponents key-width key-width z)
 
 -- the exponents of a wide key, as many as a key has
 unfoldable pub wide-exponents : ℕ → List ℕ
-wide-exponents = decode 256 8 key-width
+wide-exponents z = decode 128 8 key-width (z / 256)
+
+-- the degree in a wide key
+unfoldable pub wide-degree : ℕ → ℕ
+wide-degree z = z % 256
 
 -- the key of a wide key
 unfoldable pub narrowed : ℕ → ℕ

@@ -1,4 +1,5 @@
 pub mod Keys
+pub mod KeyDegreeLaws
 pub mod KeyExponentLaws
 pub mod KeyIntegralLaws
 pub mod WideKeyLaws

@@ -1,16 +1,17 @@
 -- The key and the wide key of one monomial lead to each other.
 use mathlib.Core.Path.{_≡_, refl, sym, _∙_, ap, ap₂, subst}
 use mathlib.Core.List.{List, [], _∷_, _++_}
-use Prim.Native.Nat.{ℕ, zero, suc, _-_, _<_, _≤_}
+use Prim.Native.Nat.{ℕ, zero, suc, _+_, _-_, _*_, _/_, _<_, _≤_}
 use native.Mathlib.Omega.{arith}
 use lib.Dec.{lit<, lit≤}
 use lib.ListN.{length, length-append}
-use Rattle.calculus.specs.Monomial.{zeros}
+use Rattle.calculus.specs.Monomial.{degree, zeros}
 use Rattle.calculus.specs.MonomialLaws.{length-zeros, degree-zeros}
-use Rattle.calculus.specs.Key.{encode, decode, Below, key-width, key-limit, key, monomial-of, wide-key}
+use Rattle.calculus.specs.Key.{encode, decode, Below, key-width, key-limit, key, monomial-of}
 use Rattle.calculus.specs.KeyLaws.{decode-encode, decode-length}
 use Rattle.calculus.specs.MonomialKeyLaws.{by-fits, encode-constant, key-monomial, monomial-below}
-use Rattle.model_keys.specs.Keys.{widened, wide-exponents, narrowed}
+use Rattle.model_keys.specs.Keys.{wide-key, widened, wide-exponents, narrowed}
+use Rattle.model_keys.specs.KeyDegreeLaws.{degree-below}
 
 -- ---- zeros behind the last exponent
 encode-padded : (base w : ℕ) (k : List ℕ) (j : ℕ) → encode base w (k ++ zeros j) ≡ encode base w k
@@ -41,17 +42,28 @@ decode-padded base w v k h b l m =
     ap₂ (decode base w) (sym long) (sym (encode-padded base w k j))
     ∙ decode-encode base h w (k ++ zeros j) (below-padded base k j h b) (omega arith)
 
+degree-padded : (k : List ℕ) (j : ℕ) → degree (k ++ zeros j) ≡ degree k
+unfolding degree
+degree-padded [] j = degree-zeros j
+degree-padded (e ∷ k) j = omega (arith, degree-padded k j)
+
+wide-padded : (k : List ℕ) (j : ℕ) → wide-key (k ++ zeros j) ≡ wide-key k
+wide-padded k j = ap₂ (λ x y. x * 256 + y) (encode-padded 128 8 k j) (degree-padded k j)
+
 -- ---- from one key to the other
 module _ (k : List ℕ) (b : Below 16 k) (l : length k ≤ key-width) where
   widened-key : widened (key key-width k) ≡ wide-key k
   unfolding widened
   widened-key = ap wide-key (decode-padded 16 key-width key-width k (lit< tt) b l (omega arith))
-      ∙ encode-padded 256 8 k (key-width - length k)
+      ∙ wide-padded k (key-width - length k)
 
   exponents-are : wide-exponents (wide-key k) ≡ k ++ zeros (key-width - length k)
   unfolding wide-exponents
-  exponents-are =
-      decode-padded 256 8 key-width k (lit< tt) (below-more 16 256 k (lit≤ tt) b) l (unfold key-width in lit≤ tt)
+  exponents-are = ap (decode 128 8 key-width) before-degree
+      ∙ decode-padded 128 8 key-width k (lit< tt) (below-more 16 128 k (lit≤ tt) b) l (unfold key-width in lit≤ tt)
+    where
+      before-degree : wide-key k / 256 ≡ encode 128 8 k
+      before-degree = unfold key-width in omega (arith, degree-below 15 k b, l)
 
   pub narrowed-key : narrowed (wide-key k) ≡ key key-width k
   unfolding narrowed

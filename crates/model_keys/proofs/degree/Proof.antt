@@ -1,25 +1,17 @@
--- `degree` is the sum of a key's four digits.
-use native.Mathlib.Nat as NatL
+-- `degree` is the sum of a key's digits: two by two in each byte, then the bytes.
 use native.Mathlib.Omega.{arith}
-use borrow.Author.Needs.{needs}
-use Rattle.calculus.specs.Monomial as M
-use Rattle.calculus.specs.Key.{decode, key-width}
-use Rattle.calculus.specs.Key.{key-degree}
+use lib.Bits.{and-le-r}
+use Rattle.calculus.specs.MonomialKeyLaws.{word-key}
+use Rattle.model_keys.specs.KeyDegreeLaws.{key-word-degree}
 use Rattle.model_keys.proofs.degree.Statement.{statement}
 use Rattle.model_keys.proofs.degree.Tie as tie
 
 add-result : tie.Need-add-result
-add-result c = search needs
-
-add-result-2 : tie.Need-add-result-2
-add-result-2 c = search needs
-
-add-result-3 : tie.Need-add-result-3
-add-result-3 c = search needs
+add-result c =
+    record { fits = omega (arith, and-le-r (c .args .key) 0x0F0F, and-le-r (c .args .key) 0xF0F0) }
 
 returns : tie.Need-returns
-unfolding M.degree decode key-width key-degree
-returns c = rw NatL.div-one (omega arith)
+returns c = key-word-degree (c .args .key) (word-key _ (omega arith))
 
 pub degree-spec : {M : Type 1} → statement M
-degree-spec = tie.close (tie.spec add-result add-result-2 add-result-3 returns)
+degree-spec = tie.close (tie.spec add-result returns)

@@ -1,0 +1,165 @@
+-- The degree of a key by its word, for any number of bytes with two exponents each.
+use mathlib.Core.Path.{_≡_, refl, sym, _∙_, ap, ap₂}
+use mathlib.Core.List.{List, [], _∷_}
+use Prim.Native.Nat.{ℕ, zero, suc, _+_, _*_, _/_, _%_, _^_, _≤_, _<_}
+use native.Mathlib.Omega.{arith}
+use native.Mathlib.Nat as NatL
+use lib.Bits.{bitAnd, and-block, and-mask, and-zero-r}
+use lib.Dec.{T, ltb, lt→ltb, lit<, lit≤}
+use lib.ListN.{length}
+use lib.Pow.{pow-add}
+use Rattle.calculus.specs.Monomial.{degree}
+use Rattle.calculus.specs.Key.{encode, decode, fits-digits, key-width, key-limit, key-degree, Below}
+use Rattle.calculus.specs.KeyLaws.{degree-encode, encode-lt, encode-decode, decode-length, decode-below}
+use Rattle.calculus.specs.TestLaws.{both}
+
+-- ---- digits add up to no more than the largest for each
+pub degree-below : (b : ℕ) (k : List ℕ) → Below (suc b) k → degree k ≤ b * length k
+unfolding degree
+degree-below b [] h = omega arith
+degree-below b (e ∷ k) h = let r = degree-below b k (h .1) in let l = h .0 in omega arith
+
+-- ---- two digits a byte
+-- the sums of two neighbours
+pairs : List ℕ → List ℕ
+pairs [] = []
+pairs (e ∷ []) = e ∷ []
+pairs (e ∷ f ∷ k) = (e + f) ∷ pairs k
+
+pairs-degree : (k : List ℕ) → degree (pairs k) ≡ degree k
+unfolding pairs degree
+pairs-degree [] = refl
+pairs-degree (e ∷ []) = refl
+pairs-degree (e ∷ f ∷ k) = let r = pairs-degree k in omega arith
+
+pairs-length : (w : ℕ) (k : List ℕ) → length k ≡ 2 * w → length (pairs k) ≤ w
+unfolding pairs
+pairs-length w [] l = omega arith
+pairs-length w (e ∷ []) l = omega arith
+pairs-length zero (e ∷ f ∷ k) l = absurd (omega arith)
+pairs-length (suc w) (e ∷ f ∷ k) l = let r = pairs-length w k (omega arith) in omega arith
+
+-- w times the same byte
+unfoldable pub bytes : (b w : ℕ) → ℕ
+bytes b zero = 0
+bytes b (suc w) = b * 256 ^ w + bytes b w
+
+bytes-lt : (b w : ℕ) → b < 256 → bytes b w < 256 ^ w
+unfolding bytes
+bytes-lt b zero h = rw NatL.pow-zero (omega arith)
+bytes-lt b (suc w) h = rw NatL.pow-succ' (let r = bytes-lt b w h in
+    let g : suc b * 256 ^ w ≤ 256 * 256 ^ w = NatL.mul-le-mul-right (256 ^ w) h in omega arith)
+
+byte-power : (w : ℕ) → 2 ^ (8 * w) ≡ 256 ^ w
+byte-power zero = refl
+byte-power (suc w) = ap (λ i. 2 ^ i) (NatL.mul-suc 8 w) ∙ pow-add 2 (8 * w) 8 ∙ ap (λ x. x * 256) (byte-power w)
+    ∙ sym (NatL.pow-suc 256 w)
+
+digit-power : (w : ℕ) → 16 ^ (2 * w) ≡ 256 ^ w
+digit-power zero = refl
+digit-power (suc w) = ap (λ i. 16 ^ i) (NatL.mul-suc 2 w) ∙ pow-add 16 (2 * w) 2 ∙ ap (λ x. x * 256) (digit-power w)
+    ∙ sym (NatL.pow-suc 256 w)
+
+-- the first byte of a word under a mask, and the others
+first-byte : (w a b r s : ℕ) → r < 256 ^ w → s < 256 ^ w
+    → bitAnd (a * 256 ^ w + r) (b * 256 ^ w + s) ≡ bitAnd a b * 256 ^ w + bitAnd r s
+first-byte w = rw (← byte-power w) (and-block (8 * w))
+
+-- the lower digit of a byte, and the higher
+lower-digit : (e f : ℕ) → f < 16 → bitAnd (e * 16 + f) 15 ≡ f
+lower-digit e f h = and-mask (e * 16 + f) 4 ∙ omega arith
+
+higher-digit : (e f : ℕ) → e < 16 → f < 16 → bitAnd (e * 16 + f) 240 ≡ e * 16
+higher-digit e f h g = and-block 4 e 15 f 0 g (lit< tt)
+    ∙ omega (arith, and-mask e 4, and-zero-r f, NatL.mod-eq-of-lt h)
+
+-- ---- by the word: the higher digits of all bytes are added to the lower ones, and the bytes are added modulo 255
+unfoldable pub digit-pairs : (w z : ℕ) → ℕ
+digit-pairs w z = bitAnd z (bytes 15 w) + bitAnd z (bytes 240 w) / 16
+
+-- one byte more
+module _ (w e f r : ℕ) (he : e < 16) (hf : f < 16) (hr : r < 256 ^ w) where
+  abbrev word : ℕ
+  word = (e * 16 + f) * 256 ^ w + r
+
+  lower : bitAnd word (bytes 15 (suc w)) ≡ f * 256 ^ w + bitAnd r (bytes 15 w)
+  unfolding bytes
+  lower = first-byte w (e * 16 + f) 15 r (bytes 15 w) hr (bytes-lt 15 w (lit< tt))
+      ∙ ap (λ d. d * 256 ^ w + bitAnd r (bytes 15 w)) (lower-digit e f hf)
+
+  higher : bitAnd word (bytes 240 (suc w)) ≡ e * 16 * 256 ^ w + bitAnd r (bytes 240 w)
+  unfolding bytes
+  higher = first-byte w (e * 16 + f) 240 r (bytes 240 w) hr (bytes-lt 240 w (lit< tt))
+      ∙ ap (λ d. d * 256 ^ w + bitAnd r (bytes 240 w)) (higher-digit e f he hf)
+
+  next-byte : digit-pairs (suc w) word ≡ (e + f) * 256 ^ w + digit-pairs w r
+  unfolding digit-pairs
+  next-byte = ap₂ (λ x y. x + y / 16) lower higher
+      ∙ sums (256 ^ w) (bitAnd r (bytes 15 w)) (bitAnd r (bytes 240 w))
+    where
+      sums : (p x y : ℕ) → f * p + x + (e * 16 * p + y) / 16 ≡ (e + f) * p + (x + y / 16)
+      sums p x y = omega arith
+
+-- the word of digits
+module _ (w : ℕ) where
+  two-digits : (e f : ℕ) (k : List ℕ) → encode 16 (2 * suc w) (e ∷ f ∷ k)
+      ≡ (e * 16 + f) * 256 ^ w + encode 16 (2 * w) k
+  unfolding encode
+  two-digits e f k =
+      let more : 2 * suc w ≡ suc (suc (2 * w)) = omega arith in
+      ap (λ i. encode 16 i (e ∷ f ∷ k)) more
+      ∙ ap (λ x. e * x + (f * 16 ^ (2 * w) + encode 16 (2 * w) k)) (NatL.pow-suc 16 (2 * w))
+      ∙ ap (λ x. e * (x * 16) + (f * x + encode 16 (2 * w) k)) (digit-power w) ∙ omega arith
+
+  digits-lt : (k : List ℕ) → Below 16 k → length k ≡ 2 * w → encode 16 (2 * w) k < 256 ^ w
+  digits-lt k b l = rw (← digit-power w) (encode-lt 16 (lit< tt) (2 * w) k b (omega arith))
+
+digit-pairs-encode : (w : ℕ) (k : List ℕ) → Below 16 k → length k ≡ 2 * w
+    → digit-pairs w (encode 16 (2 * w) k) ≡ encode 256 w (pairs k)
+unfolding encode pairs
+digit-pairs-encode zero [] b l = unfold digit-pairs bytes in ap₂ (λ x y. x + y / 16) (and-zero-r 0) (and-zero-r 0)
+digit-pairs-encode (suc w) [] b l = absurd (omega arith)
+digit-pairs-encode w (e ∷ []) b l = absurd (omega arith)
+digit-pairs-encode zero (e ∷ f ∷ k) b l = absurd (omega arith)
+digit-pairs-encode (suc w) (e ∷ f ∷ k) b l =
+    let long : length k ≡ 2 * w = omega arith in
+    ap (digit-pairs (suc w)) (two-digits w e f k)
+    ∙ next-byte w e f (encode 16 (2 * w) k) (b .0) (b .1 .0) (digits-lt w k (b .1 .1) long)
+    ∙ ap (λ x. (e + f) * 256 ^ w + x) (digit-pairs-encode w k (b .1 .1) long)
+
+-- the degree of every word of w bytes; at 2 w digits of at most 15 the sum is below 255 for 16-bit, 32-bit and 64-bit words
+pub word-degree : (w z : ℕ) → w ≤ 8 → z < 16 ^ (2 * w)
+    → digit-pairs w z % 255 ≡ degree (decode 16 (2 * w) (2 * w) z)
+word-degree w z few h =
+    let long = decode-length 16 (lit< tt) (2 * w) (2 * w) z (omega arith) in
+    let small = decode-below 16 (lit< tt) (2 * w) (2 * w) z h in
+    ap (λ y. digit-pairs w y % 255) (sym whole)
+    ∙ ap (λ y. y % 255) (digit-pairs-encode w k small long)
+    ∙ degree-encode 255 w (pairs k) (pairs-length w k long)
+    (omega (arith, pairs-degree k, degree-below 15 k small, long))
+    ∙ pairs-degree k
+  where
+    k : List ℕ
+    k = decode 16 (2 * w) (2 * w) z
+
+    whole : encode 16 (2 * w) k ≡ z
+    whole = encode-decode 16 (lit< tt) (2 * w) (2 * w) z (omega arith) fitting
+      where
+        fitting : T (fits-digits 16 (2 * w) (2 * w) z)
+        fitting = unfold fits-digits in
+            both (ltb z (16 ^ (2 * w))) _ (lt→ltb z (16 ^ (2 * w)) h) (rw (NatL.sub-self (2 * w), NatL.mod-one z) tt)
+
+-- of every key, by the masks of its two bytes
+pub key-word-degree : (z : ℕ) → z < key-limit → (bitAnd z 0x0F0F + bitAnd z 0xF0F0 / 16) % 255 ≡ key-degree z
+unfolding digit-pairs bytes key-limit key-width key-degree
+key-word-degree z = word-degree 2 z (lit≤ tt)
+
+-- ---- facts
+-- the largest key of 16 bits, and of 32 bits with eight exponents
+largest-degree : key-degree 0xFFFF ≡ 60
+unfolding key-degree key-width decode degree
+largest-degree = refl
+
+largest-eight : digit-pairs 4 0xFFFFFFFF % 255 ≡ 120
+unfolding digit-pairs bytes
+largest-eight = refl
