@@ -146,7 +146,10 @@ pub fn wide_key(key: u16) -> u64
     let second = (low / SECOND) as u64;
     let third = (lower / THIRD) as u64;
     let fourth = (lower % THIRD) as u64;
-    let exponents = first * WIDE_FIRST + second * WIDE_SECOND + third * WIDE_THIRD + fourth * WIDE_FOURTH;
+    let exponents = first * WIDE_FIRST
+        + second * WIDE_SECOND
+        + third * WIDE_THIRD
+        + fourth * WIDE_FOURTH;
     let total = degree(key) as u64;
     exponents * LAST_BYTE + total
 }

@@ -6,16 +6,16 @@ use Rattle.fixed.specs.Fixed.{round, residual}
 use Rattle.calculus.specs.Terms.{Terms, select, sum-ℕ, size, map-coefficients, drop-zeros}
 use Rattle.calculus.specs.Model.{most-terms}
 use Rattle.product_gathering.specs.declared.Gathered.{Gathered}
-use Rattle.product_gathering.specs.Wide.{byte-sum}
+use Rattle.product_gathering.specs.Wide.{degree-byte}
 
--- ---- what order d keeps of sums by wide key, with the bytes' sum for the degree
+-- ---- what order d keeps of sums by wide key, whose last byte is the degree
 -- of degree at most d
 unfoldable pub wide-within-order : (d : ℕ) → Terms → Terms
-wide-within-order d = select (λ k z. leb (byte-sum k) d)
+wide-within-order d = select (λ k z. leb (degree-byte k) d)
 
 -- of degree above d
 unfoldable pub wide-above-order : (d : ℕ) → Terms → Terms
-wide-above-order d = select (λ k z. not (leb (byte-sum k) d))
+wide-above-order d = select (λ k z. not (leb (degree-byte k) d))
 
 -- rounded, without zeros
 unfoldable pub wide-kept : (d : ℕ) → Terms → Terms

@@ -1,9 +1,9 @@
 -- Terms by the wide keys of their monomials: Kronecker's substitution of one variable for all.
 use mathlib.Core.List.{List, [], _∷_}
-use Prim.Native.Nat.{ℕ, _%_}
-use Rattle.calculus.specs.Monomial.{degree}
-use Rattle.calculus.specs.Key.{wide-key}
+use Prim.Native.Nat.{ℕ}
+use Rattle.polynomial.specs.Polynomial.{exponent}
 use Rattle.calculus.specs.Terms.{Terms, map-monomials}
+use Rattle.model_keys.specs.Keys.{wide-key, wide-degree}
 
 -- a monomial's wide key, as the exponent of one variable
 unfoldable pub wide : List ℕ → List ℕ
@@ -13,6 +13,6 @@ wide k = wide-key k ∷ []
 unfoldable pub wide-terms : Terms → Terms
 wide-terms = map-monomials wide
 
--- the sum of the bytes of a wide key, where that is below 255: the degree of its monomial
-unfoldable pub byte-sum : List ℕ → ℕ
-byte-sum k = degree k % 255
+-- the degree in the wide key that is the one exponent
+unfoldable pub degree-byte : List ℕ → ℕ
+degree-byte k = wide-degree (exponent 0 k)

@@ -8,9 +8,20 @@ use lib.ListN.{length, getD}
 abbrev pub home-slots : ℕ
 home-slots = 16384
 
+-- what the lower half of a key is multiplied by, and the higher
+abbrev pub low-factor : ℕ
+low-factor = 2561792993
+
+abbrev pub high-factor : ℕ
+high-factor = 1555934479
+
+-- both added, modulo 2^32
+abbrev pub mixed : (key : ℕ) → ℕ
+mixed key = (key % 2 ^ 32 * low-factor + key / 2 ^ 32 * high-factor) % 2 ^ 32
+
 -- where the search for a key begins, of so many slots
 unfoldable pub home-slot : (homes key : ℕ) → ℕ
-home-slot homes key = (key % 2 ^ 32 * 1132569001 + key / 2 ^ 32 * 2571668233) % 2 ^ 32 * homes / 2 ^ 32
+home-slot homes key = mixed key * homes / 2 ^ 32
 
 -- no slot from the key's home slot to before h leads to the key
 abbrev pub Passed : (homes : ℕ) (slots keys : List ℕ) (key h : ℕ) → Type 0

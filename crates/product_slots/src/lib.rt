@@ -6,9 +6,9 @@ ghost use Rattle.product_slots.specs.Slots.{«home-slots», «home-slot�
 
 // Two odd factors found by trial: the sums of two wide keys of up to four variables then seldom begin at the same slot,
 // and those of eight variables no more often than numbers at random.
-const LOW_FACTOR: u64 = 1132569001;
+const LOW_FACTOR: u64 = 2561792993;
 
-const HIGH_FACTOR: u64 = 2571668233;
+const HIGH_FACTOR: u64 = 1555934479;
 
 const HALF_WORD: u64 = 1 << 32;
 
