@@ -127,7 +127,7 @@ digit-pairs-encode (suc w) (e ∷ f ∷ k) b l =
     ∙ next-byte w e f (encode 16 (2 * w) k) (b .0) (b .1 .0) (digits-lt w k (b .1 .1) long)
     ∙ ap (λ x. (e + f) * 256 ^ w + x) (digit-pairs-encode w k (b .1 .1) long)
 
--- the degree of every word of w bytes; at 2 w digits of at most 15 the sum is below 255 for 16-bit, 32-bit and 64-bit words
+-- the degree of every word of up to eight bytes: their digits add up to less than 255
 pub word-degree : (w z : ℕ) → w ≤ 8 → z < 16 ^ (2 * w)
     → digit-pairs w z % 255 ≡ degree (decode 16 (2 * w) (2 * w) z)
 word-degree w z few h =

@@ -39,10 +39,20 @@ key-even z = all-even key-width (key-exponents key-width key-width z)
 abbrev pub key-divisor : ℕ → ℕ
 key-divisor z = divisor key-width (key-exponents key-width key-width z)
 
--- ---- wide keys: seven bits for an exponent and a last byte for the degree, since both add up in a product
--- the wide key of a monomial in up to eight variables
+-- ---- wide keys: the exponents, then the degree, each with room for the sum of two, since a product's are sums
+-- the base of the exponents, their number, and the base of the degree
+abbrev pub wide-base : ℕ
+wide-base = 128
+
+abbrev pub wide-width : ℕ
+wide-width = 8
+
+abbrev pub degree-base : ℕ
+degree-base = 256
+
+-- the wide key of a monomial
 abbrev pub wide-key : List ℕ → ℕ
-wide-key k = encode 128 8 k * 256 + degree k
+wide-key k = encode wide-base wide-width k * degree-base + degree k
 
 -- the wide key of a key
 unfoldable pub widened : ℕ → ℕ
@@ -50,11 +60,11 @@ widened z = wide-key (key-exponents key-width key-width z)
 
 -- the exponents of a wide key, as many as a key has
 unfoldable pub wide-exponents : ℕ → List ℕ
-wide-exponents z = decode 128 8 key-width (z / 256)
+wide-exponents z = decode wide-base wide-width key-width (z / degree-base)
 
 -- the degree in a wide key
 unfoldable pub wide-degree : ℕ → ℕ
-wide-degree z = z % 256
+wide-degree z = z % degree-base
 
 -- the key of a wide key
 unfoldable pub narrowed : ℕ → ℕ

@@ -10,7 +10,8 @@ use Rattle.calculus.specs.MonomialLaws.{length-zeros, degree-zeros}
 use Rattle.calculus.specs.Key.{encode, decode, Below, key-width, key-limit, key, monomial-of}
 use Rattle.calculus.specs.KeyLaws.{decode-encode, decode-length}
 use Rattle.calculus.specs.MonomialKeyLaws.{by-fits, encode-constant, key-monomial, monomial-below}
-use Rattle.model_keys.specs.Keys.{wide-key, widened, wide-exponents, narrowed}
+use Rattle.model_keys.specs.Keys.{wide-base, wide-width, degree-base, wide-key, widened, wide-exponents}
+use Rattle.model_keys.specs.Keys.{narrowed}
 use Rattle.model_keys.specs.KeyDegreeLaws.{degree-below}
 
 -- ---- zeros behind the last exponent
@@ -48,7 +49,7 @@ degree-padded [] j = degree-zeros j
 degree-padded (e ∷ k) j = omega (arith, degree-padded k j)
 
 wide-padded : (k : List ℕ) (j : ℕ) → wide-key (k ++ zeros j) ≡ wide-key k
-wide-padded k j = ap₂ (λ x y. x * 256 + y) (encode-padded 128 8 k j) (degree-padded k j)
+wide-padded k j = ap₂ (λ x y. x * degree-base + y) (encode-padded wide-base wide-width k j) (degree-padded k j)
 
 -- ---- from one key to the other
 module _ (k : List ℕ) (b : Below 16 k) (l : length k ≤ key-width) where
@@ -59,10 +60,10 @@ module _ (k : List ℕ) (b : Below 16 k) (l : length k ≤ key-width) where
 
   exponents-are : wide-exponents (wide-key k) ≡ k ++ zeros (key-width - length k)
   unfolding wide-exponents
-  exponents-are = ap (decode 128 8 key-width) before-degree
-      ∙ decode-padded 128 8 key-width k (lit< tt) (below-more 16 128 k (lit≤ tt) b) l (unfold key-width in lit≤ tt)
+  exponents-are = ap (decode wide-base wide-width key-width) before-degree
+      ∙ decode-padded wide-base wide-width key-width k (lit< tt) (below-more 16 wide-base k (lit≤ tt) b) l (unfold key-width in lit≤ tt)
     where
-      before-degree : wide-key k / 256 ≡ encode 128 8 k
+      before-degree : wide-key k / degree-base ≡ encode wide-base wide-width k
       before-degree = unfold key-width in omega (arith, degree-below 15 k b, l)
 
   pub narrowed-key : narrowed (wide-key k) ≡ key key-width k

@@ -1,4 +1,4 @@
--- `narrow_key` gives each of the four highest bytes a digit.
+-- `narrow_key` gives each of the first four exponents a digit.
 use native.Mathlib.Omega.{arith}
 use Rattle.calculus.specs.Key.{encode, decode, key-width}
 use Rattle.model_keys.specs.Keys.{wide-exponents, narrowed}

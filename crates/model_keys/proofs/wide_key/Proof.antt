@@ -5,7 +5,6 @@ use Rattle.calculus.specs.Key.{encode, decode, key-width, key-degree}
 use Rattle.model_keys.specs.Keys.{widened}
 use Rattle.model_keys.proofs.wide_key.Statement.{statement}
 use Rattle.model_keys.proofs.wide_key.Tie as tie
-use Rattle.model_keys.proofs.degree.Reads as degree-reads
 
 cast-first : tie.Need-cast-first
 cast-first c = search needs
