@@ -40,19 +40,25 @@ abbrev pub key-divisor : ℕ → ℕ
 key-divisor z = divisor key-width (key-exponents key-width key-width z)
 
 -- ---- wide keys: the exponents, then the degree, each with room for the sum of two, since a product's are sums
--- the base of the exponents, their number, and the base of the degree
+-- the base of the exponents
 abbrev pub wide-base : ℕ
 wide-base = 128
 
+-- their number
 abbrev pub wide-width : ℕ
 wide-width = 8
 
+-- the base of the degree
 abbrev pub degree-base : ℕ
 degree-base = 256
 
+-- the exponents of a monomial as one number
+abbrev pub wide-code : List ℕ → ℕ
+wide-code = encode wide-base wide-width
+
 -- the wide key of a monomial
 abbrev pub wide-key : List ℕ → ℕ
-wide-key k = encode wide-base wide-width k * degree-base + degree k
+wide-key k = wide-code k * degree-base + degree k
 
 -- the wide key of a key
 unfoldable pub widened : ℕ → ℕ

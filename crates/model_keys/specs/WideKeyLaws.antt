@@ -10,8 +10,8 @@ use Rattle.calculus.specs.MonomialLaws.{length-zeros, degree-zeros}
 use Rattle.calculus.specs.Key.{encode, decode, Below, key-width, key-limit, key, monomial-of}
 use Rattle.calculus.specs.KeyLaws.{decode-encode, decode-length}
 use Rattle.calculus.specs.MonomialKeyLaws.{by-fits, encode-constant, key-monomial, monomial-below}
-use Rattle.model_keys.specs.Keys.{wide-base, wide-width, degree-base, wide-key, widened, wide-exponents}
-use Rattle.model_keys.specs.Keys.{narrowed}
+use Rattle.model_keys.specs.Keys.{wide-base, wide-width, degree-base, wide-code, wide-key, widened}
+use Rattle.model_keys.specs.Keys.{wide-exponents, narrowed}
 use Rattle.model_keys.specs.KeyDegreeLaws.{degree-below}
 
 -- ---- zeros behind the last exponent
@@ -61,9 +61,10 @@ module _ (k : List ℕ) (b : Below 16 k) (l : length k ≤ key-width) where
   exponents-are : wide-exponents (wide-key k) ≡ k ++ zeros (key-width - length k)
   unfolding wide-exponents
   exponents-are = ap (decode wide-base wide-width key-width) before-degree
-      ∙ decode-padded wide-base wide-width key-width k (lit< tt) (below-more 16 wide-base k (lit≤ tt) b) l (unfold key-width in lit≤ tt)
+      ∙ decode-padded wide-base wide-width key-width k (lit< tt) (below-more 16 wide-base k (lit≤ tt) b) l
+      (unfold key-width in lit≤ tt)
     where
-      before-degree : wide-key k / degree-base ≡ encode wide-base wide-width k
+      before-degree : wide-key k / degree-base ≡ wide-code k
       before-degree = unfold key-width in omega (arith, degree-below 15 k b, l)
 
   pub narrowed-key : narrowed (wide-key k) ≡ key key-width k

@@ -8,14 +8,15 @@ use lib.ListN.{length, getD}
 abbrev pub home-slots : ℕ
 home-slots = 16384
 
--- what the lower half of a key is multiplied by, and the higher
+-- what the lower half of a key is multiplied by
 abbrev pub low-factor : ℕ
 low-factor = 2561792993
 
+-- what the higher half is multiplied by
 abbrev pub high-factor : ℕ
 high-factor = 1555934479
 
--- both added, modulo 2^32
+-- the two products added, modulo 2^32
 abbrev pub mixed : (key : ℕ) → ℕ
 mixed key = (key % 2 ^ 32 * low-factor + key / 2 ^ 32 * high-factor) % 2 ^ 32
 
