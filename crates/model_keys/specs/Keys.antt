@@ -44,7 +44,7 @@ key-divisor z = divisor key-width (key-exponents key-width key-width z)
 abbrev pub wide-base : ℕ
 wide-base = 128
 
--- their number
+-- the places for them, of which a key's exponents take the first four
 abbrev pub wide-width : ℕ
 wide-width = 8
 
