@@ -104,7 +104,8 @@ pub fn handed_models(
         keys.len(),
         coefficients.len(),
     );
-    let mut out = [sheet_book::NO_MODEL; sheet_book::MOST_MODELS];
+    let none = model_types::without_terms(0);
+    let mut out = [none; sheet_book::MOST_MODELS];
     let mut k = 0;
     while k < places {
         let m = model_at(ns, counts, radii, keys, coefficients, k);

@@ -6,7 +6,6 @@ ghost use Rattle.format.specs.HeldBook.{outline};
 ghost use Rattle.format.specs.Fields.{«limit-a», «limit-b», «v-sound», earlier, «value-sound», «fields-sound»};
 ghost use Rattle.sheet_book.specs.BookStruct.{«held-step»};
 use model_types::Model;
-use model_types::Term;
 use model_types::Verdict;
 
 // The places of a book's models.
@@ -75,14 +74,6 @@ pub struct Start {
     pub at: usize,
     pub verdict: Verdict,
 }
-
-// What stands in a model's place that is not used: zeros, also for n.
-pub const NO_MODEL: Model = Model {
-    n: 0,
-    count: 0,
-    radius: 0,
-    terms: [Term::ZERO; model_types::MOST_TERMS],
-};
 
 impl Step {
     // What stands in a step's place that is not used.

@@ -6,12 +6,12 @@ use native.Mathlib.Omega.{arith}
 use lib.ListN.{length, getD, set, take, drop, replicate, length-map}
 use lib.Seq.{length-take-le, take-length}
 use Rattle.calculus.specs.Key.{key-width}
-use Rattle.calculus.specs.Model.{most-terms}
+use Rattle.calculus.specs.Model.{zero-model, most-terms}
 use Rattle.calculus.specs.Book.{most-models, most-steps}
 use Rattle.model_types.specs.declared.Term.{Term}
 use Rattle.model_types.specs.declared.Model.{Model}
 use Rattle.model_types.specs.Arrays.{padded}
-use Rattle.model_types.specs.ModelStruct.{zero-term, pad}
+use Rattle.model_types.specs.ModelStruct.{zero-term, pad, pack}
 use Rattle.model_types.specs.ArrayLaws.{take-more, padded-more}
 use Rattle.format.specs.Bytes.{byte, u32}
 use Rattle.format.specs.HeldBook.{Held-term, Held-model, Held-step}
@@ -21,6 +21,7 @@ use Rattle.format.specs.WriteBackLaws.{length-read-terms}
 use Rattle.sheet_book.specs.declared.Step.{Step}
 use Rattle.sheet_book.specs.BookStruct.{no-model, no-step, stored-term, stored-model, stored-step}
 use Rattle.sheet_book.specs.Failing.{first-failing}
+use Rattle.sheet_book.specs.ZeroLaws.{no-model-packed}
 use Rattle.sheet_walk.specs.Walk.{Walk, walk, steps-walked}
 use Rattle.sheet_walk.specs.TermWalkLaws.{Terms-so-far, model-at, terms-at, some-term, inside, in-terms, count-is}
 use Rattle.sheet_walk.specs.ModelWalkLaws.{Models-so-far, Ends, walk-place, walk-behind, models-first}
@@ -75,12 +76,17 @@ pub record Models-kept (s : List ℕ) (n d count : ℕ) (models : List Model) (a
   pub so-far : Models-so-far s n d count before at k
   pub stored : models ≡ padded no-model most-models (map stored-model before)
 
-pub models-none : (s : List ℕ) (n d count : ℕ) → Models-kept s n d count (replicate most-models no-model) 0 0
+pub models-none : (s : List ℕ) (n d count : ℕ) (none : Model) → none ≡ pack (zero-model 0)
+    → Models-kept s n d count (replicate most-models none) 0 0
 unfolding padded most-models
-models-none s n d count = record { before = []; so-far = models-first s n d count; stored = refl }
+models-none s n d count none e = record {
+  before = [];
+  so-far = models-first s n d count;
+  stored = ap (replicate most-models) (e ∙ no-model-packed);
+}
 
 module _ (s : List ℕ) (n d count : ℕ) (models : List Model) (at k : ℕ) (h : Models-kept s n d count models at k) where
-  pub models-more : k < count → count ≤ 16 → (next : ℕ)
+  pub models-more : k < count → count ≤ most-models → (next : ℕ)
       → Models-so-far s n d count (h .before ++ (read-model n (drop at s) ∷ [])) next (k + 1)
       → (m : Model) → m ≡ model-at n at s → Models-kept s n d count (set models k m) next (k + 1)
   unfolding most-models
@@ -137,7 +143,7 @@ module _ (s : List ℕ) (offset n m count : ℕ) (steps : List Step) (at k : ℕ
   unfolding steps-read
   steps-answer f = rw (← f, ← h .stored)
 
-  pub steps-more : k < count → count ≤ 64 → (step : Step) → step ≡ stored-step (read-step (drop at s))
+  pub steps-more : k < count → count ≤ most-steps → (step : Step) → step ≡ stored-step (read-step (drop at s))
       → Steps-so-far s offset n m count (at + 8) (k + 1)
       → Steps-kept s offset n m count (set steps k step) (at + 8) (k + 1)
   unfolding most-steps

@@ -3,6 +3,8 @@ ghost use mathlib.Core.Path.{_≡_};
 ghost use Prim.Native.Nat.{_+_, _*_, _≤_};
 ghost use lib.ListN.{length, drop};
 ghost use Rattle.calculus.specs.Key.{«key-width»};
+ghost use Rattle.calculus.specs.Book.{«most-models», «most-steps»};
+ghost use Rattle.format.specs.Format.{«step-length»};
 ghost use Rattle.sheet_read_walk.specs.KeptRecords.{«models-read», «steps-read»};
 use model_types::Model;
 use model_types::Term;
@@ -24,10 +26,11 @@ pub struct StepsRead {
 
 // The models in `s`, which ends at the first step. A fault leaves both loops, and k is then the faulty model's number.
 pub fn read_models(s: &[u8], n: u8, d: u8, count: usize) -> ModelsRead
-    requires { ⌜ (1 ≤ n) × (n ≤ key-width) × (count ≤ 16) ⌝ }
+    requires { ⌜ (1 ≤ n) × (n ≤ key-width) × (count ≤ most-models) ⌝ }
     ensures { λ r. ⌜ r ≡ models-read n d count (now (s .entry)) ⌝ }
 {
-    let mut models = [sheet_book::NO_MODEL; sheet_book::MOST_MODELS];
+    let none = model_types::without_terms(0);
+    let mut models = [none; sheet_book::MOST_MODELS];
     let mut at = 0;
     let mut k = 0;
     'models: while k < count {
@@ -83,7 +86,7 @@ pub fn read_models(s: &[u8], n: u8, d: u8, count: usize) -> ModelsRead
 
 // The steps from `offset` on. A fault leaves the loop, and k is then the faulty step's number.
 pub fn read_steps(s: &[u8], offset: usize, n: u8, models: usize, count: usize) -> StepsRead
-    requires { ⌜ (count ≤ 64) × (offset + 8 * count ≤ length (now s)) ⌝ }
+    requires { ⌜ (count ≤ most-steps) × (offset + step-length * count ≤ length (now s)) ⌝ }
     ensures { λ r. ⌜ r ≡ steps-read n models count (drop offset (now (s .entry))) ⌝ }
 {
     let mut steps = [Step::ZERO; sheet_book::MOST_STEPS];

@@ -3,6 +3,7 @@ ghost use mathlib.Core.Path.{_≡_};
 ghost use Prim.Native.Nat.{_+_, _*_, _≤_};
 ghost use lib.ListN.{length, drop};
 ghost use Rattle.calculus.specs.Key.{«key-width»};
+ghost use Rattle.format.specs.Format.{«step-length»};
 ghost use Rattle.sheet_walk.specs.Walk.{«models-walked», «steps-walked»};
 
 // How far the records of models go: the number of the first faulty one or that of all, and the place behind the others.
@@ -58,7 +59,7 @@ pub fn walk_models(s: &[u8], n: u8, d: u8, count: usize) -> ModelsWalked
 
 // The steps from `offset` on. A fault leaves the loop, and k is then the faulty step's number.
 pub fn walk_steps(s: &[u8], offset: usize, n: u8, models: usize, count: usize) -> usize
-    requires { ⌜ offset + 8 * count ≤ length (now s) ⌝ }
+    requires { ⌜ offset + step-length * count ≤ length (now s) ⌝ }
     ensures { λ r. ⌜ r ≡ steps-walked n models count (drop offset (now (s .entry))) ⌝ }
 {
     let mut at = offset;

@@ -1,13 +1,13 @@
 -- `handed_models` stores the models one after the other.
-use mathlib.Core.Path.{_≡_, refl}
+use mathlib.Core.Path.{_≡_, _∙_, ap}
 use Prim.Native.Nat.{_≤_, _-_}
 use native.Mathlib.Omega.{arith}
 use borrow.Author.Needs.{needs}
-use lib.ListN.{length}
-use Rattle.calculus.specs.Model.{most-terms}
+use lib.ListN.{length, replicate}
 use Rattle.calculus.specs.Book.{most-models}
 use Rattle.model_types.specs.Arrays.{padded}
 use Rattle.sheet_book.specs.BookStruct.{no-model}
+use Rattle.sheet_book.specs.ZeroLaws.{no-model-packed}
 use Rattle.c_books.specs.HandedBooks.{table, model-at, handed-models}
 use Rattle.c_books.specs.HandedBooksLaws.{Models-lent, models-lent, table-more}
 use Rattle.c_books.proofs.handed_models.Statement.{statement}
@@ -24,12 +24,19 @@ abbrev μ-loop : tie.MeasureT-loop
 model-places-requires : tie.Need-model-places-requires Inv-loop μ-loop
 model-places-requires c κs = search needs
 
+without-terms-requires : tie.Need-without-terms-requires Inv-loop μ-loop
+without-terms-requires c κs = search needs
+
 loop-holds : tie.Need-loop-holds Inv-loop μ-loop
-unfolding padded table most-models most-terms
-loop-holds c = (omega arith, refl, models-lent _ _ _ _ _ _ (c .model-places .ensures))
+unfolding padded table most-models
+loop-holds c = (
+  omega arith,
+  ap (replicate 16) (c .without-terms .ensures ∙ no-model-packed),
+  models-lent _ _ _ _ _ _ (c .before .model-places .ensures),
+)
 
 model-at-requires : tie.Need-model-at-requires Inv-loop μ-loop
-model-at-requires c κs = omega (arith, c .before .before .model-places .ensures)
+model-at-requires c κs = omega (arith, c .before .before .before .model-places .ensures)
 
 mul-out : tie.Need-mul-out Inv-loop μ-loop
 mul-out c = search needs
@@ -47,7 +54,7 @@ loop-again : tie.Need-loop-again Inv-loop μ-loop
 unfolding most-models
 loop-again c =
     let l = c .before .before in
-    let a = l .before .before .before .before .before .before .args in
+    let a = l .before .before .before .before .before .before .before .args in
     let h = l .loop .inv in (
       omega arith,
       rw (h .1, c .model-at .ensures)
@@ -60,8 +67,9 @@ returns : tie.Need-returns Inv-loop μ-loop
 unfolding handed-models
 returns c =
     let l = c .before in
-    let e : l .loop .k ≡ l .before .model-places .result = omega arith in
-    rw (l .loop .inv .1, e, l .before .model-places .ensures)
+    let p = l .before .before in
+    let e : l .loop .k ≡ p .model-places .result = omega arith in
+    rw (l .loop .inv .1, e, p .model-places .ensures)
 
 pub handed-models-spec : {M : Type 1} → statement M
 handed-models-spec =
@@ -70,6 +78,7 @@ handed-models-spec =
     Inv-loop
     μ-loop
     model-places-requires
+    without-terms-requires
     loop-holds
     model-at-requires
     mul-out

@@ -50,8 +50,11 @@ module _ (u : tie.After-u32-at Inv-terms μ-terms Inv-models μ-models) where
   abbrev outer : tie.At-models Inv-terms μ-terms Inv-models μ-models
   outer = u .before .before .before .before .before .before
 
+  abbrev entry : tie.Start Inv-terms μ-terms Inv-models μ-models
+  entry = outer .before .before .before
+
   abbrev sheet : List ℕ
-  sheet = outer .before .before .args .s .now
+  sheet = entry .args .s .now
 
   abbrev total : ℕ
   total = u .before .before .before .byte-at .result
@@ -80,8 +83,8 @@ module _ (c : tie.After-struct-told Inv-terms μ-terms Inv-models μ-models) whe
   read-back = toZ-ofZ (record { sfits = c .struct-told .given .1 .0 .1 })
 
 tested : (c : tie.After-term-sound Inv-terms μ-terms Inv-models μ-models)
-    → term-sound (outer (inner (c .before) .before) .before .before .args .n)
-    (outer (inner (c .before) .before) .before .before .args .d)
+    → term-sound (entry (inner (c .before) .before) .args .n)
+    (entry (inner (c .before) .before) .args .d)
     (inner (c .before) .terms .least) (term (c .before) .key) (term (c .before) .coefficient)
     ≡ c .term-sound .result
 tested c = sym (c .term-sound .ensures ∙ ap (term-sound _ _ _ _) (read-back (c .before)))
@@ -92,19 +95,22 @@ module _ (c : tie.After-terms Inv-terms μ-terms Inv-models μ-models) where
   behind-all = omega (arith, counted (c .before .before), c .terms-test .taken)
 
 span-decides : (c : tie.After-within-span Inv-terms μ-terms Inv-models μ-models)
-    → sound (outer (c .before .before .before) .before .before .args .d)
-    (view (model-at (outer (c .before .before .before) .before .before .args .n)
+    → sound (entry (c .before .before .before) .args .d)
+    (view (model-at (entry (c .before .before .before) .args .n)
     (outer (c .before .before .before) .models .at) (sheet (c .before .before .before))))
     ≡ c .within-span .result
 span-decides c =
     let u = c .before .before .before in
-    let p = outer u .before .before .pre in
+    let p = entry u .pre in
     sym (c .within-span .ensures
     ∙ terms-end _ _ _ _ (p .0) (p .1) (few u) _ _ _ _ (c .before .before .terms .inv .0) (behind-all (c .before)))
 
+without-terms-requires : tie.Need-without-terms-requires Inv-terms μ-terms Inv-models μ-models
+without-terms-requires c κs = search needs
+
 models-holds : tie.Need-models-holds Inv-terms μ-terms Inv-models μ-models
-unfolding most-terms most-models
-models-holds c = models-none _ _ _ _
+unfolding most-models
+models-holds c = models-none _ _ _ _ _ (c .without-terms .ensures)
 
 sub-left : tie.Need-sub-left Inv-terms μ-terms Inv-models μ-models
 sub-left c = c .before .models .inv .so-far .within
@@ -136,7 +142,7 @@ add-place c = search needs
 terms-holds : tie.Need-terms-holds Inv-terms μ-terms Inv-models μ-models
 unfolding most-terms
 terms-holds c =
-    let p = outer c .before .before .pre in
+    let p = entry c .pre in
     (terms-first _ _ _ _ (p .0) (p .1) (few c) _ (c .u32-at .ensures), terms-none (sheet c) (outer c .models .at))
 
 term-at-requires : tie.Need-term-at-requires Inv-terms μ-terms Inv-models μ-models
@@ -145,7 +151,7 @@ term-at-requires c κs =
     omega (arith, c .before .terms .inv .0 .placed, c .terms-test .left, room u)
 
 term-sound-requires : tie.Need-term-sound-requires Inv-terms μ-terms Inv-models μ-models
-term-sound-requires c κs = outer (inner c .before) .before .before .pre .0
+term-sound-requires c κs = entry (inner c .before) .pre .0
 
 mul-terms : tie.Need-mul-terms Inv-terms μ-terms Inv-models μ-models
 mul-terms c = search needs
@@ -173,7 +179,7 @@ add-place-2 c =
       inner t .terms .inv .0 .placed,
       t .before .before .terms-test .left,
       room (inner t .before),
-      short (outer (inner t .before) .before .before),
+      short (entry (inner t .before)),
     )
 
 add-i : tie.Need-add-i Inv-terms μ-terms Inv-models μ-models
@@ -192,7 +198,7 @@ terms-again c =
     let branch = added .before .before .before in
     let t = branch .before .before in
     let u = inner t .before in
-    let p = outer u .before .before .pre in
+    let p = entry u .pre in
     let h = inner t .terms .inv in
     let l : inner t .terms .i < byte (outer u .models .at + 4) (sheet u) =
     omega (arith, counted u, t .before .before .terms-test .left) in (
@@ -207,9 +213,11 @@ within-span-requires : tie.Need-within-span-requires Inv-terms μ-terms Inv-mode
 within-span-requires c κs = search needs
 
 mul-models : tie.Need-mul-models Inv-terms μ-terms Inv-models μ-models
+unfolding most-models
 mul-models c = search needs
 
 array-set-from-models : tie.Need-array-set-from-models Inv-terms μ-terms Inv-models μ-models
+unfolding most-models
 array-set-from-models c = search needs
 
 add-k : tie.Need-add-k Inv-terms μ-terms Inv-models μ-models
@@ -222,7 +230,7 @@ models-again : tie.Need-models-again Inv-terms μ-terms Inv-models μ-models
 models-again c =
     let l = c .before .before in
     let u = l .before .before in
-    let p = outer u .before .before .pre in
+    let p = entry u .pre in
     let h = l .before .terms .inv in
     let m = outer u .models .inv in
     let w = behind-all l in
@@ -259,7 +267,7 @@ returns-5 : tie.Need-returns-5 Inv-terms μ-terms Inv-models μ-models
 returns-5 c =
     let t = c .before .before in
     let u = inner t .before in
-    let p = outer u .before .before .pre in
+    let p = entry u .pre in
     let h = outer u .models .inv in
     models-answer _ _ _ _ _ _ _ h
     (models-unsound _ _ _ _ _ _ _ (h .so-far)
@@ -282,6 +290,7 @@ read-models-spec =
     μ-terms
     Inv-models
     μ-models
+    without-terms-requires
     models-holds
     sub-left
     add-byte-at

@@ -26,9 +26,11 @@ step-sound-requires : tie.Need-step-sound-requires Inv-steps μ-steps
 step-sound-requires c κs = search needs
 
 mul-steps : tie.Need-mul-steps Inv-steps μ-steps
+unfolding most-steps
 mul-steps c = search needs
 
 array-set-from-steps : tie.Need-array-set-from-steps Inv-steps μ-steps
+unfolding most-steps
 array-set-from-steps c = search needs
 
 add-at : tie.Need-add-at Inv-steps μ-steps

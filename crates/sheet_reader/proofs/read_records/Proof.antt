@@ -6,6 +6,7 @@ use native.Mathlib.Omega.{arith}
 use borrow.Author.Needs.{needs}
 use lib.ListN.{length}
 use lib.Seq.{length-take-le}
+use Rattle.calculus.specs.Book.{most-models, most-steps}
 use Rattle.model_types.specs.ModelStruct.{cause}
 use Rattle.format.specs.HeldBookLaws.{In-limits, in-limits}
 use Rattle.sheet_book.specs.BookStruct.{read-answer}
@@ -46,6 +47,7 @@ slice-aggregate-read-models c =
     sym (length-take-le _ _ (omega (arith, c .before .before .before .before .before .pre .1)))
 
 read-models-requires : tie.Need-read-models-requires
+unfolding most-models
 read-models-requires c κs =
     let l = limits (c .before .before .before .before .before) in
     (l .n-low, l .n-high, l .models)
@@ -77,6 +79,7 @@ returns-2 c =
     (c .before .if2 .taken)))
 
 read-steps-requires : tie.Need-read-steps-requires
+unfolding most-steps
 read-steps-requires c κs =
     let b = start (c .before .before .before) in
     (limits b .steps-high, steps-fit b)
