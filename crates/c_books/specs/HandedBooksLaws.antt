@@ -5,6 +5,7 @@ use Prim.Native.Nat.{ℕ, zero, suc, _+_, _*_, _≤_, _<_}
 use native.Mathlib.Numerals.{add-one}
 use native.Mathlib.Omega.{arith}
 use lib.ListN.{length, set, length-append}
+use Rattle.calculus.specs.Model.{most-terms}
 use Rattle.calculus.specs.Book.{most-models, most-steps}
 use Rattle.model_types.specs.Arrays.{padded}
 use Rattle.model_types.specs.ArrayLaws.{padded-more}
@@ -42,7 +43,7 @@ pub record Models-lent (places ns counts radii keys coefficients : ℕ) : Type 0
 pub models-lent : (places ns counts radii keys coefficients : ℕ)
     → places ≡ model-places ns counts radii keys coefficients
     → Models-lent places ns counts radii keys coefficients
-unfolding model-places most-models
+unfolding model-places most-terms most-models
 models-lent p ns cs rs ks zs e = record {
   few = omega arith;
   ns-long = omega arith;
@@ -54,7 +55,7 @@ models-lent p ns cs rs ks zs e = record {
 
 pub models-lent-at : (k ns counts radii keys coefficients : ℕ) → k < model-places ns counts radii keys coefficients
     → Models-lent (suc k) ns counts radii keys coefficients
-unfolding model-places most-models
+unfolding model-places most-terms most-models
 models-lent-at k ns cs rs ks zs e = record {
   few = omega arith;
   ns-long = omega arith;

@@ -13,7 +13,7 @@ use Rattle.calculus.specs.Calls.{call-evaluate}
 use Rattle.model_types.specs.declared.Answer.{Answer}
 use Rattle.model_types.specs.declared.Bounds.{Bounds}
 use Rattle.model_types.specs.ModelStruct.{answer, bounds, verdict-number, verdict-place}
-use Rattle.c_models.specs.HandedModels.{lent, over, stored-keys, stored-coefficients, stored-numbers}
+use Rattle.c_models.specs.HandedModels.{lent, misused, over, stored-keys, stored-coefficients, stored-numbers}
 
 -- ---- the calls by their codes
 -- the call that a code names: 1 to 8 as for a sheet's steps, 9 the antiderivative; constant and variable take the n of
@@ -62,7 +62,7 @@ call-fits code c₁ k₁ z₁ c₂ k₂ z₂ room = leb 1 code && leb code 9 && 
 -- a call that fits is answered, any other returns 255 and changes nothing
 unfoldable pub called : (fits : Bool) → Result C.Model → List ℕ → List ℤ → List ℕ → Called
 called true a ks cs ns = stored-answer (answer a) ks cs ns
-called false a ks cs ns = called-state 255 ks cs ns
+called false a ks cs ns = called-state misused ks cs ns
 
 -- ---- a call that answers with two ends
 -- the number that it returns, and its slice
@@ -86,4 +86,4 @@ ends-call-fits code count keys coefficients ends =
 -- a call that fits is answered, any other returns 255 and changes nothing
 unfoldable pub called-ends : (fits : Bool) → Result Ends → List ℤ → Called-ends
 called-ends true a es = stored-bounds (bounds a) es
-called-ends false a es = ends-state 255 es
+called-ends false a es = ends-state misused es

@@ -3,13 +3,14 @@ use mathlib.Core.Path.{_≡_, sym, subst}
 use mathlib.Core.Bool.{true, _&&_}
 use Prim.Native.Nat.{ℕ, _≤_}
 use lib.Dec.{T, leb, leb→le}
+use Rattle.calculus.specs.Model.{most-terms}
 use Rattle.calculus.specs.TestLaws.{and-right}
-use Rattle.c_models.specs.HandedModels.{lent, model-room}
+use Rattle.c_models.specs.HandedModels.{lent, answer-numbers, model-room}
 use Rattle.c_models.specs.HandedModelsLaws.{room-parts}
 use Rattle.c_calls.specs.CallCodes.{call-fits, ends-call-fits}
 
 pub fits-room : (code c₁ k₁ z₁ c₂ k₂ z₂ k z n : ℕ) → call-fits code c₁ k₁ z₁ c₂ k₂ z₂ (model-room k z n) ≡ true
-    → (64 ≤ k) × (64 ≤ z) × (4 ≤ n)
+    → (most-terms ≤ k) × (most-terms ≤ z) × (answer-numbers ≤ n)
 unfolding call-fits
 fits-room code c₁ k₁ z₁ c₂ k₂ z₂ k z n h =
     room-parts k z n

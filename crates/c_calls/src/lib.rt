@@ -2,7 +2,9 @@
 ghost use mathlib.Core.Path.{_≡_};
 ghost use Prim.Native.Nat.{_≤_};
 ghost use lib.ListN.{length};
+ghost use Rattle.calculus.specs.Model.{«most-terms»};
 ghost use Rattle.model_types.specs.ModelStruct.{view, answer, bounds};
+ghost use Rattle.c_models.specs.HandedModels.{«answer-numbers»};
 ghost use Rattle.c_calls.specs.CallCodes.{«model-call», «ends-call», «call-fits», «ends-call-fits»};
 ghost use Rattle.c_calls.specs.CallCodes.{«called-state», «stored-answer», «ends-state», «stored-bounds»};
 use model::Answer;
@@ -69,7 +71,8 @@ pub fn store_answer(
     coefficients: &mut [i64],
     numbers: &mut [u64],
 ) -> u8
-    requires { ⌜ (64 ≤ length (now keys)) × (64 ≤ length (now coefficients)) × (4 ≤ length (now numbers)) ⌝ }
+    requires { ⌜ (most-terms ≤ length (now keys)) × (most-terms ≤ length (now coefficients))
+        × (answer-numbers ≤ length (now numbers)) ⌝ }
     ensures { λ r. ⌜ called-state r (now (keys .exit)) (now (coefficients .exit)) (now (numbers .exit))
         ≡ stored-answer a (now (keys .entry)) (now (coefficients .entry)) (now (numbers .entry)) ⌝ }
 {

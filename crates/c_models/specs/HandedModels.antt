@@ -27,6 +27,10 @@ handed n count radius ks cs =
 unfoldable pub lent : (count keys coefficients : ℕ) → Bool
 lent count keys coefficients = leb (min count most-terms) keys && leb (min count most-terms) coefficients
 
+-- the number that a call returns where a slice is too short or a code unknown
+abbrev pub misused : ℕ
+misused = 255
+
 -- ---- what the slices hold at the end
 -- the first places of a slice hold these, the others what they held
 unfoldable pub over : {A : Type 0} → List A → List A → List A
@@ -40,10 +44,14 @@ stored-keys m = over (map (λ t. t .key) (m .terms))
 unfoldable pub stored-coefficients : Model → List ℤ → List ℤ
 stored-coefficients m = over (map (λ t. t .coefficient) (m .terms))
 
+-- how many numbers go with a model that is answered
+abbrev pub answer-numbers : ℕ
+answer-numbers = 4
+
 -- a refusal's place, n, the count, the radius
 unfoldable pub stored-numbers : (place : ℕ) → Model → List ℕ → List ℕ
 stored-numbers place m = over (place ∷ m .n ∷ m .count ∷ m .radius ∷ [])
 
 -- whether slices of these lengths have room for an answer
 unfoldable pub model-room : (keys coefficients numbers : ℕ) → Bool
-model-room keys coefficients numbers = leb most-terms keys && leb most-terms coefficients && leb 4 numbers
+model-room keys coefficients numbers = leb most-terms keys && leb most-terms coefficients && leb answer-numbers numbers

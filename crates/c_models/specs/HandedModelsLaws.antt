@@ -14,7 +14,7 @@ use Rattle.calculus.specs.TestLaws.{and-left, and-right}
 use Rattle.model_types.specs.declared.Term.{Term}
 use Rattle.model_types.specs.ModelStruct.{zero-term, pad}
 use Rattle.model_types.specs.ModelStructLaws.{pad-more, take-more}
-use Rattle.c_models.specs.HandedModels.{terms-of, over, model-room}
+use Rattle.c_models.specs.HandedModels.{terms-of, over, answer-numbers, model-room}
 
 -- ---- terms of two slices
 terms-more : (i : ℕ) (ks : List ℕ) (cs : List ℤ) → i < length ks → i < length cs
@@ -90,14 +90,14 @@ over-four (w ∷ x ∷ y ∷ []) a b c e h = absurd (omega arith)
 over-four (w ∷ x ∷ y ∷ z ∷ l) a b c e h = refl
 
 -- ---- room for an answer
-pub room-parts : (k z n : ℕ) → T (model-room k z n) → (64 ≤ k) × (64 ≤ z) × (4 ≤ n)
-unfolding model-room most-terms
+pub room-parts : (k z n : ℕ) → T (model-room k z n) → (most-terms ≤ k) × (most-terms ≤ z) × (answer-numbers ≤ n)
+unfolding model-room
 room-parts k z n r =
-    let l = and-left (leb 64 k && leb 64 z) (leb 4 n) r in (
-      leb→le 64 k (and-left (leb 64 k) (leb 64 z) l),
-      leb→le 64 z (and-right (leb 64 k) (leb 64 z) l),
-      leb→le 4 n (and-right (leb 64 k && leb 64 z) (leb 4 n) r),
+    let l = and-left (leb most-terms k && leb most-terms z) (leb answer-numbers n) r in (
+      leb→le most-terms k (and-left (leb most-terms k) (leb most-terms z) l),
+      leb→le most-terms z (and-right (leb most-terms k) (leb most-terms z) l),
+      leb→le answer-numbers n (and-right (leb most-terms k && leb most-terms z) (leb answer-numbers n) r),
     )
 
-pub room : (k z n : ℕ) → model-room k z n ≡ true → (64 ≤ k) × (64 ≤ z) × (4 ≤ n)
+pub room : (k z n : ℕ) → model-room k z n ≡ true → (most-terms ≤ k) × (most-terms ≤ z) × (answer-numbers ≤ n)
 room k z n h = room-parts k z n (subst T (sym h) tt)

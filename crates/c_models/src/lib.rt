@@ -3,8 +3,9 @@
 ghost use mathlib.Core.Path.{_≡_};
 ghost use Prim.Native.Nat.{_≤_, min};
 ghost use lib.ListN.{length};
+ghost use Rattle.calculus.specs.Model.{«most-terms»};
 ghost use Rattle.model_types.specs.ModelStruct.{«verdict-number», «verdict-place»};
-ghost use Rattle.c_models.specs.HandedModels.{handed, lent, «model-room»};
+ghost use Rattle.c_models.specs.HandedModels.{handed, lent, «answer-numbers», «model-room»};
 ghost use Rattle.c_models.specs.HandedModels.{«stored-keys», «stored-coefficients», «stored-numbers»};
 use model_types::Model;
 use model_types::Term;
@@ -81,7 +82,7 @@ pub fn verdict_place(verdict: Verdict) -> usize
 
 // All 64 places of a model's terms go into two slices.
 pub fn store_terms(m: Model, keys: &mut [u16], coefficients: &mut [i64])
-    requires { ⌜ (64 ≤ length (now keys)) × (64 ≤ length (now coefficients)) ⌝ }
+    requires { ⌜ (most-terms ≤ length (now keys)) × (most-terms ≤ length (now coefficients)) ⌝ }
     ensures { λ r. ⌜ (now (keys .exit) ≡ stored-keys m (now (keys .entry)))
         × (now (coefficients .exit) ≡ stored-coefficients m (now (coefficients .entry))) ⌝ }
 {
@@ -97,7 +98,7 @@ pub fn store_terms(m: Model, keys: &mut [u16], coefficients: &mut [i64])
 
 // The numbers of an answer.
 pub fn store_numbers(place: usize, m: Model, numbers: &mut [u64])
-    requires { ⌜ 4 ≤ length (now numbers) ⌝ }
+    requires { ⌜ answer-numbers ≤ length (now numbers) ⌝ }
     ensures { λ r. ⌜ now (numbers .exit) ≡ stored-numbers place m (now (numbers .entry)) ⌝ }
 {
     numbers[0] = place as u64;

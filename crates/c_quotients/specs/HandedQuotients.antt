@@ -10,9 +10,13 @@ use Rattle.calculus.specs.Calls.{call-quotient}
 use Rattle.model_types.specs.ModelStruct.{view}
 use Rattle.c_books.specs.HandedBooks.{model-at}
 
--- whether the slices hold four models, and there is room for the answer
+-- the models of a quotient
+abbrev pub quotient-models : ℕ
+quotient-models = 4
+
+-- whether the slices hold them, and there is room for the answer
 unfoldable pub quotient-fits : (models : ℕ) (room : Bool) → Bool
-quotient-fits models room = leb 4 models && room
+quotient-fits models room = leb quotient-models models && room
 
 -- the model at place k
 abbrev pub operand : (ns counts radii keys : List ℕ) → List ℤ → (k : ℕ) → C.Model

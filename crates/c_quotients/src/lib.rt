@@ -4,7 +4,7 @@ ghost use Prim.Native.Nat.{_≤_};
 ghost use lib.ListN.{length};
 ghost use Rattle.model_types.specs.ModelStruct.{answer};
 ghost use Rattle.c_books.specs.HandedBooks.{«model-places»};
-ghost use Rattle.c_quotients.specs.HandedQuotients.{«quotient-fits», «handed-quotient»};
+ghost use Rattle.c_quotients.specs.HandedQuotients.{«quotient-models», «quotient-fits», «handed-quotient»};
 use model::Answer;
 
 // The models of a quotient.
@@ -29,8 +29,8 @@ pub fn handed_quotient(
     keys: &[u16],
     coefficients: &[i64],
 ) -> Answer
-    requires { ⌜ 4 ≤ model-places (length (now ns)) (length (now counts)) (length (now radii)) (length (now keys))
-        (length (now coefficients)) ⌝ }
+    requires { ⌜ quotient-models ≤ model-places (length (now ns)) (length (now counts)) (length (now radii))
+        (length (now keys)) (length (now coefficients)) ⌝ }
     ensures { λ r. ⌜ r ≡ answer (handed-quotient d (now (ns .entry)) (now (counts .entry)) (now (radii .entry))
         (now (keys .entry)) (now (coefficients .entry))) ⌝ }
 {

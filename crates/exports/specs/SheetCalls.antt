@@ -6,7 +6,7 @@ use lib.IntN.{ℤ}
 use Rattle.model_types.specs.ModelStruct.{verdict-number, verdict-place}
 use Rattle.sheet_book.specs.declared.Ends.{Ends}
 use Rattle.sheet_book.specs.declared.Summary.{Summary}
-use Rattle.c_models.specs.HandedModels.{over, stored-keys, stored-coefficients, stored-numbers}
+use Rattle.c_models.specs.HandedModels.{misused, over, stored-keys, stored-coefficients, stored-numbers}
 
 -- the ends of the range and of the integral, over what the slice holds
 unfoldable pub four-ends : (range integral : Ends) → List ℤ → List ℤ
@@ -33,5 +33,5 @@ stored-summary s ks cs ns es =
 -- where all slices have room the run is answered, else the call returns 255 and changes nothing
 unfoldable pub called-run : (room ends-room : Bool) → Summary → List ℕ → List ℤ → List ℕ → List ℤ → Run
 called-run true true s ks cs ns es = stored-summary s ks cs ns es
-called-run true false s ks cs ns es = run-state 255 ks cs ns es
-called-run false e s ks cs ns es = run-state 255 ks cs ns es
+called-run true false s ks cs ns es = run-state misused ks cs ns es
+called-run false e s ks cs ns es = run-state misused ks cs ns es

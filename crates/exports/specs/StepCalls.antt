@@ -8,7 +8,7 @@ use Rattle.sheet_book.specs.declared.Start.{Start}
 use Rattle.sheet_book.specs.declared.Kind.{Kind}
 use Rattle.sheet_book.specs.declared.Kind.the-variants.{Model, Step, End}
 use Rattle.text.specs.Text.{laid}
-use Rattle.c_models.specs.HandedModels.{over}
+use Rattle.c_models.specs.HandedModels.{misused, over}
 
 -- ---- opening
 -- the number that it returns, and its numbers
@@ -25,7 +25,7 @@ open-state number ns = record { number = number; numbers = ns }
 unfoldable pub called-open : (fits : Bool) → Start → (numbers : List ℕ) → Open
 called-open true s ns =
     open-state (verdict-number (s .verdict)) (over (verdict-place (s .verdict) ∷ s .at ∷ []) ns)
-called-open false s ns = open-state 255 ns
+called-open false s ns = open-state misused ns
 
 -- ---- the record at a place
 -- what it is, as a number
@@ -48,4 +48,4 @@ next-state number b ns = record { number = number; bytes = b; numbers = ns }
 -- of the next; any other returns 255 and changes nothing
 unfoldable pub called-next : (fits : Bool) → Kind → (found : List ℕ) (next : ℕ) (bytes numbers : List ℕ) → Next
 called-next true k f p b ns = next-state (kind-number k) (laid f b) (over (length f ∷ p ∷ []) ns)
-called-next false k f p b ns = next-state 255 b ns
+called-next false k f p b ns = next-state misused b ns

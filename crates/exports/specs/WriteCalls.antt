@@ -13,7 +13,7 @@ use Rattle.sheet_book.specs.declared.Book.{Book}
 use Rattle.sheet_book.specs.declared.Read.{Read}
 use Rattle.sheet_book.specs.declared.Written.{Written}
 use Rattle.sheet_book.specs.BookStruct.{held-book, write-answer}
-use Rattle.c_models.specs.HandedModels.{over}
+use Rattle.c_models.specs.HandedModels.{misused, over}
 
 -- whether there are as many models and steps as the counts name, and room for the numbers
 unfoldable pub book-fits : (model-count models step-count steps numbers : ℕ) → Bool
@@ -55,7 +55,7 @@ write-book h b ns = answered-write (stored-written (write-answer (write h b)) ns
 -- a write that fits is answered, any other call returns 255 and changes nothing
 unfoldable pub called-write : (fits : Bool) → Held-book → (buffer numbers : List ℕ) → Write
 called-write true h b ns = write-book h b ns
-called-write false h b ns = write-state 255 b ns
+called-write false h b ns = write-state misused b ns
 
 -- what was read is written; a refused read answers the length 0, and the buffer stays
 unfoldable pub rewritten : Verdict → Book → (buffer numbers : List ℕ) → Write
@@ -66,4 +66,4 @@ rewritten (Refused r i) k b ns =
 -- a call that fits is answered, any other returns 255 and changes nothing
 unfoldable pub called-rewrite : (fits : Bool) → Read → (buffer numbers : List ℕ) → Write
 called-rewrite true a b ns = rewritten (a .verdict) (a .book) b ns
-called-rewrite false a b ns = write-state 255 b ns
+called-rewrite false a b ns = write-state misused b ns

@@ -4,11 +4,12 @@ ghost use mathlib.Core.Bool.{_&&_};
 ghost use Prim.Native.Nat.{_≤_};
 ghost use lib.Dec.{leb};
 ghost use lib.ListN.{length};
+ghost use Rattle.calculus.specs.Model.{«most-terms»};
 ghost use Rattle.format.specs.Format.{«run-sheet»};
 ghost use Rattle.sheet_book.specs.BookStruct.{«held-book»};
 ghost use Rattle.sheet_book.specs.SummaryStruct.{«run-answer»};
 ghost use Rattle.sheet.specs.Sheet.{«run-held»};
-ghost use Rattle.c_models.specs.HandedModels.{«model-room»};
+ghost use Rattle.c_models.specs.HandedModels.{«answer-numbers», «model-room»};
 ghost use Rattle.c_books.specs.HandedBooks.{«step-places», «handed-steps», «model-places», «handed-models»};
 ghost use Rattle.c_books.specs.HandedBooks.{«handed-book»};
 ghost use Rattle.exports.specs.WriteCalls.{«book-fits»};
@@ -44,8 +45,8 @@ fn store_summary(
     numbers: &mut [u64],
     ends: &mut [i64],
 ) -> u8
-    requires { ⌜ (64 ≤ length (now keys)) × (64 ≤ length (now coefficients)) × (4 ≤ length (now numbers))
-        × (4 ≤ length (now ends)) ⌝ }
+    requires { ⌜ (most-terms ≤ length (now keys)) × (most-terms ≤ length (now coefficients))
+        × (answer-numbers ≤ length (now numbers)) × (4 ≤ length (now ends)) ⌝ }
     ensures { λ r. ⌜ run-state r (now (keys .exit)) (now (coefficients .exit)) (now (numbers .exit)) (now (ends .exit))
         ≡ stored-summary s (now (keys .entry)) (now (coefficients .entry)) (now (numbers .entry))
         (now (ends .entry)) ⌝ }

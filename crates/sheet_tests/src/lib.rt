@@ -7,7 +7,7 @@ ghost use Rattle.calculus.specs.Model.{between};
 ghost use Rattle.calculus.specs.Book.{«limits-sound»};
 ghost use Rattle.model_types.specs.ModelStruct.{verdict};
 ghost use Rattle.format.specs.HeldBook.{outline};
-ghost use Rattle.format.specs.Format.{shortest, longest, «read-records», read};
+ghost use Rattle.format.specs.Format.{«step-length», «trailer-length», shortest, longest, «read-records», read};
 ghost use Rattle.sheet_decode.specs.Trailer.{«held-trailer»};
 ghost use Rattle.sheet_tests.specs.Headed.{headed};
 use model_types::Refusal;
@@ -53,7 +53,7 @@ pub fn head_tested(sheet: &[u8]) -> Verdict
 // Tests 5 and 6 of a sheet that passes the others.
 fn records_tested(sheet: &[u8], t: Trailer) -> Verdict
     requires { ⌜ T (limits-sound (outline (t .n) (t .d) (t .models) (t .steps))) ⌝ }
-    requires { ⌜ t .offset + 8 * t .steps + 8 ≡ length (now sheet) ⌝ }
+    requires { ⌜ t .offset + step-length * t .steps + trailer-length ≡ length (now sheet) ⌝ }
     ensures { λ r. ⌜ r ≡ verdict (read-records (now (sheet .entry)) (held-trailer t)) ⌝ }
 {
     let n = t.n;

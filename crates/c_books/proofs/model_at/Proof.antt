@@ -4,7 +4,8 @@ use Prim.Native.Nat.{suc, _+_, _*_, _-_}
 use native.Mathlib.Omega.{arith}
 use borrow.Author.Needs.{needs}
 use lib.ListN.{length}
-use Rattle.c_books.specs.HandedBooks.{model-at}
+use Rattle.calculus.specs.Model.{most-terms}
+use Rattle.c_books.specs.HandedBooks.{entries-of, model-at}
 use Rattle.c_books.specs.HandedBooksLaws.{Models-lent, models-lent-at}
 use Rattle.c_books.proofs.model_at.Statement.{statement}
 use Rattle.c_books.proofs.model_at.Tie as tie
@@ -63,7 +64,7 @@ handed-requires : tie.Need-handed-requires
 handed-requires c κs = search needs
 
 returns : tie.Need-returns
-unfolding model-at
+unfolding model-at entries-of most-terms
 returns c =
     let k = c .before .before .before .before .before .before .before .before .before .before .args .k in
     let w : 64 * k + 64 - 64 * k ≡ 64 = omega arith in rw (c .handed .ensures, w)

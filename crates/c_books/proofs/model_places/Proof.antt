@@ -1,5 +1,6 @@
 -- `model_places` takes the least.
 use borrow.Author.Needs.{needs}
+use Rattle.calculus.specs.Model.{most-terms}
 use Rattle.calculus.specs.Book.{most-models}
 use Rattle.c_books.specs.HandedBooks.{model-places}
 use Rattle.c_books.proofs.model_places.Statement.{statement}
@@ -21,7 +22,7 @@ least-requires-5 : tie.Need-least-requires-5
 least-requires-5 c κs = search needs
 
 returns : tie.Need-returns
-unfolding model-places most-models
+unfolding model-places most-terms most-models
 returns c =
     let a = c .before in
     let b = a .before in

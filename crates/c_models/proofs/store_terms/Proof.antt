@@ -10,6 +10,7 @@ use lib.Seq.{take-all}
 use mir.Facts.{toZ-ofZ}
 use mir.Syntax.{w64}
 use mir.Val.{toZ, ofZ}
+use Rattle.calculus.specs.Model.{most-terms}
 use Rattle.model_types.specs.declared.Term.{Term}
 use Rattle.model_types.specs.ModelStruct.{zero-term}
 use Rattle.c_models.specs.HandedModels.{over, stored-keys, stored-coefficients}
@@ -40,15 +41,19 @@ element-copy-out-t : tie.Need-element-copy-out-t Inv-loop μ-loop
 element-copy-out-t c = search needs
 
 mul-keys : tie.Need-mul-keys Inv-loop μ-loop
+unfolding most-terms
 mul-keys c = search needs
 
 slice-write-keys : tie.Need-slice-write-keys Inv-loop μ-loop
+unfolding most-terms
 slice-write-keys c = search needs
 
 mul-c : tie.Need-mul-c Inv-loop μ-loop
+unfolding most-terms
 mul-c c = search needs
 
 slice-set-from-c : tie.Need-slice-set-from-c Inv-loop μ-loop
+unfolding most-terms
 slice-set-from-c c = search needs
 
 add-i : tie.Need-add-i Inv-loop μ-loop
@@ -69,6 +74,7 @@ module _ (c : tie.After-struct-told Inv-loop μ-loop) where
   read-back = toZ-ofZ (record { sfits = c .struct-told .given .1 .0 .1 })
 
 loop-again : tie.Need-loop-again Inv-loop μ-loop
+unfolding most-terms
 loop-again c =
     let l = loop c in
     let s = l .before in
