@@ -9,15 +9,17 @@ use Rattle.model_types.specs.declared.Refusal.{Refusal}
 use Rattle.model_types.specs.declared.Verdict.the-variants.{Accepted, Refused}
 use Rattle.model_types.specs.ModelStruct.{verdict-number, verdict-place}
 use Rattle.model_types.specs.ModelStructLaws.{cause-refusal}
-use Rattle.format.specs.Bytes.{byte, All-bytes}
+use Rattle.format.specs.Bytes.{All-bytes}
 use Rattle.format.specs.HeldBook.{Held-book}
-use Rattle.format.specs.Format.{shortest, model-length, trailer-of, read-trailer, read}
+use Rattle.format.specs.Format as F
+use Rattle.format.specs.Format.{shortest, trailer-length, model-length, trailer-of, read-trailer, read}
 use Rattle.format.specs.Format.{model-records, step-records, records, opened, returned-records}
-use Rattle.format.specs.ReadLoopLaws.{byte-at}
 use Rattle.format.specs.ReadBackLaws.{sheet-shortest}
 use Rattle.format.specs.WriteBackLaws.{read-passes, read-sheet}
 use Rattle.sheet_book.specs.BookStruct.{verdict}
 use Rattle.sheet_book.specs.TestedLaws.{accepted-done, refused-stopped}
+use Rattle.sheet_decode.specs.declared.Trailer.{Trailer}
+use Rattle.sheet_decode.specs.Trailer.{stored-trailer}
 use Rattle.sheet_opening.specs.Opening.{start-of, start, start-answer}
 
 -- ---- opening
@@ -101,13 +103,13 @@ length-steps zero s = refl
 length-steps (suc c) s = ap suc (length-steps c (drop 8 s))
 
 module _ (s : List ℕ) where
-  records-said : length (records s) ≡ byte (length s - 8 + 2) s + byte (length s - 8 + 3) s
-  unfolding records read-trailer trailer-of
-  records-said =
-      length-append (model-records (byte 2 (trailer-of s)) s) _
-      ∙ ap₂ _+_
-      (length-models (byte 2 (trailer-of s)) s ∙ byte-at (length s - 8) 2 s)
-      (length-steps (byte 3 (trailer-of s)) _ ∙ byte-at (length s - 8) 3 s)
+  abbrev said : F.Trailer
+  said = read-trailer (trailer-of s)
+
+  records-said : length (records s) ≡ said .models + said .steps
+  unfolding records
+  records-said = length-append (model-records (said .models) s) _
+      ∙ ap₂ _+_ (length-models (said .models) s) (length-steps (said .steps) _)
 
   value-done : (r : Result Held-book) (h : Held-book) → r ≡ done h
       → returned [] (r followed-by (λ h. done (records s))) .value ≡ records s
@@ -127,5 +129,8 @@ module _ (s : List ℕ) where
 
   -- their number stands in the trailer
   pub count-accepted : Has-book s
-      → length (returned-records s .value) ≡ byte (length s - 8 + 2) s + byte (length s - 8 + 3) s
-  count-accepted b = ap length (value-accepted b) ∙ records-said
+      → (t : Trailer) → t ≡ stored-trailer (read-trailer (drop (length s - trailer-length) s))
+      → t .models + t .steps ≡ length (returned-records s .value)
+  unfolding trailer-of stored-trailer
+  count-accepted b t e =
+      ap (λ (t : Trailer). t .models + t .steps) e ∙ sym (ap length (value-accepted b) ∙ records-said)

@@ -26,8 +26,9 @@ pub fn record_count(sheet: &[u8]) -> usize
     match verdict {
         Verdict::Accepted => {
             let end = sheet.len() - format::TRAILER_BYTES;
-            let models = sheet[end + 2] as usize;
-            let steps = sheet[end + 3] as usize;
+            let t = sheet_decode::trailer_at(sheet, end);
+            let models = t.models as usize;
+            let steps = t.steps as usize;
             models + steps
         }
         Verdict::Refused(_, _) => 0,

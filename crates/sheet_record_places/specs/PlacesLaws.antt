@@ -1,5 +1,5 @@
 -- Laws of a place: how long the record there should be, and what it is.
-use mathlib.Core.Path.{_≡_, ap}
+use mathlib.Core.Path.{_≡_}
 use mathlib.Core.Bool.{Bool, true, false, cond}
 use mathlib.Core.List.{List}
 use Prim.Native.Nat.{ℕ, _+_, _-_, _*_, _≤_, _<_}
@@ -7,17 +7,11 @@ use native.Mathlib.Omega.{arith}
 use borrow.Author.Tests.{lt-ltb, le-ltb}
 use lib.Dec.{ltb}
 use lib.ListN.{length, drop}
-use lib.Seq.{drop-drop}
-use Rattle.format.specs.Bytes.{byte, u16}
-use Rattle.format.specs.Format.{model-length, trailer-of, read-trailer}
+use Rattle.format.specs.Bytes.{byte}
+use Rattle.format.specs.Format.{model-length}
 use Rattle.format.specs.ReadLoopLaws.{byte-at}
 use Rattle.sheet_book.specs.declared.Kind.the-variants.{Model, Step, End}
 use Rattle.sheet_record_places.specs.Places.{first-step, record-size, kind-at}
-
-module _ (s : List ℕ) where
-  pub first-step-is : first-step s ≡ u16 (drop (length s - 8 + 4) s)
-  unfolding first-step read-trailer trailer-of
-  first-step-is = ap u16 (drop-drop 4 (length s - 8) s)
 
 module _ (s : List ℕ) (at : ℕ) where
   pub size-model : at < first-step s → record-size s at ≡ 5 + 6 * byte (at + 4) s

@@ -3,22 +3,24 @@
 ghost use mathlib.Core.Path.{_≡_};
 ghost use Prim.Native.Nat.{_+_, _≤_, _<_};
 ghost use lib.ListN.{length};
+ghost use Rattle.format.specs.Format.{«trailer-length»};
 ghost use Rattle.sheet_record_places.specs.Places.{«first-step», «record-size», «length-at», «next-at»};
 ghost use Rattle.sheet_record_places.specs.Places.{«bytes-at», «kind-at»};
 use sheet_book::Kind;
 
 // Where the first step stands, by the trailer.
 pub fn first_step(s: &[u8]) -> usize
-    requires { ⌜ 8 ≤ length (now s) ⌝ }
+    requires { ⌜ trailer-length ≤ length (now s) ⌝ }
     ensures { λ r. ⌜ r ≡ first-step (now (s .entry)) ⌝ }
 {
     let end = s.len() - format::TRAILER_BYTES;
-    sheet_decode::u16_at(s, end + 4) as usize
+    let t = sheet_decode::trailer_at(s, end);
+    t.offset as usize
 }
 
 // How long the record at a place should be: a model's by its term count.
 fn size_at(s: &[u8], at: usize) -> usize
-    requires { ⌜ at + 8 < length (now s) ⌝ }
+    requires { ⌜ at + trailer-length < length (now s) ⌝ }
     ensures { λ r. ⌜ r ≡ record-size (now (s .entry)) at ⌝ }
 {
     let first = first_step(s);

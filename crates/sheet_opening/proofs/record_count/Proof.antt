@@ -1,6 +1,6 @@
 -- `record_count` makes the tests, and reads the counts of a sheet that passes them.
 use mathlib.Core.Path.{_≡_, sym, _∙_, ap}
-use Prim.Native.Nat.{_+_, _-_, _≤_}
+use Prim.Native.Nat.{_≤_}
 use native.Mathlib.Omega.{arith}
 use borrow.Author.Needs.{needs}
 use lib.ListN.{length}
@@ -29,40 +29,27 @@ enum-told c = search needs
 sub-end : tie.Need-sub-end
 sub-end c = omega (arith, long c)
 
-add-models : tie.Need-add-models
-add-models c = search needs
-
-shared-slice-read-models : tie.Need-shared-slice-read-models
-shared-slice-read-models c = omega (arith, long (c .before))
+trailer-at-requires : tie.Need-trailer-at-requires
+trailer-at-requires c κs = omega (arith, long c)
 
 cast-models : tie.Need-cast-models
-cast-models c =
-    let s = c .before .before .before .before .before .args .sheet .now in
-    omega (arith, c .shared-slice-known2 .given (length s - 8 + 2))
-
-add-steps : tie.Need-add-steps
-add-steps c = search needs
-
-shared-slice-read-steps : tie.Need-shared-slice-read-steps
-shared-slice-read-steps c = omega (arith, long (c .before .before))
+cast-models c = search needs
 
 cast-steps : tie.Need-cast-steps
-cast-steps c =
-    let s = c .before .before .before .before .before .before .args .sheet .now in
-    omega (arith, c .shared-slice-known3 .given (length s - 8 + 3))
+cast-steps c = search needs
 
 add-result : tie.Need-add-result
-add-result c =
-    let s = c .before .before .before .before .before .before .args .sheet .now in
-    omega (arith, c .shared-slice-known3 .given (length s - 8 + 2), c .shared-slice-known3 .given (length s - 8 + 3))
+add-result c = search needs
 
 enum-told-2 : tie.Need-enum-told-2
 enum-told-2 c = search needs
 
 returns : tie.Need-returns
 returns c =
-    let s = c .before .before .before .before .before .before .args .sheet .now in
-    sym (count-accepted s (has-book s (accepted (c .before .before))))
+    let t = c .before .before in
+    let e = t .before in
+    let s = e .before .before .before .before .args .sheet .now in
+    count-accepted s (has-book s (accepted e)) _ (t .trailer-at .ensures)
 
 returns-2 : tie.Need-returns-2
 returns-2 c =
@@ -77,11 +64,8 @@ record-count-spec =
     tested-requires
     enum-told
     sub-end
-    add-models
-    shared-slice-read-models
+    trailer-at-requires
     cast-models
-    add-steps
-    shared-slice-read-steps
     cast-steps
     add-result
     enum-told-2
