@@ -6,9 +6,9 @@ ghost use lib.ListN.{length};
 ghost use Rattle.calculus.specs.Book.{«limits-sound»};
 ghost use Rattle.calculus.specs.Refusal.{stopped};
 ghost use Rattle.model_types.specs.ModelStruct.{cause};
-ghost use Rattle.format.specs.HeldBook.{outline};
-ghost use Rattle.format.specs.Format.{«read-records», read};
-ghost use Rattle.sheet_book.specs.BookStruct.{«read-answer»};
+ghost use Rattle.format.specs.HeldBook.{«zero-book», outline};
+ghost use Rattle.format.specs.Format.{«step-length», «trailer-length», «read-records», read};
+ghost use Rattle.sheet_book.specs.BookStruct.{«stored-book», «read-answer»};
 ghost use Rattle.sheet_decode.specs.Trailer.{«held-trailer»};
 use model_types::Refusal;
 use model_types::Verdict;
@@ -16,24 +16,32 @@ use sheet_book::Book;
 use sheet_book::Read;
 use sheet_decode::Trailer;
 
-// The answer of a refused read: with a book of zeros. Walks over no records give its arrays: a literal of all their
-// places would be compiled again for every refusal, which took most of the compiler's time.
-fn refuse(refusal: Refusal, place: usize) -> Read
-    ensures { λ r. ⌜ r ≡ read-answer (stopped (cause refusal) place) ⌝ }
+// The book of zeros. Walks over no records give its arrays: a literal of all their places would be compiled again for
+// every refusal, which took most of the compiler's time.
+fn zero_book() -> Book
+    ensures { λ r. ⌜ r ≡ stored-book zero-book ⌝ }
 {
     let w = sheet_read_walk::read_models(b"", 1, 0, 0);
     let v = sheet_read_walk::read_steps(b"", 0, 1, 0, 0);
     let models = w.models;
     let steps = v.steps;
+    Book {
+        n: 0,
+        d: 0,
+        model_count: 0,
+        step_count: 0,
+        models: models,
+        steps: steps,
+    }
+}
+
+// The answer of a refused read: the book of zeros beside the refusal.
+fn refuse(refusal: Refusal, place: usize) -> Read
+    ensures { λ r. ⌜ r ≡ read-answer (stopped (cause refusal) place) ⌝ }
+{
+    let book = zero_book();
     Read {
-        book: Book {
-            n: 0,
-            d: 0,
-            model_count: 0,
-            step_count: 0,
-            models: models,
-            steps: steps,
-        },
+        book: book,
         verdict: Verdict::Refused(refusal, place),
     }
 }
@@ -41,7 +49,7 @@ fn refuse(refusal: Refusal, place: usize) -> Read
 // Tests 5 and 6, and the book, for a sheet that passes the others.
 fn read_records(sheet: &[u8], t: Trailer) -> Read
     requires { ⌜ T (limits-sound (outline (t .n) (t .d) (t .models) (t .steps))) ⌝ }
-    requires { ⌜ t .offset + 8 * t .steps + 8 ≡ length (now sheet) ⌝ }
+    requires { ⌜ t .offset + step-length * t .steps + trailer-length ≡ length (now sheet) ⌝ }
     ensures { λ r. ⌜ r ≡ read-answer (read-records (now (sheet .entry)) (held-trailer t)) ⌝ }
 {
     let n = t.n;
