@@ -69,7 +69,8 @@ pub fn run(sheet: &[u8]) -> Summary
     let Verdict::Accepted = v else {
         return sheet_summary::refused(v);
     };
-    run_passed(answer.book)
+    let summary = run_passed(answer.book);
+    summary
 }
 
 // The run of a book, whatever its fields hold: tests 3, 5 and 6, then as a sheet.
