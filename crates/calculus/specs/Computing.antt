@@ -15,12 +15,12 @@ use Rattle.calculus.specs.Outcome as Ou
 use Rattle.calculus.specs.Claim as Cl
 
 -- the numbers and the polynomials below the models
-unfoldable pub numbers : Unit {0}
+unfoldable pub arithmetic : Unit {0}
 unfolding
     P.add-exponents P.exponent P.without P.raise P.replace P.product P.times
     I.even I.first I.rest I.all-even I.divisor
     F.numbers
-numbers = tt
+arithmetic = tt
 
 -- models and the rules for them
 unfoldable pub models : Unit {0}
@@ -48,7 +48,7 @@ operations = tt
 -- the run of a book
 unfoldable pub runs : Unit {0}
 unfolding
-    numbers models operations
+    arithmetic models operations
     R.at-place R.require-at R.require-each R._followed-by_
     Te.vars-sound Te.order-sound Te.constant-sound Te.variable-sound Te.threshold-sound
     B.most-models B.most-steps B.limits-sound B.model-sound B.step-sound B.tested

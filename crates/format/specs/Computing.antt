@@ -12,7 +12,7 @@ unfoldable pub reads : Unit {0}
 unfolding
     C.runs R.number R.returned K.fits-digits K.monomial-of
     B.join B.u16 B.u32 B.signed
-    H.view-term H.view-model H.forms H.step-of H.view-step H.view-steps H.view-book
+    H.view-held-term H.view-model H.forms H.step-of H.view-step H.view-steps H.view-book
     H.outline H.held-model-sound H.held-step-sound
     F.read-term F.read-terms F.read-model F.model-length F.read-models F.read-step F.read-steps
     F.trailer-of F.read-trailer F.shortest F.longest F.read-records F.read F.returned-book F.run-sheet

@@ -47,12 +47,12 @@ zero-book = record { n = 0; d = 0; models = []; steps = [] }
 
 -- ---- models
 -- a term of n variables; a key with an exponent above n gives a monomial that breaks the rules
-unfoldable pub view-term : (n : ℕ) → Held-term → Term ℤ
-view-term n t = record { coefficient = t .coefficient; exponents = monomial-of n (t .key) }
+unfoldable pub view-held-term : (n : ℕ) → Held-term → Term ℤ
+view-held-term n t = record { coefficient = t .coefficient; exponents = monomial-of n (t .key) }
 
 -- a model
 unfoldable pub view-model : Held-model → Model
-view-model m = record { vars = m .n; radius = m .radius; terms = map (view-term (m .n)) (m .terms) }
+view-model m = record { vars = m .n; radius = m .radius; terms = map (view-held-term (m .n)) (m .terms) }
 
 -- ---- steps
 -- what a code makes of the fields: the sum of those that it does not name, which must be 0, and the step

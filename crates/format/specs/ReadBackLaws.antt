@@ -21,7 +21,8 @@ use Rattle.calculus.specs.TestLaws.{and-left, and-right, both}
 use Rattle.calculus.specs.Refusal.{all-from}
 use Rattle.calculus.specs.RefusalLaws.{require-at-passed, require-each-passed, Passed, passed-at}
 use Rattle.format.specs.Bytes.{join, u32, u16-bytes, u32-bytes, signed, bits}
-use Rattle.format.specs.HeldBook.{Held-term, Held-model, Held-step, Held-book, view-term, outline, outline-of}
+use Rattle.format.specs.HeldBook.{Held-term, Held-model, Held-step, Held-book, view-held-term}
+use Rattle.format.specs.HeldBook.{outline, outline-of}
 use Rattle.format.specs.HeldBook.{held-model-sound, held-step-sound, Held-passes}
 use Rattle.format.specs.Format.{head-length, term-length, step-length, trailer-length}
 use Rattle.format.specs.Format.{read-term, read-terms, read-model, model-length, read-models}
@@ -70,7 +71,7 @@ term-back t r h k = term-is t _ _ (read-u16 (t .key) _ (key-word (t .key) h))
     small = omega (arith, span-four-bytes)
 
 terms-back : (n d : ℕ) (ts : List Held-term) (r : List ℕ) → n ≤ key-width → d ≤ 15
-    → T (every (λ k c. fits n d k) (map (view-term n) ts)) → size (map (view-term n) ts) ≤ span-limit
+    → T (every (λ k c. fits n d k) (map (view-held-term n) ts)) → size (map (view-held-term n) ts) ≤ span-limit
     → read-terms (length ts) (join (map term-bytes ts) ++ r) ≡ ts
 unfolding read-terms join
 terms-back n d [] r ln ld h z = refl

@@ -19,7 +19,7 @@ use Rattle.calculus.specs.TestLaws.{and-left, and-right}
 use Rattle.calculus.specs.MonomialKeyLaws.{fits-below, fits-key}
 use Rattle.calculus.specs.SoundLaws.{Sound, sound-parts}
 use Rattle.calculus.specs.BookLaws.{between-high}
-use Rattle.format.specs.HeldBook.{Held-term, Held-model, Held-step, view-term, view-model}
+use Rattle.format.specs.HeldBook.{Held-term, Held-model, Held-step, view-held-term, view-model}
 use Rattle.format.specs.HeldBook.{held-model-sound, held-step-sound}
 use Rattle.format.specs.Fields.{limit-a, limit-b, names-variable, v-sound, earlier, value-sound}
 use Rattle.format.specs.StepFieldLaws.{Fields, fields-of}
@@ -28,17 +28,18 @@ use Rattle.format.specs.StepFieldLaws.{Fields, fields-of}
 pub record Model-facts (n d : ℕ) (m : Held-model) : Type 0 where
   pub same-n : m .n ≡ n
   pub count : length (m .terms) ≤ 64
-  pub fitting : T (every (λ k c. fits n d k) (map (view-term n) (m .terms)))
-  pub small-span : size (map (view-term n) (m .terms)) + m .radius ≤ span-limit
+  pub fitting : T (every (λ k c. fits n d k) (map (view-held-term n) (m .terms)))
+  pub small-span : size (map (view-held-term n) (m .terms)) + m .radius ≤ span-limit
 
 pub model-facts : (b : Book) (m : Held-model) → T (held-model-sound b m) → Model-facts (b .vars) (b .order) m
 unfolding held-model-sound model-sound view-model most-terms span
 model-facts b m h = record {
   same-n = same-n;
-  count = rw (length-map (m .terms) (view-term (m .n))) at (parts .1 .count);
-  fitting = subst (λ n. T (every (λ k c. fits n (b .order) k) (map (view-term n) (m .terms)))) same-n
+  count = rw (length-map (m .terms) (view-held-term (m .n))) at (parts .1 .count);
+  fitting = subst (λ n. T (every (λ k c. fits n (b .order) k) (map (view-held-term n) (m .terms)))) same-n
       (parts .0 .fitting);
-  small-span = subst (λ n. size (map (view-term n) (m .terms)) + m .radius ≤ span-limit) same-n (parts .1 .small-span);
+  small-span = subst (λ n. size (map (view-held-term n) (m .terms)) + m .radius ≤ span-limit) same-n
+      (parts .1 .small-span);
 }
   where
     same-n : m .n ≡ b .vars
@@ -49,13 +50,13 @@ model-facts b m h = record {
 
 pub record Term-facts (n d : ℕ) (t : Held-term) (ts : List Held-term) : Type 0 where
   pub key : t .key < key-limit
-  pub coefficient : natAbs (t .coefficient) ≤ size (map (view-term n) (t ∷ ts))
-  pub size-rest : size (map (view-term n) ts) ≤ size (map (view-term n) (t ∷ ts))
-  pub fitting-rest : T (every (λ k c. fits n d k) (map (view-term n) ts))
+  pub coefficient : natAbs (t .coefficient) ≤ size (map (view-held-term n) (t ∷ ts))
+  pub size-rest : size (map (view-held-term n) ts) ≤ size (map (view-held-term n) (t ∷ ts))
+  pub fitting-rest : T (every (λ k c. fits n d k) (map (view-held-term n) ts))
 
 pub term-facts : (n d : ℕ) (t : Held-term) (ts : List Held-term) → n ≤ key-width → d ≤ 15
-    → T (every (λ k c. fits n d k) (map (view-term n) (t ∷ ts))) → Term-facts n d t ts
-unfolding every size sum-over view-term
+    → T (every (λ k c. fits n d k) (map (view-held-term n) (t ∷ ts))) → Term-facts n d t ts
+unfolding every size sum-over view-held-term
 term-facts n d t ts l u h = record {
   key = fits-below n (t .key)
       (fits-key n d (t .key) l (omega arith) (and-left (fits n d (monomial-of n (t .key))) _ h));

@@ -153,12 +153,12 @@ Refuses-all W = (sheet : List ℕ) → W sheet .verdict ≢ Accepted
 
 -- ---- one of each that can be run
 -- a model of the largest span
-unfoldable pub widened : C.Model → C.Model
-widened m = record { vars = m .vars; radius = span-limit - size (m .terms); terms = m .terms }
+unfoldable pub widest : C.Model → C.Model
+widest m = record { vars = m .vars; radius = span-limit - size (m .terms); terms = m .terms }
 
 -- the run, its result widened: the band is true
 unfoldable pub widening : Program
-widening sheet = run-answer (run-sheet sheet followed-by (λ s. done (summary (widened (s .model)))))
+widening sheet = run-answer (run-sheet sheet followed-by (λ s. done (summary (widest (s .model)))))
 
 -- a step that names no step is run, any other gives the result of the first that it names
 unfoldable pub pass-step : Book → (r : ℕ → C.Model) → Step → Answer C.Model

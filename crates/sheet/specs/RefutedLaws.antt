@@ -50,7 +50,7 @@ use Rattle.sheet.specs.Refuted.{Program, are-bytes, Exact-program, Enclo
 use Rattle.sheet.specs.Refuted.{last-operands, Answers-other-radius, Hands-operand-through}
 use Rattle.sheet.specs.Refuted.{Answers-zero, Answers-input, Says-eight, Names-other-step, Refuses-accepted}
 use Rattle.sheet.specs.Refuted.{Widens, Passes-operands, Gives-zero, Hands-back, Says-eight-uncounted}
-use Rattle.sheet.specs.Refuted.{Names-always, Refuses-all, widened, widening, pass-step, pass-steps}
+use Rattle.sheet.specs.Refuted.{Names-always, Refuses-all, widest, widening, pass-step, pass-steps}
 use Rattle.sheet.specs.Refuted.{pass-after-first, passing}
 use Rattle.sheet.specs.Refuted.{giving-zero, handing-back, saying-eight, at-step-0, naming-step-0, refusing}
 
@@ -246,10 +246,10 @@ module _ (at : Accepted-sheet) where
       good (holds h) = h
 
 pub widening-widens : Widens widening
-unfolding widening widened summary run-answer view pack _followed-by_
+unfolding widening widest summary run-answer view pack _followed-by_
 widening-widens at =
     let q : model-by widening (at .sheet) .radius ≡ span-limit - size (at .result .model .terms) =
-    ap (λ a. run-answer (a followed-by (λ s. done (summary (widened (s .model))))) .model .radius) (at .is-run) in
+    ap (λ a. run-answer (a followed-by (λ s. done (summary (widest (s .model))))) .model .radius) (at .is-run) in
     omega arith
 
 pub passing-passes : Passes-operands passing

@@ -10,7 +10,7 @@ use Rattle.model_types.specs.Arrays.{first-places, padded}
 use Rattle.model_types.specs.ArrayLaws.{first-padded}
 use Rattle.model_types.specs.ModelStruct as H
 use Rattle.model_types.specs.ModelStruct.{zero-term, places, view}
-use Rattle.format.specs.HeldBook.{Held-model, Held-step, Held-book, view-term, view-model}
+use Rattle.format.specs.HeldBook.{Held-model, Held-step, Held-book, view-held-term, view-model}
 use Rattle.sheet_book.specs.BookStruct.{no-model, no-step, held-term, held-model, held-step, held-book}
 use Rattle.sheet_book.specs.BookStruct.{stored-term, stored-model, stored-step, stored-book}
 
@@ -50,6 +50,6 @@ held-stored h = ap₂ (λ l k. record { n = h .n; d = h .d; models = l; steps = 
 
 -- ---- a model is viewed alike from a struct and from what the struct holds
 pub view-held-model : (m : Model) → view-model (held-model m) ≡ view m
-unfolding view-model held-model held-term view H.view-term view-term
+unfolding view-model held-model held-term view H.view-term view-held-term
 view-held-model m = ap (λ l. record { vars = m .n; radius = m .radius; terms = l })
-    (map-∘ held-term (view-term (m .n)) (H.view-term (m .n)) (λ t. refl) (places (m .count) (m .terms)))
+    (map-∘ held-term (view-held-term (m .n)) (H.view-term (m .n)) (λ t. refl) (places (m .count) (m .terms)))

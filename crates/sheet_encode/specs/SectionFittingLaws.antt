@@ -8,11 +8,12 @@ use lib.IntN.{natAbs}
 use lib.ListN.{length, getD}
 use Rattle.fixed.specs.FixedLaws.{span-four-bytes}
 use Rattle.calculus.specs.Terms.{sum-over, size}
+use Rattle.calculus.specs.Model.{most-terms}
 use Rattle.calculus.specs.Book as C
 use Rattle.calculus.specs.BookLaws.{all-from-at}
 use Rattle.model_types.specs.declared.Model.{Model}
 use Rattle.format.specs.Bytes.{join}
-use Rattle.format.specs.HeldBook.{Held-term, Held-model, view-term, outline-of}
+use Rattle.format.specs.HeldBook.{Held-term, Held-model, view-held-term, outline-of}
 use Rattle.format.specs.HeldBook.{held-model-sound, held-step-sound, Held-passes}
 use Rattle.format.specs.Format.{model-bytes, models-bytes}
 use Rattle.format.specs.HeldBookLaws.{In-limits}
@@ -26,13 +27,14 @@ use Rattle.sheet_encode.specs.Fitting.{Model-fits}
 
 -- ---- models
 within-size : (n : ℕ) (ts : List Held-term) (i : ℕ) (x : Held-term) → i < length ts
-    → natAbs (getD ts i x .coefficient) ≤ size (map (view-term n) ts)
-unfolding size sum-over view-term
+    → natAbs (getD ts i x .coefficient) ≤ size (map (view-held-term n) ts)
+unfolding size sum-over view-held-term
 within-size n [] i x h = absurd (omega arith)
 within-size n (t ∷ ts) zero x h = omega arith
 within-size n (t ∷ ts) (suc i) x h = omega (arith, within-size n ts i x (omega arith))
 
 pub model-fits : (b : C.Book) (m : Held-model) → T (held-model-sound b m) → Model-fits m
+unfolding most-terms
 model-fits b m h = record {
   count = f .count;
   radius = omega (arith, f .small-span, span-four-bytes);
