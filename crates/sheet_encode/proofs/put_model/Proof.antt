@@ -9,6 +9,7 @@ use lib.Seq.{sets}
 use mir.Facts.{toZ-ofZ}
 use mir.Syntax.{w64}
 use mir.Val.{toZ, ofZ}
+use Rattle.calculus.specs.Model.{most-terms}
 use Rattle.model_types.specs.declared.Term.{Term}
 use Rattle.model_types.specs.declared.Model.{Model}
 use Rattle.model_types.specs.ModelStruct.{zero-term}
@@ -34,6 +35,7 @@ module _ (c : tie.Start Inv-loop μ-loop) where
   whole = simp length-map at (c .good .1 .1 .0 .1 .1 .1 .1 .1 .0 .1 .0 .1)
 
   few : c .args .t3 .count ≤ 64
+  unfolding most-terms
   few = omega (arith, c .pre .0 .count, count-terms (c .args .t3))
 
   room : c .args .at + head-length + term-length * c .args .t3 .count ≤ length (c .args .buffer .now)
