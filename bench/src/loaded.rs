@@ -1,6 +1,7 @@
 //! A build of the library that is loaded while the program runs, so that two of them stand side by side. All unsafe code
-//! of bench/versus stands here. The signatures are those of include/hechroung.h.
+//! of bench/versus stands here.
 
+use hechroung::raw::signature::{Call, Ends, Record, Run};
 use hechroung::{Model, MOST_TERMS};
 use std::ffi::{c_char, c_int, c_void, CStr, CString};
 
@@ -13,71 +14,6 @@ extern "C" {
     fn dlsym(library: *mut c_void, name: *const c_char) -> *mut c_void;
     fn dlerror() -> *const c_char;
 }
-
-type Call = unsafe extern "C" fn(
-    code: u8,
-    d: u8,
-    i: u8,
-    value: i64,
-    n1: u8,
-    count1: usize,
-    radius1: u64,
-    keys1: *const u16,
-    keys1_length: usize,
-    coefficients1: *const i64,
-    coefficients1_length: usize,
-    n2: u8,
-    count2: usize,
-    radius2: u64,
-    keys2: *const u16,
-    keys2_length: usize,
-    coefficients2: *const i64,
-    coefficients2_length: usize,
-    keys: *mut u16,
-    keys_length: usize,
-    coefficients: *mut i64,
-    coefficients_length: usize,
-    numbers: *mut u64,
-    numbers_length: usize,
-) -> u8;
-
-type Ends = unsafe extern "C" fn(
-    code: u8,
-    n: u8,
-    count: usize,
-    radius: u64,
-    keys: *const u16,
-    keys_length: usize,
-    coefficients: *const i64,
-    coefficients_length: usize,
-    x1: i64,
-    x2: i64,
-    x3: i64,
-    x4: i64,
-    ends: *mut i64,
-    ends_length: usize,
-) -> u8;
-
-type Run = unsafe extern "C" fn(
-    sheet: *const u8,
-    sheet_length: usize,
-    keys: *mut u16,
-    keys_length: usize,
-    coefficients: *mut i64,
-    coefficients_length: usize,
-    numbers: *mut u64,
-    numbers_length: usize,
-    ends: *mut i64,
-    ends_length: usize,
-) -> u8;
-
-type Record = unsafe extern "C" fn(
-    sheet: *const u8,
-    sheet_length: usize,
-    i: usize,
-    bytes: *mut u8,
-    bytes_length: usize,
-) -> usize;
 
 /// The functions of one build. It stays loaded until the program ends.
 pub struct Library {
@@ -119,7 +55,7 @@ impl Library {
         // SAFETY: the path ends with a zero. The library has no code that runs when it is loaded.
         let library = unsafe { dlopen(file.as_ptr(), RTLD_NOW) };
         assert!(!library.is_null(), "{path}: {}", why());
-        // SAFETY: the functions have these signatures, by the header that all builds share.
+        // SAFETY: the functions have these signatures, in all builds.
         unsafe {
             Library {
                 call: std::mem::transmute::<*mut c_void, Call>(function(

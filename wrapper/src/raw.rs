@@ -38,9 +38,23 @@ pub struct HandedModels<'a> {
     pub coefficients: &'a [i64],
 }
 
+/// Says each signature once: as an exported function, and as the type of one that is loaded while a program runs.
+macro_rules! exported {
+    ($($name:ident: $type:ident = ($($argument:ident: $of:ty),* $(,)?) -> $answer:ty;)*) => {
+        extern "C" {
+            $(fn $name($($argument: $of),*) -> $answer;)*
+        }
+
+        /// The types of the exported functions.
+        pub mod signature {
+            $(pub type $type = unsafe extern "C" fn($($argument: $of),*) -> $answer;)*
+        }
+    };
+}
+
 // A slice passes as a pointer and a length.
-extern "C" {
-    fn hechroung_call(
+exported! {
+    hechroung_call: Call = (
         code: u8,
         d: u8,
         i: u8,
@@ -67,7 +81,7 @@ extern "C" {
         numbers_length: usize,
     ) -> u8;
 
-    fn hechroung_quotient(
+    hechroung_quotient: Quotient = (
         d: u8,
         ns: *const u8,
         ns_length: usize,
@@ -87,7 +101,7 @@ extern "C" {
         out_numbers_length: usize,
     ) -> u8;
 
-    fn hechroung_ends(
+    hechroung_ends: Ends = (
         code: u8,
         n: u8,
         count: usize,
@@ -104,7 +118,7 @@ extern "C" {
         ends_length: usize,
     ) -> u8;
 
-    fn hechroung_run(
+    hechroung_run: Run = (
         sheet: *const u8,
         sheet_length: usize,
         keys: *mut u16,
@@ -117,14 +131,14 @@ extern "C" {
         ends_length: usize,
     ) -> u8;
 
-    fn hechroung_print(
+    hechroung_print: Print = (
         sheet: *const u8,
         sheet_length: usize,
         text: *mut u8,
         text_length: usize,
     ) -> usize;
 
-    fn hechroung_rewrite(
+    hechroung_rewrite: Rewrite = (
         sheet: *const u8,
         sheet_length: usize,
         buffer: *mut u8,
@@ -133,7 +147,7 @@ extern "C" {
         numbers_length: usize,
     ) -> u8;
 
-    fn hechroung_record(
+    hechroung_record: Record = (
         sheet: *const u8,
         sheet_length: usize,
         i: usize,
@@ -141,14 +155,14 @@ extern "C" {
         bytes_length: usize,
     ) -> usize;
 
-    fn hechroung_open(
+    hechroung_open: Open = (
         sheet: *const u8,
         sheet_length: usize,
         numbers: *mut u64,
         numbers_length: usize,
     ) -> u8;
 
-    fn hechroung_next(
+    hechroung_next: Next = (
         sheet: *const u8,
         sheet_length: usize,
         at: usize,
@@ -158,7 +172,7 @@ extern "C" {
         numbers_length: usize,
     ) -> u8;
 
-    fn hechroung_run_book(
+    hechroung_run_book: RunBook = (
         n: u8,
         d: u8,
         model_count: usize,
@@ -187,7 +201,7 @@ extern "C" {
         ends_length: usize,
     ) -> u8;
 
-    fn hechroung_write(
+    hechroung_write: Write = (
         n: u8,
         d: u8,
         model_count: usize,
