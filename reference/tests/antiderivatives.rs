@@ -16,7 +16,7 @@ use reference::exact::{
 use reference::generate::{self, functions, hostile, Draft, DraftModel, Random};
 use reference::model::{degree, Model, LARGEST_DEGREE, LARGEST_SPAN, UNIT as ONE};
 use reference::operations;
-use reference::run::{perform, run, run_sheet};
+use reference::run::{perform, run_sheet};
 use reference::sheet::sound_book;
 
 /// Radius and terms of an accepted call.
@@ -221,12 +221,6 @@ fn the_exact_antiderivative_keeps_its_laws() {
         let twice = &f.integral(n.into()) * &Fraction::of(2, 1);
         assert_eq!(between_ends.integral(n.into()), twice);
     }
-}
-
-fn ran(draft: &Draft) -> (SoundBook, reference::run::RunResult) {
-    let book = sound_book(&draft.bytes()).expect("a sound sheet");
-    let result = run(&book).expect("an accepted sheet");
-    (book, result)
 }
 
 fn shifted(model: &Model, parts: i128) -> InputFunction {

@@ -9,7 +9,7 @@ use reference::exact::{Fraction, Point, Violation};
 use reference::generate::sound::{self, Shape};
 use reference::generate::{self, faults, functions, quotients, Draft, DraftModel, Random};
 use reference::model::UNIT as ONE;
-use reference::run::{run, RunResult};
+use reference::run::run;
 use reference::sheet::sound_book;
 
 #[derive(Default)]
@@ -97,13 +97,6 @@ fn sheets_at_the_limits_are_enclosed() {
     }
     total.print("limits");
     assert!(total.points > 500);
-}
-
-/// A book with its result.
-fn ran(draft: &Draft) -> (SoundBook, RunResult) {
-    let book = sound_book(&draft.bytes()).expect("a sound sheet");
-    let result = run(&book).expect("an accepted sheet");
-    (book, result)
 }
 
 /// The models' polynomials plus so many parts of their radii.

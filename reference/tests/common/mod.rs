@@ -1,12 +1,13 @@
 //! Helpers that several test files share.
 #![allow(dead_code)]
 
+use reference::book::{SoundBook, Step, INPUT};
 use reference::generate::{Draft, DraftModel};
 use reference::refusal::Refusal;
+use reference::run::{run, RunResult};
+use reference::sheet::sound_book;
 use reference::stored::{StoredModel, StoredTerm};
 use reference::text;
-
-use reference::book::{Step, INPUT};
 
 pub const UNIT: i32 = 1 << 20;
 pub const HALF: i32 = 1 << 19;
@@ -46,4 +47,11 @@ pub fn stored(n: u8, radius: u64, terms: &[(u16, i64)]) -> StoredModel {
 
 pub fn pair(refusal: Option<Refusal>) -> Option<(u8, usize)> {
     refusal.map(|refusal| (refusal.number(), refusal.place()))
+}
+
+/// The book of an accepted sheet, with its result.
+pub fn ran(draft: &Draft) -> (SoundBook, RunResult) {
+    let book = sound_book(&draft.bytes()).expect("a sound sheet");
+    let result = run(&book).expect("an accepted sheet");
+    (book, result)
 }
