@@ -9,14 +9,14 @@ pub const MOST_MODELS: usize = 16;
 /// The largest number of steps in a book.
 pub const MOST_STEPS: usize = 64;
 
-/// One step, as it stands in a sheet.
+/// One step. In a book its value may be any number of 64 bits; a sheet holds 32.
 #[derive(Clone, Copy, Debug, Default, PartialEq, Eq)]
 pub struct Step {
     pub code: u8,
     pub a: u8,
     pub b: u8,
     pub v: u8,
-    pub value: i32,
+    pub value: i64,
 }
 
 pub const INPUT: u8 = 0;
@@ -62,7 +62,7 @@ impl Step {
     pub fn constant(value: i32) -> Step {
         Step {
             code: CONSTANT,
-            value,
+            value: i64::from(value),
             ..Step::ZEROS
         }
     }
@@ -85,7 +85,7 @@ impl Step {
 
     pub fn sweep(a: u8, value: i32) -> Step {
         Step {
-            value,
+            value: i64::from(value),
             ..Step::one(SWEEP, a)
         }
     }
@@ -95,7 +95,7 @@ impl Step {
     pub fn quotient(a: u8, b: u8, h: u8, w: u8) -> Step {
         Step {
             v: h,
-            value: i32::from(w),
+            value: i64::from(w),
             ..Step::two(QUOTIENT, a, b)
         }
     }
@@ -108,8 +108,11 @@ impl Step {
         }
     }
 
+    /// The step as a sheet holds it. Every value that keeps a form fits, and so
+    /// do those of drafts.
     pub fn to_bytes(self) -> [u8; 8] {
-        let [v0, v1, v2, v3] = self.value.to_le_bytes();
+        let value = i32::try_from(self.value).expect("a sheet's value has 32 bits");
+        let [v0, v1, v2, v3] = value.to_le_bytes();
         [self.code, self.a, self.b, self.v, v0, v1, v2, v3]
     }
 
@@ -120,7 +123,7 @@ impl Step {
             a,
             b,
             v,
-            value: i32::from_le_bytes([v0, v1, v2, v3]),
+            value: i64::from(i32::from_le_bytes([v0, v1, v2, v3])),
         }
     }
 

@@ -3,7 +3,7 @@
 mod common;
 
 use common::*;
-use reference::book::{Book, Step, ADD};
+use reference::book::{Book, Step, ADD, MULTIPLY, NEGATE, SUBTRACT};
 use reference::generate::{self, books, damage, sound, Draft, Random};
 use reference::run::{run_book, run_sheet};
 use reference::sheet::read;
@@ -198,4 +198,66 @@ fn a_refused_read_gives_zeros() {
             assert_eq!(answer.book.models[0].n, 0);
         }
     }
+}
+
+/// A book of 64-bit values is tested by those, and not by what a sheet could hold of them.
+#[test]
+fn values_beyond_a_sheet_break_the_form() {
+    // Each step is well-formed as step 1, after a constant and with one model.
+    let steps = [
+        input(0),
+        Step::constant(5),
+        Step::constant(-LARGEST),
+        Step::variable(1),
+        Step::one(NEGATE, 0),
+        Step::two(ADD, 0, 0),
+        Step::two(SUBTRACT, 0, 0),
+        Step::two(MULTIPLY, 0, 0),
+        Step::substitute(0, 0, 1),
+        Step::sweep(0, 3),
+        Step::quotient(0, 0, 0, 0),
+        Step::antiderivative(0, 1),
+    ];
+    for step in steps {
+        let models = vec![model(0, &[])];
+        let mut book =
+            read(&Draft::new(1, 1, models, vec![Step::constant(UNIT), step]).bytes()).book;
+        assert_eq!(run_book(&book).refusal, None, "{step:?}");
+        for beyond in [1 << 32, -(1 << 32), 1 << 40, 1 << 62, i64::MIN] {
+            book.steps[1].value = step.value.wrapping_add(beyond);
+            assert_eq!(
+                pair(run_book(&book).refusal),
+                Some((6, 1)),
+                "{step:?} {beyond}"
+            );
+            assert_eq!(pair(write(&book, &mut []).refusal), Some((6, 1)));
+        }
+    }
+}
+
+#[test]
+fn generated_books_have_values_beyond_a_sheet() {
+    // By code: how often such a value stands in use, and how often it alone refuses the book.
+    let mut seen = [(0, 0); 11];
+    for number in 0..20_000 {
+        let mut book = books::book(36, number);
+        let steps = book.steps.iter().take(book.step_count);
+        let beyond = |step: &&Step| i32::try_from(step.value).is_err();
+        let found: Vec<Step> = steps.filter(beyond).copied().collect();
+        let refusal = run_book(&book).refusal;
+        for step in found.iter().filter(|step| step.code <= 10) {
+            seen[usize::from(step.code)].0 += 1;
+        }
+        if let (Some((6, place)), [step]) = (pair(refusal), &found[..]) {
+            book.steps[place].value = i64::from(book.steps[place].value as i32);
+            let later = run_book(&book).refusal != refusal;
+            if book.steps[place] != *step && later {
+                seen[usize::from(step.code)].1 += 1;
+            }
+        }
+    }
+    println!("{seen:?}");
+    assert!(seen
+        .iter()
+        .all(|&(used, refused)| used >= 20 && refused >= 5));
 }

@@ -276,6 +276,7 @@ fn operands_are_earlier_steps() {
     // A value that is no step, also where its lowest byte would be one.
     let kept = Step::quotient(1, 0, 1, 0);
     for value in [-1, 3, 255, 256, 1 << 16, 1 << 30, -256, i32::MIN, i32::MAX] {
+        let value = i64::from(value);
         assert_eq!(with(Step { value, ..kept }), "refused 6 2\n", "{value}");
     }
     assert_eq!(

@@ -44,7 +44,28 @@ pub fn sound_book(random: &mut Random) -> Book {
 
 fn any_step(random: &mut Random) -> Step {
     let bytes = random.next_u64().to_le_bytes();
-    Step::from_bytes(bytes)
+    let mut step = Step::from_bytes(bytes);
+    if random.one_in(2) {
+        step.value = random.next_u64() as i64;
+    }
+    step
+}
+
+/// A value that is another one in 64 bits, and mostly the same in 32: what cuts
+/// it off would take it for the step's own.
+fn beyond_a_sheet(random: &mut Random, value: i64) -> i64 {
+    match random.below(4) {
+        0 => value ^ 1 << random.below(64),
+        1 => *random.pick(&[
+            i64::MIN,
+            i64::MAX,
+            1 << 32,
+            -(1 << 32),
+            1 << 31,
+            u32::MAX.into(),
+        ]),
+        _ => value.wrapping_add(random.sign() << random.size(32, 63)),
+    }
 }
 
 /// Breaks something, or changes it so that it may be broken.
@@ -52,7 +73,7 @@ fn spoil(random: &mut Random, book: &mut Book) {
     let order = book.d;
     let model = random.size(0, book.model_count.clamp(1, 16) - 1);
     let step = random.size(0, book.step_count.clamp(1, 64) - 1);
-    match random.below(10) {
+    match random.below(11) {
         0 => book.n = *random.pick(&[0, 1, 2, 3, 4, 5, 255]),
         1 => book.d = *random.pick(&[0, 1, 16, 255]),
         2 => book.model_count = *random.pick(&[0, 16, 17, 1 << 32, usize::MAX]),
@@ -65,7 +86,8 @@ fn spoil(random: &mut Random, book: &mut Book) {
         }
         7 => book.steps[step] = any_step(random),
         8 => *book = damaged_book(random),
-        _ => book.steps[step].value ^= 1 << random.below(31),
+        9 => book.steps[step].value ^= 1 << random.below(31),
+        _ => book.steps[step].value = beyond_a_sheet(random, book.steps[step].value),
     }
 }
 

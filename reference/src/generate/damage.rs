@@ -486,7 +486,7 @@ fn unnamed_field(random: &mut Random) -> Made {
             b'a' => step.a = small,
             b'b' => step.b = small,
             b'v' => step.v = small,
-            _ => step.value = i32::from(small) << random.below(24),
+            _ => step.value = (i32::from(small) << random.below(24)).into(),
         }
         step
     })
@@ -540,10 +540,11 @@ fn quotient_not_earlier(random: &mut Random) -> Made {
             1 => step.b = late,
             2 => step.v = late,
             _ => {
-                let wrapped = i32::from(early) + (1 << random.size(8, 30));
-                let beyond = i32::from(early) - (1 << random.size(8, 30));
-                let below = -1 - i32::from(early);
-                step.value = *random.pick(&[late.into(), wrapped, beyond, below, i32::MIN]);
+                let wrapped = i64::from(early) + (1 << random.size(8, 30));
+                let beyond = i64::from(early) - (1 << random.size(8, 30));
+                let below = -1 - i64::from(early);
+                let least = i64::from(i32::MIN);
+                step.value = *random.pick(&[late.into(), wrapped, beyond, below, least]);
             }
         }
         step

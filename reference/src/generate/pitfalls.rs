@@ -249,7 +249,7 @@ fn quotients(list: &mut Samples) {
     list.refuse("12 with a full 1 - w g", &minus(UNIT - LARGEST), (12, 4));
     let kept = quotient([UNIT, UNIT, UNIT, UNIT]);
     list.accept("1 over 1", &kept);
-    for value in [-1, 4, 5, 255, 256, 1 << 24, i32::MIN] {
+    for value in [-1, 4, 5, 255, 256, 1 << 24, i64::from(i32::MIN)] {
         let mut draft = kept.clone();
         draft.steps[4].value = value;
         list.refuse(&format!("step w of {value}"), &draft, (6, 4));

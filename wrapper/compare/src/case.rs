@@ -194,9 +194,10 @@ fn push_book(bytes: &mut Vec<u8>, book: &Book) {
     book.models
         .iter()
         .for_each(|model| push_model(bytes, model));
-    book.steps
-        .iter()
-        .for_each(|step| bytes.extend(step.to_bytes()));
+    for step in &book.steps {
+        bytes.extend([step.code, step.a, step.b, step.v]);
+        bytes.extend(step.value.to_le_bytes());
+    }
 }
 
 fn take_book(bytes: &mut Bytes) -> Option<Box<Book>> {
@@ -211,7 +212,15 @@ fn take_book(bytes: &mut Bytes) -> Option<Box<Book>> {
         *model = *take_model(bytes)?;
     }
     for step in &mut book.steps {
-        *step = Step::from_bytes(bytes.take()?);
+        let [code, a, b, v] = bytes.take()?;
+        let value = bytes.number()? as i64;
+        *step = Step {
+            code,
+            a,
+            b,
+            v,
+            value,
+        };
     }
     Some(book)
 }

@@ -155,7 +155,7 @@ fn to_book(book: &Book) -> hechroung::Book {
             a: step.a,
             b: step.b,
             v: step.v,
-            value: i64::from(step.value),
+            value: step.value,
         }),
     }
 }

@@ -260,7 +260,7 @@ impl LentBook {
                 .iter()
                 .flat_map(|step| [step.code, step.a, step.b, step.v])
                 .collect(),
-            values: steps.iter().map(|step| i64::from(step.value)).collect(),
+            values: steps.iter().map(|step| step.value).collect(),
             book: Box::new(book),
         }
     }
