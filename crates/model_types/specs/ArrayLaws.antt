@@ -33,6 +33,12 @@ module _ {A : Type 0} (zeros : A) where
   one-off zero h = absurd (omega arith)
   one-off (suc n) h = let e : suc n - 1 ≡ n = omega arith in rw e
 
+  -- a zero stored among zeros
+  pub set-zeros : (n i : ℕ) → set (replicate n zeros) i zeros ≡ replicate n zeros
+  set-zeros zero i = refl
+  set-zeros (suc n) zero = refl
+  set-zeros (suc n) (suc i) = ap (λ l. zeros ∷ l) (set-zeros n i)
+
   module _ (size : ℕ) where
     -- a store behind what is there
     pub padded-more : (l : List A) (i : ℕ) (x : A) → length l ≡ i → i < size

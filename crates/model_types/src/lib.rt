@@ -181,12 +181,23 @@ pub fn number(refusal: Refusal) -> u8
     }
 }
 
-// The answers of a refused call.
+// The answers of a refused call. One of the zeros is stored again, at a place that the compiler cannot know: it then
+// leaves the 64 terms together. Without that it takes them apart, here and wherever else an answer comes from, and every
+// accepted answer is copied number by number.
 pub fn refuse(refusal: Refusal, place: usize) -> Answer
     ensures { λ r. ⌜ r ≡ answer (stopped (cause refusal) place) ⌝ }
 {
+    let at = place % MOST_TERMS;
+    let mut terms = [Term::ZERO; MOST_TERMS];
+    terms[at] = Term::ZERO;
+    let zero = Model {
+        n: 1,
+        count: 0,
+        radius: 0,
+        terms: terms,
+    };
     Answer {
-        model: Model::ZERO,
+        model: zero,
         verdict: Verdict::Refused(refusal, place),
     }
 }

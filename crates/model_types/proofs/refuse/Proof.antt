@@ -1,14 +1,26 @@
 -- `refuse` hands back zeros beside the refusal.
+use native.Mathlib.Omega.{arith}
+use Prim.Native.Nat.{_%_}
 use Rattle.calculus.specs.Model.{zero-model, most-terms}
 use Rattle.model_types.specs.Arrays.{padded}
-use Rattle.model_types.specs.ModelStruct.{pack, answer}
+use Rattle.model_types.specs.ArrayLaws.{set-zeros}
+use Rattle.model_types.specs.ModelStruct.{zero-term, pack, answer}
 use Rattle.model_types.specs.ModelStructLaws.{refusal-cause}
 use Rattle.model_types.proofs.refuse.Statement.{statement}
 use Rattle.model_types.proofs.refuse.Tie as tie
 
+mul-terms : tie.Need-mul-terms
+mul-terms c = omega arith
+
+array-set-from-terms : tie.Need-array-set-from-terms
+array-set-from-terms c = omega arith
+
 returns : tie.Need-returns
 unfolding zero-model most-terms pack padded answer
-returns c = rw (refusal-cause (c .args .refusal))
+returns c = rw (
+  refusal-cause (c .args .refusal),
+  set-zeros zero-term most-terms (c .args .place % most-terms),
+)
 
 pub refuse-spec : {M : Type 1} → statement M
-refuse-spec = tie.close (tie.spec returns)
+refuse-spec = tie.close (tie.spec mul-terms array-set-from-terms returns)
