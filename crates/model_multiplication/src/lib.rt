@@ -7,12 +7,14 @@ ghost use Rattle.calculus.specs.Operations.{multiply};
 ghost use Rattle.model_types.specs.ModelStruct.{view, answer};
 ghost use Rattle.product_collector.specs.CollectorContracts.{«Empty-table», «Lent-table», «Free-table»};
 ghost use Rattle.model_multiplication.specs.Factors.{Factors};
-ghost use Rattle.model_multiplication.specs.Multiply.{«few-products»};
+ghost use Rattle.model_multiplication.specs.Multiply.{«few-products», «fewest-products»};
 use model_types::Answer;
 use model_types::Model;
 
-// For how many products the smaller table has room.
+// For how many products the smaller table has room, and for how many the smallest.
 const FEW_PRODUCTS: usize = 256;
+
+const FEWEST_PRODUCTS: usize = 32;
 
 // ---- in a table that is lent
 // f times g at order d, in a table whose slots are empty, with room for so many products.
@@ -92,6 +94,18 @@ fn multiplied_small(d: u8, f: Model, g: Model) -> Answer
     multiplied_in(d, f, g, &mut slots, &mut keys, &mut sums, FEW_PRODUCTS)
 }
 
+// And for so few that filling the smaller table takes longer than they do.
+fn multiplied_smallest(d: u8, f: Model, g: Model) -> Answer
+    requires { ⌜ Factors d f g ⌝ }
+    requires { ⌜ f .count * g .count ≤ fewest-products ⌝ }
+    ensures { λ r. ⌜ r ≡ answer (at-place 0 (multiply d (view f) (view g))) ⌝ }
+{
+    let mut slots = [0u16; product_table::SLOTS_EACH * FEWEST_PRODUCTS + 1];
+    let mut keys = [0u64; FEWEST_PRODUCTS + 1];
+    let mut sums = [0i64; FEWEST_PRODUCTS + 1];
+    multiplied_in(d, f, g, &mut slots, &mut keys, &mut sums, FEWEST_PRODUCTS)
+}
+
 // And for any number of products.
 fn multiplied_large(d: u8, f: Model, g: Model) -> Answer
     requires { ⌜ Factors d f g ⌝ }
@@ -117,6 +131,9 @@ pub fn multiplied_alone(d: u8, f: Model, g: Model) -> Answer
     ensures { λ r. ⌜ r ≡ answer (at-place 0 (multiply d (view f) (view g))) ⌝ }
 {
     let products = f.count * g.count;
+    if products <= FEWEST_PRODUCTS {
+        return multiplied_smallest(d, f, g);
+    }
     if products <= FEW_PRODUCTS {
         return multiplied_small(d, f, g);
     }

@@ -7,22 +7,37 @@ use Rattle.model_multiplication.proofs.multiplied_alone.Reads as reads
 use Rattle.model_multiplication.proofs.multiplied_alone.Lts as lts
 use Rattle.model_multiplication.proofs.multiplied_large.Reads as multiplied-large-reads
 use Rattle.model_multiplication.proofs.multiplied_small.Reads as multiplied-small-reads
+use Rattle.model_multiplication.proofs.multiplied_smallest.Reads as multiplied-smallest-reads
 
 mul-products : tie.Need-mul-products
 mul-products c = let p = products-few _ _ _ (c .before .before .pre) in search needs
 
-multiplied-small-requires : tie.Need-multiplied-small-requires
-multiplied-small-requires c κs = search needs
+multiplied-smallest-requires : tie.Need-multiplied-smallest-requires
+multiplied-smallest-requires c κs = search needs
 
 returns : tie.Need-returns
 returns c = search needs
 
-multiplied-large-requires : tie.Need-multiplied-large-requires
-multiplied-large-requires c κs = search needs
+multiplied-small-requires : tie.Need-multiplied-small-requires
+multiplied-small-requires c κs = search needs
 
 returns-2 : tie.Need-returns-2
 returns-2 c = search needs
 
+multiplied-large-requires : tie.Need-multiplied-large-requires
+multiplied-large-requires c κs = search needs
+
+returns-3 : tie.Need-returns-3
+returns-3 c = search needs
+
 pub multiplied-alone-spec : {M : Type 1} → statement M
 multiplied-alone-spec =
-    tie.close (tie.spec mul-products multiplied-small-requires returns multiplied-large-requires returns-2)
+    tie.close
+    (tie.spec
+    mul-products
+    multiplied-smallest-requires
+    returns
+    multiplied-small-requires
+    returns-2
+    multiplied-large-requires
+    returns-3)
