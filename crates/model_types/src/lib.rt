@@ -182,8 +182,8 @@ pub fn number(refusal: Refusal) -> u8
 }
 
 // The answers of a refused call. One of the zeros is stored again, at a place that the compiler cannot know: it then
-// leaves the 64 terms together. Without that it takes them apart, here and wherever else an answer comes from, and every
-// accepted answer is copied number by number.
+// leaves the 64 terms together. Otherwise it takes them apart, here and wherever an answer may be a refusal, and copies
+// every accepted answer number by number.
 pub fn refuse(refusal: Refusal, place: usize) -> Answer
     ensures { λ r. ⌜ r ≡ answer (stopped (cause refusal) place) ⌝ }
 {
