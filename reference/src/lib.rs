@@ -8,8 +8,9 @@
 //! The layers, from the bottom:
 //! - [`model`]: sound models, as mathematics sees them, and [`stored`]: models in
 //!   memory, whose fields may hold anything;
-//! - [`operations`]: what the papers compute with sound models, and [`calls`]:
-//!   the single calls, which first test what they are handed;
+//! - [`operations`]: what the papers compute with sound models, [`shares`]: where
+//!   a radius came from, and [`calls`]: the single calls, which first test what
+//!   they are handed;
 //! - [`book`], [`sheet`], [`mod@write`], [`run`], [`records`], [`text`]: sheets;
 //! - [`exact`]: exact fractions and the check of the enclosure statement;
 //! - [`generate`]: reproducible inputs for a comparison.
@@ -25,6 +26,7 @@ pub mod operations;
 pub mod records;
 pub mod refusal;
 pub mod run;
+pub mod shares;
 pub mod sheet;
 pub mod stored;
 pub mod text;

@@ -7,6 +7,7 @@ use crate::model::{
     ONE, UNIT,
 };
 use crate::refusal::Refusal;
+use crate::shares::{Reported, Shares};
 use std::cmp::Ordering;
 use std::collections::BTreeMap;
 
@@ -87,23 +88,38 @@ pub fn subtract(f: &Model, g: &Model) -> Result<Model, Cause> {
 
 /// The product with the given order.
 pub fn multiply(f: &Model, g: &Model, order: u32) -> Result<Model, Cause> {
-    let mut excess =
-        f.coefficient_sum() * g.radius + g.coefficient_sum() * f.radius + f.radius * g.radius;
+    multiply_reported(f, g, order).map(|product| product.model)
+}
+
+/// The product with the given order, and where its radius came from.
+pub fn multiply_reported(f: &Model, g: &Model, order: u32) -> Result<Reported, Cause> {
+    let mut shares = Shares {
+        carried: f.coefficient_sum() * g.radius
+            + g.coefficient_sum() * f.radius
+            + f.radius * g.radius,
+        ..Shares::default()
+    };
     let mut polynomial = Polynomial::new();
     for (monomial, z) in collected_products(&f.polynomial, &g.polynomial) {
-        let kept = degree(&monomial) <= order;
-        let c = if kept { nearest(z, UNIT) } else { 0 };
-        // With c = 0 this is |z|, which covers the degrees above the order.
-        excess += (z - c * UNIT).abs();
+        if degree(&monomial) > order {
+            shares.swept += z.abs();
+            continue;
+        }
+        let c = nearest(z, UNIT);
+        shares.rounding += (z - c * UNIT).abs();
         if c != 0 {
             polynomial.insert(monomial, c);
         }
     }
-    tested(Model {
+    let excess = shares.sum();
+    let radius = divided_up(excess, UNIT);
+    shares.slack = radius * UNIT - excess;
+    let model = tested(Model {
         n: f.n,
         polynomial,
-        radius: divided_up(excess, UNIT),
-    })
+        radius,
+    })?;
+    Ok(Reported { model, shares })
 }
 
 /// For each monomial the sum z of all products that meet there.
@@ -145,6 +161,13 @@ fn divided_up(number: i128, divisor: i128) -> i128 {
 
 /// Puts g for variable i (from 1) into f, by Horner's rule.
 pub fn substitute(f: &Model, g: &Model, i: usize, order: u32) -> Result<Model, Cause> {
+    substitute_reported(f, g, i, order).map(|substituted| substituted.model)
+}
+
+/// The same, and where the radius came from: the shares of the last product, if
+/// one was made, and the radius of f as carried. Those of earlier products are
+/// in the radius of a factor of the last one, and carried by it.
+pub fn substitute_reported(f: &Model, g: &Model, i: usize, order: u32) -> Result<Reported, Cause> {
     let Ends { low, high } = range(g);
     if low < -UNIT || high > UNIT {
         return Err(Cause::OutsideBox);
@@ -157,15 +180,19 @@ pub fn substitute(f: &Model, g: &Model, i: usize, order: u32) -> Result<Model, C
     };
     let largest = parts.keys().next_back().copied().unwrap_or(0);
     let mut result = part(largest);
+    let mut shares = Shares::default();
     for k in (0..largest).rev() {
-        let product = multiply(&result, g, order)?;
-        result = add(&product, &part(k))?;
+        let product = multiply_reported(&result, g, order)?;
+        shares = product.shares;
+        result = add(&product.model, &part(k))?;
     }
     let radius_of_f = Model {
         radius: f.radius,
         ..Model::zero(f.n)
     };
-    add(&result, &radius_of_f)
+    let model = add(&result, &radius_of_f)?;
+    shares.carried += UNIT * f.radius;
+    Ok(Reported { model, shares })
 }
 
 /// The parts f_k: what multiplies the k-th power of variable i (from 1).
@@ -218,22 +245,38 @@ fn largest_size(ends: Ends) -> i128 {
 /// Drops every term but the constant one with |c| at most the threshold and
 /// adds |c| to the radius.
 pub fn sweep(f: &Model, threshold: i128) -> Model {
+    sweep_reported(f, threshold).model
+}
+
+/// The same, and where the radius came from: the old one is carried.
+pub fn sweep_reported(f: &Model, threshold: i128) -> Reported {
+    let mut shares = Shares::all_carried(f);
     let mut swept = Model::zero(f.n);
     swept.radius = f.radius;
     for (&monomial, &c) in &f.polynomial {
         if monomial != ONE && c.abs() <= threshold {
             swept.radius += c.abs();
+            shares.swept += UNIT * c.abs();
         } else {
             swept.polynomial.insert(monomial, c);
         }
     }
-    swept
+    Reported {
+        model: swept,
+        shares,
+    }
 }
 
 /// The antiderivative in variable i (from 1) that is zero wherever that variable
 /// is 0. Neither more terms nor a larger span can come of it: a term's rounded
 /// share and what it adds to the radius are together at most |c|.
 pub fn antiderivative(f: &Model, i: usize, order: u32) -> Model {
+    antiderivative_reported(f, i, order).model
+}
+
+/// The same, and where the radius came from: the old one is carried.
+pub fn antiderivative_reported(f: &Model, i: usize, order: u32) -> Reported {
+    let mut shares = Shares::all_carried(f);
     let mut gathered = Model::zero(f.n);
     gathered.radius = f.radius;
     for (monomial, &c) in &f.polynomial {
@@ -241,19 +284,25 @@ pub fn antiderivative(f: &Model, i: usize, order: u32) -> Model {
         raised[i - 1] += 1;
         let k = i128::from(raised[i - 1]);
         if degree(&raised) > order {
-            gathered.radius += divided_up(c.abs(), k);
+            let growth = divided_up(c.abs(), k);
+            gathered.radius += growth;
+            shares.swept += UNIT * growth;
             continue;
         }
         let share = nearest(c, k);
         if share * k != c {
             // Counted also where the share is 0 and dropped.
             gathered.radius += 1;
+            shares.rounding += UNIT;
         }
         if share != 0 {
             gathered.polynomial.insert(raised, share);
         }
     }
-    gathered
+    Reported {
+        model: gathered,
+        shares,
+    }
 }
 
 /// The constant coefficient, minus and plus e and what the other terms count:

@@ -1,12 +1,13 @@
 //! Running a sheet or a book.
 
 use crate::book::{
-    Book, SoundBook, Step, ADD, ANTIDERIVATIVE, CONSTANT, INPUT, MULTIPLY, NEGATE, QUOTIENT,
-    SUBSTITUTE, SUBTRACT, SWEEP, VARIABLE,
+    Book, SoundBook, Step, ADD, ANTIDERIVATIVE, CONSTANT, INPUT, MOST_STEPS, MULTIPLY, NEGATE,
+    QUOTIENT, SUBSTITUTE, SUBTRACT, SWEEP, VARIABLE,
 };
 use crate::model::Model;
 use crate::operations::{self, Cause, Ends};
 use crate::refusal::Refusal;
+use crate::shares::{Reported, Shares};
 use crate::sheet;
 use crate::stored::StoredModel;
 
@@ -56,51 +57,123 @@ impl From<Result<RunResult, Refusal>> for RunAnswer {
     }
 }
 
+/// The answer of a run, and where the radius of each of its steps came from: a
+/// row for each of 64 steps. A refused step and those after it have zeros, and so
+/// have those that there are none of, and all of a book that is not sound.
+#[derive(Clone, Debug, PartialEq, Eq)]
+pub struct ReportAnswer {
+    pub answer: RunAnswer,
+    pub shares: [Shares; MOST_STEPS],
+}
+
 /// Runs a sheet: tests 1 to 6 over the whole sheet, then its steps.
 pub fn run_sheet(bytes: &[u8]) -> RunAnswer {
-    let result = sheet::sound_book(bytes).and_then(|book| run(&book));
-    RunAnswer::from(result)
+    report_sheet(bytes).answer
 }
 
 /// Runs a book: tests 3, 5 and 6 over the whole book, then its steps.
 pub fn run_book(book: &Book) -> RunAnswer {
-    let result = book.sound().and_then(|book| run(&book));
-    RunAnswer::from(result)
+    report_book(book).answer
+}
+
+/// Runs a sheet, with the shares of its steps.
+pub fn report_sheet(bytes: &[u8]) -> ReportAnswer {
+    report(sheet::sound_book(bytes))
+}
+
+/// Runs a book, with the shares of its steps.
+pub fn report_book(book: &Book) -> ReportAnswer {
+    report(book.sound())
+}
+
+fn report(book: Result<SoundBook, Refusal>) -> ReportAnswer {
+    let mut shares = [Shares::default(); MOST_STEPS];
+    let result = book.and_then(|book| {
+        let trace = trace(&book);
+        for (row, step) in shares.iter_mut().zip(&trace.steps) {
+            *row = step.shares;
+        }
+        trace.result()
+    });
+    ReportAnswer {
+        answer: RunAnswer::from(result),
+        shares,
+    }
 }
 
 /// Runs the steps of a sound book. The result is the last step's.
 pub fn run(book: &SoundBook) -> Result<RunResult, Refusal> {
-    let mut results = Vec::new();
-    for (number, step) in book.steps.iter().enumerate() {
-        let model = perform(step, book, &results).map_err(|cause| cause.at(number))?;
-        results.push(model);
+    trace(book).result()
+}
+
+/// What each step gave, up to the first that is refused.
+#[derive(Clone, Debug)]
+pub struct Trace {
+    pub steps: Vec<Reported>,
+    pub refusal: Option<Refusal>,
+}
+
+impl Trace {
+    fn result(mut self) -> Result<RunResult, Refusal> {
+        if let Some(refusal) = self.refusal {
+            return Err(refusal);
+        }
+        let last = self.steps.pop().expect("test 3 leaves at least one step");
+        Ok(RunResult::of(last.model))
     }
-    let last = results.pop().expect("test 3 leaves at least one step");
-    Ok(RunResult::of(last))
+}
+
+/// Runs the steps of a sound book and keeps what each one gave.
+pub fn trace(book: &SoundBook) -> Trace {
+    let mut trace = Trace {
+        steps: Vec::new(),
+        refusal: None,
+    };
+    for (number, step) in book.steps.iter().enumerate() {
+        match perform_reported(step, book, |earlier| &trace.steps[earlier].model) {
+            Ok(reported) => trace.steps.push(reported),
+            Err(cause) => {
+                trace.refusal = Some(cause.at(number));
+                break;
+            }
+        }
+    }
+    trace
 }
 
 /// One well-formed step, after the results of the earlier ones.
 pub fn perform(step: &Step, book: &SoundBook, earlier: &[Model]) -> Result<Model, Cause> {
+    perform_reported(step, book, |number| &earlier[number]).map(|reported| reported.model)
+}
+
+/// The same with the step's shares; the results of earlier steps by their numbers.
+fn perform_reported<'a>(
+    step: &Step,
+    book: &SoundBook,
+    earlier: impl Fn(usize) -> &'a Model,
+) -> Result<Reported, Cause> {
     let a = usize::from(step.a);
     let b = usize::from(step.b);
     let v = usize::from(step.v);
     let value = i128::from(step.value);
-    match step.code {
-        INPUT => Ok(book.models[a].clone()),
-        CONSTANT => Ok(operations::constant(book.n, value)),
-        VARIABLE => Ok(operations::variable(book.n, v)),
-        NEGATE => Ok(operations::negate(&earlier[a])),
-        ADD => operations::add(&earlier[a], &earlier[b]),
-        SUBTRACT => operations::subtract(&earlier[a], &earlier[b]),
-        MULTIPLY => operations::multiply(&earlier[a], &earlier[b], book.order),
-        SUBSTITUTE => operations::substitute(&earlier[a], &earlier[b], v, book.order),
-        SWEEP => Ok(operations::sweep(&earlier[a], value)),
+    let order = book.order;
+    let carried = Reported::carried;
+    Ok(match step.code {
+        INPUT => carried(book.models[a].clone()),
+        CONSTANT => carried(operations::constant(book.n, value)),
+        VARIABLE => carried(operations::variable(book.n, v)),
+        NEGATE => carried(operations::negate(earlier(a))),
+        ADD => carried(operations::add(earlier(a), earlier(b))?),
+        SUBTRACT => carried(operations::subtract(earlier(a), earlier(b))?),
+        MULTIPLY => operations::multiply_reported(earlier(a), earlier(b), order)?,
+        SUBSTITUTE => operations::substitute_reported(earlier(a), earlier(b), v, order)?,
+        SWEEP => operations::sweep_reported(earlier(a), value),
         QUOTIENT => {
             let w = usize::try_from(step.value).expect("test 6 leaves only earlier steps");
-            let (f, g) = (&earlier[a], &earlier[b]);
-            operations::quotient(f, g, &earlier[v], &earlier[w], book.order)
+            let (f, g) = (earlier(a), earlier(b));
+            carried(operations::quotient(f, g, earlier(v), earlier(w), order)?)
         }
-        ANTIDERIVATIVE => Ok(operations::antiderivative(&earlier[a], v, book.order)),
+        ANTIDERIVATIVE => operations::antiderivative_reported(earlier(a), v, order),
         _ => unreachable!("test 6 leaves only the codes above"),
-    }
+    })
 }
