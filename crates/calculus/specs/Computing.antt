@@ -11,6 +11,7 @@ use Rattle.calculus.specs.Operations as O
 use Rattle.calculus.specs.Tests as Te
 use Rattle.calculus.specs.Calls as C
 use Rattle.calculus.specs.Book as B
+use Rattle.calculus.specs.Shares as S
 use Rattle.calculus.specs.Outcome as Ou
 use Rattle.calculus.specs.Claim as Cl
 
@@ -54,6 +55,16 @@ unfolding
     B.most-models B.most-steps B.limits-sound B.model-sound B.step-sound B.tested
     B.model-of B.result-of B.run-step B.run-steps B.last B.summary B.run-sound B.run
 runs = tt
+
+-- the rows that a run reports
+unfoldable pub reports : Unit {0}
+unfolding
+    runs
+    R.returned O.slack
+    S.no-shares S.product-shares S.shares-of S.horner-shares S.carrying S.substitute-shares
+    S.grown S.sweep-shares S.antiderivative-shares S.all-carried S.step-shares
+    S.rows-of S.run-shares S.all-rows S.rows-sound S.reported S.shares-rows
+reports = tt
 
 -- the single calls, and what they hand back
 unfoldable pub calls : Unit {0}

@@ -8,12 +8,14 @@ pub mod Operations
 pub mod Tests
 pub mod Calls
 pub mod Book
+pub mod Shares
 pub mod Outcome
 pub mod Claim
 pub mod Forms
 pub mod Edges
 pub mod CallEdges
 pub mod QuotientEdges
+pub mod ShareEdges
 -- Lists of definitions that facts by computation open.
 pub mod Computing
 -- Laws: of tests and answers, of monomials and keys, of terms.
@@ -57,6 +59,8 @@ pub mod JumpFacts
 pub mod QuotientFacts
 pub mod RangeFacts
 pub mod AntiderivativeFacts
+-- Where a radius came from.
+pub mod ShareLaws
 -- A mirrored factor.
 pub mod MirrorLaws
 pub mod MirrorStepLaws

@@ -9,6 +9,7 @@ use Rattle.calculus.specs.Model.{between}
 use Rattle.calculus.specs.Refusal.{bad-length, bad-mark, bad-limits, bad-offset, bad-model, bad-step, short-buffer}
 use Rattle.calculus.specs.Refusal.{Result, done, stopped, require-at, require-each, _followed-by_, Returned, returned}
 use Rattle.calculus.specs.Book.{Book, limits-sound, Summary, run-sound}
+use Rattle.calculus.specs.Shares.{Shares, rows-sound, reported}
 use Rattle.format.specs.Bytes.{byte, join, u16, u32, u16-bytes, u32-bytes, signed, bits}
 use Rattle.format.specs.HeldBook.{Held-term, Held-model, Held-step, Held-book, zero-book, view-book, outline}
 use Rattle.format.specs.HeldBook.{held-model-sound, held-step-sound, held-tested}
@@ -128,6 +129,10 @@ returned-book s = returned zero-book (read s)
 -- the run of a sheet: the read makes all tests
 unfoldable pub run-sheet : List ℕ → Result Summary
 run-sheet s = read s followed-by (λ h. run-sound (view-book h))
+
+-- and the rows that it reports (request 6): zeros where tests 1 to 6 refuse the sheet
+unfoldable pub sheet-rows : List ℕ → List Shares
+sheet-rows s = reported (read s followed-by (λ h. done (rows-sound (view-book h))))
 
 -- ---- stepping through a sheet
 -- the bytes of c models

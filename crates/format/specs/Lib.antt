@@ -23,6 +23,8 @@ pub mod PlaceLaws
 -- The claim about a sheet, and its proof.
 pub mod SheetClaim
 pub mod SheetClaimProof
+pub mod SheetRowLaws
+pub mod SheetRowEdges
 pub mod RangeSheetFacts
 -- What loops that walk forward need.
 pub mod ReadLoopLaws
