@@ -61,6 +61,20 @@ pub struct Answer {
     pub verdict: Verdict,
 }
 
+// Where a radius came from: carried, rounding, swept, slack. Their sum is the radius times U.
+pub struct Shares {
+    pub carried: u64,
+    pub rounding: u64,
+    pub swept: u64,
+    pub slack: u64,
+}
+
+// An answer with the shares of its radius; zeros beside a refusal.
+pub struct Accounted {
+    pub answer: Answer,
+    pub shares: Shares,
+}
+
 // Two ends, or zeros beside a refusal.
 pub struct Bounds {
     pub low: i64,
@@ -158,6 +172,16 @@ impl Model {
             Term::ZERO,
         ],
         ..Model::ZERO
+    };
+}
+
+impl Shares {
+    // What a refused step reports, and a place that no step has.
+    pub const ZERO: Shares = Shares {
+        carried: 0,
+        rounding: 0,
+        swept: 0,
+        slack: 0,
     };
 }
 

@@ -10,3 +10,4 @@ pub mod Zeros
 pub mod ZeroLaws
 pub mod SummaryStruct
 pub mod SummaryStructLaws
+pub mod ReportStruct

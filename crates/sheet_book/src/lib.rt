@@ -6,6 +6,7 @@ ghost use Rattle.format.specs.HeldBook.{outline};
 ghost use Rattle.format.specs.Fields.{«limit-a», «limit-b», «v-sound», earlier, «value-sound», «fields-sound»};
 ghost use Rattle.sheet_book.specs.BookStruct.{«held-step»};
 use model_types::Model;
+use model_types::Shares;
 use model_types::Verdict;
 
 // The places of a book's models.
@@ -60,6 +61,12 @@ pub struct Summary {
     pub range: Ends,
     pub integral: Ends,
     pub verdict: Verdict,
+}
+
+// A run's summary, and where the radius of each step came from: zeros from a refused step on, and where there is none.
+pub struct Report {
+    pub summary: Summary,
+    pub shares: [Shares; MOST_STEPS],
 }
 
 // What a record of a sheet is; there is none from the trailer on.
