@@ -3,6 +3,7 @@ pub mod ArrayLaws
 pub mod ModelStruct
 pub mod ModelStructLaws
 pub mod SharesStruct
+pub mod SharesStructLaws
 pub mod ZeroTestLaws
 pub mod AnswerLaws
 pub mod ResultLaws

@@ -1,13 +1,18 @@
 // Models held in memory: their types, the answers of a refused call, and the models of constants and variables.
 ghost use mathlib.Core.Path.{_≡_};
-ghost use Prim.Native.Nat.{_≤_};
+ghost use Prim.Native.Nat.{_+_, _*_, _^_, _≤_, _<_};
+ghost use Rattle.fixed.specs.Fixed.{U, «span-limit»};
 ghost use Rattle.calculus.specs.Key.{«key-width»};
 ghost use Rattle.calculus.specs.Model.{«zero-model», between};
-ghost use Rattle.calculus.specs.Refusal.{stopped, number};
+ghost use Rattle.calculus.specs.Model as C;
+ghost use Rattle.calculus.specs.Refusal as R;
+ghost use Rattle.calculus.specs.Refusal.{stopped, number, «at-place»};
 ghost use Rattle.calculus.specs.Tests.{«vars-sound», «order-sound»};
 ghost use Rattle.calculus.specs.Operations.{constant, variable};
 ghost use Rattle.calculus.specs.Calls.{«call-constant», «call-variable»};
+ghost use Rattle.calculus.specs.Shares.{grown, «all-carried»};
 ghost use Rattle.model_types.specs.ModelStruct.{pack, «one-term», cause, answer, bounds};
+ghost use Rattle.model_types.specs.SharesStruct.{«stored-shares», «unless-refused», accounted};
 
 // The places of a model's terms.
 pub const MOST_TERMS: usize = 64;
@@ -340,4 +345,49 @@ pub fn variable_of(n: u8, i: u8) -> Model
     ensures { λ r. ⌜ r ≡ pack (variable n i) ⌝ }
 {
     of_one_term(n, model_keys::raised(0, i), fixed::unit())
+}
+
+// ---- for the layer above: shares of radii
+// U × e.
+pub fn times_unit(e: u64) -> u64
+    requires { ⌜ U * e < 2 ^ 64 ⌝ }
+    ensures { λ r. ⌜ r ≡ U * e ⌝ }
+{
+    let unit = fixed::magnitude(fixed::unit());
+    unit * e
+}
+
+// The shares of a radius e that grew by rounding and by what was swept.
+pub fn grown(e: u64, rounding: u64, swept: u64) -> Shares
+    requires { ⌜ e + rounding + swept ≤ span-limit ⌝ }
+    ensures { λ r. ⌜ r ≡ stored-shares (grown e rounding swept) ⌝ }
+{
+    Shares {
+        carried: times_unit(e),
+        rounding: times_unit(rounding),
+        swept: times_unit(swept),
+        slack: 0,
+    }
+}
+
+// What stands beside a verdict: the shares, or zeros beside a refusal.
+pub fn unless_refused(v: Verdict, shares: Shares) -> Shares
+    ensures { λ r. ⌜ r ≡ unless-refused v shares ⌝ }
+{
+    let Verdict::Accepted = v else {
+        return Shares::ZERO;
+    };
+    shares
+}
+
+// The answer of an operation whose radius is all carried. Beside a refusal the radius is 0, and so are the shares.
+pub fn all_carried(a: Answer) -> Accounted
+    requires { ⌜ a .model .radius ≤ span-limit ⌝ }
+    ensures { λ r. ⌜ ((o : R.Answer C.Model) → a ≡ answer (at-place 0 o) → r ≡ accounted o all-carried) ⌝ }
+{
+    let shares = grown(a.model.radius, 0, 0);
+    Accounted {
+        answer: a,
+        shares: shares,
+    }
 }

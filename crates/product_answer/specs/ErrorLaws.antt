@@ -1,4 +1,5 @@
 -- The error E of a product of models within the span limit fits 64 bits.
+use mathlib.Core.Path.{_≡_, refl}
 use mathlib.Core.List.{[], _∷_}
 use Prim.Native.Nat.{ℕ, _+_, _*_, _^_, _≤_, _<_}
 use native.Mathlib.Nat as NatL
@@ -8,15 +9,17 @@ use lib.IntN.{ℤ, natAbs}
 use Rattle.algebra.specs.Integer.{natAbs-add}
 use Rattle.algebra.specs.IntegerRing.{ℤR}
 use Rattle.polynomial.specs.Polynomial.{Term, product}
-use Rattle.fixed.specs.Fixed.{span-limit, residual}
-use Rattle.fixed.specs.FixedLaws.{span-square-fits, residual-le-abs}
+use Rattle.fixed.specs.Fixed.{U, span-limit, residual, round-up}
+use Rattle.fixed.specs.FixedLaws.{U-within, span-fits, span-square-fits, residual-le-abs, round-up-least}
 use Rattle.calculus.specs.Monomial.{degree}
 use Rattle.calculus.specs.Terms.{Terms, sum-over, sum-ℕ, size, insert, collect}
 use Rattle.calculus.specs.Model.{Model, span}
-use Rattle.calculus.specs.Operations.{products, within-order, above-order, carried, rounding, swept, error}
+use Rattle.calculus.specs.Operations.{products, within-order, above-order, carried, rounding, swept, error, slack}
+use Rattle.calculus.specs.Shares.{product-shares}
 use Rattle.calculus.specs.TermsLaws.{by-insert}
 use Rattle.calculus.specs.SumLaws.{ℕ-addition, sum-split}
 use Rattle.product_collector.specs.ProductsLaws.{size-product}
+use Rattle.product_answer.specs.ErrorShares.{error-shares}
 
 -- ---- collecting makes no sum of |c| larger
 size-insert : (t : Term ℤ) (p : Terms) → size (insert t p) ≤ natAbs (t .coefficient) + size p
@@ -60,3 +63,13 @@ module _ (d : ℕ) (f g : Model) where
 
   pub error-fits : span f ≤ span-limit → span g ≤ span-limit → error d f g < 2 ^ 63
   error-fits h k = omega (arith, error-le, NatL.mul-le-mul h k, span-square-fits)
+
+  -- a product's shares are those of its error
+  pub shares-are : error-shares (carried f g) (rounding d (products f g)) (swept d (products f g))
+      ≡ product-shares d f g
+  unfolding error-shares product-shares slack error
+  shares-are = refl
+
+-- ---- U × the radius fits
+pub radius-fits : (E : ℕ) → E < 2 ^ 63 → U * round-up E < 2 ^ 64
+radius-fits E h = omega (arith, round-up-least E, U-within, span-fits)

@@ -1,3 +1,4 @@
 pub mod CollectedProduct
+pub mod ErrorShares
 pub mod ErrorLaws
 pub mod CollectedProductLaws

@@ -2,22 +2,48 @@
 ghost use mathlib.Core.Path.{_≡_};
 ghost use Prim.Native.Nat.{_+_, _*_, _^_, _<_};
 ghost use Rattle.fixed.specs.Fixed.{«round-up»};
-ghost use Rattle.calculus.specs.Refusal.{«at-place»};
 ghost use Rattle.calculus.specs.Operations.{multiply};
-ghost use Rattle.model_types.specs.ModelStruct.{answer};
+ghost use Rattle.calculus.specs.Shares.{«product-shares»};
+ghost use Rattle.model_types.specs.SharesStruct.{«stored-shares», accounted};
 ghost use Rattle.product_answer.specs.CollectedProduct.{Product};
-use model_types::Answer;
+ghost use Rattle.product_answer.specs.ErrorShares.{«error-shares»};
+use model_types::Accounted;
 use model_types::Refusal;
+use model_types::Shares;
 use product_gathering::Gathered;
 
-// ---- the radius
-// E / U rounded up, for factors with the sums of |c| a and b and the radii e1 and e2. E is at most the product of their
-// spans, so that no sum wraps.
-fn radius(a: u64, e1: u64, b: u64, e2: u64, rounding: u64, swept: u64) -> u64
-    requires { ⌜ a * e2 + b * e1 + e1 * e2 + rounding + swept < 2 ^ 64 ⌝ }
-    ensures { λ r. ⌜ r ≡ round-up (a * e2 + b * e1 + e1 * e2 + rounding + swept) ⌝ }
+// ---- the error E
+// Its share of the factors' radii e1 and e2, where the sums of |c| are a and b.
+fn carried(a: u64, e1: u64, b: u64, e2: u64) -> u64
+    requires { ⌜ a * e2 + b * e1 + e1 * e2 < 2 ^ 63 ⌝ }
+    ensures { λ r. ⌜ r ≡ a * e2 + b * e1 + e1 * e2 ⌝ }
 {
-    fixed::round_up(a * e2 + b * e1 + e1 * e2 + rounding + swept)
+    a * e2 + b * e1 + e1 * e2
+}
+
+// E / U rounded up. E is at most the product of the factors' spans, so that no sum wraps.
+fn radius(carried: u64, rounding: u64, swept: u64) -> u64
+    requires { ⌜ carried + rounding + swept < 2 ^ 63 ⌝ }
+    ensures { λ r. ⌜ r ≡ round-up (carried + rounding + swept) ⌝ }
+{
+    fixed::round_up(carried + rounding + swept)
+}
+
+// The shares of E, and what rounding up to the radius e added.
+fn shares(carried: u64, rounding: u64, swept: u64, e: u64) -> Shares
+    requires { ⌜ carried + rounding + swept < 2 ^ 63 ⌝ }
+    requires { ⌜ e ≡ round-up (carried + rounding + swept) ⌝ }
+    ensures { λ r. ⌜ r ≡ stored-shares (error-shares carried rounding swept) ⌝ }
+{
+    let paid = model_types::times_unit(e);
+    let error = carried + rounding + swept;
+    let slack = paid - error;
+    Shares {
+        carried: carried,
+        rounding: rounding,
+        swept: swept,
+        slack: slack,
+    }
 }
 
 // ---- the answer
@@ -32,14 +58,27 @@ pub fn answered(
     r: Gathered,
     keys: &[u64],
     coefficients: &[i64],
-) -> Answer
+) -> Accounted
     requires { ⌜ Product n a e1 b e2 r (now keys) (now coefficients) ⌝ }
     ensures { λ s. ⌜ ((w : Product n a e1 b e2 r (now (keys .entry)) (now (coefficients .entry)))
-        → s ≡ answer (at-place 0 (multiply (w .order) (w .first) (w .second)))) ⌝ }
+        → s ≡ accounted (multiply (w .order) (w .first) (w .second))
+        (λ m. product-shares (w .order) (w .first) (w .second))) ⌝ }
 {
     if model_types::MOST_TERMS < r.count {
-        return model_types::refuse(Refusal::TooManyTerms, 0);
+        let refused = model_types::refuse(Refusal::TooManyTerms, 0);
+        return Accounted {
+            answer: refused,
+            shares: Shares::ZERO,
+        };
     }
-    let e = radius(a, e1, b, e2, r.rounding, r.swept);
-    model_limits::limited(product_packing::pack(n, e, r.count, keys, coefficients))
+    let old = carried(a, e1, b, e2);
+    let e = radius(old, r.rounding, r.swept);
+    let answer = model_limits::limited(product_packing::pack(n, e, r.count, keys, coefficients));
+    let all = shares(old, r.rounding, r.swept, e);
+    let v = answer.verdict;
+    let beside = model_types::unless_refused(v, all);
+    Accounted {
+        answer: answer,
+        shares: beside,
+    }
 }
