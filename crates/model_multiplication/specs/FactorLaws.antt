@@ -14,13 +14,14 @@ use Rattle.fixed.specs.FixedLaws.{span-square-fits}
 use Rattle.calculus.specs.Key.{key-width}
 use Rattle.calculus.specs.Terms.{every, size}
 use Rattle.calculus.specs.Model.{most-terms, most-degree, fits, sound, span}
-use Rattle.calculus.specs.Refusal.{at-place}
 use Rattle.calculus.specs.Operations.{multiply}
+use Rattle.calculus.specs.Shares.{product-shares}
 use Rattle.calculus.specs.FitsLaws.{fits-more}
 use Rattle.calculus.specs.SoundLaws.{sound-parts}
 use Rattle.model_types.specs.declared.Model.{Model}
-use Rattle.model_types.specs.declared.Answer.{Answer}
-use Rattle.model_types.specs.ModelStruct.{view, answer}
+use Rattle.model_types.specs.declared.Accounted.{Accounted}
+use Rattle.model_types.specs.ModelStruct.{view}
+use Rattle.model_types.specs.SharesStruct.{accounted}
 use Rattle.model_types.specs.ModelStructLaws.{limits}
 use Rattle.product_table.specs.Table.{terms, entries}
 use Rattle.product_gathering.specs.declared.Gathered.{Gathered}
@@ -117,9 +118,10 @@ module _ (d : ℕ) (f g : Model) (h : Factors d f g) where
         coefficients-room = lc;
       }
 
-      pub end-answer : {s : Answer}
+      pub end-answer : {s : Accounted}
           → ((w : Product (f .n) a (f .radius) b (g .radius) r keys coefficients)
-          → s ≡ answer (at-place 0 (multiply (w .order) (w .first) (w .second))))
-          → s ≡ answer (at-place 0 (multiply d (view f) (view g)))
+          → s ≡ accounted (multiply (w .order) (w .first) (w .second))
+          (λ m. product-shares (w .order) (w .first) (w .second)))
+          → s ≡ accounted (multiply d (view f) (view g)) (λ m. product-shares d (view f) (view g))
       unfolding end-ready
       end-answer q = q end-ready

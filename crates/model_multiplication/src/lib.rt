@@ -4,10 +4,13 @@ ghost use mathlib.Core.Path.{_≡_};
 ghost use Prim.Native.Nat.{_*_, _≤_};
 ghost use Rattle.calculus.specs.Refusal.{«at-place»};
 ghost use Rattle.calculus.specs.Operations.{multiply};
+ghost use Rattle.calculus.specs.Shares.{«product-shares»};
 ghost use Rattle.model_types.specs.ModelStruct.{view, answer};
+ghost use Rattle.model_types.specs.SharesStruct.{accounted};
 ghost use Rattle.product_collector.specs.CollectorContracts.{«Empty-table», «Lent-table», «Free-table»};
 ghost use Rattle.model_multiplication.specs.Factors.{Factors};
 ghost use Rattle.model_multiplication.specs.Multiply.{«few-products», «fewest-products»};
+use model_types::Accounted;
 use model_types::Answer;
 use model_types::Model;
 
@@ -26,10 +29,10 @@ fn multiplied_in(
     keys: &mut [u64],
     sums: &mut [i64],
     room: usize,
-) -> Answer
+) -> Accounted
     requires { ⌜ Factors d f g ⌝ }
     requires { ⌜ Empty-table (f .count * g .count) room (now slots) (now keys) (now sums) ⌝ }
-    ensures exact { λ r. ⌜ r ≡ answer (at-place 0 (multiply d (view f) (view g))) ⌝ }
+    ensures exact { λ r. ⌜ r ≡ accounted (multiply d (view f) (view g)) (λ m. product-shares d (view f) (view g)) ⌝ }
     ensures table { λ r. ⌜ Free-table (now (slots .entry)) (now (keys .entry)) (now (sums .entry))
         (now (slots .exit)) (now (keys .exit)) (now (sums .exit)) ⌝ }
 {
@@ -58,7 +61,30 @@ fn multiplied_in(
     product_answer::answered(f.n, a, f.radius, b, g.radius, r, &kept, &coefficients)
 }
 
-// f times g at order d, in a table that is lent, whatever is in it. Only as many slots as the products ask are emptied.
+// f times g at order d with the shares of its radius, in a table that is lent, whatever is in it. Only as many slots as
+// the products ask are emptied.
+pub fn multiplied_accounted(
+    d: u8,
+    f: Model,
+    g: Model,
+    slots: &mut [u16],
+    keys: &mut [u64],
+    sums: &mut [i64],
+) -> Accounted
+    requires { ⌜ Factors d f g ⌝ }
+    requires { ⌜ Lent-table (now slots) (now keys) (now sums) ⌝ }
+    ensures exact { λ r. ⌜ r ≡ accounted (multiply d (view f) (view g)) (λ m. product-shares d (view f) (view g)) ⌝ }
+    ensures table { λ r. ⌜ Free-table (now (slots .entry)) (now (keys .entry)) (now (sums .entry))
+        (now (slots .exit)) (now (keys .exit)) (now (sums .exit)) ⌝ }
+{
+    let products = f.count * g.count;
+    let used = product_table::SLOTS_EACH * products + 1;
+    let part = &mut slots[..used];
+    product_slots::clear(part);
+    multiplied_in(d, f, g, part, keys, sums, products)
+}
+
+// f times g at order d, in a table that is lent.
 pub fn multiplied(
     d: u8,
     f: Model,
@@ -73,11 +99,8 @@ pub fn multiplied(
     ensures table { λ r. ⌜ Free-table (now (slots .entry)) (now (keys .entry)) (now (sums .entry))
         (now (slots .exit)) (now (keys .exit)) (now (sums .exit)) ⌝ }
 {
-    let products = f.count * g.count;
-    let used = product_table::SLOTS_EACH * products + 1;
-    let part = &mut slots[..used];
-    product_slots::clear(part);
-    multiplied_in(d, f, g, part, keys, sums, products)
+    let product = multiplied_accounted(d, f, g, slots, keys, sums);
+    product.answer
 }
 
 // ---- in a table of its own
@@ -91,7 +114,8 @@ fn multiplied_small(d: u8, f: Model, g: Model) -> Answer
     let mut slots = [0u16; product_table::SLOTS_EACH * FEW_PRODUCTS + 1];
     let mut keys = [0u64; FEW_PRODUCTS + 1];
     let mut sums = [0i64; FEW_PRODUCTS + 1];
-    multiplied_in(d, f, g, &mut slots, &mut keys, &mut sums, FEW_PRODUCTS)
+    let product = multiplied_in(d, f, g, &mut slots, &mut keys, &mut sums, FEW_PRODUCTS);
+    product.answer
 }
 
 // And for so few that filling the smaller table takes longer than they do.
@@ -103,7 +127,8 @@ fn multiplied_smallest(d: u8, f: Model, g: Model) -> Answer
     let mut slots = [0u16; product_table::SLOTS_EACH * FEWEST_PRODUCTS + 1];
     let mut keys = [0u64; FEWEST_PRODUCTS + 1];
     let mut sums = [0i64; FEWEST_PRODUCTS + 1];
-    multiplied_in(d, f, g, &mut slots, &mut keys, &mut sums, FEWEST_PRODUCTS)
+    let product = multiplied_in(d, f, g, &mut slots, &mut keys, &mut sums, FEWEST_PRODUCTS);
+    product.answer
 }
 
 // And for any number of products.
@@ -114,7 +139,7 @@ fn multiplied_large(d: u8, f: Model, g: Model) -> Answer
     let mut slots = [0u16; product_table::SLOTS];
     let mut keys = [0u64; product_table::PLACES];
     let mut sums = [0i64; product_table::PLACES];
-    multiplied_in(
+    let product = multiplied_in(
         d,
         f,
         g,
@@ -122,7 +147,8 @@ fn multiplied_large(d: u8, f: Model, g: Model) -> Answer
         &mut keys,
         &mut sums,
         product_table::ENTRIES,
-    )
+    );
+    product.answer
 }
 
 // f times g at order d, without a table that is lent.

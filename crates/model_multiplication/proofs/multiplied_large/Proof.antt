@@ -1,6 +1,7 @@
 -- `multiplied_large` makes a table of zeros.
 use borrow.Author.Needs.{needs}
 use lib.Dec.{lit≤}
+use Rattle.model_types.specs.SharesStructLaws.{accounted-answer}
 use Rattle.product_table.specs.Table.{most-entries}
 use Rattle.model_multiplication.specs.MultiplyLaws.{zeros-empty, products-few}
 use Rattle.model_multiplication.proofs.multiplied_large.Statement.{statement}
@@ -21,7 +22,7 @@ multiplied-in-requires c κs =
     (s .pre, zeros-empty _ most-entries (products-few _ _ _ (s .pre)) (lit≤ tt))
 
 returns : tie.Need-returns
-returns c = search needs
+returns c = accounted-answer _ _ (c .before .before .before .before .multiplied-in .ensures .0)
 
 pub multiplied-large-spec : {M : Type 1} → statement M
 multiplied-large-spec =
