@@ -1,6 +1,7 @@
 -- `multiplied_smallest` makes a table of zeros.
 use borrow.Author.Needs.{needs}
 use lib.Dec.{lit≤}
+use Rattle.model_types.specs.SharesStructLaws.{accounted-answer}
 use Rattle.model_multiplication.specs.Multiply.{fewest-products}
 use Rattle.model_multiplication.specs.MultiplyLaws.{zeros-empty}
 use Rattle.model_multiplication.proofs.multiplied_smallest.Statement.{statement}
@@ -21,7 +22,7 @@ multiplied-in-requires c κs =
     (s .pre .0, zeros-empty _ fewest-products (s .pre .1) (lit≤ tt))
 
 returns : tie.Need-returns
-returns c = search needs
+returns c = accounted-answer _ _ (c .before .before .before .before .multiplied-in .ensures .0)
 
 pub multiplied-smallest-spec : {M : Type 1} → statement M
 multiplied-smallest-spec =
