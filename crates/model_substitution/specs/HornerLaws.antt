@@ -1,26 +1,35 @@
 -- Horner's rule: one turn of its loop, with each way out.
-use mathlib.Core.Path.{_≡_, sym, _∙_, ap, ap₂, subst}
+use mathlib.Core.Path.{_≡_, refl, sym, _∙_, ap, ap₂, subst}
 use mathlib.Core.Bool.{true, false}
-use Prim.Native.Nat.{ℕ, zero, suc, _-_, _≤_, _<_}
+use Prim.Native.Nat.{ℕ, zero, suc, _-_, _^_, _≤_, _<_}
 use native.Mathlib.Omega.{arith}
+use lib.Dec.{lit<}
+use Rattle.fixed.specs.Fixed.{span-limit}
 use Rattle.calculus.specs.Model as C
+use Rattle.calculus.specs.Model.{span}
 use Rattle.calculus.specs.Refusal as R
-use Rattle.calculus.specs.Refusal.{leaves-box, stopped, require, _then_, at-place}
-use Rattle.calculus.specs.Operations.{range-in-box, largest-exponent, part, horner, widen, substitute}
+use Rattle.calculus.specs.Refusal.{leaves-box, accepted, refused, stopped, require, _then_, at-place}
+use Rattle.calculus.specs.Operations.{range-in-box, largest-exponent, part, horner, widen, substitute, error}
+use Rattle.calculus.specs.Shares as S
+use Rattle.calculus.specs.Shares.{no-shares, product-shares, shares-of, horner-shares, carrying, substitute-shares}
 use Rattle.calculus.specs.Tests.{vars-sound}
 use Rattle.calculus.specs.SoundLaws.{Sound, sound-parts}
 use Rattle.model_types.specs.declared.Model.{Model}
 use Rattle.model_types.specs.declared.Refusal.{Refusal}
 use Rattle.model_types.specs.declared.Verdict.the-variants.{Accepted, Refused}
 use Rattle.model_types.specs.declared.Answer.{Answer}
+use Rattle.model_types.specs.declared.Shares.{Shares}
+use Rattle.model_types.specs.declared.Accounted.{Accounted}
 use Rattle.model_types.specs.ModelStruct.{view, pack, answer}
+use Rattle.model_types.specs.SharesStruct.{stored-shares, accounted, unless-refused}
+use Rattle.model_types.specs.SharesStructLaws.{accounted-by, accounted-refused, accounted-answer}
 use Rattle.model_types.specs.ModelStructLaws.{sound-vars}
 use Rattle.model_limits.specs.Limits.{Packed}
+use Rattle.product_answer.specs.ErrorLaws.{error-fits}
 use Rattle.model_powers.specs.PowersLaws.{part-sound}
 use Rattle.model_substitution.specs.Substitute.{horner-turn, Turn, Substitution}
-use Rattle.model_substitution.specs.TurnLaws.{turn-sound}
+use Rattle.model_substitution.specs.TurnLaws.{refused-accounted, accepted-shares, turn-sound}
 use Rattle.model_types.specs.ResultLaws.{Holds, held-view, held-sound, held-vars, Got, got, then-is}
-use Rattle.model_types.specs.ResultLaws.{refused-then}
 
 -- ---- g in the place of variable i of f
 module _ (d i : ℕ) (f g : Model) where
@@ -36,11 +45,23 @@ module _ (d i : ℕ) (f g : Model) where
   abbrev wider : C.Model → R.Answer C.Model
   wider = widen (view f .radius)
 
-  -- h holds a model from which the powers below k lead to the answer
-  pub record Left (k : ℕ) (h : Model) : Type 0 where
+  -- its shares
+  abbrev all-shares : S.Shares
+  all-shares = substitute-shares d i (view f) (view g)
+
+  -- the shares of the last product, from k - 1 down to 0, and of the radius of f
+  abbrev shares-down : ℕ → C.Model → S.Shares → S.Shares
+  shares-down k m s = carrying (view f .radius) (horner-shares d i (view f) (view g) k m s)
+
+  -- h holds a model, and s the shares of the last product, from which the powers below k lead to the answer
+  pub record Left (k : ℕ) (h : Model) (s : Shares) : Type 0 where
     pub model : C.Model
     pub holds : Holds (f .n) d h model
     pub rest : down k model then wider ≡ whole
+    pub shares : S.Shares
+    pub stored : s ≡ stored-shares shares
+    pub fits : shares .carried < 2 ^ 63
+    pub shares-rest : shares-down k model shares ≡ all-shares
 
   -- a turn, and what follows it
   down-turn : (k : ℕ) (m : C.Model) → 0 < k
@@ -49,10 +70,35 @@ module _ (d i : ℕ) (f g : Model) where
   down-turn zero m z = absurd (omega arith)
   down-turn (suc k) m z = let e : suc k - 1 ≡ k = omega arith in rw e
 
+  shares-turn : (k : ℕ) (m : C.Model) (s : S.Shares) → 0 < k
+      → horner-shares d i (view f) (view g) k m s
+      ≡ shares-of (horner-turn d m (view g) (part i (k - 1) (view f)))
+      (λ q. horner-shares d i (view f) (view g) (k - 1) q (product-shares d m (view g)))
+  unfolding horner-shares horner-turn
+  shares-turn zero m s z = absurd (omega arith)
+  shares-turn (suc k) m s z = let e : suc k - 1 ≡ k = omega arith in rw e
+
   -- the range of g leaves the box
-  pub outside : range-in-box (view g) ≡ false → answer (stopped leaves-box 0) ≡ answer (at-place 0 whole)
-  unfolding substitute require at-place
-  outside h = rw h
+  outside-is : range-in-box (view g) ≡ false → whole ≡ refused leaves-box
+  unfolding substitute require
+  outside-is h = rw h
+
+  pub outside : range-in-box (view g) ≡ false → {r : Answer} → r ≡ answer (stopped leaves-box 0)
+      → record { answer = r; shares = record { carried = 0; rounding = 0; swept = 0; slack = 0 } }
+      ≡ accounted whole (λ m. all-shares)
+  outside h e = accounted-refused leaves-box (λ m. all-shares) e
+      ∙ ap (λ a. accounted a (λ m. all-shares)) (sym (outside-is h))
+
+-- ---- what an accepted answer leads to
+led : {A : Type 0} {a : R.Answer A} {x : A} (f : A → S.Shares) → a ≡ accepted x → shares-of a f ≡ f x
+unfolding shares-of
+led f e = ap (λ a. shares-of a f) e
+
+-- a product's carried share fits
+carried-fits : (d : ℕ) (f g : C.Model) → span f ≤ span-limit → span g ≤ span-limit
+    → product-shares d f g .carried < 2 ^ 63
+unfolding product-shares error
+carried-fits d f g h k = omega (arith, error-fits d f g h k)
 
 module _ {d i : ℕ} {f g : Model} (s : Substitution d i f g) where
   vars : vars-sound (f .n) ≡ true
@@ -69,16 +115,22 @@ module _ {d i : ℕ} {f g : Model} (s : Substitution d i f g) where
 
   -- the first: f_K
   pub left-first : range-in-box (view g) ≡ true → {k : ℕ} → k ≡ largest-exponent i (view f .terms)
-      → {h : Model} → h ≡ pack (part i k (view f)) → Left d i f g k h
-  unfolding substitute require
+      → {h : Model} → h ≡ pack (part i k (view f))
+      → Left d i f g k h (record { carried = 0; rounding = 0; swept = 0; slack = 0 })
+  unfolding substitute require substitute-shares stored-shares no-shares
   left-first b {k = k} e p = record {
     model = part i k (view f);
     holds = record { packed = p; sound = part-sound i k (f .n) d (view f) outer };
     rest = rw (e, b);
+    shares = no-shares;
+    stored = refl;
+    fits = lit< tt;
+    shares-rest = rw e;
   }
 
   -- ---- multiply by g, add f_(k - 1)
-  module _ {k : ℕ} {h : Model} (l : Left d i f g k h) {q : Model} (t : q ≡ pack (part i (k - 1) (view f))) where
+  module _ {k : ℕ} {h : Model} {p : Shares} (l : Left d i f g k h p) {q : Model}
+      (t : q ≡ pack (part i (k - 1) (view f))) where
     part-holds : Holds (f .n) d q (part i (k - 1) (view f))
     part-holds = record { packed = t; sound = part-sound i (k - 1) (f .n) d (view f) outer }
 
@@ -94,36 +146,50 @@ module _ {d i : ℕ} {f g : Model} (s : Substitution d i f g) where
       vars = held-vars (l .holds) ∙ sym (held-vars part-holds);
     }
 
-    module _ (z : 0 < k) {r : Answer} (e : r ≡ answer (at-place 0 (horner-turn d (view h) (view g) (view q)))) where
+    module _ (z : 0 < k) {r : Accounted}
+        (e : r ≡ accounted (horner-turn d (view h) (view g) (view q)) (λ m. product-shares d (view h) (view g))) where
       abbrev turned : R.Answer C.Model
       turned = horner-turn d (l .model) (view g) (part i (k - 1) (view f))
 
-      turned-is : r ≡ answer (at-place 0 turned)
-      turned-is = e ∙ ap₂ (λ m p. answer (at-place 0 (horner-turn d m (view g) p)))
+      abbrev made : S.Shares
+      made = product-shares d (l .model) (view g)
+
+      turned-is : r ≡ accounted turned (λ m. made)
+      turned-is = e
+          ∙ ap₂ (λ m p. accounted (horner-turn d m (view g) p) (λ n. product-shares d m (view g)))
           (held-view vars (s .order) (l .holds)) (held-view vars (s .order) part-holds)
 
       rest : turned then down d i f g (k - 1) then wider d i f g ≡ whole d i f g
       rest = ap (λ a. a then wider d i f g) (sym (down-turn d i f g k (l .model) z)) ∙ l .rest
 
-      pub turn-refused : {x : Refusal} {y : ℕ} → r .verdict ≡ Refused x y → r ≡ answer (at-place 0 (whole d i f g))
+      pub turn-refused : {x : Refusal} {y : ℕ} → r .answer .verdict ≡ Refused x y
+          → r ≡ accounted (whole d i f g) (λ m. all-shares d i f g)
       turn-refused v =
-          refused-then (turned then down d i f g (k - 1)) (wider d i f g) v
-          (refused-then turned (down d i f g (k - 1)) v turned-is)
-          ∙ ap (λ a. answer (at-place 0 a)) rest
+          refused-accounted (turned then down d i f g (k - 1)) (λ m. made) (λ m. all-shares d i f g) (wider d i f g) v
+          (refused-accounted turned (λ m. made) (λ m. made) (down d i f g (k - 1)) v turned-is)
+          ∙ ap (λ a. accounted a (λ m. all-shares d i f g)) rest
 
-      pub turn-accepted : r .verdict ≡ Accepted → Left d i f g (k - 1) (r .model)
+      pub turn-accepted : r .answer .verdict ≡ Accepted → Left d i f g (k - 1) (r .answer .model) (r .shares)
       turn-accepted v = record {
         model = m .model;
         holds = m .holds;
         rest = ap (λ a. a then wider d i f g) (sym (then-is (down d i f g (k - 1)) (m .is))) ∙ rest;
+        shares = made;
+        stored = accepted-shares turned made turned-is (m .is);
+        fits = made-fits;
+        shares-rest = ap (carrying (view f .radius)) (sym (shares-turn d i f g k (l .model) (l .shares) z
+            ∙ led (λ q. horner-shares d i (view f) (view g) (k - 1) q made) (m .is))) ∙ l .shares-rest;
       }
         where
-          m : Got (f .n) d turned (r .model)
-          m = got turned-is v
+          m : Got (f .n) d turned (r .answer .model)
+          m = got (accounted-answer turned (λ m. made) turned-is) v
               (turn-sound (f .n) d (l .model) (view g) _ (l .holds .sound .0) (inner .0) (part-holds .sound .0))
 
+          made-fits : made .carried < 2 ^ 63
+          made-fits = carried-fits d (l .model) (view g) (l .holds .sound .1 .small-span) (inner .1 .small-span)
+
   -- ---- the last: the radius of f
-  module _ {k : ℕ} {h : Model} (l : Left d i f g k h) where
+  module _ {k : ℕ} {h : Model} {p : Shares} (l : Left d i f g k h p) where
     pub left-packed : Packed h
     unfolding pack
     left-packed = record {
@@ -131,10 +197,31 @@ module _ {d i : ℕ} {f g : Model} (s : Substitution d i f g) where
       packed = ap pack (held-view vars (s .order) (l .holds)) ∙ sym (l .holds .packed);
     }
 
-    pub left-end : k ≤ 0 → {r : Answer} → r ≡ answer (at-place 0 (widen (f .radius) (view h)))
-        → r ≡ answer (at-place 0 (whole d i f g))
-    unfolding horner view _then_
-    left-end z e =
-        let q : 0 ≡ k = omega arith in
-        e ∙ ap (λ m. answer (at-place 0 (widen (f .radius) m))) (held-view vars (s .order) (l .holds))
-        ∙ ap (λ a. answer (at-place 0 a)) (ap (λ j. down d i f g j (l .model) then wider d i f g) q ∙ l .rest)
+    pub left-fits : p .carried < 2 ^ 63
+    unfolding stored-shares
+    left-fits = omega (arith, ap (λ (s : Shares). s .carried) (l .stored), l .fits)
+
+    pub radius-within : f .radius ≤ span-limit
+    unfolding span view
+    radius-within = omega (arith, outer .1 .small-span)
+
+    module _ (z : k ≤ 0) where
+      none : k ≡ 0
+      none = omega arith
+
+      end-answer : {r : Answer} → r ≡ answer (at-place 0 (widen (f .radius) (view h)))
+          → r ≡ answer (at-place 0 (whole d i f g))
+      unfolding horner view _then_
+      end-answer e = e ∙ ap (λ m. answer (at-place 0 (widen (f .radius) m))) (held-view vars (s .order) (l .holds))
+          ∙ ap (λ a. answer (at-place 0 a)) (ap (λ j. down d i f g j (l .model) then wider d i f g) (sym none) ∙ l .rest)
+
+      end-shares : carrying (f .radius) (l .shares) ≡ all-shares d i f g
+      unfolding horner-shares view
+      end-shares = ap (λ j. shares-down d i f g j (l .model) (l .shares)) (sym none) ∙ l .shares-rest
+
+      pub left-end : {r : Answer} {a x : Shares} → r ≡ answer (at-place 0 (widen (f .radius) (view h)))
+          → ((t : S.Shares) → p ≡ stored-shares t → a ≡ stored-shares (carrying (f .radius) t))
+          → x ≡ unless-refused (r .verdict) a
+          → record { answer = r; shares = x } ≡ accounted (whole d i f g) (λ m. all-shares d i f g)
+      left-end {r} e u x = accounted-by (whole d i f g) (all-shares d i f g) (end-answer e)
+          (x ∙ ap (unless-refused (r .verdict)) (u (l .shares) (l .stored) ∙ ap stored-shares end-shares))

@@ -1,16 +1,39 @@
 // Substitution by Horner's rule.
 ghost use mathlib.Core.Path.{_≡_};
+ghost use Prim.Native.Nat.{_^_, _≤_, _<_};
+ghost use Rattle.fixed.specs.Fixed.{«span-limit»};
 ghost use Rattle.calculus.specs.Refusal.{«at-place»};
 ghost use Rattle.calculus.specs.Operations.{substitute};
+ghost use Rattle.calculus.specs.Shares as S;
+ghost use Rattle.calculus.specs.Shares.{«product-shares», carrying, «substitute-shares»};
 ghost use Rattle.model_types.specs.ModelStruct.{view, answer};
+ghost use Rattle.model_types.specs.SharesStruct.{«stored-shares», accounted};
 ghost use Rattle.product_collector.specs.CollectorContracts.{«Lent-table», «Free-table»};
 ghost use Rattle.model_substitution.specs.Substitute.{«horner-turn», Turn, Substitution};
+use model_types::Accounted;
 use model_types::Answer;
 use model_types::Model;
 use model_types::Refusal;
+use model_types::Shares;
 use model_types::Verdict;
 
-// One turn of Horner's rule: h times g with order d, then q added. The table is lent for the product.
+// U × e more under carried.
+fn carrying(e: u64, s: Shares) -> Shares
+    requires { ⌜ s .carried < 2 ^ 63 ⌝ }
+    requires { ⌜ e ≤ span-limit ⌝ }
+    ensures { λ r. ⌜ ((t : S.Shares) → s ≡ stored-shares t → r ≡ stored-shares (carrying e t)) ⌝ }
+{
+    let carried = s.carried + model_types::times_unit(e);
+    Shares {
+        carried: carried,
+        rounding: s.rounding,
+        swept: s.swept,
+        slack: s.slack,
+    }
+}
+
+// One turn of Horner's rule: h times g with order d, then q added, with the shares of the product, whose radius the sum
+// keeps. The table is lent for the product.
 fn horner_turn(
     d: u8,
     h: Model,
@@ -19,24 +42,79 @@ fn horner_turn(
     slots: &mut [u16],
     keys: &mut [u64],
     sums: &mut [i64],
-) -> Answer
+) -> Accounted
     requires { ⌜ Turn d h g q ⌝ }
     requires { ⌜ Lent-table (now slots) (now keys) (now sums) ⌝ }
-    ensures exact { λ r. ⌜ r ≡ answer (at-place 0 (horner-turn d (view h) (view g) (view q))) ⌝ }
+    ensures exact { λ r. ⌜ r ≡ accounted (horner-turn d (view h) (view g) (view q))
+        (λ m. product-shares d (view h) (view g)) ⌝ }
     ensures table { λ r. ⌜ Free-table (now (slots .entry)) (now (keys .entry)) (now (sums .entry))
         (now (slots .exit)) (now (keys .exit)) (now (sums .exit)) ⌝ }
 {
-    let product = model_multiplication::multiplied(d, h, g, slots, keys, sums);
-    let v = product.verdict;
+    let product = model_multiplication::multiplied_accounted(d, h, g, slots, keys, sums);
+    let answer = product.answer;
+    let v = answer.verdict;
     let Verdict::Accepted = v else {
         return product;
     };
-    let sum = model_addition::added(product.model, q);
-    sum
+    let sum = model_addition::added(answer.model, q);
+    let w = sum.verdict;
+    let shares = model_types::unless_refused(w, product.shares);
+    Accounted {
+        answer: sum,
+        shares: shares,
+    }
 }
 
-// g in the place of variable i of f, with order d: Horner's rule from the highest power down. The table is lent for
-// all products.
+// g in the place of variable i of f, with order d: Horner's rule from the highest power down, with the shares of its
+// last product and the radius of f. The table is lent for all products.
+pub fn substituted_accounted(
+    d: u8,
+    i: u8,
+    f: Model,
+    g: Model,
+    slots: &mut [u16],
+    keys: &mut [u64],
+    sums: &mut [i64],
+) -> Accounted
+    requires { ⌜ Substitution d i f g ⌝ }
+    requires { ⌜ Lent-table (now slots) (now keys) (now sums) ⌝ }
+    ensures exact { λ r. ⌜ r ≡ accounted (substitute d i (view f) (view g))
+        (λ m. substitute-shares d i (view f) (view g)) ⌝ }
+    ensures table { λ r. ⌜ Free-table (now (slots .entry)) (now (keys .entry)) (now (sums .entry))
+        (now (slots .exit)) (now (keys .exit)) (now (sums .exit)) ⌝ }
+{
+    if !model_range::in_box(g) {
+        let refused = model_types::refuse(Refusal::LeavesBox, 0);
+        return Accounted {
+            answer: refused,
+            shares: Shares::ZERO,
+        };
+    }
+    let mut k = model_powers::largest_exponent(f, i);
+    let mut h = model_powers::part(f, i, k);
+    let mut last = Shares::ZERO;
+    while 0 < k {
+        k -= 1;
+        let turn = horner_turn(d, h, g, model_powers::part(f, i, k), slots, keys, sums);
+        let sum = turn.answer;
+        let v = sum.verdict;
+        let Verdict::Accepted = v else {
+            return turn;
+        };
+        h = sum.model;
+        last = turn.shares;
+    }
+    let all = carrying(f.radius, last);
+    let answer = model_limits::widened(h, f.radius);
+    let w = answer.verdict;
+    let shares = model_types::unless_refused(w, all);
+    Accounted {
+        answer: answer,
+        shares: shares,
+    }
+}
+
+// g in the place of variable i of f, with order d. The table is lent for all products.
 pub fn substituted(
     d: u8,
     i: u8,
@@ -52,19 +130,6 @@ pub fn substituted(
     ensures table { λ r. ⌜ Free-table (now (slots .entry)) (now (keys .entry)) (now (sums .entry))
         (now (slots .exit)) (now (keys .exit)) (now (sums .exit)) ⌝ }
 {
-    if !model_range::in_box(g) {
-        return model_types::refuse(Refusal::LeavesBox, 0);
-    }
-    let mut k = model_powers::largest_exponent(f, i);
-    let mut h = model_powers::part(f, i, k);
-    while 0 < k {
-        k -= 1;
-        let sum = horner_turn(d, h, g, model_powers::part(f, i, k), slots, keys, sums);
-        let v = sum.verdict;
-        let Verdict::Accepted = v else {
-            return sum;
-        };
-        h = sum.model;
-    }
-    model_limits::widened(h, f.radius)
+    let all = substituted_accounted(d, i, f, g, slots, keys, sums);
+    all.answer
 }

@@ -1,205 +1,27 @@
--- `substituted` is Horner's rule: what is left at each turn leads to the answer.
-use mathlib.Core.Path.{_≡_, refl, sym, _∙_}
-use Prim.Native.Nat.{_<_}
-use native.Mathlib.Omega.{arith}
+-- `substituted` hands on the answer without the shares.
 use borrow.Author.Needs.{needs}
-use borrow.Author.Tests.{not-true, not-false}
-use lib.ListN.{length}
-use Rattle.model_types.specs.ModelStruct.{view, cause}
-use Rattle.model_powers.specs.Powers.{In-variable}
-use Rattle.model_types.specs.ResultLaws.{sound-order}
-use Rattle.model_substitution.specs.HornerLaws.{Left, outside, left-first, left-turn, turn-refused, turn-accepted}
-use Rattle.model_substitution.specs.HornerLaws.{left-packed, left-end}
+use Rattle.model_types.specs.SharesStructLaws.{accounted-answer}
 use Rattle.model_substitution.proofs.substituted.Statement.{statement}
 use Rattle.model_substitution.proofs.substituted.Tie as tie
 
-abbrev Inv-loop : tie.InvT-loop
-Inv-loop d i f g slots₀ keys₀ sums₀ k₀ h₀ slots keys sums k h =
-    Left d i f g k h
-    × (length slots ≡ length slots₀)
-    × (length keys ≡ length keys₀)
-    × (length sums ≡ length sums₀)
+substituted-accounted-requires : tie.Need-substituted-accounted-requires
+substituted-accounted-requires c κs = search needs
 
-abbrev μ-loop : tie.MeasureT-loop
-μ-loop d i f g slots₀ keys₀ sums₀ k₀ h₀ slots keys sums k h = k
+same-length : tie.Need-same-length
+same-length c = search needs
 
--- ---- before the loop
-in-variable : (c : tie.Start Inv-loop μ-loop) → In-variable (c .args .i) (c .args .f)
-in-variable c =
-    let s = c .pre .0 in
-    record {
-      model = sound-order (c .args .d) (view (c .args .f)) (s .order) (s .model);
-      first = s .first;
-      last = s .last;
-    }
+same-length-2 : tie.Need-same-length-2
+same-length-2 c = search needs
 
-in-box-requires : tie.Need-in-box-requires Inv-loop μ-loop
-in-box-requires c κs =
-    let s = c .before .before .pre .0 in
-    sound-order _ _ (s .order) (s .inner)
+same-length-3 : tie.Need-same-length-3
+same-length-3 c = search needs
 
-refuse-requires : tie.Need-refuse-requires Inv-loop μ-loop
-refuse-requires c κs = search needs
-
-returns : tie.Need-returns Inv-loop μ-loop
-unfolding cause
+returns : tie.Need-returns
 returns c = (
-  c .refuse .ensures
-      ∙ outside _ _ _ _ (sym (c .before .before .in-box .ensures) ∙ not-true _ (c .before .if1 .taken)),
-  record { slots-length = refl; keys-length = refl; sums-length = refl },
+  accounted-answer _ _ (c .before .before .before .before .before .before .substituted-accounted .ensures .0),
+  record { slots-length = search needs; keys-length = search needs; sums-length = search needs },
 )
-
-largest-exponent-requires : tie.Need-largest-exponent-requires Inv-loop μ-loop
-largest-exponent-requires c κs = in-variable (c .before .before .before .before)
-
-part-requires : tie.Need-part-requires Inv-loop μ-loop
-part-requires c κs = in-variable (c .before .before .before .before .before)
-
-loop-holds : tie.Need-loop-holds Inv-loop μ-loop
-loop-holds c =
-    let b = c .before .before .before in (
-      left-first (b .before .before .before .pre .0)
-          (sym (b .in-box .ensures) ∙ not-false _ (c .before .before .if1 .left))
-          (c .before .largest-exponent .ensures) (c .part .ensures),
-      refl,
-      refl,
-      refl,
-    )
-
--- ---- a turn
-abbrev start : tie.At-loop Inv-loop μ-loop → tie.Start Inv-loop μ-loop
-start l = l .before .before .before .before .before .before .before
-
-sub-k : tie.Need-sub-k Inv-loop μ-loop
-sub-k c = omega arith
-
-part-requires-2 : tie.Need-part-requires-2 Inv-loop μ-loop
-part-requires-2 c κs = in-variable (start (c .before))
-
-horner-turn-requires : tie.Need-horner-turn-requires Inv-loop μ-loop
-horner-turn-requires c κs =
-    let p = c .before .before .before in
-    let l = p .before .before in
-    let t = start l .pre .1 in (
-      left-turn (start l .pre .0) (l .loop .inv .0) (p .part2 .ensures),
-      record {
-        slots-room = omega (arith, l .loop .inv .1, t .slots-room);
-        keys-room = omega (arith, l .loop .inv .2, t .keys-room);
-        sums-room = omega (arith, l .loop .inv .3, t .sums-room);
-      },
-    )
-
-module _ (c : tie.After-horner-turn Inv-loop μ-loop) where
-  abbrev added : tie.After-part2 Inv-loop μ-loop
-  added = c .before .before .before .before
-
-  abbrev turn : tie.At-loop Inv-loop μ-loop
-  turn = added .before .before
-
-  positive : 0 < turn .loop .k
-  positive = omega (arith, added .before .loop-test .taken)
-
-  -- the table keeps its lengths
-  slots-long : length (c .horner-turn .last .1 .1 .1 .1 .0) ≡ length (start turn .args .slots .now)
-  slots-long = c .horner-turn .kept .1 .1 .1 .1 .0 ∙ turn .loop .inv .1
-
-  keys-long : length (c .horner-turn .last .1 .1 .1 .1 .1 .0) ≡ length (start turn .args .keys .now)
-  keys-long = c .horner-turn .kept .1 .1 .1 .1 .1 .0 ∙ turn .loop .inv .2
-
-  sums-long : length (c .horner-turn .last .1 .1 .1 .1 .1 .1 .0) ≡ length (start turn .args .sums .now)
-  sums-long = c .horner-turn .kept .1 .1 .1 .1 .1 .1 .0 ∙ turn .loop .inv .3
-
-enum-told : tie.Need-enum-told Inv-loop μ-loop
-enum-told c = search needs
-
-enum-told-2 : tie.Need-enum-told-2 Inv-loop μ-loop
-enum-told-2 c = search needs
-
--- it is refused
-abbrev refused : tie.After-enum-told2 Inv-loop μ-loop → tie.After-horner-turn Inv-loop μ-loop
-refused c = c .before .before .before .before .before .before .before
-
-same-length : tie.Need-same-length Inv-loop μ-loop
-same-length c = slots-long (refused c)
-
-same-length-2 : tie.Need-same-length-2 Inv-loop μ-loop
-same-length-2 c = keys-long (refused c)
-
-same-length-3 : tie.Need-same-length-3 Inv-loop μ-loop
-same-length-3 c = sums-long (refused c)
-
-returns-2 : tie.Need-returns-2 Inv-loop μ-loop
-returns-2 c =
-    let m = refused c in
-    let l = turn m in (
-      turn-refused (start l .pre .0) (l .loop .inv .0) (added m .part2 .ensures) (positive m)
-          (m .horner-turn .ensures .0) (c .enum-told2 .given .1),
-      record { slots-length = slots-long m; keys-length = keys-long m; sums-length = sums-long m },
-    )
-
--- it is accepted
-abbrev accepted : tie.After-h Inv-loop μ-loop → tie.After-horner-turn Inv-loop μ-loop
-accepted c = c .before .before .before .before .before .before .before .before
-
-loop-less : tie.Need-loop-less Inv-loop μ-loop
-loop-less c = omega (arith, positive (accepted c))
-
-loop-again : tie.Need-loop-again Inv-loop μ-loop
-loop-again c =
-    let m = accepted c in
-    let l = turn m in (
-      turn-accepted (start l .pre .0) (l .loop .inv .0) (added m .part2 .ensures) (positive m)
-          (m .horner-turn .ensures .0) (c .before .enum-told .given .1),
-      slots-long m,
-      keys-long m,
-      sums-long m,
-    )
-
--- ---- after the loop
-widened-requires : tie.Need-widened-requires Inv-loop μ-loop
-widened-requires c κs = left-packed (start (c .before) .pre .0) (c .before .loop .inv .0)
-
-same-length-4 : tie.Need-same-length-4 Inv-loop μ-loop
-same-length-4 c = c .before .before .loop .inv .1
-
-same-length-5 : tie.Need-same-length-5 Inv-loop μ-loop
-same-length-5 c = c .before .before .loop .inv .2
-
-same-length-6 : tie.Need-same-length-6 Inv-loop μ-loop
-same-length-6 c = c .before .before .loop .inv .3
-
-returns-3 : tie.Need-returns-3 Inv-loop μ-loop
-returns-3 c =
-    let l = c .before .before in (
-      left-end (start l .pre .0) (l .loop .inv .0) (c .before .loop-test .left) (c .widened .ensures),
-      record { slots-length = l .loop .inv .1; keys-length = l .loop .inv .2; sums-length = l .loop .inv .3 },
-    )
 
 pub substituted-spec : {M : Type 1} → statement M
 substituted-spec =
-    tie.close
-    (tie.spec
-    Inv-loop
-    μ-loop
-    in-box-requires
-    refuse-requires
-    returns
-    largest-exponent-requires
-    part-requires
-    loop-holds
-    sub-k
-    part-requires-2
-    horner-turn-requires
-    enum-told
-    enum-told-2
-    same-length
-    same-length-2
-    same-length-3
-    returns-2
-    loop-less
-    loop-again
-    widened-requires
-    same-length-4
-    same-length-5
-    same-length-6
-    returns-3)
+    tie.close (tie.spec substituted-accounted-requires same-length same-length-2 same-length-3 returns)
