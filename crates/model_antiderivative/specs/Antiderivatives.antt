@@ -19,11 +19,14 @@ key-stays d key = ltb (key-degree key) d
 unfoldable pub key-coefficient : (d i key : ℕ) → ℤ → ℤ
 key-coefficient d i key c = if-ℤ (key-stays d key) (nearest c (key-exponent i key + 1))
 
--- what it adds to the radius
+-- what it adds to the radius by rounding: 1 where it stays and does not divide
+unfoldable pub key-rounding : (d i key : ℕ) → ℤ → ℕ
+key-rounding d i key c = if-ℕ (key-stays d key) (if-ℕ (not (eqb (natAbs c % (key-exponent i key + 1)) 0)) 1)
+
+-- and in all
 unfoldable pub key-growth : (d i key : ℕ) → ℤ → ℕ
 key-growth d i key c =
-    if-ℕ (key-stays d key) (if-ℕ (not (eqb (natAbs c % (key-exponent i key + 1)) 0)) 1)
-    + if-ℕ (not (key-stays d key)) (divided-up (natAbs c) (key-exponent i key + 1))
+    key-rounding d i key c + if-ℕ (not (key-stays d key)) (divided-up (natAbs c) (key-exponent i key + 1))
 
 -- a sound model of order d, and one of its variables
 pub record Integrand (d i : ℕ) (f : Model) : Type 0 where

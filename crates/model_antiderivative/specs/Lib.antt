@@ -1,2 +1,3 @@
 pub mod Antiderivatives
 pub mod PassLaws
+pub mod GrowthShareLaws

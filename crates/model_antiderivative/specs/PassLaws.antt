@@ -21,8 +21,8 @@ use Rattle.calculus.specs.TermsLaws.{length-select}
 use Rattle.calculus.specs.SumLaws.{ℕ-addition, if-so, if-ℕ, if-ℤ, sum-mono}
 use Rattle.calculus.specs.Model.{most-degree, most-terms, span}
 use Rattle.calculus.specs.Operations.{is-inexact, antiderivative}
-use Rattle.calculus.specs.GrowthLaws.{up, new-exponent, stays, growth-of, growth-of-le, growth-sum, new-coefficient}
-use Rattle.calculus.specs.GrowthLaws.{new-term, antiderivative-terms}
+use Rattle.calculus.specs.GrowthLaws.{up, new-exponent, stays, rounding-of, growth-of, growth-of-le, growth-sum}
+use Rattle.calculus.specs.GrowthLaws.{new-coefficient, new-term, antiderivative-terms}
 use Rattle.model_types.specs.declared.Term.{Term}
 use Rattle.model_types.specs.declared.Model.{Model}
 use Rattle.model_types.specs.ModelStruct.{zero-term, view-term, view, pack-term, pad, pack}
@@ -31,7 +31,8 @@ use Rattle.model_types.specs.ModelStructLaws.{select-in, select-out, packed-mor
 use Rattle.model_types.specs.ModelStructLaws.{Limits, limits, key-fits-at}
 use Rattle.model_keys.specs.Keys.{Slot, key-exponent, Raisable, key-raised}
 use Rattle.model_keys.specs.KeyExponentLaws.{monomial-exponent, monomial-raised}
-use Rattle.model_antiderivative.specs.Antiderivatives.{key-stays, key-coefficient, key-growth, Integrand}
+use Rattle.model_antiderivative.specs.Antiderivatives.{key-stays, key-coefficient, key-rounding, key-growth}
+use Rattle.model_antiderivative.specs.Antiderivatives.{Integrand}
 
 -- one more is at most d where the number is below it
 next-le : (a d : ℕ) → leb (a + 1) d ≡ ltb a d
@@ -54,13 +55,18 @@ below : (d z : ℕ) → key-stays d z ≡ true → key-degree z < d
 unfolding key-stays
 below d z e = ltb→lt (key-degree z) d (subst T (sym e) tt)
 
+-- a term that stays adds by rounding only
+pub growth-stays : (d i z : ℕ) (c : ℤ) → key-stays d z ≡ true → key-growth d i z c ≡ key-rounding d i z c
+unfolding key-growth if-so
+growth-stays d i z c e = rw e (omega arith)
+
 -- ---- a model in memory
 module _ (f : Model) where
   -- the terms before j, and the term at j
-  abbrev before : ℕ → Terms
+  abbrev pub before : ℕ → Terms
   before j = read (f .n) j (f .terms)
 
-  abbrev at : ℕ → Term
+  abbrev pub at : ℕ → Term
   at j = getD (f .terms) j zero-term
 
   abbrev next : ℕ → P.Term ℤ
@@ -111,9 +117,14 @@ module _ {d i : ℕ} {f : Model} (s : Integrand d i f) (w : f .count ≤ length 
 
     growth-at : growth-of d i (next f j .exponents) (next f j .coefficient)
         ≡ key-growth d i (at f j .key) (at f j .coefficient)
-    unfolding key-growth view-term is-inexact
+    unfolding key-growth key-rounding view-term is-inexact
     growth-at = ap₂ (λ b k. if-ℕ b (if-ℕ (not (eqb (natAbs (at f j .coefficient) % k) 0)) 1)
         + if-ℕ (not b) (divided-up (natAbs (at f j .coefficient)) k)) stays-at exponent-at
+
+    pub rounding-at : rounding-of d i (next f j .exponents) (next f j .coefficient)
+        ≡ key-rounding d i (at f j .key) (at f j .coefficient)
+    unfolding key-rounding view-term is-inexact
+    rounding-at = ap₂ (λ b k. if-ℕ b (if-ℕ (not (eqb (natAbs (at f j .coefficient) % k) 0)) 1)) stays-at exponent-at
 
     -- what stays has room in its key
     pub raisable : key-stays d (at f j .key) ≡ true → Raisable i (at f j .key)

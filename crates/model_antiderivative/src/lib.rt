@@ -2,13 +2,19 @@
 ghost use mathlib.Core.Path.{_≡_};
 ghost use Prim.Native.Nat.{_+_, _^_, _<_};
 ghost use lib.IntN.{natAbs};
-ghost use Rattle.calculus.specs.Operations.{antiderivative};
+ghost use Rattle.calculus.specs.Refusal.{accepted};
+ghost use Rattle.calculus.specs.Operations.{antiderivative, «growth-rounding»};
+ghost use Rattle.calculus.specs.Shares.{«antiderivative-shares»};
 ghost use Rattle.model_keys.specs.Keys.{Slot, «key-exponent»};
 ghost use Rattle.model_types.specs.ModelStruct.{view, pack};
+ghost use Rattle.model_types.specs.SharesStruct.{accounted};
 ghost use Rattle.model_antiderivative.specs.Antiderivatives.{«key-stays», «key-coefficient», «key-growth»};
-ghost use Rattle.model_antiderivative.specs.Antiderivatives.{Integrand};
+ghost use Rattle.model_antiderivative.specs.Antiderivatives.{«key-rounding», Integrand};
+use model_types::Accounted;
+use model_types::Answer;
 use model_types::Model;
 use model_types::Term;
+use model_types::Verdict;
 
 // k, by which a term is divided: the exponent of variable i after it has risen.
 fn new_exponent(i: u8, key: u16) -> u64
@@ -53,6 +59,33 @@ fn growth(d: u8, i: u8, key: u16, coefficient: i64) -> u64
     0
 }
 
+// What a term adds by rounding alone: nothing where it is swept.
+fn growth_by_rounding(d: u8, i: u8, key: u16, coefficient: i64) -> u64
+    requires { ⌜ Slot i ⌝ }
+    ensures { λ r. ⌜ r ≡ key-rounding d i key coefficient ⌝ }
+{
+    if !stays(d, key) {
+        return 0;
+    }
+    growth(d, i, key, coefficient)
+}
+
+// How much of a model's growth is by rounding.
+fn rounded(d: u8, i: u8, f: Model) -> u64
+    requires { ⌜ Integrand d i f ⌝ }
+    ensures { λ r. ⌜ r ≡ growth-rounding d i (view f) ⌝ }
+{
+    let total = f.count;
+    let mut sum = 0;
+    let mut j = 0;
+    while j < total {
+        let t = f.terms[j];
+        sum += growth_by_rounding(d, i, t.key, t.coefficient);
+        j += 1;
+    }
+    sum
+}
+
 // The antiderivative in variable i of a sound model, with order d: one pass over the terms, which stay in order.
 pub fn integrated(d: u8, i: u8, f: Model) -> Model
     requires { ⌜ Integrand d i f ⌝ }
@@ -81,5 +114,26 @@ pub fn integrated(d: u8, i: u8, f: Model) -> Model
         count: count,
         radius: radius,
         terms: out,
+    }
+}
+
+// The antiderivative with the shares of its radius: what it grew by is by rounding or swept.
+pub fn integrated_accounted(d: u8, i: u8, f: Model) -> Accounted
+    requires { ⌜ Integrand d i f ⌝ }
+    ensures { λ r. ⌜ r ≡ accounted (accepted (antiderivative d i (view f)))
+        (λ m. antiderivative-shares d i (view f)) ⌝ }
+{
+    let model = integrated(d, i, f);
+    let rounding = rounded(d, i, f);
+    let grown = model.radius - f.radius;
+    let swept = grown - rounding;
+    let shares = model_types::grown(f.radius, rounding, swept);
+    let answer = Answer {
+        model: model,
+        verdict: Verdict::Accepted,
+    };
+    Accounted {
+        answer: answer,
+        shares: shares,
     }
 }

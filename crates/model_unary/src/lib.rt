@@ -3,11 +3,17 @@ ghost use mathlib.Core.Path.{_≡_};
 ghost use mathlib.Core.Bool.{not, _&&_};
 ghost use lib.Dec.{T, eqb, leb};
 ghost use Rattle.calculus.specs.Model.{«most-degree», sound};
+ghost use Rattle.calculus.specs.Refusal.{accepted};
 ghost use Rattle.calculus.specs.Operations.{negate, sweep};
+ghost use Rattle.calculus.specs.Shares.{«sweep-shares»};
 ghost use Rattle.model_types.specs.ModelStruct.{view, pack};
+ghost use Rattle.model_types.specs.SharesStruct.{accounted};
+use model_types::Accounted;
+use model_types::Answer;
 use model_types::MOST_TERMS;
 use model_types::Model;
 use model_types::Term;
+use model_types::Verdict;
 
 // Whether a term is swept: not the constant one, and not above the threshold.
 fn is_small(threshold: u64, key: u16, size: u64) -> bool
@@ -71,5 +77,23 @@ pub fn swept(m: Model, threshold: u64) -> Model
         count: count,
         radius: radius,
         terms: out,
+    }
+}
+
+// A sweep with the shares of its radius: the old one is carried, and what it grew by is swept.
+pub fn swept_accounted(m: Model, threshold: u64) -> Accounted
+    requires { ⌜ T (sound most-degree (view m)) ⌝ }
+    ensures { λ r. ⌜ r ≡ accounted (accepted (sweep threshold (view m))) (λ s. sweep-shares threshold (view m)) ⌝ }
+{
+    let model = swept(m, threshold);
+    let dropped = model.radius - m.radius;
+    let shares = model_types::grown(m.radius, 0, dropped);
+    let answer = Answer {
+        model: model,
+        verdict: Verdict::Accepted,
+    };
+    Accounted {
+        answer: answer,
+        shares: shares,
     }
 }

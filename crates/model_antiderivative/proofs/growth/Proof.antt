@@ -9,7 +9,7 @@ use mir.Facts.{toZ-ofZ}
 use Rattle.fixed.specs.Division.{divided-up}
 use Rattle.calculus.specs.SumLaws.{if-so}
 use Rattle.model_keys.specs.Keys.{key-exponent}
-use Rattle.model_antiderivative.specs.Antiderivatives.{key-growth}
+use Rattle.model_antiderivative.specs.Antiderivatives.{key-rounding, key-growth}
 use Rattle.model_antiderivative.proofs.growth.Statement.{statement}
 use Rattle.model_antiderivative.proofs.growth.Tie as tie
 
@@ -41,7 +41,7 @@ module _ (c : tie.After-stays) where
   rest-is = ap₂ _%_ size-is divisor-is
 
 returns : tie.Need-returns
-unfolding key-growth if-so
+unfolding key-growth key-rounding if-so
 returns c =
     let t = c .before .before in
     c .divided-up .ensures ∙ ap₂ divided-up (size-is t) (divisor-is t)
@@ -51,7 +51,7 @@ rem-if2 : tie.Need-rem-if2
 rem-if2 c = omega (arith, c .before .before .new-exponent .ensures)
 
 returns-2 : tie.Need-returns-2
-unfolding key-growth if-so
+unfolding key-growth key-rounding if-so
 returns-2 c =
     let t = c .before .before in
     rw (
@@ -60,7 +60,7 @@ returns-2 c =
     )
 
 returns-3 : tie.Need-returns-3
-unfolding key-growth if-so
+unfolding key-growth key-rounding if-so
 returns-3 c =
     let t = c .before .before in
     rw (

@@ -159,7 +159,7 @@ loop-again c =
 carrying-requires : tie.Need-carrying-requires Inv-loop μ-loop
 carrying-requires c κs =
     let l = c .before in
-    (left-fits (start l .pre .0) (l .loop .inv .0), radius-within (start l .pre .0) (l .loop .inv .0))
+    (left-fits (start l .pre .0) (l .loop .inv .0), omega (arith, radius-within (start l .pre .0) (l .loop .inv .0)))
 
 widened-requires : tie.Need-widened-requires Inv-loop μ-loop
 widened-requires c κs = let l = c .before .before in left-packed (start l .pre .0) (l .loop .inv .0)
