@@ -200,8 +200,14 @@ pub use model_unary::negated;
 // Small terms swept into the radius: the model of `sweep`, for a sound one.
 pub use model_unary::swept;
 
+// The same with the shares of its radius.
+pub use model_unary::swept_accounted;
+
 // The model of `antiderivative`, for a sound model of the order and one of its variables.
 pub use model_antiderivative::integrated;
+
+// The same with the shares of its radius.
+pub use model_antiderivative::integrated_accounted;
 
 // The two ends of `range`, for a sound model.
 pub use model_range::range_of;
@@ -218,11 +224,20 @@ pub use model_addition::subtracted;
 // The answer of `multiply`, for two sound models in the same variables. The table is lent, whatever is in it.
 pub use model_multiplication::multiplied;
 
+// The same with the shares of its radius.
+pub use model_multiplication::multiplied_accounted;
+
 // The answer of `substitute`, for two sound models in the same variables and one of these. The table is lent.
 pub use model_substitution::substituted;
 
+// The same with the shares of its radius: of its last product, and of the radius of f.
+pub use model_substitution::substituted_accounted;
+
 // The answer of `quotient`, for four sound models in the same variables. The table is lent.
 pub use model_quotient::divided;
+
+// Any other operation's answer with the shares of its radius: all is carried.
+pub use model_types::all_carried;
 
 // How long a lent table's keys and sums are at the least, and how long its slots.
 pub use product_table::PLACES;

@@ -213,7 +213,8 @@ module _ {d i : ℕ} {f g : Model} (s : Substitution d i f g) where
           → r ≡ answer (at-place 0 (whole d i f g))
       unfolding horner view _then_
       end-answer e = e ∙ ap (λ m. answer (at-place 0 (widen (f .radius) m))) (held-view vars (s .order) (l .holds))
-          ∙ ap (λ a. answer (at-place 0 a)) (ap (λ j. down d i f g j (l .model) then wider d i f g) (sym none) ∙ l .rest)
+          ∙ ap (λ a. answer (at-place 0 a))
+          (ap (λ j. down d i f g j (l .model) then wider d i f g) (sym none) ∙ l .rest)
 
       end-shares : carrying (f .radius) (l .shares) ≡ all-shares d i f g
       unfolding horner-shares view

@@ -43,7 +43,8 @@ accounted-by o t e h = ap₂ both e (h ∙ ap (λ a. unless-refused (a .verdict)
 pub accounted-refused : {a : Answer} (r : R.Refusal) (f : C.Model → S.Shares) → a ≡ answer (stopped r 0)
     → record { answer = a; shares = record { carried = 0; rounding = 0; swept = 0; slack = 0 } }
     ≡ accounted (refused r) f
-accounted-refused r f e = ap (λ a. both a zeros) e ∙ (unfold accounted at-place shares-of stored-shares no-shares in refl)
+accounted-refused r f e = ap (λ a. both a zeros) e
+    ∙ (unfold accounted at-place shares-of stored-shares no-shares in refl)
   where
     zeros : Shares
     zeros = record { carried = 0; rounding = 0; swept = 0; slack = 0 }

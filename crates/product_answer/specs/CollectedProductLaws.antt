@@ -174,7 +174,8 @@ module _ {n a e1 b e2 : ℕ} {r : Gathered} {keys : List ℕ} {coefficients : Li
           ∙ ap₂ (error-shares (carried f g)) rounding-is swept-is ∙ shares-are d f g
 
       -- the struct that comes to the limits
-      module _ (e : ℕ) (s : Model) (re : e ≡ round-up E) (rs : s ≡ packed n e (terms (r .count) keys coefficients)) where
+      module _ (e : ℕ) (s : Model) (re : e ≡ round-up E)
+          (rs : s ≡ packed n e (terms (r .count) keys coefficients)) where
         struct-is : s ≡ pack product
         struct-is = rs ∙ ap (λ i. packed i e (terms (r .count) keys coefficients)) (w .first-vars)
             ∙ ap₂ (packed (f .vars)) (re ∙ ap round-up E-is) held

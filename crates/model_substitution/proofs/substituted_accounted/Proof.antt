@@ -182,8 +182,8 @@ same-length-6 c = left c .loop .inv .3
 returns-3 : tie.Need-returns-3 Inv-loop μ-loop
 returns-3 c =
     let l = left c in (
-      left-end (start l .pre .0) (l .loop .inv .0) (c .before .before .before .loop-test .left) (c .before .widened .ensures)
-          (c .before .before .carrying .ensures) (c .unless-refused .ensures),
+      left-end (start l .pre .0) (l .loop .inv .0) (c .before .before .before .loop-test .left)
+          (c .before .widened .ensures) (c .before .before .carrying .ensures) (c .unless-refused .ensures),
       record { slots-length = l .loop .inv .1; keys-length = l .loop .inv .2; sums-length = l .loop .inv .3 },
     )
 
