@@ -12,18 +12,21 @@ use Rattle.calculus.specs.Key.{key-width}
 use Rattle.calculus.specs.Terms.{every, drop-zeros}
 use Rattle.calculus.specs.Model as C
 use Rattle.calculus.specs.Model.{most-terms, most-degree, fits}
-use Rattle.calculus.specs.Refusal.{too-many-terms, stopped, at-place}
+use Rattle.calculus.specs.Refusal as R
+use Rattle.calculus.specs.Refusal.{too-many-terms, refused, stopped, at-place}
 use Rattle.calculus.specs.Operations.{limited, products, kept, rounding, swept, error, carried, multiply}
-use Rattle.calculus.specs.Shares.{product-shares}
+use Rattle.calculus.specs.Shares as S
+use Rattle.calculus.specs.Shares.{product-shares, shares-of}
 use Rattle.calculus.specs.FitsLaws.{kept-fits}
 use Rattle.calculus.specs.SoundLaws.{sound-parts}
 use Rattle.model_types.specs.declared.Model.{Model}
 use Rattle.model_types.specs.declared.Answer.{Answer}
 use Rattle.model_types.specs.declared.Shares.{Shares}
+use Rattle.model_types.specs.declared.Accounted.{Accounted}
 use Rattle.model_types.specs.ModelStruct.{view, pack, answer}
 use Rattle.model_types.specs.ModelStructLaws.{vars-range, sound-vars, view-pack}
 use Rattle.model_types.specs.SharesStruct.{stored-shares, accounted, unless-refused}
-use Rattle.model_types.specs.SharesStructLaws.{accounted-by, accounted-refused}
+use Rattle.model_types.specs.SharesStructLaws.{accounted-by}
 use Rattle.model_limits.specs.Limits.{Packed}
 use Rattle.model_limits.specs.LimitLaws.{limited-many, pack-packed}
 use Rattle.product_table.specs.Table.{terms}
@@ -57,6 +60,25 @@ many-terms c a b l = go (decLe c most-terms)
 same-sum : {a₀ a₁ d₀ d₁ b₀ b₁ e₀ e₁ : ℕ} → a₀ ≡ a₁ → d₀ ≡ d₁ → b₀ ≡ b₁ → e₀ ≡ e₁
     → a₀ * e₀ + b₀ * d₀ + d₀ * e₀ ≡ a₁ * e₁ + b₁ * d₁ + d₁ * e₁
 same-sum a d b e = rw (a, d, b, e) refl
+
+-- ---- beside a refusal it does not matter which shares there were
+stopped-any : (q : R.Refusal) (s : C.Model → S.Shares) (y : Shares)
+    → record {
+      answer = answer (at-place 0 (refused q));
+      shares = unless-refused (answer (at-place 0 (refused q)) .verdict) y;
+    } ≡ accounted (refused q) s
+unfolding accounted answer at-place unless-refused shares-of
+stopped-any q s y = refl
+
+refused-any : (o : R.Answer C.Model) (q : R.Refusal) (s : C.Model → S.Shares) (y : Shares) {x : Answer} {z : Shares}
+    → x ≡ answer (at-place 0 o) → z ≡ unless-refused (x .verdict) y → o ≡ refused q
+    → record { answer = x; shares = z } ≡ accounted o s
+refused-any o q s y {x} hx hz e =
+    let h : x ≡ answer (at-place 0 (refused q)) = hx ∙ ap (λ o. answer (at-place 0 o)) e in
+    ap₂ both h (hz ∙ ap (λ x. unless-refused (x .verdict) y) h) ∙ stopped-any q s y ∙ ap (λ o. accounted o s) (sym e)
+  where
+    both : Answer → Shares → Accounted
+    both x z = record { answer = x; shares = z }
 
 module _ {n a e1 b e2 : ℕ} {r : Gathered} {keys : List ℕ} {coefficients : List ℤ}
     (w : Product n a e1 b e2 r keys coefficients) where
@@ -120,15 +142,42 @@ module _ {n a e1 b e2 : ℕ} {r : Gathered} {keys : List ℕ} {coefficients : Li
   unfolding gathered-product
   answered = w .answered .answered
 
-  -- more than 64 terms
-  pub too-many : most-terms < r .count → {s : Answer} → s ≡ answer (stopped too-many-terms 0)
-      → record { answer = s; shares = record { carried = 0; rounding = 0; swept = 0; slack = 0 } }
-      ≡ accounted (multiply d f g) (λ m. product-shares d f g)
-  too-many l e = accounted-refused too-many-terms (λ m. product-shares d f g) e
-      ∙ ap (λ a. accounted a (λ m. product-shares d f g)) (sym (multiply-limited
-      ∙ limited-many product (many-terms count rounded above (rw answered at l))))
+  many-refused : most-terms < r .count → multiply d f g ≡ refused too-many-terms
+  many-refused l = multiply-limited ∙ limited-many product (many-terms count rounded above (rw answered at l))
 
-  -- no more
+  -- more than 64 terms
+  pub too-many : most-terms < r .count → answer (stopped too-many-terms 0) ≡ answer (at-place 0 (multiply d f g))
+  unfolding at-place
+  too-many l = sym (ap (λ m. answer (at-place 0 m)) (many-refused l))
+
+  -- ---- E as it is summed
+  carried-is : a * e2 + b * e1 + e1 * e2 ≡ carried f g
+  unfolding carried
+  carried-is = same-sum (w .first-size) (w .first-radius) (w .second-size) (w .second-radius)
+
+  pub carried-fits : a * e2 + b * e1 + e1 * e2 < 2 ^ 63
+  unfolding error
+  carried-fits = omega (arith, carried-is, small)
+
+  -- the other shares are answered, or none are
+  gathered-le : r .rounding + r .swept ≤ rounded + above
+  gathered-le = go (decLe count most-terms)
+    where
+      go : Dec (count ≤ most-terms) → r .rounding + r .swept ≤ rounded + above
+      go (yes h) =
+          let e : r ≡ record { count = count; rounding = rounded; swept = above }
+          = answered ∙ counted-few count rounded above h in
+          omega (arith, ap (λ (s : Gathered). s .rounding) e, ap (λ (s : Gathered). s .swept) e)
+      go (no h) =
+          let e : r ≡ record { count = most-terms + 1; rounding = 0; swept = 0 }
+          = answered ∙ counted-many count rounded above (omega arith) in
+          omega (arith, ap (λ (s : Gathered). s .rounding) e, ap (λ (s : Gathered). s .swept) e)
+
+  pub E-fits : (old : ℕ) → old ≡ a * e2 + b * e1 + e1 * e2 → old + r .rounding + r .swept < 2 ^ 63
+  unfolding error
+  E-fits old ro = omega (arith, ro, carried-is, gathered-le, small)
+
+  -- ---- no more than 64 terms
   module _ (l : r .count ≤ most-terms) where
     few : count ≤ most-terms
     few = few-terms count rounded above (rw answered at l)
@@ -149,32 +198,17 @@ module _ {n a e1 b e2 : ℕ} {r : Gathered} {keys : List ℕ} {coefficients : Li
     kept-ready = pack-ready (f .vars) d width (w .low) (product .terms) (r .count) keys coefficients
         product-fits held l (omega (arith, w .keys-room)) (omega (arith, w .coefficients-room))
 
-    -- E as it is summed
-    carried-is : a * e2 + b * e1 + e1 * e2 ≡ carried f g
-    unfolding carried
-    carried-is = same-sum (w .first-size) (w .first-radius) (w .second-size) (w .second-radius)
-
-    pub carried-fits : a * e2 + b * e1 + e1 * e2 < 2 ^ 63
-    unfolding error
-    carried-fits = omega (arith, carried-is, small)
-
     module _ (old : ℕ) (ro : old ≡ a * e2 + b * e1 + e1 * e2) where
-      abbrev E : ℕ
-      E = old + r .rounding + r .swept
-
-      E-is : E ≡ error d f g
+      E-is : old + r .rounding + r .swept ≡ error d f g
       unfolding error
       E-is = omega (arith, ro, carried-is, rounding-is, swept-is)
-
-      pub E-fits : E < 2 ^ 63
-      E-fits = omega (arith, E-is, small)
 
       shares-is : error-shares old (r .rounding) (r .swept) ≡ product-shares d f g
       shares-is = ap (λ c. error-shares c (r .rounding) (r .swept)) (ro ∙ carried-is)
           ∙ ap₂ (error-shares (carried f g)) rounding-is swept-is ∙ shares-are d f g
 
       -- the struct that comes to the limits
-      module _ (e : ℕ) (s : Model) (re : e ≡ round-up E)
+      module _ (e : ℕ) (s : Model) (re : e ≡ round-up (old + r .rounding + r .swept))
           (rs : s ≡ packed n e (terms (r .count) keys coefficients)) where
         struct-is : s ≡ pack product
         struct-is = rs ∙ ap (λ i. packed i e (terms (r .count) keys coefficients)) (w .first-vars)
@@ -184,13 +218,20 @@ module _ {n a e1 b e2 : ℕ} {r : Gathered} {keys : List ℕ} {coefficients : Li
         pub struct-packed : Packed s
         struct-packed = subst Packed (sym struct-is) (pack-packed d product below width product-fits few)
 
-        struct-answer : answer (at-place 0 (limited (view s))) ≡ answer (at-place 0 (multiply d f g))
+        pub struct-answer : answer (at-place 0 (limited (view s))) ≡ answer (at-place 0 (multiply d f g))
         struct-answer = ap (λ m. answer (at-place 0 m))
             (ap limited (ap view struct-is ∙ view-pack d product below width product-fits) ∙ sym multiply-limited)
 
-        -- what is answered
-        pub struct-accounted : {x : Answer} {y z : Shares} → x ≡ answer (at-place 0 (limited (view s)))
-            → y ≡ stored-shares (error-shares old (r .rounding) (r .swept)) → z ≡ unless-refused (x .verdict) y
+  -- ---- the answer with its shares
+  module _ (old : ℕ) (ro : old ≡ a * e2 + b * e1 + e1 * e2) {x : Answer} {y z : Shares}
+      (hx : x ≡ answer (at-place 0 (multiply d f g)))
+      (hy : y ≡ stored-shares (error-shares old (r .rounding) (r .swept)))
+      (hz : z ≡ unless-refused (x .verdict) y) where
+    pub product-accounted : record { answer = x; shares = z } ≡ accounted (multiply d f g) (λ m. product-shares d f g)
+    product-accounted = go (decLe (r .count) most-terms)
+      where
+        go : Dec (r .count ≤ most-terms)
             → record { answer = x; shares = z } ≡ accounted (multiply d f g) (λ m. product-shares d f g)
-        struct-accounted {x} hx hy hz = accounted-by (multiply d f g) (product-shares d f g) (hx ∙ struct-answer)
-            (hz ∙ ap (unless-refused (x .verdict)) (hy ∙ ap stored-shares shares-is))
+        go (yes l) = accounted-by (multiply d f g) (product-shares d f g) hx
+            (hz ∙ ap (unless-refused (x .verdict)) (hy ∙ ap stored-shares (shares-is l old ro)))
+        go (no l) = refused-any (multiply d f g) too-many-terms _ y hx hz (many-refused (omega arith))

@@ -16,12 +16,15 @@ use Rattle.product_answer.proofs.shares.Tie as tie
 abbrev error : tie.Start → ℕ
 error c = c .args .carried + c .args .rounding + c .args .swept
 
+radius-requires : tie.Need-radius-requires
+radius-requires c κs = search needs
+
 times-unit-requires : tie.Need-times-unit-requires
-times-unit-requires c κs = rw (c .pre .1) (radius-fits _ (c .pre .0))
+times-unit-requires c κs = rw (c .radius .ensures) (radius-fits _ (c .before .pre))
 
 -- U times the radius
-paid : (c : tie.After-times-unit) → c .times-unit .result ≡ U * round-up (error (c .before))
-paid c = c .times-unit .ensures ∙ ap (λ e. U * e) (c .before .pre .1)
+paid : (c : tie.After-times-unit) → c .times-unit .result ≡ U * round-up (error (c .before .before))
+paid c = c .times-unit .ensures ∙ ap (λ e. U * e) (c .before .radius .ensures)
 
 add-error : tie.Need-add-error
 add-error c = search needs
@@ -30,7 +33,7 @@ add-error-2 : tie.Need-add-error-2
 add-error-2 c = search needs
 
 sub-slack : tie.Need-sub-slack
-sub-slack c = omega (arith, paid c, round-up-ok (error (c .before)))
+sub-slack c = omega (arith, paid c, round-up-ok (error (c .before .before)))
 
 -- the shares where so much is paid
 abbrev parts : tie.Start → ℕ → Shares
@@ -43,7 +46,7 @@ parts c p = record {
 
 returns : tie.Need-returns
 unfolding stored-shares error-shares
-returns c = ap (parts (c .before)) (paid c)
+returns c = ap (parts (c .before .before)) (paid c)
 
 pub shares-spec : {M : Type 1} → statement M
-shares-spec = tie.close (tie.spec times-unit-requires add-error add-error-2 sub-slack returns)
+shares-spec = tie.close (tie.spec radius-requires times-unit-requires add-error add-error-2 sub-slack returns)
