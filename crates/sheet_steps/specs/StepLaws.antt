@@ -1,6 +1,6 @@
--- Laws of one step: what it asks is what its operation asks, what its operation answers is what its code gives, and
--- that is what the book's step gives.
-use mathlib.Core.Path.{_≡_, refl, sym, _∙_, ap, subst}
+-- Laws of one step: what it asks is what its operation asks, what its operation answers, with its shares, is what its
+-- code gives, and that is what the book's step gives.
+use mathlib.Core.Path.{_≡_, refl, sym, _∙_, ap, ap₂, subst}
 use mathlib.Core.Bool.{Bool, true, false}
 use mathlib.Core.Option.{Option, some, none}
 use Prim.Native.Nat.{ℕ, zero, suc, _≤_}
@@ -8,25 +8,32 @@ use native.Mathlib.Omega.{arith}
 use lib.Dec.{T, eqb}
 use lib.IntN.{natAbs}
 use lib.ListN.{getElem?}
+use Rattle.fixed.specs.Fixed.{span-limit}
 use Rattle.calculus.specs.Model as C
-use Rattle.calculus.specs.Model.{most-degree, sound}
+use Rattle.calculus.specs.Model.{most-degree, sound, zero-model, span}
 use Rattle.calculus.specs.Refusal as R
 use Rattle.calculus.specs.Refusal.{accepted, at-place}
 use Rattle.calculus.specs.Operations as Op
 use Rattle.calculus.specs.Tests.{variable-sound}
+use Rattle.calculus.specs.RefusalLaws.{If-accepted, holds, vacuous, weaken}
+use Rattle.calculus.specs.SoundLaws.{Sound, sound-parts, add-sound, subtract-sound}
 use Rattle.calculus.specs.BookLaws.{between-low, between-high}
 use Rattle.calculus.specs.Book.{Step, Book, model-of, run-step}
+use Rattle.calculus.specs.Shares.{Shares, all-carried, step-shares}
 use Rattle.model_types.specs.declared.Model.{Model}
 use Rattle.model_types.specs.declared.Answer.{Answer}
+use Rattle.model_types.specs.declared.Accounted.{Accounted}
 use Rattle.model_types.specs.ModelStruct.{view, pack, answer}
 use Rattle.model_types.specs.ModelStructLaws.{vars-range}
+use Rattle.model_types.specs.ResultLaws.{sound-struct}
+use Rattle.model_types.specs.SharesStruct.{accounted}
 use Rattle.model.specs.OperationContracts.{Operands, Integrand, Factors, Substitution}
 use Rattle.model.specs.OperationLaws.{sound-order}
 use Rattle.format.specs.HeldBook.{Held-step, Form, forms, step-of, view-step}
 use Rattle.format.specs.Fields.{names-variable}
 use Rattle.sheet_step_answers.specs.Answers.{accepted-answer}
 use Rattle.sheet_steps.specs.Steps.{one-model, two-results, renumbered, form-answer, code-answer, step-answer}
-use Rattle.sheet_steps.specs.Steps.{Step-ready, Direct-ready}
+use Rattle.sheet_steps.specs.Steps.{form-shares, code-shares, step-row, Step-ready, Direct-ready}
 
 -- ---- what the operations ask
 module _ {n d : ℕ} {s : Held-step} {m f g : Model} (r : Step-ready n d s m f g) where
@@ -74,6 +81,10 @@ module _ {n d : ℕ} {s : Held-step} {m f g : Model} (r : Step-ready n d s m f g
     last = subst (λ i. s .v ≤ i) (sym (r .first-vars)) (into-variable e .1);
   }
 
+  -- what is swept
+  pub swept-sound : T (sound most-degree (view f))
+  swept-sound = operands .first
+
   pub integrand : s .code ≡ 10 → Integrand d (s .v) f
   integrand e = record {
     order = r .order;
@@ -82,13 +93,15 @@ module _ {n d : ℕ} {s : Held-step} {m f g : Model} (r : Step-ready n d s m f g
     last = subst (λ i. s .v ≤ i) (sym (r .first-vars)) (along-variable e .1);
   }
 
-  -- what a step asks that needs neither the table nor the order
-  pub direct-ready : (s .code ≡ 6 → ⊥) → (s .code ≡ 7 → ⊥) → (s .code ≡ 10 → ⊥) → Direct-ready n s m f g
-  direct-ready p q w = record {
+  -- what a step asks whose result is all carried
+  pub direct-ready : (s .code ≡ 6 → ⊥) → (s .code ≡ 7 → ⊥) → (s .code ≡ 8 → ⊥) → (s .code ≡ 10 → ⊥)
+      → Direct-ready n s m f g
+  direct-ready p q t w = record {
     width = vars-range n (r .vars) .1;
     code = r .code;
     no-product = p;
     no-substitution = q;
+    no-sweep = t;
     no-quotient = r .no-quotient;
     no-antiderivative = w;
     input = input-sound;
@@ -99,7 +112,9 @@ module _ {n d : ℕ} {s : Held-step} {m f g : Model} (r : Step-ready n d s m f g
 -- ---- from the answer of an operation to that of the step whose code names it
 -- what opens for facts about a code
 unfoldable pub codes : Unit {0}
-unfolding forms renumbered one-model two-results form-answer code-answer run-step model-of
+unfolding
+    forms renumbered one-model two-results form-answer code-answer run-step model-of
+    form-shares code-shares step-shares
 codes = tt
 
 module _ (n d : ℕ) (s : Held-step) (m f g : Model) where
@@ -122,6 +137,89 @@ module _ (n d : ℕ) (s : Held-step) (m f g : Model) where
   pub answered-is : {r : Answer} (c : ℕ) (a : R.Answer C.Model) → r ≡ answer (at-place 0 a) → s .code ≡ c
       → code-answer n d s (view m) (view f) (view g) c ≡ a → r ≡ answer (at-place 0 given)
   answered-is c a e i h = e ∙ sym (ap (λ a. answer (at-place 0 a)) (gives c i ∙ h))
+
+  -- the shares of what the step gives
+  abbrev row : C.Model → Shares
+  row = step-row n d s (view m) (view f) (view g)
+
+  -- by its code
+  shared : (c : ℕ) → s .code ≡ c → row ≡ code-shares n d s (view m) (view f) (view g) c
+  unfolding step-row
+  shared c e = ap (code-shares n d s (view m) (view f) (view g)) e
+
+  -- an operation that answers with its shares
+  pub accounted-is : {r : Accounted} (c : ℕ) (a : R.Answer C.Model) (k : C.Model → Shares) → r ≡ accounted a k
+      → s .code ≡ c → code-answer n d s (view m) (view f) (view g) c ≡ a
+      → code-shares n d s (view m) (view f) (view g) c ≡ k → r ≡ accounted given row
+  accounted-is c a k e i h q = e ∙ sym (ap₂ accounted (gives c i ∙ h) (shared c i ∙ q))
+
+  -- any other result is all carried
+  carried-code : (c : ℕ) → (c ≡ 6 → ⊥) → (c ≡ 7 → ⊥) → (c ≡ 8 → ⊥) → (c ≡ 10 → ⊥)
+      → code-shares n d s (view m) (view f) (view g) c ≡ all-carried
+  unfolding codes
+  carried-code zero p q t w = refl
+  carried-code (suc zero) p q t w = refl
+  carried-code (suc (suc zero)) p q t w = refl
+  carried-code (suc (suc (suc zero))) p q t w = refl
+  carried-code (suc (suc (suc (suc zero)))) p q t w = refl
+  carried-code (suc (suc (suc (suc (suc zero))))) p q t w = refl
+  carried-code (suc (suc (suc (suc (suc (suc zero)))))) p q t w = absurd (p refl)
+  carried-code (suc (suc (suc (suc (suc (suc (suc zero))))))) p q t w = absurd (q refl)
+  carried-code (suc (suc (suc (suc (suc (suc (suc (suc zero)))))))) p q t w = absurd (t refl)
+  carried-code (suc (suc (suc (suc (suc (suc (suc (suc (suc zero))))))))) p q t w = refl
+  carried-code (suc (suc (suc (suc (suc (suc (suc (suc (suc (suc zero)))))))))) p q t w = absurd (w refl)
+  carried-code (suc (suc (suc (suc (suc (suc (suc (suc (suc (suc (suc c))))))))))) p q t w = refl
+
+  pub carried-is : {x : Answer} {r : Accounted} (h : Direct-ready n s m f g)
+      → x ≡ answer (at-place 0 given)
+      → ((o : R.Answer C.Model) → x ≡ answer (at-place 0 o) → r ≡ accounted o all-carried)
+      → r ≡ accounted given row
+  unfolding step-row
+  carried-is h e k = k given e ∙ ap (accounted given)
+      (sym (carried-code (s .code) (h .no-product) (h .no-substitution) (h .no-sweep) (h .no-antiderivative)))
+
+-- ---- how large a radius is that is all carried
+pub radius-small : {n d : ℕ} (k : C.Model) → Sound n d k → k .radius ≤ span-limit
+unfolding span
+radius-small k h = omega (arith, h .1 .small-span)
+
+-- the radius of an answer, beside a refusal that of the zero model
+pub radius-bounded : {a : R.Answer C.Model} {r : Answer} → If-accepted (λ k. k .radius ≤ span-limit) a
+    → r ≡ answer (at-place 0 a) → r .model .radius ≤ span-limit
+unfolding answer at-place pack zero-model
+radius-bounded (holds h) e = let q = ap (λ r. r .model .radius) e in omega (arith, h, q)
+radius-bounded vacuous e = let q = ap (λ r. r .model .radius) e in omega (arith, q)
+
+module _ {n d : ℕ} {s : Held-step} {m f g : Model} (r : Step-ready n d s m f g) where
+  first-sound : Sound n d (view f)
+  first-sound = sound-struct f (r .first-vars) (r .first)
+
+  second-sound : Sound n d (view g)
+  second-sound = sound-struct g (r .second-vars) (r .second)
+
+  bounded-code : Direct-ready n s m f g → (c : ℕ) → s .code ≡ c
+      → If-accepted (λ k. k .radius ≤ span-limit) (code-answer n d s (view m) (view f) (view g) c)
+  unfolding codes Op.constant Op.variable Op.negate
+  bounded-code q zero e = holds (radius-small (view m) (sound-parts d (view m) (r .input e)))
+  bounded-code q (suc zero) e = let z : 0 ≤ span-limit = omega arith in holds z
+  bounded-code q (suc (suc zero)) e = let z : 0 ≤ span-limit = omega arith in holds z
+  bounded-code q (suc (suc (suc zero))) e = holds (radius-small (view f) first-sound)
+  bounded-code q (suc (suc (suc (suc zero)))) e =
+      weaken radius-small (add-sound n d _ _ (first-sound .0) (second-sound .0))
+  bounded-code q (suc (suc (suc (suc (suc zero))))) e =
+      weaken radius-small (subtract-sound n d _ _ (first-sound .0) (second-sound .0))
+  bounded-code q (suc (suc (suc (suc (suc (suc zero)))))) e = absurd (q .no-product e)
+  bounded-code q (suc (suc (suc (suc (suc (suc (suc zero))))))) e = absurd (q .no-substitution e)
+  bounded-code q (suc (suc (suc (suc (suc (suc (suc (suc zero)))))))) e = absurd (q .no-sweep e)
+  bounded-code q (suc (suc (suc (suc (suc (suc (suc (suc (suc zero))))))))) e = absurd (q .no-quotient e)
+  bounded-code q (suc (suc (suc (suc (suc (suc (suc (suc (suc (suc zero)))))))))) e = absurd (q .no-antiderivative e)
+  bounded-code q (suc (suc (suc (suc (suc (suc (suc (suc (suc (suc (suc c))))))))))) e =
+      absurd (omega (arith, q .code, e))
+
+  pub direct-bounded : {x : Answer} → Direct-ready n s m f g
+      → x ≡ answer (at-place 0 (step-answer n d s (view m) (view f) (view g))) → x .model .radius ≤ span-limit
+  unfolding step-answer
+  direct-bounded q e = radius-bounded (bounded-code q (s .code) refl) e
 
 -- ---- what the code of a step gives is what the step of the book gives
 -- a form that gives a step gives its own
@@ -160,9 +258,41 @@ module _ (b : Book) (r : ℕ → C.Model) (s : Held-step) (t : Step) (m : C.Mode
   unfolding view-step step-answer
   step-is = by-code (s .code)
 
--- and a quotient is that of the results that its fields name
+  -- so are the shares
+  shares-by-code : (c : ℕ) → step-of (getElem? (forms s) c) ≡ some t → (c ≡ 9 → ⊥)
+      → code-shares (b .vars) (b .order) s m (r (s .a)) (r (s .b)) c ≡ step-shares b r t
+  unfolding codes
+  shares-by-code zero h p = ap (step-shares b r) (form-step _ t h)
+  shares-by-code (suc zero) h p = ap (step-shares b r) (form-step _ t h)
+  shares-by-code (suc (suc zero)) h p = ap (step-shares b r) (form-step _ t h)
+  shares-by-code (suc (suc (suc zero))) h p = ap (step-shares b r) (form-step _ t h)
+  shares-by-code (suc (suc (suc (suc zero)))) h p = ap (step-shares b r) (form-step _ t h)
+  shares-by-code (suc (suc (suc (suc (suc zero))))) h p = ap (step-shares b r) (form-step _ t h)
+  shares-by-code (suc (suc (suc (suc (suc (suc zero)))))) h p = ap (step-shares b r) (form-step _ t h)
+  shares-by-code (suc (suc (suc (suc (suc (suc (suc zero))))))) h p = ap (step-shares b r) (form-step _ t h)
+  shares-by-code (suc (suc (suc (suc (suc (suc (suc (suc zero)))))))) h p = ap (step-shares b r) (form-step _ t h)
+  shares-by-code (suc (suc (suc (suc (suc (suc (suc (suc (suc zero))))))))) h p = absurd (p refl)
+  shares-by-code (suc (suc (suc (suc (suc (suc (suc (suc (suc (suc zero)))))))))) h p =
+      ap (step-shares b r) (form-step _ t h)
+  shares-by-code (suc (suc (suc (suc (suc (suc (suc (suc (suc (suc (suc c))))))))))) h p = no-form h
+    where
+      no-form : {A : Type 0} → step-of none ≡ some t → A
+      no-form e = unfold step-of in let z : _≡_ {A = ℕ} 0 1 = cc in absurd (omega arith)
+
+  pub row-is : view-step s ≡ some t → (s .code ≡ 9 → ⊥)
+      → step-row (b .vars) (b .order) s m (r (s .a)) (r (s .b)) ≡ step-shares b r t
+  unfolding view-step step-row
+  row-is = shares-by-code (s .code)
+
+-- and a quotient is that of the results that its fields name, all carried
 pub quotient-is : (b : Book) (r : ℕ → C.Model) (s : Held-step) (t : Step) → view-step s ≡ some t → s .code ≡ 9
     → Op.quotient (b .order) (r (s .a)) (r (s .b)) (r (s .v)) (r (natAbs (s .value))) ≡ run-step b r t
 unfolding view-step forms run-step
 quotient-is b r s t h e =
     ap (run-step b r) (form-step _ t (ap (λ c. step-of (getElem? (forms s) c)) (sym e) ∙ h))
+
+pub quotient-row : (b : Book) (r : ℕ → C.Model) (s : Held-step) (t : Step) → view-step s ≡ some t → s .code ≡ 9
+    → all-carried ≡ step-shares b r t
+unfolding view-step forms step-shares
+quotient-row b r s t h e =
+    ap (step-shares b r) (form-step _ t (ap (λ c. step-of (getElem? (forms s) c)) (sym e) ∙ h))

@@ -1,4 +1,4 @@
--- What one step gives, and what it asks.
+-- What one step gives, the shares of it, and what it asks.
 use mathlib.Core.Path.{_≡_}
 use mathlib.Core.Bool.{true}
 use mathlib.Core.List.{[], _∷_}
@@ -13,6 +13,7 @@ use Rattle.calculus.specs.Refusal as R
 use Rattle.calculus.specs.Refusal.{accepted}
 use Rattle.calculus.specs.Tests.{vars-sound, variable-sound}
 use Rattle.calculus.specs.Book.{last-code, Book, run-step}
+use Rattle.calculus.specs.Shares.{Shares, all-carried, step-shares}
 use Rattle.model_types.specs.declared.Model.{Model}
 use Rattle.model_types.specs.ModelStruct.{view}
 use Rattle.model.specs.OperationContracts.{Operands}
@@ -46,6 +47,21 @@ code-answer n d s m f g c =
 unfoldable pub step-answer : (n d : ℕ) → Held-step → (m f g : C.Model) → R.Answer C.Model
 step-answer n d s m f g = code-answer n d s m f g (s .code)
 
+-- ---- the shares of it (request 6)
+-- of what a form of it gives
+unfoldable pub form-shares : Book → (r : ℕ → C.Model) → Option Form → (k : C.Model) → Shares
+form-shares book r (some x) = step-shares book r (x .step)
+form-shares book r none = all-carried
+
+-- of what code c gives, where field a names the model m or the result f, and b the result g
+unfoldable pub code-shares : (n d : ℕ) → Held-step → (m f g : C.Model) → (c : ℕ) → (k : C.Model) → Shares
+code-shares n d s m f g c =
+    form-shares (one-model n d m) (two-results f g) (getElem? (forms (renumbered s)) c)
+
+-- and of the step's own
+unfoldable pub step-row : (n d : ℕ) → Held-step → (m f g : C.Model) → (k : C.Model) → Shares
+step-row n d s m f g = code-shares n d s m f g (s .code)
+
 -- ---- what it asks
 -- any step but a quotient, which names two more results: the results are sound in n variables for order d, and so is
 -- the model of an input; v is a variable where the code names one
@@ -61,13 +77,14 @@ pub record Step-ready (n d : ℕ) (s : Held-step) (m f g : Model) : Type 0 where
   pub second : T (sound d (view g))
   pub second-vars : g .n ≡ n
 
--- one that is no product, no substitution and no antiderivative either: a model that is sound, if it is an input, a
--- variable among n, if it is one, and two sound results
+-- one whose result is all carried: no product, no substitution, no sweep and no antiderivative either; a model that is
+-- sound, if it is an input, a variable among n, if it is one, and two sound results
 pub record Direct-ready (n : ℕ) (s : Held-step) (m f g : Model) : Type 0 where
   pub width : n ≤ key-width
   pub code : s .code ≤ last-code
   pub no-product : s .code ≡ 6 → ⊥
   pub no-substitution : s .code ≡ 7 → ⊥
+  pub no-sweep : s .code ≡ 8 → ⊥
   pub no-quotient : s .code ≡ 9 → ⊥
   pub no-antiderivative : s .code ≡ 10 → ⊥
   pub input : s .code ≡ 0 → T (sound most-degree (view m))

@@ -5,9 +5,11 @@ ghost use Prim.Native.Nat.{ℕ, _-_, min};
 ghost use Rattle.calculus.specs.Refusal.{«at-place»};
 ghost use Rattle.calculus.specs.Book.{«most-models»};
 ghost use Rattle.model_types.specs.ModelStruct.{view, answer};
+ghost use Rattle.model_types.specs.SharesStruct.{accounted};
 ghost use Rattle.model.specs.OperationContracts.{«Lent-table», «Free-table»};
 ghost use Rattle.sheet_book.specs.BookStruct.{«held-step»};
-ghost use Rattle.sheet_steps.specs.Steps.{«step-answer», «Step-ready», «Direct-ready»};
+ghost use Rattle.sheet_steps.specs.Steps.{«step-answer», «step-row», «Step-ready», «Direct-ready»};
+use model_types::Accounted;
 use model_types::Answer;
 use model_types::Model;
 use sheet_book::Step;
@@ -24,9 +26,9 @@ pub fn model_place(a: u8) -> usize
     }
 }
 
-// What a step gives whose operation needs neither a table nor the order, which is each but a product, a substitution, a
-// quotient and an antiderivative, with the model that its field a names and the results that a and b name: the same for
-// every order.
+// What a step gives whose radius is all carried, which is each but a product, a substitution, a sweep and an
+// antiderivative, a quotient apart, with the model that its field a names and the results that a and b name: the same
+// for every order.
 fn direct_answer(n: u8, s: Step, input: Model, f: Model, g: Model) -> Answer
     requires { ⌜ Direct-ready n (held-step s) input f g ⌝ }
     ensures { λ r. ⌜ ((d : ℕ)
@@ -39,13 +41,13 @@ fn direct_answer(n: u8, s: Step, input: Model, f: Model, g: Model) -> Answer
         2 => sheet_step_answers::accepted(model_types::variable_of(n, s.v)),
         3 => sheet_step_answers::accepted(model::negated(f)),
         4 => model::added(f, g),
-        5 => model::subtracted(f, g),
-        _ => sheet_step_answers::accepted(model::swept(f, fixed::magnitude(s.value))),
+        _ => model::subtracted(f, g),
     }
 }
 
 // What a step gives that names at most two results, which is each but a quotient, with the model that its field a names
-// and the results that a and b name. A product and a substitution use the table that is lent.
+// and the results that a and b name, and where its radius came from. A product and a substitution use the table that is
+// lent.
 pub fn step_answer(
     n: u8,
     d: u8,
@@ -56,18 +58,20 @@ pub fn step_answer(
     slots: &mut [u16],
     keys: &mut [u64],
     sums: &mut [i64],
-) -> Answer
+) -> Accounted
     requires { ⌜ Step-ready n d (held-step s) input f g ⌝ }
     requires { ⌜ Lent-table (now slots) (now keys) (now sums) ⌝ }
-    ensures exact { λ r. ⌜ r ≡ answer (at-place 0 (step-answer n d (held-step s) (view input) (view f) (view g))) ⌝ }
+    ensures exact { λ r. ⌜ r ≡ accounted (step-answer n d (held-step s) (view input) (view f) (view g))
+        (step-row n d (held-step s) (view input) (view f) (view g)) ⌝ }
     ensures table { λ r. ⌜ Free-table (now (slots .entry)) (now (keys .entry)) (now (sums .entry))
         (now (slots .exit)) (now (keys .exit)) (now (sums .exit)) ⌝ }
 {
     let code = s.code;
     match code {
-        6 => model::multiplied(d, f, g, slots, keys, sums),
-        7 => model::substituted(d, s.v, f, g, slots, keys, sums),
-        10 => sheet_step_answers::accepted(model::integrated(d, s.v, f)),
-        _ => direct_answer(n, s, input, f, g),
+        6 => model::multiplied_accounted(d, f, g, slots, keys, sums),
+        7 => model::substituted_accounted(d, s.v, f, g, slots, keys, sums),
+        8 => model::swept_accounted(f, fixed::magnitude(s.value)),
+        10 => model::integrated_accounted(d, s.v, f),
+        _ => model::all_carried(direct_answer(n, s, input, f, g)),
     }
 }

@@ -3,7 +3,6 @@ use mathlib.Core.Path.{_≡_, refl, _∙_, ap}
 use Prim.Native.Nat.{ℕ, _≤_}
 use native.Mathlib.Omega.{arith}
 use borrow.Author.Needs.{needs}
-use lib.IntN.{natAbs}
 use mir.Facts.{toZ-ofZ}
 use mir.Syntax.{w64}
 use mir.Val.{toZ, ofZ}
@@ -56,15 +55,6 @@ added-requires c κs = c .before .pre .operands
 
 subtracted-requires : tie.Need-subtracted-requires
 subtracted-requires c κs = c .before .pre .operands
-
-magnitude-requires : tie.Need-magnitude-requires
-magnitude-requires c κs = search needs
-
-swept-requires : tie.Need-swept-requires
-swept-requires c κs = c .before .before .before .pre .operands .first
-
-accepted-requires-5 : tie.Need-accepted-requires-5
-accepted-requires-5 c κs = search needs
 
 -- ---- what they answer
 module _ (c : tie.Start) (d : ℕ) where
@@ -125,31 +115,21 @@ returns-5 : tie.Need-returns-5
 unfolding codes
 returns-5 c = λ d. answers (c .before .before) d 4 _ (c .added .ensures) (c .before .match .keys5) refl
 
-returns-6 : tie.Need-returns-6
-unfolding codes
-returns-6 c = λ d. answers (c .before .before) d 5 _ (c .subtracted .ensures) (c .before .match .keys6) refl
-
 -- no other code is left
-is-sweep : (m : tie.At-match-rest) → m .before .args .s .code ≡ 8
+is-difference : (m : tie.At-match-rest) → m .before .args .s .code ≡ 5
 unfolding held-step
-is-sweep m =
+is-difference m =
     let r = m .match .rest in
     let p = m .before .pre in
     let low : 4 ≤ m .before .args .s .code =
-    omega (arith, r .0 .0 .0 .0 .0 .1, r .0 .0 .0 .0 .1, r .0 .0 .0 .1, r .0 .0 .1) in
-    omega (arith, low, p .code, p .no-product, p .no-substitution, p .no-quotient, p .no-antiderivative, r .1, r .0 .1)
+    omega (arith, r .0 .0 .0 .0 .1, r .0 .0 .0 .1, r .0 .0 .1, r .0 .1) in
+    let high : m .before .args .s .code ≤ 8 = omega (arith, p .code, p .no-quotient, p .no-antiderivative) in
+    omega (arith, low, high, p .no-product, p .no-substitution, p .no-sweep, r .1)
 
-returns-7 : tie.Need-returns-7
-unfolding codes held-step
-returns-7 c = λ d.
-    let t = c .before .before .before in
-    let a = t .before .before .args in
-    let read-back : toZ w64 (ofZ w64 (a .s .value)) ≡ a .s .value =
-    toZ-ofZ (record { sfits = t .struct-told2 .given .1 .1 .1 .1 .0 .1 }) in
-    accepts (t .before .before) d 8 _ (c .accepted5 .ensures)
-    (c .before .swept .ensures
-    ∙ ap (λ k. pack (Op.sweep k (view (a .f)))) (c .before .before .magnitude .ensures ∙ ap natAbs read-back))
-    (is-sweep (t .before)) refl
+returns-6 : tie.Need-returns-6
+unfolding codes
+returns-6 c = λ d.
+    answers (c .before .before) d 5 _ (c .subtracted .ensures) (is-difference (c .before)) refl
 
 pub direct-answer-spec : {M : Type 1} → statement M
 direct-answer-spec =
@@ -165,13 +145,9 @@ direct-answer-spec =
     accepted-requires-4
     added-requires
     subtracted-requires
-    magnitude-requires
-    swept-requires
-    accepted-requires-5
     returns
     returns-2
     returns-3
     returns-4
     returns-5
-    returns-6
-    returns-7)
+    returns-6)

@@ -1,19 +1,24 @@
--- `step_answer` goes by the code: a product, a substitution and an antiderivative are asked and answer what the step is
--- asked and answers.
-use mathlib.Core.Path.{_≡_, refl}
+-- `step_answer` goes by the code: a product, a substitution, a sweep and an antiderivative are asked and answer what
+-- the step is asked and answers, each with its shares; any other result is all carried.
+use mathlib.Core.Path.{_≡_, refl, _∙_, ap}
 use Prim.Native.Nat.{ℕ}
 use borrow.Author.Needs.{needs}
+use lib.IntN.{natAbs}
+use mir.Facts.{toZ-ofZ}
+use mir.Syntax.{w64}
+use mir.Val.{toZ, ofZ}
 use Rattle.calculus.specs.Model as C
 use Rattle.calculus.specs.Refusal as R
-use Rattle.calculus.specs.Refusal.{accepted, at-place}
-use Rattle.model_types.specs.declared.Answer.{Answer}
-use Rattle.model_types.specs.declared.Model.{Model}
-use Rattle.model_types.specs.ModelStruct.{view, pack, answer}
-use Rattle.sheet_step_answers.specs.Answers.{accepted-answer}
+use Rattle.calculus.specs.Refusal.{accepted}
+use Rattle.calculus.specs.Operations as Op
+use Rattle.calculus.specs.Shares.{Shares, sweep-shares}
+use Rattle.model_types.specs.declared.Accounted.{Accounted}
+use Rattle.model_types.specs.ModelStruct.{view}
+use Rattle.model_types.specs.SharesStruct.{accounted}
 use Rattle.sheet_book.specs.BookStruct.{held-step}
-use Rattle.sheet_steps.specs.Steps.{code-answer, step-answer}
-use Rattle.sheet_steps.specs.StepLaws.{factors, substitution, integrand, direct-ready, codes}
-use Rattle.sheet_steps.specs.StepLaws.{accepted-is, answered-is}
+use Rattle.sheet_steps.specs.Steps.{code-answer, code-shares, step-answer, step-row, Direct-ready}
+use Rattle.sheet_steps.specs.StepLaws.{factors, substitution, swept-sound, integrand, direct-ready, codes}
+use Rattle.sheet_steps.specs.StepLaws.{accounted-is, direct-bounded, carried-is}
 use Rattle.sheet_steps.proofs.step_answer.Statement.{statement}
 use Rattle.sheet_steps.proofs.step_answer.Tie as tie
 
@@ -22,29 +27,42 @@ abbrev start : tie.After-slice-known2 → tie.Start
 start c = c .before .before
 
 -- ---- what the operations ask
-multiplied-requires : tie.Need-multiplied-requires
-multiplied-requires c κs =
+multiplied-accounted-requires : tie.Need-multiplied-accounted-requires
+multiplied-accounted-requires c κs =
     let p = start (c .before .before .before .before) .pre in
     (factors (p .0), p .1)
 
-substituted-requires : tie.Need-substituted-requires
+substituted-accounted-requires : tie.Need-substituted-accounted-requires
 unfolding held-step
-substituted-requires c κs =
+substituted-accounted-requires c κs =
     let p = start (c .before .before .before .before) .pre in
     (substitution (p .0) (c .before .before .before .match .keys2), p .1)
 
-integrated-requires : tie.Need-integrated-requires
-unfolding held-step
-integrated-requires c κs = integrand (start (c .before) .pre .0) (c .match .keys3)
+magnitude-requires : tie.Need-magnitude-requires
+magnitude-requires c κs = search needs
 
-accepted-requires : tie.Need-accepted-requires
-accepted-requires c κs = search needs
+swept-accounted-requires : tie.Need-swept-accounted-requires
+swept-accounted-requires c κs = swept-sound (start (c .before .before .before) .pre .0)
+
+integrated-accounted-requires : tie.Need-integrated-accounted-requires
+unfolding held-step
+integrated-accounted-requires c κs = integrand (start (c .before) .pre .0) (c .match .keys4)
+
+-- no code is left that has shares of its own
+direct : (c : tie.At-match-rest) → Direct-ready (start (c .before) .args .n) (held-step (start (c .before) .args .s))
+    (start (c .before) .args .input) (start (c .before) .args .f) (start (c .before) .args .g)
+unfolding held-step
+direct c =
+    let r = c .match .rest in
+    direct-ready (start (c .before) .pre .0) (r .0 .0 .0 .1) (r .0 .0 .1) (r .0 .1) (r .1)
 
 direct-answer-requires : tie.Need-direct-answer-requires
-unfolding held-step
-direct-answer-requires c κs =
-    let r = c .match .rest in
-    direct-ready (start (c .before) .pre .0) (r .0 .0 .1) (r .0 .1) (r .1)
+direct-answer-requires c κs = direct c
+
+all-carried-requires : tie.Need-all-carried-requires
+all-carried-requires c κs =
+    let s = start (c .before .before) in
+    direct-bounded (s .pre .0) (direct (c .before)) (c .direct-answer .ensures (s .args .d))
 
 -- ---- what they answer
 module _ (c : tie.Start) where
@@ -53,92 +71,110 @@ module _ (c : tie.Start) where
   given = code-answer (c .args .n) (c .args .d) (held-step (c .args .s)) (view (c .args .input)) (view (c .args .f))
       (view (c .args .g))
 
+  -- and its shares
+  abbrev shared : ℕ → C.Model → Shares
+  shared = code-shares (c .args .n) (c .args .d) (held-step (c .args .s)) (view (c .args .input)) (view (c .args .f))
+      (view (c .args .g))
+
   -- what is answered
-  abbrev Answered : Answer → Type 0
+  abbrev Answered : Accounted → Type 0
   Answered r =
       r
-      ≡ answer (at-place 0 (step-answer (c .args .n) (c .args .d) (held-step (c .args .s)) (view (c .args .input))
-      (view (c .args .f)) (view (c .args .g))))
+      ≡ accounted (step-answer (c .args .n) (c .args .d) (held-step (c .args .s)) (view (c .args .input))
+      (view (c .args .f)) (view (c .args .g)))
+      (step-row (c .args .n) (c .args .d) (held-step (c .args .s)) (view (c .args .input))
+      (view (c .args .f)) (view (c .args .g)))
 
-  -- by an operation that cannot be refused
-  accepts : {r : Answer} {h : Model} (i : ℕ) (k : C.Model) → r ≡ accepted-answer h → h ≡ pack k
-      → c .args .s .code ≡ i → given i ≡ accepted k → Answered r
-  unfolding held-step
-  accepts =
-      accepted-is (c .args .n) (c .args .d) (held-step (c .args .s)) (c .args .input) (c .args .f) (c .args .g)
-
-  -- by one that can
-  answers : {r : Answer} (i : ℕ) (a : R.Answer C.Model) → r ≡ answer (at-place 0 a) → c .args .s .code ≡ i
-      → given i ≡ a → Answered r
+  answers : {r : Accounted} (i : ℕ) (a : R.Answer C.Model) (k : C.Model → Shares) → r ≡ accounted a k
+      → c .args .s .code ≡ i → given i ≡ a → shared i ≡ k → Answered r
   unfolding held-step
   answers =
-      answered-is (c .args .n) (c .args .d) (held-step (c .args .s)) (c .args .input) (c .args .f) (c .args .g)
+      accounted-is (c .args .n) (c .args .d) (held-step (c .args .s)) (c .args .input) (c .args .f) (c .args .g)
 
 -- where the product is made, and where the substitution
-abbrev product : tie.After-sums → tie.After-multiplied
+abbrev product : tie.After-sums → tie.After-multiplied-accounted
 product c = c .before .before .before .before .before
 
-abbrev substituted : tie.After-sums2 → tie.After-substituted
+abbrev substituted : tie.After-sums2 → tie.After-substituted-accounted
 substituted c = c .before .before .before .before .before
 
 same-length : tie.Need-same-length
-same-length c = product c .multiplied .kept .1 .1 .1 .0
+same-length c = product c .multiplied-accounted .kept .1 .1 .1 .0
 
 same-length-2 : tie.Need-same-length-2
-same-length-2 c = product c .multiplied .kept .1 .1 .1 .1 .0
+same-length-2 c = product c .multiplied-accounted .kept .1 .1 .1 .1 .0
 
 same-length-3 : tie.Need-same-length-3
-same-length-3 c = product c .multiplied .kept .1 .1 .1 .1 .1 .0
+same-length-3 c = product c .multiplied-accounted .kept .1 .1 .1 .1 .1 .0
 
 returns : tie.Need-returns
 unfolding codes
 returns c =
     let m = product c .before .before .before .before in (
-      answers (start (m .before)) 6 _ (product c .multiplied .ensures .0) (m .match .keys1) refl,
-      product c .multiplied .ensures .1,
+      answers (start (m .before)) 6 _ _ (product c .multiplied-accounted .ensures .0) (m .match .keys1) refl refl,
+      product c .multiplied-accounted .ensures .1,
     )
 
 same-length-4 : tie.Need-same-length-4
-same-length-4 c = substituted c .substituted .kept .1 .1 .1 .1 .0
+same-length-4 c = substituted c .substituted-accounted .kept .1 .1 .1 .1 .0
 
 same-length-5 : tie.Need-same-length-5
-same-length-5 c = substituted c .substituted .kept .1 .1 .1 .1 .1 .0
+same-length-5 c = substituted c .substituted-accounted .kept .1 .1 .1 .1 .1 .0
 
 same-length-6 : tie.Need-same-length-6
-same-length-6 c = substituted c .substituted .kept .1 .1 .1 .1 .1 .1 .0
+same-length-6 c = substituted c .substituted-accounted .kept .1 .1 .1 .1 .1 .1 .0
 
 returns-2 : tie.Need-returns-2
 unfolding codes held-step
 returns-2 c =
     let m = substituted c .before .before .before .before in (
-      answers (start (m .before)) 7 _ (substituted c .substituted .ensures .0) (m .match .keys2) refl,
-      substituted c .substituted .ensures .1,
+      answers (start (m .before)) 7 _ _ (substituted c .substituted-accounted .ensures .0) (m .match .keys2) refl refl,
+      substituted c .substituted-accounted .ensures .1,
     )
 
 -- the table is as it was lent
 returns-3 : tie.Need-returns-3
 unfolding codes held-step
 returns-3 c =
-    let m = c .before .before in (
-      accepts (start (m .before)) 10 _ (c .accepted .ensures) (c .before .integrated .ensures) (m .match .keys3) refl,
+    let t = c .before .before in
+    let s = start (t .before .before) in
+    let read-back : toZ w64 (ofZ w64 (s .args .s .value)) ≡ s .args .s .value =
+    toZ-ofZ (record { sfits = t .struct-told .given .1 .1 .1 .1 .0 .1 }) in (
+      answers s 8 _ _
+          (c .swept-accounted .ensures
+          ∙ ap (λ k. accounted (accepted (Op.sweep k (view (s .args .f)))) (λ m. sweep-shares k (view (s .args .f))))
+          (c .before .magnitude .ensures ∙ ap natAbs read-back))
+          (t .before .match .keys3) refl refl,
       record { slots-length = refl; keys-length = refl; sums-length = refl },
     )
 
 returns-4 : tie.Need-returns-4
-returns-4 c = (
-  c .direct-answer .ensures (start (c .before .before) .args .d),
-  record { slots-length = refl; keys-length = refl; sums-length = refl },
-)
+unfolding codes held-step
+returns-4 c =
+    let m = c .before in (
+      answers (start (m .before)) 10 _ _ (c .integrated-accounted .ensures) (m .match .keys4) refl refl,
+      record { slots-length = refl; keys-length = refl; sums-length = refl },
+    )
+
+returns-5 : tie.Need-returns-5
+returns-5 c =
+    let s = start (c .before .before .before) in (
+      carried-is (s .args .n) (s .args .d) (held-step (s .args .s)) (s .args .input) (s .args .f) (s .args .g)
+          (direct (c .before .before)) (c .before .direct-answer .ensures (s .args .d)) (c .all-carried .ensures),
+      record { slots-length = refl; keys-length = refl; sums-length = refl },
+    )
 
 pub step-answer-spec : {M : Type 1} → statement M
 step-answer-spec =
     tie.close
     (tie.spec
-    multiplied-requires
-    substituted-requires
-    integrated-requires
-    accepted-requires
+    multiplied-accounted-requires
+    substituted-accounted-requires
+    magnitude-requires
+    swept-accounted-requires
+    integrated-accounted-requires
     direct-answer-requires
+    all-carried-requires
     same-length
     same-length-2
     same-length-3
@@ -148,4 +184,5 @@ step-answer-spec =
     same-length-6
     returns-2
     returns-3
-    returns-4)
+    returns-4
+    returns-5)
