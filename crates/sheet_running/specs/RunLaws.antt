@@ -1,7 +1,7 @@
 -- The run of a book that passed the tests: one turn of its loop, with each way out.
 use mathlib.Core.Path.{_≡_, refl, sym, _∙_, ap, ap₂, subst}
 use mathlib.Core.Bool.{Bool, true, false, cond, _&&_, _||_}
-use mathlib.Core.List.{List, [], _∷_, _++_, map, map-append}
+use mathlib.Core.List.{List, [], _∷_, _++_, map, map-append, append-assoc, append-nil}
 use mathlib.Core.Option.{some}
 use Prim.Native.Nat.{ℕ, zero, suc, _+_, _-_, _<_, _≤_}
 use native.Mathlib.Numerals.{add-one}
@@ -10,8 +10,9 @@ use lib.Dec.{T, eqb, leb, ltb, ltb→lt, leb→le}
 use lib.IntN.{natAbs}
 use lib.Signed.{nonNeg}
 use lib.ListN.{length, drop, getD, set, replicate, length-map, length-replicate, getD-replicate, drop-of-length-le}
-use lib.ListN.{List·getD-map}
+use lib.ListN.{List·getD-map, length-append}
 use lib.Seq.{drop-cons}
+use Rattle.fixed.specs.Fixed.{span-limit}
 use Rattle.calculus.specs.Model as C
 use Rattle.calculus.specs.Model.{most-degree, zero-model, sound}
 use Rattle.calculus.specs.Refusal as R
@@ -24,6 +25,10 @@ use Rattle.calculus.specs.SoundLaws.{Sound, zero-sound}
 use Rattle.calculus.specs.EachLaws.{All, nil, each-snoc, each-at, each-last}
 use Rattle.calculus.specs.Book.{Step, input, last-code, Book, most-steps, model-sound, step-sound}
 use Rattle.calculus.specs.Book.{model-of, result-of, run-step, run-steps, last}
+use Rattle.calculus.specs.RefusalLaws.{weaken}
+use Rattle.calculus.specs.Shares as S
+use Rattle.calculus.specs.Shares.{no-shares, shares-of, all-carried, step-shares, rows-of, run-shares, all-rows}
+use Rattle.calculus.specs.Shares.{rows-sound}
 use Rattle.calculus.specs.BookLaws.{Passes, model-passes, all-from-at, next-number}
 use Rattle.calculus.specs.BookSoundLaws.{step-good}
 use Rattle.model_types.specs.Arrays.{padded}
@@ -32,7 +37,10 @@ use Rattle.model_types.specs.declared.Model.{Model}
 use Rattle.model_types.specs.declared.Refusal.{Refusal}
 use Rattle.model_types.specs.declared.Verdict.the-variants.{Accepted, Refused}
 use Rattle.model_types.specs.declared.Answer.{Answer}
+use Rattle.model_types.specs.declared.Shares.{Shares}
+use Rattle.model_types.specs.declared.Accounted.{Accounted}
 use Rattle.model_types.specs.ModelStruct.{view, pack, refusal, cause, answer}
+use Rattle.model_types.specs.SharesStruct.{stored-shares, accounted}
 use Rattle.model_types.specs.ModelStructLaws.{cause-refusal, vars-within}
 use Rattle.model.specs.OperationContracts.{Proposal}
 use Rattle.model.specs.OperationLaws.{Holds, held-vars, held-view, held-sound, Got, got}
@@ -42,10 +50,10 @@ use Rattle.format.specs.HeldBook.{held-step-sound, Held-passes}
 use Rattle.format.specs.HeldBookLaws.{In-limits, in-limits, steps-pass, view-at, view-passes}
 use Rattle.format.specs.Fields.{limit-a, limit-b, names-variable, v-sound, earlier, value-sound}
 use Rattle.format.specs.StepFieldLaws.{Fields, fields-of}
-use Rattle.sheet_steps.specs.Steps.{step-answer, Step-ready}
-use Rattle.sheet_steps.specs.StepLaws.{step-is, quotient-is}
+use Rattle.sheet_steps.specs.Steps.{step-answer, step-row, Step-ready}
+use Rattle.sheet_steps.specs.StepLaws.{radius-small, radius-bounded, step-is, row-is, quotient-is, quotient-row}
 use Rattle.sheet_step_answers.specs.Answers.{accepted-answer}
-use Rattle.sheet_running.specs.Running.{last-result}
+use Rattle.sheet_running.specs.Running.{last-result, ran}
 
 -- ---- any list
 -- places of a padded array: those in use, then zeros
@@ -77,6 +85,26 @@ taken-test : (t x y : Bool) → T t → T (cond t x y) → T x
 taken-test true x y p q = q
 taken-test false x y p q = absurd p
 
+-- rows in memory: zeros behind those that there are
+stored-rows : (l : List S.Shares)
+    → padded (stored-shares no-shares) most-steps (map stored-shares l) ≡ map stored-shares (all-rows l)
+unfolding padded all-rows
+stored-rows l = ap₂ (λ k n. map stored-shares l ++ replicate (most-steps - n) k) refl (length-map l stored-shares)
+    ∙ ap (λ k. map stored-shares l ++ k) (sym (zeros (most-steps - length l)))
+    ∙ sym (map-append stored-shares l (replicate (most-steps - length l) no-shares))
+  where
+    zeros : (n : ℕ) → map stored-shares (replicate n no-shares) ≡ replicate n (stored-shares no-shares)
+    zeros zero = refl
+    zeros (suc n) = ap (λ k. stored-shares no-shares ∷ k) (zeros n)
+
+-- the answer of the steps and all their rows
+ran-is : (book : Book) {a : Answer} {shares : List Shares} → a ≡ answer (last-result book) → (rows : List S.Shares)
+    → shares ≡ padded (stored-shares no-shares) most-steps (map stored-shares rows) → rows ≡ rows-sound book
+    → record { answer = a; shares = shares } ≡ ran book
+unfolding ran
+ran-is book e rows p q = ap₂ (λ a s. record { answer = a; shares = s }) e
+    (p ∙ stored-rows rows ∙ ap (λ l. map stored-shares (all-rows l)) q)
+
 -- what is read past the end of an array of models
 abbrev pub empty-place : Model
 empty-place = record { n = 0; count = 0; radius = 0; terms = [] }
@@ -87,14 +115,19 @@ module _ (h : Held-book) where
   abbrev pub Good : C.Model → Type 0
   Good = Sound (h .n) (h .d)
 
-  -- the results of the first i steps stand in an array, and the steps that are left lead to the answer
-  pub record Running (i : ℕ) (results : List Model) : Type 0 where
+  -- the results of the first i steps stand in an array, their rows in another, and the steps that are left lead to the
+  -- answer and to the rows behind these
+  pub record Running (i : ℕ) (results : List Model) (shares : List Shares) : Type 0 where
     pub models : List C.Model
     pub count : length models ≡ i
     pub good : All Good models
     pub stored : results ≡ padded (pack (zero-model (h .n))) most-steps (map pack models)
     pub rest : run-steps (view-book h) models (drop i (view-book h .steps))
         ≡ run-steps (view-book h) [] (view-book h .steps)
+    pub rows : List S.Shares
+    pub rows-count : length rows ≡ i
+    pub rows-stored : shares ≡ padded (stored-shares no-shares) most-steps (map stored-shares rows)
+    pub rows-rest : rows ++ run-shares (view-book h) models (drop i (view-book h .steps)) ≡ rows-sound (view-book h)
 
   -- what the fields of a step name: a model, if it is an input, and two results
   pub record Named (s : Held-step) (results : List Model) (m f g : Model) : Type 0 where
@@ -133,14 +166,19 @@ module _ {h : Held-book} (p : Held-passes h) where
   vars : vars-sound (h .n) ≡ true
   vars = vars-within (h .n) (in-limits-of .n-low) (in-limits-of .n-high)
 
-  pub running-first : {x : Model} → x ≡ pack (zero-model (h .n)) → Running h 0 (replicate most-steps x)
-  unfolding padded most-steps
+  pub running-first : {x : Model} → x ≡ pack (zero-model (h .n))
+      → Running h 0 (replicate most-steps x) (replicate most-steps (stored-shares no-shares))
+  unfolding padded most-steps rows-sound
   running-first e = record {
     models = [];
     count = refl;
     good = nil;
     stored = ap (replicate most-steps) e;
     rest = refl;
+    rows = [];
+    rows-count = refl;
+    rows-stored = refl;
+    rows-rest = refl;
   }
 
   counted : length (book .steps) ≡ length (h .steps)
@@ -225,7 +263,8 @@ module _ {h : Held-book} (p : Held-passes h) where
     )
 
     -- ---- what it asks, after the results rs
-    module _ {results : List Model} (l : Running h i results) {m f g : Model} (o : Named h s results m f g) where
+    module _ {results : List Model} {shares : List Shares} (l : Running h i results shares) {m f g : Model}
+        (o : Named h s results m f g) where
       -- a result as the book's steps see it
       abbrev result : ℕ → C.Model
       result = result-of book (l .models)
@@ -299,9 +338,17 @@ module _ {h : Held-book} (p : Held-passes h) where
       abbrev coded : R.Answer C.Model
       coded = step-answer (h .n) (h .d) s (view m) (view f) (view g)
 
+      -- and its shares
+      abbrev coded-row : C.Model → S.Shares
+      coded-row = step-row (h .n) (h .d) s (view m) (view f) (view g)
+
       -- the answer of the book's step
       abbrev pub given : R.Answer C.Model
       given = run-step book result step-at
+
+      -- and its shares
+      abbrev pub row : C.Model → S.Shares
+      row = step-shares book result step-at
 
       -- the steps that are left, after its result
       abbrev after : C.Model → R.Result (List C.Model)
@@ -312,15 +359,24 @@ module _ {h : Held-book} (p : Held-passes h) where
       turn = sym (l .rest) ∙ ap (run-steps book (l .models)) next
           ∙ ap (λ j. at-place j given followed-by after) (l .count)
 
-      -- that of any step but a quotient is the answer of the book's step,
-      pub by-code : {r : Answer} → (s .code ≡ 9 → ⊥) → r ≡ answer (at-place 0 coded) → r ≡ answer (at-place 0 given)
-      unfolding view-book
-      by-code other e = e ∙ ap (λ a. answer (at-place 0 a))
-          (ap₂ (step-answer (h .n) (h .d) s (view m)) (held-view vars order first-held)
-          (held-view vars order second-held)
-          ∙ step-is book result s step-at (view m) stands other (o .is-model))
+      -- the rows that are left, after its result
+      abbrev rows-after : C.Model → List S.Shares
+      rows-after k = row k ∷ run-shares book (l .models ++ (k ∷ [])) (drop (i + 1) (book .steps))
 
-      -- and so is that of a quotient
+      rows-turn : l .rows ++ rows-of given rows-after ≡ rows-sound book
+      unfolding run-shares
+      rows-turn = sym (ap (λ k. l .rows ++ run-shares book (l .models) k) next) ∙ l .rows-rest
+
+      -- that of any step but a quotient is the answer of the book's step,
+      pub by-code : {r : Accounted} → (s .code ≡ 9 → ⊥) → r ≡ accounted coded coded-row → r ≡ accounted given row
+      unfolding view-book
+      by-code other e = e
+          ∙ ap₂ (λ x y. accounted (step-answer (h .n) (h .d) s (view m) x y) (step-row (h .n) (h .d) s (view m) x y))
+          (held-view vars order first-held) (held-view vars order second-held)
+          ∙ ap₂ accounted (step-is book result s step-at (view m) stands other (o .is-model))
+          (row-is book result s step-at (view m) stands other)
+
+      -- and so is that of a quotient,
       pub by-quotient : {r : Answer} {k w : Model} → Proposed h s results k w
           → r ≡ answer (at-place 0 (quotient (h .d) (view f) (view g) (view k) (view w)))
           → r ≡ answer (at-place 0 given)
@@ -332,41 +388,75 @@ module _ {h : Held-book} (p : Held-passes h) where
           (held-view vars order (fourth-held q))
           ∙ quotient-is book result s step-at stands (q .code))
 
-      module _ {r : Answer} (is-given : r ≡ answer (at-place 0 given)) where
-        -- it is refused, and with it the run, at the number of the step
-        pub step-refused : {x : Refusal} {y : ℕ} → r .verdict ≡ Refused x y
-            → answer (stopped (cause x) i) ≡ answer (last-result book)
-        unfolding last-result answer at-place _followed-by_
-        step-refused {x = x} v = stop given is-given turn
-          where
-            stop : (a : R.Answer C.Model) → r ≡ answer (at-place 0 a)
-                → run-steps book [] (book .steps) ≡ (at-place i a followed-by after)
-                → answer (stopped (cause x) i) ≡ answer (last-result book)
-            stop (accepted k) q t = let z : _≡_ {A = ℕ} 0 1 = cc in absurd (omega arith)
-            stop (refused k) q t =
-                let same : refusal k ≡ x = cc in
-                ap (λ k. answer (stopped k i)) (sym (ap cause same) ∙ cause-refusal k)
-                ∙ sym (ap (λ s. answer (s followed-by (λ results. done (last (zero-model (book .vars)) results)))) t)
+      -- whose radius is all carried
+      pub quotient-bounded : {r : Answer} → r ≡ answer (at-place 0 given) → r .model .radius ≤ span-limit
+      unfolding view-book
+      quotient-bounded e =
+          radius-bounded (weaken radius-small (step-good book passes i step-at step-passes (l .good))) e
 
-        -- it is accepted, and stored behind the others
-        pub step-accepted : r .verdict ≡ Accepted → Running h (i + 1) (set results i (r .model))
-        unfolding at-place _followed-by_ most-steps
+      pub quotient-carried : {r : Answer} {x : Accounted} → s .code ≡ 9 → r ≡ answer (at-place 0 given)
+          → ((a : R.Answer C.Model) → r ≡ answer (at-place 0 a) → x ≡ accounted a all-carried)
+          → x ≡ accounted given row
+      quotient-carried e q k = k given q ∙ ap (accounted given) (quotient-row book result s step-at stands e)
+
+      module _ {r : Accounted} (is-given : r ≡ accounted given row) where
+        -- the answer without its shares
+        answered : r .answer ≡ answer (at-place 0 given)
+        unfolding accounted
+        answered = ap (λ r. r .answer) is-given
+
+        -- it is refused, and with it the run, at the number of the step; there are no rows from it on
+        pub step-refused : {x : Refusal} {y : ℕ} → r .answer .verdict ≡ Refused x y
+            → record { answer = answer (stopped (cause x) i); shares = shares } ≡ ran book
+        unfolding last-result answer at-place _followed-by_ rows-of
+        step-refused {x = x} v = stop given answered turn rows-turn
+          where
+            stop : (a : R.Answer C.Model) → r .answer ≡ answer (at-place 0 a)
+                → run-steps book [] (book .steps) ≡ (at-place i a followed-by after)
+                → l .rows ++ rows-of a rows-after ≡ rows-sound book
+                → record { answer = answer (stopped (cause x) i); shares = shares } ≡ ran book
+            stop (accepted k) q t w = let z : _≡_ {A = ℕ} 0 1 = cc in absurd (omega arith)
+            stop (refused k) q t w =
+                let same : refusal k ≡ x = cc in
+                ran-is book
+                (ap (λ k. answer (stopped k i)) (sym (ap cause same) ∙ cause-refusal k)
+                ∙ sym (ap (λ s. answer (s followed-by (λ results. done (last (zero-model (book .vars)) results)))) t))
+                (l .rows) (l .rows-stored) (sym (append-nil (l .rows)) ∙ w)
+
+        -- it is accepted, and stored behind the others, as its row is
+        pub step-accepted : r .answer .verdict ≡ Accepted
+            → Running h (i + 1) (set results i (r .answer .model)) (set shares i (r .shares))
+        unfolding at-place _followed-by_ most-steps accounted shares-of rows-of
         step-accepted v = record {
           models = l .models ++ (q .model ∷ []);
           count = omega (arith, next-number (l .models) (q .model), l .count);
           good = each-snoc (λ m k. Good h k) (l .good) (q .holds .sound);
           stored = ap₂ (λ r m. set r i m) (l .stored) (q .holds .packed)
               ∙ padded-more (pack (zero-model (h .n))) 64 (map pack (l .models)) i (pack (q .model))
-              (length-map (l .models) pack ∙ l .count) (omega (arith, at .within, in-limits-of .steps-high))
+              (length-map (l .models) pack ∙ l .count) inside
               ∙ ap (padded (pack (zero-model (h .n))) 64) (sym (map-append pack (l .models) (q .model ∷ [])));
           rest = sym (turn ∙ ap (λ a. at-place i a followed-by after) (q .is));
+          rows = l .rows ++ (row (q .model) ∷ []);
+          rows-count = omega (arith, length-append (l .rows) (row (q .model) ∷ []), l .rows-count);
+          rows-stored = ap₂ (λ r m. set r i m) (l .rows-stored)
+              (ap (λ r. r .shares) is-given ∙ ap (λ a. stored-shares (shares-of a row)) (q .is))
+              ∙ padded-more (stored-shares no-shares) 64 (map stored-shares (l .rows)) i
+              (stored-shares (row (q .model)))
+              (length-map (l .rows) stored-shares ∙ l .rows-count) inside
+              ∙ ap (padded (stored-shares no-shares) 64)
+              (sym (map-append stored-shares (l .rows) (row (q .model) ∷ [])));
+          rows-rest = append-assoc (l .rows) (row (q .model) ∷ []) _
+              ∙ sym (ap (λ a. l .rows ++ rows-of a rows-after) (q .is)) ∙ rows-turn;
         }
           where
-            q : Got (h .n) (h .d) given (r .model)
-            q = unfold view-book in got is-given v (step-good book passes i step-at step-passes (l .good))
+            q : Got (h .n) (h .d) given (r .answer .model)
+            q = unfold view-book in got answered v (step-good book passes i step-at step-passes (l .good))
+
+            inside : i < 64
+            inside = omega (arith, at .within, in-limits-of .steps-high)
 
   -- ---- after the last step
-  module _ {results : List Model} (l : Running h (length (h .steps)) results) {m : Model}
+  module _ {results : List Model} {shares : List Shares} (l : Running h (length (h .steps)) results shares) {m : Model}
       (is-last : m ≡ getD results (length (h .steps) - 1) empty-place) where
     -- the last result
     abbrev final : C.Model
@@ -392,12 +482,20 @@ module _ {h : Held-book} (p : Held-passes h) where
       sound = each-last (λ m k. Good h k) (zero-model (h .n)) (zero-model (h .n)) (zero-sound (h .n) (h .d)) (l .good);
     }
 
+    none-left : drop (length (h .steps)) (book .steps) ≡ []
+    none-left = drop-of-length-le (book .steps) {i = length (h .steps)} (omega (arith, counted))
+
     ended : done (l .models) ≡ run-steps book [] (book .steps)
     unfolding run-steps
-    ended = ap (run-steps book (l .models))
-        (sym (drop-of-length-le (book .steps) {i = length (h .steps)} (omega (arith, counted)))) ∙ l .rest
+    ended = ap (run-steps book (l .models)) (sym none-left) ∙ l .rest
 
-    pub last-answer : accepted-answer m ≡ answer (last-result book)
+    all-there : l .rows ≡ rows-sound book
+    unfolding run-shares
+    all-there = sym (append-nil (l .rows)) ∙ ap (λ k. l .rows ++ run-shares book (l .models) k) (sym none-left)
+        ∙ l .rows-rest
+
+    pub last-answer : record { answer = accepted-answer m; shares = shares } ≡ ran book
     unfolding last-result answer _followed-by_ view-book
-    last-answer = ap accepted-answer (final-held .packed)
-        ∙ ap (λ s. answer (s followed-by (λ results. done (last (zero-model (h .n)) results)))) ended
+    last-answer = ran-is book (ap accepted-answer (final-held .packed)
+        ∙ ap (λ s. answer (s followed-by (λ results. done (last (zero-model (h .n)) results)))) ended)
+        (l .rows) (l .rows-stored) all-there

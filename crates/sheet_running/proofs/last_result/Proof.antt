@@ -10,33 +10,36 @@ use lib.ListN.{length, getD, length-map}
 use mir.Facts.{toZ-ofZ}
 use mir.Syntax.{w64}
 use mir.Val.{toZ, ofZ}
-use Rattle.calculus.specs.Refusal.{at-place, stopped}
+use Rattle.calculus.specs.Refusal.{stopped}
+use Rattle.calculus.specs.Shares.{no-shares}
 use Rattle.calculus.specs.Book.{most-models, most-steps}
 use Rattle.format.specs.HeldBook.{Held-passes}
 use Rattle.model_types.specs.declared.Model.{Model}
 use Rattle.model_types.specs.ModelStruct.{view, cause, answer}
+use Rattle.model_types.specs.SharesStruct.{stored-shares, accounted}
 use Rattle.sheet_book.specs.declared.Book.{Book}
 use Rattle.sheet_book.specs.declared.Step.{Step}
 use Rattle.sheet_book.specs.BookStruct.{no-step, held-step, held-book}
 use Rattle.sheet_book.specs.FailingLaws.{count-steps}
 use Rattle.sheet_running.specs.RunLaws.{empty-place, Running, Named, Proposed, Step-at, running-first}
 use Rattle.sheet_running.specs.RunLaws.{first-place, second-place, third-place, fourth-place, model-place}
-use Rattle.sheet_running.specs.RunLaws.{step-ready, proposal, given, by-code, by-quotient}
+use Rattle.sheet_running.specs.RunLaws.{step-ready, proposal, given, row, by-code, by-quotient}
+use Rattle.sheet_running.specs.RunLaws.{quotient-bounded, quotient-carried}
 use Rattle.sheet_running.specs.RunLaws.{step-refused, step-accepted, last-answer}
 use Rattle.sheet_running.specs.MemoryLaws.{few-steps, some-step, step-here, model-here}
 use Rattle.sheet_running.proofs.last_result.Statement.{statement}
 use Rattle.sheet_running.proofs.last_result.Tie as tie
 
 abbrev Inv-loop : tie.InvT-loop
-Inv-loop b n d count slots₀ keys₀ sums₀ results₀ i₀ slots keys sums results i =
+Inv-loop b n d count slots₀ keys₀ sums₀ results₀ shares₀ i₀ slots keys sums results shares i =
     (i ≤ count)
-    × Running (held-book b) i results
+    × Running (held-book b) i results shares
     × (length slots ≡ length slots₀)
     × (length keys ≡ length keys₀)
     × (length sums ≡ length sums₀)
 
 abbrev μ-loop : tie.MeasureT-loop
-μ-loop b n d count slots₀ keys₀ sums₀ results₀ i₀ slots keys sums results i = count - i
+μ-loop b n d count slots₀ keys₀ sums₀ results₀ shares₀ i₀ slots keys sums results shares i = count - i
 
 -- ---- before the loop
 without-terms-requires : tie.Need-without-terms-requires Inv-loop μ-loop
@@ -50,7 +53,7 @@ module _ (c : tie.Start Inv-loop μ-loop) where
   models-long = simp length-map at (c .good .0 .1 .1 .1 .1 .1 .1 .0 .1 .0 .1)
 
 loop-holds : tie.Need-loop-holds Inv-loop μ-loop
-unfolding most-steps held-book
+unfolding most-steps held-book stored-shares no-shares
 loop-holds c = (omega arith, running-first (c .before .pre) (c .without-terms .ensures), refl, refl, refl)
 
 -- ---- a turn: the step
@@ -225,6 +228,23 @@ divided-requires c κs =
       record { slots-room = search needs; keys-room = search needs; sums-room = search needs },
     )
 
+-- what it divides
+module _ (c : tie.After-sums2 Inv-loop μ-loop) where
+  abbrev made : tie.After-divided Inv-loop μ-loop
+  made = c .before .before .before
+
+  abbrev valued : tie.After-magnitude Inv-loop μ-loop
+  valued = made .before .before .before .before .before
+
+all-carried-requires : tie.Need-all-carried-requires Inv-loop μ-loop
+unfolding held-book held-step
+all-carried-requires c κs =
+    let q = valued c in
+    let s = asked q in
+    quotient-bounded (pass s) (here s) (turn s .loop .inv .1) (named (quotient q .before))
+    (by-quotient (pass s) (here s) (turn s .loop .inv .1) (named (quotient q .before)) (proposed q)
+    (made c .divided .ensures .0))
+
 -- ---- any other step
 slice-aggregate-step-answer : tie.Need-slice-aggregate-step-answer Inv-loop μ-loop
 slice-aggregate-step-answer c = search needs
@@ -252,8 +272,8 @@ module _ (c : tie.Joined1 Inv-loop μ-loop) where
   abbrev before-step : tie.At-loop Inv-loop μ-loop
   before-step = turn stepping
 
-  either-way : (c .if1 .a ≡ answer (at-place 0 (given (pass stepping) (here stepping) (before-step .loop .inv .1)
-      (named (c .before)))))
+  either-way : (c .if1 .c ≡ accounted (given (pass stepping) (here stepping) (before-step .loop .inv .1)
+      (named (c .before))) (row (pass stepping) (here stepping) (before-step .loop .inv .1) (named (c .before))))
       × (length (c .if1 .slots) ≡ length (before-step .loop .slots))
       × (length (c .if1 .keys) ≡ length (before-step .loop .keys))
       × (length (c .if1 .sums) ≡ length (before-step .loop .sums))
@@ -270,11 +290,14 @@ module _ (c : tie.Joined1 Inv-loop μ-loop) where
         };
         magnitude = w .4;
       } in (
-        w .16 ∙ by-quotient (pass stepping) (here stepping) (before-step .loop .inv .1) (named (c .before))
-            (proposed m) (w .9 .ensures .0),
-        ap length (w .13) ∙ w .9 .kept .1 .1 .1 .1 .1 .0,
-        ap length (w .14) ∙ w .9 .kept .1 .1 .1 .1 .1 .1 .0,
-        ap length (w .15) ∙ w .9 .kept .1 .1 .1 .1 .1 .1 .1 .0,
+        w .17 ∙ quotient-carried (pass stepping) (here stepping) (before-step .loop .inv .1) (named (c .before))
+            (w .0 .taken)
+            (by-quotient (pass stepping) (here stepping) (before-step .loop .inv .1) (named (c .before))
+            (proposed m) (w .9 .ensures .0))
+            (w .13 .ensures),
+        ap length (w .14) ∙ w .9 .kept .1 .1 .1 .1 .1 .0,
+        ap length (w .15) ∙ w .9 .kept .1 .1 .1 .1 .1 .1 .0,
+        ap length (w .16) ∙ w .9 .kept .1 .1 .1 .1 .1 .1 .1 .0,
       ))
       (λ w. (
         w .11 ∙ by-code (pass stepping) (here stepping) (before-step .loop .inv .1) (named (c .before))
@@ -292,10 +315,10 @@ enum-told : tie.Need-enum-told Inv-loop μ-loop
 enum-told c = search needs
 
 -- ---- it is accepted
-abbrev answered : tie.After-m Inv-loop μ-loop → tie.Joined1 Inv-loop μ-loop
-answered c = c .before .before .before
+abbrev answered : tie.After-row Inv-loop μ-loop → tie.Joined1 Inv-loop μ-loop
+answered c = c .before .before .before .before .before
 
-abbrev stepped : tie.After-m Inv-loop μ-loop → tie.In-loop Inv-loop μ-loop
+abbrev stepped : tie.After-row Inv-loop μ-loop → tie.In-loop Inv-loop μ-loop
 stepped c = stepping (answered c)
 
 mul-results : tie.Need-mul-results Inv-loop μ-loop
@@ -303,6 +326,12 @@ mul-results c = omega (arith, small (stepped c))
 
 array-set-from-results : tie.Need-array-set-from-results Inv-loop μ-loop
 array-set-from-results c = small (stepped c)
+
+mul-shares : tie.Need-mul-shares Inv-loop μ-loop
+mul-shares c = omega (arith, small (stepped c))
+
+array-set-from-shares : tie.Need-array-set-from-shares Inv-loop μ-loop
+array-set-from-shares c = small (stepped c)
 
 add-i : tie.Need-add-i Inv-loop μ-loop
 add-i c = omega (arith, small (stepped c))
@@ -318,7 +347,8 @@ loop-again c =
     let l = turn s .loop .inv in
     let w = either-way a in (
       omega (arith, inside s),
-      step-accepted (pass s) (here s) (l .1) (named (a .before)) (w .0) (c .before .enum-told .given .1),
+      step-accepted (pass s) (here s) (l .1) (named (a .before)) (w .0)
+          (c .before .before .enum-told .given .1),
       w .1 ∙ l .2,
       w .2 ∙ l .3,
       w .3 ∙ l .4,
@@ -331,11 +361,11 @@ refuse-requires c κs = search needs
 returns : tie.Need-returns Inv-loop μ-loop
 unfolding held-book
 returns c =
-    let a = c .before .before .before .before in
+    let a = c .before .before .before .before .before in
     let s = stepping a in
     let place : c .refuse .result ≡ answer (stopped (cause (c .before .before .v .given .0 .0)) (turn s .loop .i)) =
     c .refuse .ensures in
-    place
+    ap (λ a. record { answer = a; shares = turn s .loop .shares }) place
     ∙ step-refused (pass s) (here s) (turn s .loop .inv .1) (named (a .before)) (either-way a .0)
     (c .before .before .v .given .1)
 
@@ -356,11 +386,11 @@ module _ (c : tie.After-last Inv-loop μ-loop) where
   abbrev whole : Book
   whole = start end .args .t1
 
-  ended : Running (held-book whole) (length (held-book whole .steps)) (end .loop .results)
+  ended : Running (held-book whole) (length (held-book whole .steps)) (end .loop .results) (end .loop .shares)
   ended =
       let e : end .loop .i ≡ length (held-book whole .steps) =
       omega (arith, end .loop .inv .0, c .before .loop-test .left, count-steps whole) in
-      subst (λ i. Running (held-book whole) i (end .loop .results)) e (end .loop .inv .1)
+      subst (λ i. Running (held-book whole) i (end .loop .results) (end .loop .shares)) e (end .loop .inv .1)
 
   is-last : getD (end .loop .results) (whole .«step_count» - 1) empty-place
       ≡ getD (end .loop .results) (length (held-book whole .steps) - 1) empty-place
@@ -372,7 +402,8 @@ accepted-requires c κs = search needs
 returns-2 : tie.Need-returns-2 Inv-loop μ-loop
 returns-2 c =
     let l = c .before in
-    c .accepted .ensures ∙ last-answer (start (end l) .pre) (ended l) (is-last l)
+    ap (λ a. record { answer = a; shares = end l .loop .shares }) (c .accepted .ensures)
+    ∙ last-answer (start (end l) .pre) (ended l) (is-last l)
 
 pub last-result-spec : {M : Type 1} → statement M
 last-result-spec =
@@ -403,6 +434,7 @@ last-result-spec =
     slice-aggregate-divided-2
     slice-aggregate-divided-3
     divided-requires
+    all-carried-requires
     slice-aggregate-step-answer
     slice-aggregate-step-answer-2
     slice-aggregate-step-answer-3
@@ -411,6 +443,8 @@ last-result-spec =
     enum-told
     mul-results
     array-set-from-results
+    mul-shares
+    array-set-from-shares
     add-i
     loop-less
     loop-again
