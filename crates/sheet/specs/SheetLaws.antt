@@ -1,15 +1,17 @@
 -- From the exact answer of a run to what it encloses, and from the answers of the tests to that of a run.
-use mathlib.Core.Path.{_≡_, refl, sym, _∙_, ap, subst}
+use mathlib.Core.Path.{_≡_, refl, sym, _∙_, ap, ap₂, subst}
 use mathlib.Core.List.{List, []}
 use Prim.Native.Nat.{ℕ, _≤_}
 use native.Mathlib.Omega.{arith}
 use lib.Dec.{T, eqb}
+use lib.ListN.{replicate}
 use Rattle.calculus.specs.Model as C
 use Rattle.calculus.specs.Model.{most-degree, sound, zero-model}
-use Rattle.calculus.specs.Refusal.{Result, done, stopped, _followed-by_}
+use Rattle.calculus.specs.Refusal.{Result, done, stopped, returned, _followed-by_}
 use Rattle.calculus.specs.TestLaws.{and-right}
 use Rattle.calculus.specs.Book as B
-use Rattle.calculus.specs.Book.{run-steps, last, summary, model-sound, run-sound}
+use Rattle.calculus.specs.Book.{most-steps, run-steps, last, summary, model-sound, run-sound}
+use Rattle.calculus.specs.Shares.{Shares, no-shares, all-rows, rows-sound, reported}
 use Rattle.calculus.specs.BookSoundLaws.{result-sound}
 use Rattle.calculus.specs.Claim.{Claim}
 use Rattle.calculus.specs.ClaimProof.{claim-sound}
@@ -18,10 +20,12 @@ use Rattle.model_types.specs.declared.Refusal.{Refusal}
 use Rattle.model_types.specs.declared.Verdict.the-variants.{Accepted, Refused}
 use Rattle.model_types.specs.declared.Answer.{Answer}
 use Rattle.model_types.specs.ModelStruct.{view, pack, answer}
+use Rattle.model_types.specs.SharesStruct.{stored-shares}
 use Rattle.model_types.specs.ModelStructLaws.{view-pack-sound, refusal-cause}
 use Rattle.format.specs.HeldBook.{Held-book, view-book, Held-passes}
 use Rattle.format.specs.HeldBookLaws.{Held-done, held-tested-done, view-passes}
-use Rattle.format.specs.Format.{read, run-sheet}
+use Rattle.format.specs.Format.{read, run-sheet, sheet-rows}
+use Rattle.format.specs.SheetRowLaws.{sheet-rows-none}
 use Rattle.format.specs.WriteBackLaws.{Came, came, read-passes}
 use Rattle.format.specs.SheetClaim.{Sheet-claim}
 use Rattle.format.specs.SheetClaimProof.{sheet-claim}
@@ -31,11 +35,14 @@ use Rattle.sheet_book.specs.BookStruct.{held-book, read-answer, book-verdict}
 use Rattle.sheet_book.specs.BookStructLaws.{held-stored}
 use Rattle.sheet_book.specs.TestedLaws.{verdict-hands-on, verdict-refused}
 use Rattle.sheet_book.specs.declared.Summary.{Summary}
+use Rattle.sheet_book.specs.declared.Report.{Report}
+use Rattle.sheet_book.specs.ReportStruct.{report}
 use Rattle.sheet_book.specs.SummaryStruct.{refused-summary, run-answer, summary-of}
 use Rattle.sheet_book.specs.SummaryStructLaws.{summary-back}
-use Rattle.sheet.specs.Sheet.{run-held, Encloses, Encloses-book}
+use Rattle.sheet.specs.Sheet.{run-held, rows-held, Encloses, Encloses-book}
 use Rattle.model.specs.OperationLaws.{sound-order}
-use Rattle.sheet_running.specs.Running.{last-result}
+use Rattle.sheet_running.specs.declared.Ran.{Ran}
+use Rattle.sheet_running.specs.Running.{last-result, ran}
 use Rattle.sheet_running.specs.RunLaws.{in-limits-of}
 
 -- ---- the result of a held book that passes is sound
@@ -54,7 +61,26 @@ module _ (h : Held-book) (p : Held-passes h) (s : B.Summary) (e : run-sound (vie
   result-back : summary-of (run-answer (done s)) ≡ s
   result-back = summary-back s model-back
 
--- ---- the steps lead to a result, and the result to the answer
+-- ---- the steps lead to a result and to the rows
+module _ (h : Held-book) {r : Ran} (e : r ≡ ran (view-book h)) where
+  pub ran-answer : r .answer ≡ answer (last-result (view-book h))
+  unfolding ran
+  ran-answer = ap (λ r. r .answer) e
+
+  -- beside what is answered
+  pub with-rows : {s t : Summary} → s ≡ t
+      → record { summary = s; shares = r .shares } ≡ report t (all-rows (rows-sound (view-book h)))
+  unfolding ran report
+  with-rows q = ap₂ (λ s l. record { summary = s; shares = l }) q (ap (λ r. r .shares) e)
+
+-- and zeros beside a refusal by a test
+pub zero-rows : {s t : Summary} → s ≡ t
+    → record { summary = s; shares = replicate 64 (record { carried = 0; rounding = 0; swept = 0; slack = 0 }) }
+    ≡ report t (all-rows [])
+unfolding report all-rows most-steps stored-shares no-shares
+zero-rows q = ap (λ s. report s (all-rows [])) q
+
+-- ---- and the result to the answer
 -- what is summarized: a sound model, and its summary is the answer of the run
 pub record Summed (h : Held-book) (m : Model) : Type 0 where
   pub is-sound : T (sound most-degree (view m))
@@ -116,6 +142,11 @@ exact-result sheet r s e d = ap summary-of (e ∙ ap run-answer d)
     c : Came (read sheet) (λ b. run-sound (view-book b)) s
     c = came (read sheet) (λ b. run-sound (view-book b)) s d
 
+-- the answer of a reported run
+pub reported-answer : {r : Report} (s : Summary) (l : List Shares) → r ≡ report s l → r .summary ≡ s
+unfolding report
+reported-answer s l e = ap (λ r. r .summary) e
+
 -- THEOREM: of a sheet
 pub exact-encloses : (sheet : List ℕ) (r : Summary) → r ≡ run-answer (run-sheet sheet) → Encloses sheet r
 unfolding Encloses
@@ -135,10 +166,11 @@ exact-encloses-book h r e s d = subst (Claim (view-book h)) (sym (ap summary-of 
 pub record Has-read (sheet : List ℕ) (b : Book) : Type 0 where
   pub passes : Held-passes (held-book b)
   pub runs : run-sound (view-book (held-book b)) ≡ run-sheet sheet
+  pub reports : all-rows (rows-sound (view-book (held-book b))) ≡ sheet-rows sheet
 
 pub read-accepted : (sheet : List ℕ) {r : Read} → r ≡ read-answer (read sheet) → r .verdict ≡ Accepted
     → Has-read sheet (r .book)
-unfolding run-sheet read-answer _followed-by_
+unfolding run-sheet sheet-rows reported returned read-answer _followed-by_
 read-accepted sheet {r = r} e v = go (read sheet) refl e
   where
     go : (a : Result Held-book) → read sheet ≡ a → r ≡ read-answer a → Has-read sheet (r .book)
@@ -148,19 +180,24 @@ read-accepted sheet {r = r} e v = go (read sheet) refl e
           passes = subst Held-passes (sym k) (read-passes sheet h p);
           runs = ap (λ h. run-sound (view-book h)) k
               ∙ sym (ap (λ a. a followed-by (λ h. run-sound (view-book h))) p);
+          reports = ap (λ h. all-rows (rows-sound (view-book h))) k
+              ∙ sym (ap (λ a. reported (a followed-by (λ h. done (rows-sound (view-book h))))) p);
         }
     go (stopped x i) p q = let z : _≡_ {A = ℕ} 0 1 = cc in absurd (omega arith)
 
 pub read-refused : (sheet : List ℕ) {r : Read} {x : Refusal} {y : ℕ} → r ≡ read-answer (read sheet)
-    → r .verdict ≡ Refused x y → refused-summary (r .verdict) ≡ run-answer (run-sheet sheet)
+    → r .verdict ≡ Refused x y
+    → report (refused-summary (r .verdict)) (all-rows []) ≡ report (run-answer (run-sheet sheet)) (sheet-rows sheet)
 unfolding run-sheet read-answer run-answer _followed-by_
 read-refused sheet {r = r} e v = go (read sheet) refl e
   where
     go : (a : Result Held-book) → read sheet ≡ a → r ≡ read-answer a
-        → refused-summary (r .verdict) ≡ run-answer (run-sheet sheet)
+        → report (refused-summary (r .verdict)) (all-rows [])
+        ≡ report (run-answer (run-sheet sheet)) (sheet-rows sheet)
     go (done h) p q = let z : _≡_ {A = ℕ} 0 1 = cc in absurd (omega arith)
-    go (stopped x i) p q = ap (λ r. refused-summary (r .verdict)) q
-        ∙ sym (ap (λ a. run-answer (a followed-by (λ h. run-sound (view-book h)))) p)
+    go (stopped x i) p q = ap₂ report (ap (λ r. refused-summary (r .verdict)) q
+        ∙ sym (ap (λ a. run-answer (a followed-by (λ h. run-sound (view-book h)))) p))
+        (sym (sheet-rows-none sheet x i p))
 
 -- ---- a book that is tested
 pub tested-accepted : (b : Book) → book-verdict b ≡ Accepted
@@ -168,8 +205,16 @@ pub tested-accepted : (b : Book) → book-verdict b ≡ Accepted
 unfolding run-held
 tested-accepted b e = sym (verdict-hands-on b e (run-sound (view-book (held-book b))))
 
+pub tested-rows : (b : Book) → book-verdict b ≡ Accepted
+    → all-rows (rows-sound (view-book (held-book b))) ≡ rows-held (held-book b)
+unfolding rows-held reported returned
+tested-rows b e = sym (ap reported (verdict-hands-on b e (done (rows-sound (view-book (held-book b))))))
+
 pub tested-refused : (b : Book) (x : Refusal) (y : ℕ) → book-verdict b ≡ Refused x y
-    → refused-summary (Refused x y) ≡ run-answer (run-held (held-book b))
-unfolding run-held run-answer
-tested-refused b x y e = ap (λ q. refused-summary (Refused q y)) (sym (refusal-cause x))
-    ∙ sym (ap run-answer (verdict-refused b x y e (run-sound (view-book (held-book b)))))
+    → report (refused-summary (Refused x y)) (all-rows [])
+    ≡ report (run-answer (run-held (held-book b))) (rows-held (held-book b))
+unfolding run-held run-answer rows-held reported returned
+tested-refused b x y e = ap₂ report
+    (ap (λ q. refused-summary (Refused q y)) (sym (refusal-cause x))
+    ∙ sym (ap run-answer (verdict-refused b x y e (run-sound (view-book (held-book b))))))
+    (sym (ap reported (verdict-refused b x y e (done (rows-sound (view-book (held-book b)))))))

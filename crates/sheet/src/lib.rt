@@ -2,19 +2,25 @@
 // the fields hold. The run of a sheet or a book is made here: its steps in order, then the last result with its range
 // and its integral.
 ghost use mathlib.Core.Path.{_≡_};
+ghost use mathlib.Core.List.{[]};
 ghost use Rattle.calculus.specs.Book.{«run-sound»};
+ghost use Rattle.calculus.specs.Shares.{«all-rows», «rows-sound»};
 ghost use Rattle.format.specs.HeldBook.{«view-book», «Held-passes»};
 ghost use Rattle.sheet_book.specs.BookStruct.{«held-book»};
-ghost use Rattle.sheet_book.specs.SummaryStruct.{«run-answer»};
+ghost use Rattle.sheet_book.specs.SummaryStruct.{«run-answer», «refused-summary»};
+ghost use Rattle.sheet_book.specs.ReportStruct.{report};
 ghost use Rattle.sheet.specs.Sheet.{Exact, «Exact-book», Encloses, «Encloses-book»};
+ghost use Rattle.sheet.specs.Sheet.{Reports, «Reports-book»};
 pub use model_types::Model;
 pub use model_types::Refusal;
+pub use model_types::Shares;
 pub use model_types::Term;
 pub use model_types::Verdict;
 pub use sheet_book::Book;
 pub use sheet_book::Ends;
 pub use sheet_book::Kind;
 pub use sheet_book::Read;
+pub use sheet_book::Report;
 pub use sheet_book::Start;
 pub use sheet_book::Step;
 pub use sheet_book::Summary;
@@ -42,45 +48,83 @@ pub use sheet_records::place_behind;
 
 // ---- the run
 
-// The run of a book that passed the tests: its last result with range and integral, or the refusal of a step.
-fn run_passed(b: Book) -> Summary
+// The run of a book that passed the tests, with its rows: its last result with range and integral, or the refusal of a
+// step.
+fn run_passed(b: Book) -> Report
     requires { ⌜ Held-passes (held-book b) ⌝ }
-    ensures { λ r. ⌜ r ≡ run-answer (run-sound (view-book (held-book b))) ⌝ }
+    ensures { λ r. ⌜ r ≡ report (run-answer (run-sound (view-book (held-book b))))
+        (all-rows (rows-sound (view-book (held-book b)))) ⌝ }
 {
-    let answer = sheet_running::last_result(b);
+    let ran = sheet_running::last_result(b);
+    let answer = ran.answer;
+    let shares = ran.shares;
     let v = answer.verdict;
     let Verdict::Accepted = v else {
-        return sheet_summary::refused(v);
+        return Report {
+            summary: sheet_summary::refused(v),
+            shares: shares,
+        };
     };
-    sheet_summary::summarized(answer.model)
+    Report {
+        summary: sheet_summary::summarized(answer.model),
+        shares: shares,
+    }
 }
 
-// The run of a sheet, whatever its bytes are: tests 1 to 6, then its steps, which 7, 8, 9 or 12 can end. `exact` says
-// all that is answered. `encloses` says of an accepted sheet, for all functions within its models (with an
-// antiderivative among the steps: for all polynomials, where no quotient feeds one): the exact outcome lies within the
-// result's radius and inside its range; and on a sheet without a quotient, for polynomials, the exact integral lies
+// A run that a test refuses: zeros for all steps.
+fn refused_report(v: Verdict) -> Report
+    ensures { λ r. ⌜ r ≡ report (refused-summary v) (all-rows []) ⌝ }
+{
+    Report {
+        summary: sheet_summary::refused(v),
+        shares: [Shares::ZERO; sheet_book::MOST_STEPS],
+    }
+}
+
+// The run of a sheet, whatever its bytes are: tests 1 to 6, then its steps, which 7, 8, 9 or 12 can end; and of each
+// step where its radius came from, zeros where a step has no result. `exact` says all that is answered, `encloses` is
+// that of `run`.
+pub fn run_reported(sheet: &[u8]) -> Report
+    ensures exact { λ r. ⌜ Reports (now (sheet .entry)) r ⌝ }
+    ensures encloses { λ r. ⌜ Encloses (now (sheet .entry)) (r .summary) ⌝ }
+{
+    let answer = sheet_reader::read(sheet);
+    let v = answer.verdict;
+    let Verdict::Accepted = v else {
+        return refused_report(v);
+    };
+    run_passed(answer.book)
+}
+
+// The run of a sheet without its rows. `encloses` says of an accepted sheet, for all functions within its models (with
+// an antiderivative among the steps: for all polynomials, where no quotient feeds one): the exact outcome lies within
+// the result's radius and inside its range; and on a sheet without a quotient, for polynomials, the exact integral lies
 // inside the integral's ends.
 pub fn run(sheet: &[u8]) -> Summary
     ensures exact { λ r. ⌜ Exact (now (sheet .entry)) r ⌝ }
     ensures encloses { λ r. ⌜ Encloses (now (sheet .entry)) r ⌝ }
 {
-    let answer = sheet_reader::read(sheet);
-    let v = answer.verdict;
-    let Verdict::Accepted = v else {
-        return sheet_summary::refused(v);
-    };
-    let summary = run_passed(answer.book);
-    summary
+    let r = run_reported(sheet);
+    r.summary
 }
 
-// The run of a book, whatever its fields hold: tests 3, 5 and 6, then as a sheet.
+// The run of a book, whatever its fields hold, with its rows: tests 3, 5 and 6, then as a sheet.
+pub fn run_book_reported(b: Book) -> Report
+    ensures exact { λ r. ⌜ Reports-book (held-book b) r ⌝ }
+    ensures encloses { λ r. ⌜ Encloses-book (held-book b) (r .summary) ⌝ }
+{
+    let v = sheet_book_tests::tested(b);
+    let Verdict::Accepted = v else {
+        return refused_report(v);
+    };
+    run_passed(b)
+}
+
+// And without its rows.
 pub fn run_book(b: Book) -> Summary
     ensures exact { λ r. ⌜ Exact-book (held-book b) r ⌝ }
     ensures encloses { λ r. ⌜ Encloses-book (held-book b) r ⌝ }
 {
-    let v = sheet_book_tests::tested(b);
-    let Verdict::Accepted = v else {
-        return sheet_summary::refused(v);
-    };
-    run_passed(b)
+    let r = run_book_reported(b);
+    r.summary
 }
