@@ -1,0 +1,2 @@
+pub mod HandedShares
+pub mod HandedSharesLaws
