@@ -2,4 +2,5 @@ pub mod WriteCalls
 pub mod WriteCallsLaws
 pub mod SheetCalls
 pub mod SheetCallsLaws
+pub mod ShareCalls
 pub mod StepCalls

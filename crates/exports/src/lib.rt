@@ -5,6 +5,7 @@ pub mod calls; // calls.rt: the single calls
 pub mod quotients; // quotients.rt: the single call of four models
 pub mod books; // books.rt: books written
 pub mod runs; // runs.rt: sheets and books run
+pub mod shares; // shares.rt: the same with where each radius came from
 pub mod sheets; // sheets.rt: sheets printed and taken apart
 
 // The answer to a call that is not one: a slice is too short, or no call has this code.

@@ -38,7 +38,7 @@ fn store_ends(range: Ends, integral: Ends, ends: &mut [i64])
 }
 
 // What a run answers goes into the slices; the refusal's number.
-fn store_summary(
+pub fn store_summary(
     s: Summary,
     keys: &mut [u16],
     coefficients: &mut [i64],

@@ -1,0 +1,151 @@
+// Sheets and books in memory, run as in runs.rt, with where the radius of each step came from.
+ghost use mathlib.Core.Path.{_≡_};
+ghost use mathlib.Core.Bool.{_&&_};
+ghost use Prim.Native.Nat.{_≤_};
+ghost use lib.ListN.{length};
+ghost use Rattle.format.specs.Format.{«run-sheet», «sheet-rows»};
+ghost use Rattle.sheet_book.specs.BookStruct.{«held-book»};
+ghost use Rattle.sheet_book.specs.SummaryStruct.{«run-answer»};
+ghost use Rattle.sheet_book.specs.ReportStruct.{report};
+ghost use Rattle.sheet.specs.Sheet.{«run-held», «rows-held»};
+ghost use Rattle.c_books.specs.HandedBooks.{«step-places», «handed-steps», «model-places», «handed-models»};
+ghost use Rattle.c_books.specs.HandedBooks.{«handed-book»};
+ghost use Rattle.c_shares.specs.HandedShares.{«report-room»};
+ghost use Rattle.exports.specs.WriteCalls.{«book-fits»};
+ghost use Rattle.exports.specs.SheetCalls.{«run-state»};
+ghost use Rattle.exports.specs.ShareCalls.{«report-state», «stored-report», «called-report»};
+use super::MISUSED;
+use super::books::book_fits;
+use super::runs::store_summary;
+use sheet::Report;
+
+// What a run with its rows answers goes into the slices; the refusal's number.
+fn store_report(
+    r: Report,
+    keys: &mut [u16],
+    coefficients: &mut [i64],
+    numbers: &mut [u64],
+    ends: &mut [i64],
+    shares: &mut [u64],
+) -> u8
+    requires { ⌜ (64 ≤ length (now keys)) × (64 ≤ length (now coefficients)) × (4 ≤ length (now numbers))
+        × (4 ≤ length (now ends)) × (256 ≤ length (now shares)) ⌝ }
+    ensures { λ u. ⌜ report-state (run-state u (now (keys .exit)) (now (coefficients .exit)) (now (numbers .exit))
+        (now (ends .exit))) (now (shares .exit))
+        ≡ stored-report r (now (keys .entry)) (now (coefficients .entry)) (now (numbers .entry))
+        (now (ends .entry)) (now (shares .entry)) ⌝ }
+{
+    c_shares::store_rows(r, shares);
+    let s = r.summary;
+    store_summary(s, keys, coefficients, numbers, ends)
+}
+
+// A sheet is run as by hechroung_run, and besides where the radius of each of 64 steps came from goes into the fifth
+// slice: row i from place 4 × i on as carried, rounding, swept and slack.
+#[no_mangle]
+pub extern "C" fn hechroung_shares(
+    sheet: &[u8],
+    keys: &mut [u16],
+    coefficients: &mut [i64],
+    numbers: &mut [u64],
+    ends: &mut [i64],
+    shares: &mut [u64],
+) -> u8
+    ensures { λ r. ⌜ report-state (run-state r (now (keys .exit)) (now (coefficients .exit)) (now (numbers .exit))
+        (now (ends .exit))) (now (shares .exit))
+        ≡ called-report
+        (report-room (length (now (keys .entry))) (length (now (coefficients .entry))) (length (now (numbers .entry)))
+        (length (now (ends .entry))) (length (now (shares .entry))))
+        (report (run-answer (run-sheet (now (sheet .entry)))) (sheet-rows (now (sheet .entry))))
+        (now (keys .entry)) (now (coefficients .entry)) (now (numbers .entry)) (now (ends .entry))
+        (now (shares .entry)) ⌝ }
+{
+    if !c_shares::report_room(
+        keys.len(),
+        coefficients.len(),
+        numbers.len(),
+        ends.len(),
+        shares.len(),
+    ) {
+        return MISUSED;
+    }
+    let r = sheet::run_reported(sheet);
+    store_report(r, keys, coefficients, numbers, ends, shares)
+}
+
+// A book in memory is run as by hechroung_run_book, and the rows go into the last slice as a sheet's do.
+#[no_mangle]
+pub extern "C" fn hechroung_shares_book(
+    n: u8,
+    d: u8,
+    modelcount: usize,
+    stepcount: usize,
+    ns: &[u8],
+    counts: &[usize],
+    radii: &[u64],
+    bookkeys: &[u16],
+    bookcoefficients: &[i64],
+    fields: &[u8],
+    values: &[i64],
+    keys: &mut [u16],
+    coefficients: &mut [i64],
+    numbers: &mut [u64],
+    ends: &mut [i64],
+    shares: &mut [u64],
+) -> u8
+    ensures { λ r. ⌜ report-state (run-state r (now (keys .exit)) (now (coefficients .exit)) (now (numbers .exit))
+        (now (ends .exit))) (now (shares .exit))
+        ≡ called-report
+        (book-fits modelcount (model-places (length (now (ns .entry))) (length (now (counts .entry)))
+        (length (now (radii .entry))) (length (now (bookkeys .entry))) (length (now (bookcoefficients .entry))))
+        stepcount (step-places (length (now (fields .entry))) (length (now (values .entry))))
+        (length (now (numbers .entry)))
+        && report-room (length (now (keys .entry))) (length (now (coefficients .entry)))
+        (length (now (numbers .entry))) (length (now (ends .entry))) (length (now (shares .entry))))
+        (report (run-answer (run-held (held-book (handed-book n d modelcount stepcount
+        (handed-models (now (ns .entry)) (now (counts .entry)) (now (radii .entry)) (now (bookkeys .entry))
+        (now (bookcoefficients .entry)))
+        (handed-steps (now (fields .entry)) (now (values .entry)))))))
+        (rows-held (held-book (handed-book n d modelcount stepcount
+        (handed-models (now (ns .entry)) (now (counts .entry)) (now (radii .entry)) (now (bookkeys .entry))
+        (now (bookcoefficients .entry)))
+        (handed-steps (now (fields .entry)) (now (values .entry)))))))
+        (now (keys .entry)) (now (coefficients .entry)) (now (numbers .entry)) (now (ends .entry))
+        (now (shares .entry)) ⌝ }
+{
+    let models = c_books::model_places(
+        ns.len(),
+        counts.len(),
+        radii.len(),
+        bookkeys.len(),
+        bookcoefficients.len(),
+    );
+    let steps = c_books::step_places(fields.len(), values.len());
+    if !book_fits(modelcount, models, stepcount, steps, numbers.len()) {
+        return MISUSED;
+    }
+    if !c_shares::report_room(
+        keys.len(),
+        coefficients.len(),
+        numbers.len(),
+        ends.len(),
+        shares.len(),
+    ) {
+        return MISUSED;
+    }
+    let b = c_books::handed_book(
+        n,
+        d,
+        modelcount,
+        stepcount,
+        ns,
+        counts,
+        radii,
+        bookkeys,
+        bookcoefficients,
+        fields,
+        values,
+    );
+    let r = sheet::run_book_reported(b);
+    store_report(r, keys, coefficients, numbers, ends, shares)
+}
