@@ -1,6 +1,6 @@
 // Sheets: read, written, stepped through record by record, and run. Each function takes anything, whatever the bytes or
 // the fields hold. The run of a sheet or a book is made here: its steps in order, then the last result with its range
-// and its integral.
+// and its integral, and the rows.
 ghost use mathlib.Core.Path.{_≡_};
 ghost use mathlib.Core.List.{[]};
 ghost use Rattle.calculus.specs.Book.{«run-sound»};
@@ -81,9 +81,30 @@ fn refused_report(v: Verdict) -> Report
     }
 }
 
-// The run of a sheet, whatever its bytes are: tests 1 to 6, then its steps, which 7, 8, 9 or 12 can end; and of each
-// step where its radius came from, zeros where a step has no result. `exact` says all that is answered, `encloses` is
-// that of `run`.
+// The run of a sheet, whatever its bytes are: tests 1 to 6, then its steps, which 7, 8, 9 or 12 can end. `exact` says
+// all that is answered. `encloses` says of an accepted sheet, for all functions within its models (with an
+// antiderivative among the steps: for all polynomials, where no quotient feeds one): the exact outcome lies within the
+// result's radius and inside its range; and on a sheet without a quotient, for polynomials, the exact integral lies
+// inside the integral's ends.
+pub fn run(sheet: &[u8]) -> Summary
+    ensures exact { λ r. ⌜ Exact (now (sheet .entry)) r ⌝ }
+    ensures encloses { λ r. ⌜ Encloses (now (sheet .entry)) r ⌝ }
+{
+    let r = run_reported(sheet);
+    r.summary
+}
+
+// The run of a book, whatever its fields hold: tests 3, 5 and 6, then as a sheet.
+pub fn run_book(b: Book) -> Summary
+    ensures exact { λ r. ⌜ Exact-book (held-book b) r ⌝ }
+    ensures encloses { λ r. ⌜ Encloses-book (held-book b) r ⌝ }
+{
+    let r = run_book_reported(b);
+    r.summary
+}
+
+// The run of a sheet, and of each step where the radius of its result came from: zeros from a refused step on, and
+// where there is no step.
 pub fn run_reported(sheet: &[u8]) -> Report
     ensures exact { λ r. ⌜ Reports (now (sheet .entry)) r ⌝ }
     ensures encloses { λ r. ⌜ Encloses (now (sheet .entry)) (r .summary) ⌝ }
@@ -96,19 +117,7 @@ pub fn run_reported(sheet: &[u8]) -> Report
     run_passed(answer.book)
 }
 
-// The run of a sheet without its rows. `encloses` says of an accepted sheet, for all functions within its models (with
-// an antiderivative among the steps: for all polynomials, where no quotient feeds one): the exact outcome lies within
-// the result's radius and inside its range; and on a sheet without a quotient, for polynomials, the exact integral lies
-// inside the integral's ends.
-pub fn run(sheet: &[u8]) -> Summary
-    ensures exact { λ r. ⌜ Exact (now (sheet .entry)) r ⌝ }
-    ensures encloses { λ r. ⌜ Encloses (now (sheet .entry)) r ⌝ }
-{
-    let r = run_reported(sheet);
-    r.summary
-}
-
-// The run of a book, whatever its fields hold, with its rows: tests 3, 5 and 6, then as a sheet.
+// The same for a book.
 pub fn run_book_reported(b: Book) -> Report
     ensures exact { λ r. ⌜ Reports-book (held-book b) r ⌝ }
     ensures encloses { λ r. ⌜ Encloses-book (held-book b) (r .summary) ⌝ }
@@ -118,13 +127,4 @@ pub fn run_book_reported(b: Book) -> Report
         return refused_report(v);
     };
     run_passed(b)
-}
-
-// And without its rows.
-pub fn run_book(b: Book) -> Summary
-    ensures exact { λ r. ⌜ Exact-book (held-book b) r ⌝ }
-    ensures encloses { λ r. ⌜ Encloses-book (held-book b) r ⌝ }
-{
-    let r = run_book_reported(b);
-    r.summary
 }
