@@ -178,49 +178,6 @@ module _ (n d : ℕ) (s : Held-step) (m f g : Model) where
   carried-is h e k = k given e ∙ ap (accounted given)
       (sym (carried-code (s .code) (h .no-product) (h .no-substitution) (h .no-sweep) (h .no-antiderivative)))
 
--- ---- how large a radius is that is all carried
-pub radius-small : {n d : ℕ} (k : C.Model) → Sound n d k → k .radius ≤ span-limit
-unfolding span
-radius-small k h = omega (arith, h .1 .small-span)
-
--- the radius of an answer, beside a refusal that of the zero model
-pub radius-bounded : {a : R.Answer C.Model} {r : Answer} → If-accepted (λ k. k .radius ≤ span-limit) a
-    → r ≡ answer (at-place 0 a) → r .model .radius ≤ span-limit
-unfolding answer at-place pack zero-model
-radius-bounded (holds h) e = let q = ap (λ r. r .model .radius) e in omega (arith, h, q)
-radius-bounded vacuous e = let q = ap (λ r. r .model .radius) e in omega (arith, q)
-
-module _ {n d : ℕ} {s : Held-step} {m f g : Model} (r : Step-ready n d s m f g) where
-  first-sound : Sound n d (view f)
-  first-sound = sound-struct f (r .first-vars) (r .first)
-
-  second-sound : Sound n d (view g)
-  second-sound = sound-struct g (r .second-vars) (r .second)
-
-  bounded-code : Direct-ready n s m f g → (c : ℕ) → s .code ≡ c
-      → If-accepted (λ k. k .radius ≤ span-limit) (code-answer n d s (view m) (view f) (view g) c)
-  unfolding codes Op.constant Op.variable Op.negate
-  bounded-code q zero e = holds (radius-small (view m) (sound-parts d (view m) (r .input e)))
-  bounded-code q (suc zero) e = let z : 0 ≤ span-limit = omega arith in holds z
-  bounded-code q (suc (suc zero)) e = let z : 0 ≤ span-limit = omega arith in holds z
-  bounded-code q (suc (suc (suc zero))) e = holds (radius-small (view f) first-sound)
-  bounded-code q (suc (suc (suc (suc zero)))) e =
-      weaken radius-small (add-sound n d _ _ (first-sound .0) (second-sound .0))
-  bounded-code q (suc (suc (suc (suc (suc zero))))) e =
-      weaken radius-small (subtract-sound n d _ _ (first-sound .0) (second-sound .0))
-  bounded-code q (suc (suc (suc (suc (suc (suc zero)))))) e = absurd (q .no-product e)
-  bounded-code q (suc (suc (suc (suc (suc (suc (suc zero))))))) e = absurd (q .no-substitution e)
-  bounded-code q (suc (suc (suc (suc (suc (suc (suc (suc zero)))))))) e = absurd (q .no-sweep e)
-  bounded-code q (suc (suc (suc (suc (suc (suc (suc (suc (suc zero))))))))) e = absurd (q .no-quotient e)
-  bounded-code q (suc (suc (suc (suc (suc (suc (suc (suc (suc (suc zero)))))))))) e = absurd (q .no-antiderivative e)
-  bounded-code q (suc (suc (suc (suc (suc (suc (suc (suc (suc (suc (suc c))))))))))) e =
-      absurd (omega (arith, q .code, e))
-
-  pub direct-bounded : {x : Answer} → Direct-ready n s m f g
-      → x ≡ answer (at-place 0 (step-answer n d s (view m) (view f) (view g))) → x .model .radius ≤ span-limit
-  unfolding step-answer
-  direct-bounded q e = radius-bounded (bounded-code q (s .code) refl) e
-
 -- ---- what the code of a step gives is what the step of the book gives
 -- a form that gives a step gives its own
 form-step : (f : Form) (t : Step) → step-of (some f) ≡ some t → f .step ≡ t
@@ -296,3 +253,46 @@ pub quotient-row : (b : Book) (r : ℕ → C.Model) (s : Held-step) (t : Step) �
 unfolding view-step forms step-shares
 quotient-row b r s t h e =
     ap (step-shares b r) (form-step _ t (ap (λ c. step-of (getElem? (forms s) c)) (sym e) ∙ h))
+
+-- ---- how large a radius is that is all carried
+pub radius-small : {n d : ℕ} (k : C.Model) → Sound n d k → k .radius ≤ span-limit
+unfolding span
+radius-small k h = omega (arith, h .1 .small-span)
+
+-- the radius of an answer, beside a refusal that of the zero model
+pub radius-bounded : {a : R.Answer C.Model} {r : Answer} → If-accepted (λ k. k .radius ≤ span-limit) a
+    → r ≡ answer (at-place 0 a) → r .model .radius ≤ span-limit
+unfolding answer at-place pack zero-model
+radius-bounded (holds h) e = let q = ap (λ r. r .model .radius) e in omega (arith, h, q)
+radius-bounded vacuous e = let q = ap (λ r. r .model .radius) e in omega (arith, q)
+
+module _ {n d : ℕ} {s : Held-step} {m f g : Model} (r : Step-ready n d s m f g) where
+  first-sound : Sound n d (view f)
+  first-sound = sound-struct f (r .first-vars) (r .first)
+
+  second-sound : Sound n d (view g)
+  second-sound = sound-struct g (r .second-vars) (r .second)
+
+  bounded-code : Direct-ready n s m f g → (c : ℕ) → s .code ≡ c
+      → If-accepted (λ k. k .radius ≤ span-limit) (code-answer n d s (view m) (view f) (view g) c)
+  unfolding codes Op.constant Op.variable Op.negate
+  bounded-code q zero e = holds (radius-small (view m) (sound-parts d (view m) (r .input e)))
+  bounded-code q (suc zero) e = let z : 0 ≤ span-limit = omega arith in holds z
+  bounded-code q (suc (suc zero)) e = let z : 0 ≤ span-limit = omega arith in holds z
+  bounded-code q (suc (suc (suc zero))) e = holds (radius-small (view f) first-sound)
+  bounded-code q (suc (suc (suc (suc zero)))) e =
+      weaken radius-small (add-sound n d _ _ (first-sound .0) (second-sound .0))
+  bounded-code q (suc (suc (suc (suc (suc zero))))) e =
+      weaken radius-small (subtract-sound n d _ _ (first-sound .0) (second-sound .0))
+  bounded-code q (suc (suc (suc (suc (suc (suc zero)))))) e = absurd (q .no-product e)
+  bounded-code q (suc (suc (suc (suc (suc (suc (suc zero))))))) e = absurd (q .no-substitution e)
+  bounded-code q (suc (suc (suc (suc (suc (suc (suc (suc zero)))))))) e = absurd (q .no-sweep e)
+  bounded-code q (suc (suc (suc (suc (suc (suc (suc (suc (suc zero))))))))) e = absurd (q .no-quotient e)
+  bounded-code q (suc (suc (suc (suc (suc (suc (suc (suc (suc (suc zero)))))))))) e = absurd (q .no-antiderivative e)
+  bounded-code q (suc (suc (suc (suc (suc (suc (suc (suc (suc (suc (suc c))))))))))) e =
+      absurd (omega (arith, q .code, e))
+
+  pub direct-bounded : {x : Answer} → Direct-ready n s m f g
+      → x ≡ answer (at-place 0 (step-answer n d s (view m) (view f) (view g))) → x .model .radius ≤ span-limit
+  unfolding step-answer
+  direct-bounded q e = radius-bounded (bounded-code q (s .code) refl) e
