@@ -50,7 +50,7 @@ pub fn last_result(b: Book) -> Ran
         let a = c.answer;
         let v = a.verdict;
         let Verdict::Refused(refusal, _) = v else {
-            let m = a.model;
+            let m = c.answer.model;
             let row = c.shares;
             results[i] = m;
             shares[i] = row;
