@@ -7,6 +7,7 @@ use native.Mathlib.Omega.{arith}
 use lib.Dec.{T, leb, leb→le}
 use lib.ListN.{length, take, getD, set, length-append}
 use lib.Seq.{length-take-le}
+use Rattle.calculus.specs.Model.{most-terms}
 use Rattle.calculus.specs.TestLaws.{and-left, and-right}
 use Rattle.model_types.specs.ArrayLaws.{take-more}
 use Rattle.model_types.specs.declared.Shares.{Shares}
@@ -68,7 +69,7 @@ rows-more rows k i h w =
 -- ---- room
 pub report-fits : (k z n e s : ℕ) → report-room k z n e s ≡ true
     → (64 ≤ k) × (64 ≤ z) × (4 ≤ n) × (4 ≤ e) × (256 ≤ s)
-unfolding report-room
+unfolding report-room most-terms
 report-fits k z n e s h =
     let t = subst T (sym h) tt in
     let l = and-left (model-room k z n && leb 4 e) (leb 256 s) t in
