@@ -11,7 +11,7 @@ use Rattle.calculus.specs.Model.{most-terms}
 use Rattle.calculus.specs.TestLaws.{and-left, and-right}
 use Rattle.model_types.specs.ArrayLaws.{take-more}
 use Rattle.model_types.specs.declared.Shares.{Shares}
-use Rattle.c_models.specs.HandedModels.{over, model-room}
+use Rattle.c_models.specs.HandedModels.{over, answer-numbers, model-room}
 use Rattle.c_models.specs.HandedModelsLaws.{over-more, room-parts}
 use Rattle.c_shares.specs.HandedShares.{row-numbers, report-room}
 
@@ -68,8 +68,8 @@ rows-more rows k i h w =
 
 -- ---- room
 pub report-fits : (k z n e s : ℕ) → report-room k z n e s ≡ true
-    → (64 ≤ k) × (64 ≤ z) × (4 ≤ n) × (4 ≤ e) × (256 ≤ s)
-unfolding report-room most-terms
+    → (most-terms ≤ k) × (most-terms ≤ z) × (answer-numbers ≤ n) × (4 ≤ e) × (256 ≤ s)
+unfolding report-room
 report-fits k z n e s h =
     let t = subst T (sym h) tt in
     let l = and-left (model-room k z n && leb 4 e) (leb 256 s) t in

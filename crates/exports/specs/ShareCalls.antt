@@ -4,6 +4,7 @@ use mathlib.Core.List.{List}
 use Prim.Native.Nat.{ℕ}
 use lib.IntN.{ℤ}
 use Rattle.sheet_book.specs.declared.Report.{Report}
+use Rattle.c_models.specs.HandedModels.{misused}
 use Rattle.c_shares.specs.HandedShares.{stored-rows}
 use Rattle.exports.specs.SheetCalls.{Run, run-state, stored-summary}
 
@@ -24,4 +25,4 @@ stored-report r ks cs ns es ss = report-state (stored-summary (r .summary) ks cs
 unfoldable pub called-report : (fits : Bool) → Report → List ℕ → List ℤ → List ℕ → List ℤ → (shares : List ℕ)
     → Reported-run
 called-report true r ks cs ns es ss = stored-report r ks cs ns es ss
-called-report false r ks cs ns es ss = report-state (run-state 255 ks cs ns es) ss
+called-report false r ks cs ns es ss = report-state (run-state misused ks cs ns es) ss

@@ -3,11 +3,13 @@ ghost use mathlib.Core.Path.{_≡_};
 ghost use mathlib.Core.Bool.{_&&_};
 ghost use Prim.Native.Nat.{_≤_};
 ghost use lib.ListN.{length};
+ghost use Rattle.calculus.specs.Model.{«most-terms»};
 ghost use Rattle.format.specs.Format.{«run-sheet», «sheet-rows»};
 ghost use Rattle.sheet_book.specs.BookStruct.{«held-book»};
 ghost use Rattle.sheet_book.specs.SummaryStruct.{«run-answer»};
 ghost use Rattle.sheet_book.specs.ReportStruct.{report};
 ghost use Rattle.sheet.specs.Sheet.{«run-held», «rows-held»};
+ghost use Rattle.c_models.specs.HandedModels.{«answer-numbers»};
 ghost use Rattle.c_books.specs.HandedBooks.{«step-places», «handed-steps», «model-places», «handed-models»};
 ghost use Rattle.c_books.specs.HandedBooks.{«handed-book»};
 ghost use Rattle.c_shares.specs.HandedShares.{«report-room»};
@@ -28,8 +30,8 @@ fn store_report(
     ends: &mut [i64],
     shares: &mut [u64],
 ) -> u8
-    requires { ⌜ (64 ≤ length (now keys)) × (64 ≤ length (now coefficients)) × (4 ≤ length (now numbers))
-        × (4 ≤ length (now ends)) × (256 ≤ length (now shares)) ⌝ }
+    requires { ⌜ (most-terms ≤ length (now keys)) × (most-terms ≤ length (now coefficients))
+        × (answer-numbers ≤ length (now numbers)) × (4 ≤ length (now ends)) × (256 ≤ length (now shares)) ⌝ }
     ensures { λ u. ⌜ report-state (run-state u (now (keys .exit)) (now (coefficients .exit)) (now (numbers .exit))
         (now (ends .exit))) (now (shares .exit))
         ≡ stored-report r (now (keys .entry)) (now (coefficients .entry)) (now (numbers .entry))
