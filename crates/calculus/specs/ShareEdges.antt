@@ -3,12 +3,12 @@ use mathlib.Core.Path.{_≡_, refl}
 use mathlib.Core.List.{List, [], _∷_, _++_, map}
 use Prim.Native.Nat.{ℕ, _*_}
 use lib.IntN.{ℤ, pos}
-use lib.ListN.{replicate}
+use lib.ListN.{getD, replicate}
 use Rattle.fixed.specs.Fixed.{U}
 use Rattle.calculus.specs.Terms.{Terms}
 use Rattle.calculus.specs.Model.{Model}
-use Rattle.calculus.specs.Book.{Step, input, constant, variable, negate, add, multiply, substitute, sweep}
-use Rattle.calculus.specs.Book.{quotient, antiderivative, Book}
+use Rattle.calculus.specs.Book.{Step, input, constant, variable, negate, add, subtract, multiply, substitute}
+use Rattle.calculus.specs.Book.{sweep, quotient, antiderivative, Book}
 use Rattle.calculus.specs.Shares.{Shares, no-shares, all-rows, shares-rows}
 use Rattle.calculus.specs.Computing.{reports}
 use Rattle.calculus.specs.Forms.{at-key, model, book, minus, forms}
@@ -70,19 +70,30 @@ share-edges =
     ∷ substitution-row (model 1 1 (at-key 1 0x1000 (pos 524288) ∷ [])) (flat 2 (pos 3)) (shares 2097152 524288 0 524288)
     ∷ substitution-row (model 1 4 (at-key 1 0x2000 (pos 1048576) ∷ [])) (flat 1 (pos 524288))
     (shares 5242881 0 0 1048575)
-    -- a sweep: the old radius, and what is dropped
+    -- with three, and with two of which the last has all four shares
+    ∷ row-of 3 (model 1 4 (at-key 1 0x3000 (pos 1048576) ∷ []) ∷ flat 1 (pos 524288) ∷ [])
+    (input 0 ∷ input 1 ∷ substitute 0 1 1 ∷ [])
+    (shares 4194304 0 0 0 ∷ shares 1048576 0 0 0 ∷ shares 5505026 0 0 786430 ∷ [])
+    ∷ substitution-row (model 1 1 (at-key 1 0x2000 (pos 1048576) ∷ []))
+    (model 1 2 (at-key 1 0x0000 (pos 1) ∷ at-key 1 0x2000 (pos 524288) ∷ []))
+    (shares 3145736 1 274877906944 1048567)
+    -- a sweep: the old radius, and what is dropped, which at 2 is nothing
     ∷ row-of 2 (model 1 4 (at-key 1 0x0000 (pos 2) ∷ at-key 1 0x1000 (minus 3) ∷ at-key 1 0x2000 (pos 5) ∷ []) ∷ [])
-    (input 0 ∷ sweep 0 (pos 3) ∷ sweep 0 (pos 5) ∷ [])
-    (shares 4194304 0 0 0 ∷ shares 4194304 0 3145728 0 ∷ shares 4194304 0 8388608 0 ∷ [])
+    (input 0 ∷ sweep 0 (pos 3) ∷ sweep 0 (pos 5) ∷ sweep 0 (pos 2) ∷ [])
+    (shares 4194304 0 0 0 ∷ shares 4194304 0 3145728 0 ∷ shares 4194304 0 8388608 0 ∷ shares 4194304 0 0 0 ∷ [])
     -- running litres: 3x gives one inexact division, 5x^2 is swept as 2
     ∷ row-of 2 (model 1 1 (at-key 1 0x1000 (pos 3) ∷ at-key 1 0x2000 (pos 5) ∷ []) ∷ [])
     (input 0 ∷ antiderivative 0 1 ∷ [])
     (shares 1048576 0 0 0 ∷ shares 1048576 1048576 2097152 0 ∷ [])
-    -- all carried: a sum, a sign, and a quotient with the radius 1
+    -- x / 2 rounds to 0: it is rounded, and not swept
+    ∷ row-of 2 (model 1 1 (at-key 1 0x1000 (pos 1) ∷ []) ∷ []) (input 0 ∷ antiderivative 0 1 ∷ [])
+    (shares 1048576 0 0 0 ∷ shares 1048576 1048576 0 0 ∷ [])
+    -- all carried: a sign, a sum, a quotient with the radius 1, and a difference
     ∷ row-of 1 (flat 1 (pos 1048576) ∷ [])
-    (input 0 ∷ negate 0 ∷ add 0 0 ∷ constant (pos 1048576) ∷ constant (pos 1048575) ∷ quotient 3 3 4 3 ∷ [])
+    (input 0 ∷ negate 0 ∷ add 0 0 ∷ constant (pos 1048576) ∷ constant (pos 1048575) ∷ quotient 3 3 4 3
+    ∷ subtract 0 1 ∷ [])
     (shares 1048576 0 0 0 ∷ shares 1048576 0 0 0 ∷ shares 2097152 0 0 0 ∷ no-shares ∷ no-shares
-    ∷ shares 1048576 0 0 0 ∷ [])
+    ∷ shares 1048576 0 0 0 ∷ shares 2097152 0 0 0 ∷ [])
     -- the third step leaves the span: it reports zeros, and so does the fourth
     ∷ row-of 1 (flat 1 (pos 1073741823) ∷ [])
     (input 0 ∷ negate 0 ∷ add 0 0 ∷ negate 0 ∷ [])
@@ -90,6 +101,13 @@ share-edges =
     -- a product that is refused
     ∷ row-of 1 (flat 1 (pos 1073741823) ∷ []) (input 0 ∷ multiply 0 0 ∷ [])
     (shares 1048576 0 0 0 ∷ [])
+    -- substitutions that are refused: by 9, and after their product by the last addition of the radius of f, which is 7
+    ∷ row-of 1 (model 1 3 (at-key 1 0x1000 (pos 1) ∷ []) ∷ flat 1 (pos 1048576) ∷ [])
+    (input 0 ∷ input 1 ∷ substitute 0 1 1 ∷ negate 0 ∷ [])
+    (shares 3145728 0 0 0 ∷ shares 1048576 0 0 0 ∷ [])
+    ∷ row-of 1 (model 1 1073741823 (at-key 1 0x1000 (pos 1) ∷ []) ∷ flat 1 (pos 1048575) ∷ [])
+    (input 0 ∷ input 1 ∷ substitute 0 1 1 ∷ negate 1 ∷ [])
+    (shares (U * 1073741823) 0 0 0 ∷ shares 1048576 0 0 0 ∷ [])
     -- a model with a coefficient 0, which is 5; a step that names itself, which is 6; an order that is none, which is 3
     ∷ row-of 1 (flat 1 (pos 0) ∷ []) (input 0 ∷ []) []
     ∷ row-of 1 (flat 1 (pos 1) ∷ []) (input 0 ∷ negate 1 ∷ []) []
@@ -101,6 +119,12 @@ share-edges =
 unfoldable pub share-forms : Unit {0}
 unfolding forms shares row-of flat sloped product-row substitution-row share-edges
 share-forms = tt
+
+-- the row of the third step of each book, which most of them are about
+pub third-rows-stand : map (λ e. getD (shares-rows (e .book)) 2 no-shares) share-edges
+    ≡ map (λ e. getD (e .rows) 2 no-shares) share-edges
+unfolding reports share-forms
+third-rows-stand = refl
 
 -- each book reports its rows, with zeros behind them
 pub shares-stand :
