@@ -61,6 +61,7 @@ pub mod RangeFacts
 pub mod AntiderivativeFacts
 -- Where a radius came from.
 pub mod ShareLaws
+pub mod ShareRunLaws
 -- A mirrored factor.
 pub mod MirrorLaws
 pub mod MirrorStepLaws
