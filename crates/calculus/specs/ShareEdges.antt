@@ -120,7 +120,13 @@ unfoldable pub share-forms : Unit {0}
 unfolding forms shares row-of flat sloped product-row substitution-row share-edges
 share-forms = tt
 
--- the row of the third step of each book, which most of them are about
+-- the row of the first step of each book
+pub first-rows-stand : map (λ e. getD (shares-rows (e .book)) 0 no-shares) share-edges
+    ≡ map (λ e. getD (e .rows) 0 no-shares) share-edges
+unfolding reports share-forms
+first-rows-stand = refl
+
+-- the row of the third, which most of them are about
 pub third-rows-stand : map (λ e. getD (shares-rows (e .book)) 2 no-shares) share-edges
     ≡ map (λ e. getD (e .rows) 2 no-shares) share-edges
 unfolding reports share-forms

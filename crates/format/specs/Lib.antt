@@ -24,6 +24,7 @@ pub mod PlaceLaws
 pub mod SheetClaim
 pub mod SheetClaimProof
 pub mod SheetRowLaws
+pub mod SheetShareLaws
 pub mod SheetRowEdges
 pub mod RangeSheetFacts
 -- What loops that walk forward need.
