@@ -6,13 +6,14 @@ use native.Mathlib.Omega.{arith}
 use lib.ListN.{length, getD}
 use Rattle.calculus.specs.Refusal.{Refusal, Result, done, stopped, _followed-by_}
 use Rattle.calculus.specs.Book.{most-steps, Summary, run, run-sound}
-use Rattle.calculus.specs.Shares.{no-shares, shares-rows}
+use Rattle.calculus.specs.Shares.{no-shares, rows-sound, reported, shares-rows}
 use Rattle.calculus.specs.ShareLaws.{Accounts, length-rows}
 use Rattle.calculus.specs.ShareRunLaws.{last-accounts, refused-rows, rows-count}
 use Rattle.calculus.specs.BookLaws.{Passes}
-use Rattle.format.specs.HeldBook.{Held-book, view-book}
-use Rattle.format.specs.Format.{read, run-sheet, sheet-rows}
-use Rattle.format.specs.HeldBookLaws.{view-passes, view-run}
+use Rattle.format.specs.HeldBook.{Held-book, view-book, held-tested, Held-passes}
+use Rattle.format.specs.Format.{read, sheet-bytes, run-sheet, sheet-rows}
+use Rattle.format.specs.HeldBookLaws.{view-passes, view-run, held-tested-passes}
+use Rattle.format.specs.ReadBackLaws.{read-back}
 use Rattle.format.specs.WriteBackLaws.{read-passes}
 use Rattle.format.specs.SheetRowLaws.{sheet-rows-are, sheet-rows-none}
 
@@ -43,3 +44,10 @@ module _ (bytes : List ℕ) (h : Held-book) (e : read bytes ≡ done h) where
       → (j : ℕ) → i ≤ j → getD (sheet-rows bytes) j no-shares ≡ no-shares
   sheet-refused-rows r i k j l = ap (λ l. getD l j no-shares) (sheet-rows-are bytes h e)
       ∙ refused-rows (view-book h) passes r i (sym ran ∙ k) j l
+
+-- THEOREM: a book in memory that passes the tests reports the rows of its sheet
+pub held-rows-sheet : (h : Held-book) → Held-passes h
+    → reported (held-tested h (done (rows-sound (view-book h)))) ≡ sheet-rows (sheet-bytes h)
+unfolding sheet-rows _followed-by_
+held-rows-sheet h p = ap reported (held-tested-passes h _ p
+    ∙ sym (ap (λ r. r followed-by (λ h. done (rows-sound (view-book h)))) (read-back h p)))
