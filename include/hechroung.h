@@ -63,6 +63,15 @@ struct hechroung_summary {
     struct hechroung_ends range, integral;
 };
 
+/* Where the radius of a step came from: four whole numbers that sum to HECHROUNG_UNIT times the radius. carried is from
+   the radii of the operands, rounding from coefficients that were rounded, swept from terms above the order or dropped
+   by a sweep, slack is what rounding the radius up added. A product and an antiderivative have what they made
+   themselves; a substitution has the shares of its last product, which carries the radii of the earlier ones, and the
+   radius of its first step as carried; every other step, a quotient too, is all carried. */
+struct hechroung_shares {
+    uint64_t carried, rounding, swept, slack;
+};
+
 /* A step of a book: the code of documents 01 and 02 and its fields; those that the code does not name are 0. Code 9, a
    quotient, has f in a, g in b, step h in v and step w in value; code 10, an antiderivative, has its step in a and its
    variable, from 1, in v. */
@@ -122,6 +131,16 @@ extern uint8_t hechroung_run(const uint8_t *sheet, size_t sheet_length,
                              uint16_t *keys, size_t keys_length, int64_t *coefficients, size_t coefficients_length,
                              uint64_t *numbers, size_t numbers_length, int64_t *ends, size_t ends_length);
 
+/* Runs a sheet as hechroung_run does, with the same answer, and stores besides where the radius of each step came
+   from. Written: keys, coefficients, numbers and ends as for hechroung_run; shares, at least 4 times
+   HECHROUNG_MOST_STEPS, hold four numbers for each of 64 steps: carried, rounding, swept and slack of step i from 4 * i
+   on. They are 0 for a refused step and those after it, for steps that the sheet does not have, and for all steps of a
+   sheet refused by 1 to 6. What lies behind stays. */
+extern uint8_t hechroung_shares(const uint8_t *sheet, size_t sheet_length,
+                                uint16_t *keys, size_t keys_length, int64_t *coefficients, size_t coefficients_length,
+                                uint64_t *numbers, size_t numbers_length, int64_t *ends, size_t ends_length,
+                                uint64_t *shares, size_t shares_length);
+
 /* Runs a sheet to the program's lines and returns their length, at most HECHROUNG_LONGEST_TEXT. As much of them as the
    slice has room for is put at its start, without a zero at the end; what lies behind stays. */
 extern size_t hechroung_print(const uint8_t *sheet, size_t sheet_length, uint8_t *lines, size_t lines_length);
@@ -168,6 +187,20 @@ extern uint8_t hechroung_run_book(uint8_t n, uint8_t d, size_t model_count, size
                                   const int64_t *values, size_t values_length,
                                   uint16_t *keys, size_t keys_length, int64_t *coefficients, size_t coefficients_length,
                                   uint64_t *numbers, size_t numbers_length, int64_t *ends, size_t ends_length);
+
+/* Runs a book as hechroung_run_book does, and stores its shares besides. Read: as for hechroung_run_book. Written: as
+   for hechroung_shares. */
+extern uint8_t hechroung_shares_book(uint8_t n, uint8_t d, size_t model_count, size_t step_count,
+                                     const uint8_t *ns, size_t ns_length, const size_t *counts, size_t counts_length,
+                                     const uint64_t *radii, size_t radii_length,
+                                     const uint16_t *book_keys, size_t book_keys_length,
+                                     const int64_t *book_coefficients, size_t book_coefficients_length,
+                                     const uint8_t *fields, size_t fields_length,
+                                     const int64_t *values, size_t values_length,
+                                     uint16_t *keys, size_t keys_length,
+                                     int64_t *coefficients, size_t coefficients_length,
+                                     uint64_t *numbers, size_t numbers_length, int64_t *ends, size_t ends_length,
+                                     uint64_t *shares, size_t shares_length);
 
 /* ---- the same for structs. The answer may be one of the models that are read. A place of null is not written. ---- */
 
@@ -346,6 +379,34 @@ static inline uint8_t hechroung_run_sheet(const uint8_t *sheet, size_t length, s
     return number;
 }
 
+static inline void hechroung_shared_(const uint64_t numbers[4 * HECHROUNG_MOST_STEPS],
+                                     struct hechroung_shares shares[HECHROUNG_MOST_STEPS]) {
+    size_t i;
+    for (i = 0; i < HECHROUNG_MOST_STEPS; i++) {
+        shares[i].carried = numbers[4 * i];
+        shares[i].rounding = numbers[4 * i + 1];
+        shares[i].swept = numbers[4 * i + 2];
+        shares[i].slack = numbers[4 * i + 3];
+    }
+}
+
+/* Runs a sheet and tells where the radius of each of its steps came from, in 64 places. Refusals 1 to 9, 12. It takes
+   some 2 KB of stack itself. */
+static inline uint8_t hechroung_shares_sheet(const uint8_t *sheet, size_t length, struct hechroung_summary *answer,
+                                             struct hechroung_shares shares[HECHROUNG_MOST_STEPS], size_t *place) {
+    uint64_t numbers[4] = {0, 0, 0, 0}, rows[4 * HECHROUNG_MOST_STEPS];
+    int64_t ends[4] = {0, 0, 0, 0};
+    uint8_t number;
+    if (sheet == NULL || answer == NULL || shares == NULL) return HECHROUNG_MISUSED;
+    memset(rows, 0, sizeof rows);
+    number = hechroung_shares(sheet, length, answer->model.keys, HECHROUNG_MOST_TERMS,
+                              answer->model.coefficients, HECHROUNG_MOST_TERMS, numbers, 4, ends, 4,
+                              rows, 4 * HECHROUNG_MOST_STEPS);
+    hechroung_summed_(numbers, ends, answer, place);
+    hechroung_shared_(rows, shares);
+    return number;
+}
+
 /* The slices of a book, some 12 KB; hechroung_flat_ fills them, and answers 0 where a pointer is null that must not
    be. */
 struct hechroung_flat_ {
@@ -419,6 +480,33 @@ static inline uint8_t hechroung_run_models(uint8_t n, uint8_t d,
                                 answer->model.keys, HECHROUNG_MOST_TERMS,
                                 answer->model.coefficients, HECHROUNG_MOST_TERMS, numbers, 4, ends, 4);
     hechroung_summed_(numbers, ends, answer, place);
+    return number;
+}
+
+/* Runs a book of these models and steps and tells where the radius of each step came from, in 64 places. Refusals 3, 5
+   to 9, 12. It takes some 14 KB of stack itself. */
+static inline uint8_t hechroung_shares_models(uint8_t n, uint8_t d,
+                                              const struct hechroung_model *models, size_t model_count,
+                                              const struct hechroung_step *steps, size_t step_count,
+                                              struct hechroung_summary *answer,
+                                              struct hechroung_shares shares[HECHROUNG_MOST_STEPS], size_t *place) {
+    struct hechroung_flat_ flat;
+    uint64_t numbers[4] = {0, 0, 0, 0}, rows[4 * HECHROUNG_MOST_STEPS];
+    int64_t ends[4] = {0, 0, 0, 0};
+    uint8_t number;
+    if (answer == NULL || shares == NULL || !hechroung_flat_(models, model_count, steps, step_count, &flat))
+        return HECHROUNG_MISUSED;
+    memset(rows, 0, sizeof rows);
+    number = hechroung_shares_book(n, d, model_count, step_count, flat.ns, HECHROUNG_MOST_MODELS,
+                                   flat.counts, HECHROUNG_MOST_MODELS, flat.radii, HECHROUNG_MOST_MODELS,
+                                   flat.keys, HECHROUNG_MOST_MODELS * HECHROUNG_MOST_TERMS,
+                                   flat.coefficients, HECHROUNG_MOST_MODELS * HECHROUNG_MOST_TERMS,
+                                   flat.fields, 4 * HECHROUNG_MOST_STEPS, flat.values, HECHROUNG_MOST_STEPS,
+                                   answer->model.keys, HECHROUNG_MOST_TERMS,
+                                   answer->model.coefficients, HECHROUNG_MOST_TERMS, numbers, 4, ends, 4,
+                                   rows, 4 * HECHROUNG_MOST_STEPS);
+    hechroung_summed_(numbers, ends, answer, place);
+    hechroung_shared_(rows, shares);
     return number;
 }
 

@@ -6,9 +6,11 @@ Refused.
 
 import ctypes
 import os
+from collections import namedtuple
 
 UNIT = 1 << 20
 MOST_TERMS = 64
+MOST_STEPS = 64
 LONGEST_RECORD = 5 + 6 * MOST_TERMS
 MISUSED = 255
 
@@ -43,21 +45,36 @@ _open.argtypes = [ctypes.c_char_p, _size, ctypes.POINTER(_u64), _size]
 _next = _library.hechroung_next
 _next.restype = _u8
 _next.argtypes = [ctypes.c_char_p, _size, _size, ctypes.c_char_p, _size, ctypes.POINTER(_u64), _size]
+_book = [_u8, _u8, _size, _size, ctypes.c_char_p, _size, ctypes.POINTER(_size), _size,
+         ctypes.POINTER(_u64), _size, ctypes.POINTER(ctypes.c_uint16), _size, ctypes.POINTER(_i64), _size,
+         ctypes.c_char_p, _size, ctypes.POINTER(_i64), _size]
+_summary = [ctypes.POINTER(ctypes.c_uint16), _size, ctypes.POINTER(_i64), _size,
+            ctypes.POINTER(_u64), _size, ctypes.POINTER(_i64), _size]
 _run_book = _library.hechroung_run_book
 _run_book.restype = _u8
-_run_book.argtypes = [_u8, _u8, _size, _size, ctypes.c_char_p, _size, ctypes.POINTER(_size), _size,
-                      ctypes.POINTER(_u64), _size, ctypes.POINTER(ctypes.c_uint16), _size, ctypes.POINTER(_i64), _size,
-                      ctypes.c_char_p, _size, ctypes.POINTER(_i64), _size,
-                      ctypes.POINTER(ctypes.c_uint16), _size, ctypes.POINTER(_i64), _size,
-                      ctypes.POINTER(_u64), _size, ctypes.POINTER(_i64), _size]
+_run_book.argtypes = [*_book, *_summary]
+_shares = _library.hechroung_shares
+_shares.restype = _u8
+_shares.argtypes = [ctypes.c_char_p, _size, *_summary, ctypes.POINTER(_u64), _size]
+_shares_book = _library.hechroung_shares_book
+_shares_book.restype = _u8
+_shares_book.argtypes = [*_book, *_summary, ctypes.POINTER(_u64), _size]
+
+# What a run gives: the last step's model, the ends of its range and of its integral.
+Summary = namedtuple("Summary", "model range integral")
+# Where the radius of a step came from: four numbers that sum to UNIT times the radius.
+Shares = namedtuple("Shares", "carried rounding swept slack")
+# What a run gives, and the shares of each of 64 steps; zeros where there is no step.
+Report = namedtuple("Report", "summary shares")
 
 
 class Refused(Exception):
-    """The refusal of documents 01 and 02: its number, 1 to 12, and its place."""
+    """The refusal of documents 01 and 02: its number, 1 to 12, and its place; of a run with shares those of the steps
+    before it too."""
 
-    def __init__(self, number, place):
+    def __init__(self, number, place, shares=()):
         super().__init__(f"refused {number} {place}")
-        self.number, self.place = number, place
+        self.number, self.place, self.shares = number, place, shares
 
 
 class Misused(Exception):
@@ -112,11 +129,11 @@ def _ended(code, f, point=()):
     return tuple(ends)
 
 
-def _check(number, place):
+def _check(number, place, shares=()):
     if number == MISUSED:
         raise Misused()
     if number:
-        raise Refused(number, place)
+        raise Refused(number, place, shares)
 
 
 def constant(n, value):
@@ -206,13 +223,41 @@ def stepped(sheet):
         yield {1: "model", 2: "step"}[kind], record.raw[:length]
 
 
-def run_book(n, d, models, steps):
-    """Runs models and steps, each step its code, a, b, v and value: the result, the ends of its range and integral."""
-    fields = bytes(field for step in steps for field in step[:4])
+def _ran(run, arguments, rows=()):
+    """Runs what the arguments hand over; `rows` is where shares are stored, if they are."""
     keys, coefficients, numbers, ends = _Keys(), _Coefficients(), (_u64 * 4)(), (_i64 * 4)()
-    number = _run_book(n, d, len(models), len(steps), *_lent(models), fields, len(fields),
-                       (_i64 * len(steps))(*(step[4] for step in steps)), len(steps),
-                       keys, MOST_TERMS, coefficients, MOST_TERMS, numbers, 4, ends, 4)
+    behind = [rows, len(rows)] if rows else []
+    number = run(*arguments, keys, MOST_TERMS, coefficients, MOST_TERMS, numbers, 4, ends, 4, *behind)
     place, n, count, radius = numbers
-    _check(number, place)
-    return Model(n, radius, zip(keys[:count], coefficients[:count])), tuple(ends[:2]), tuple(ends[2:])
+    _check(number, place, _rows(rows))
+    model = Model(n, radius, zip(keys[:count], coefficients[:count]))
+    return Summary(model, tuple(ends[:2]), tuple(ends[2:]))
+
+
+def _rows(stored):
+    return [Shares(*stored[i:i + 4]) for i in range(0, len(stored), 4)]
+
+
+def _handed_book(n, d, models, steps):
+    fields = bytes(field for step in steps for field in step[:4])
+    values = (_i64 * len(steps))(*(step[4] for step in steps))
+    return n, d, len(models), len(steps), *_lent(models), fields, len(fields), values, len(steps)
+
+
+def run_book(n, d, models, steps):
+    """Runs models and steps, each step its code, a, b, v and value."""
+    return _ran(_run_book, _handed_book(n, d, models, steps))
+
+
+def shares(sheet):
+    """Runs a sheet and tells where the radius of each of its steps came from."""
+    rows = (_u64 * (4 * MOST_STEPS))()
+    summary = _ran(_shares, (sheet, len(sheet)), rows)
+    return Report(summary, _rows(rows))
+
+
+def shares_book(n, d, models, steps):
+    """Runs models and steps as run_book does, and tells where the radius of each step came from."""
+    rows = (_u64 * (4 * MOST_STEPS))()
+    summary = _ran(_shares_book, _handed_book(n, d, models, steps), rows)
+    return Report(summary, _rows(rows))

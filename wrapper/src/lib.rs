@@ -23,8 +23,8 @@
 pub mod raw;
 mod sheets;
 
-pub use sheets::{lines, open, records, rewrite, run, run_book, write};
-pub use sheets::{Book, Kind, Opened, Record, Records, Step, Summary, Written};
+pub use sheets::{lines, open, records, rewrite, run, run_book, shares, shares_book, write};
+pub use sheets::{Book, Kind, Opened, Record, Records, Report, Shares, Step, Summary, Written};
 
 use raw::{Handed, HandedModels, MISUSED};
 use std::error::Error;

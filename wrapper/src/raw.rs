@@ -131,6 +131,21 @@ exported! {
         ends_length: usize,
     ) -> u8;
 
+    hechroung_shares: Shares = (
+        sheet: *const u8,
+        sheet_length: usize,
+        keys: *mut u16,
+        keys_length: usize,
+        coefficients: *mut i64,
+        coefficients_length: usize,
+        numbers: *mut u64,
+        numbers_length: usize,
+        ends: *mut i64,
+        ends_length: usize,
+        shares: *mut u64,
+        shares_length: usize,
+    ) -> u8;
+
     hechroung_print: Print = (
         sheet: *const u8,
         sheet_length: usize,
@@ -199,6 +214,37 @@ exported! {
         numbers_length: usize,
         ends: *mut i64,
         ends_length: usize,
+    ) -> u8;
+
+    hechroung_shares_book: SharesBook = (
+        n: u8,
+        d: u8,
+        model_count: usize,
+        step_count: usize,
+        ns: *const u8,
+        ns_length: usize,
+        counts: *const usize,
+        counts_length: usize,
+        radii: *const u64,
+        radii_length: usize,
+        book_keys: *const u16,
+        book_keys_length: usize,
+        book_coefficients: *const i64,
+        book_coefficients_length: usize,
+        fields: *const u8,
+        fields_length: usize,
+        values: *const i64,
+        values_length: usize,
+        keys: *mut u16,
+        keys_length: usize,
+        coefficients: *mut i64,
+        coefficients_length: usize,
+        numbers: *mut u64,
+        numbers_length: usize,
+        ends: *mut i64,
+        ends_length: usize,
+        shares: *mut u64,
+        shares_length: usize,
     ) -> u8;
 
     hechroung_write: Write = (
@@ -376,6 +422,35 @@ pub fn run(
     }
 }
 
+/// Runs a sheet as [`run`] does, and stores besides where the radius of each of 64 steps came from: carried, rounding,
+/// swept and slack of step i at `shares[4 * i..]`.
+pub fn shares(
+    sheet: &[u8],
+    keys: &mut [u16],
+    coefficients: &mut [i64],
+    numbers: &mut [u64],
+    ends: &mut [i64],
+    shares: &mut [u64],
+) -> u8 {
+    // SAFETY: as in `call`.
+    unsafe {
+        hechroung_shares(
+            sheet.as_ptr(),
+            sheet.len(),
+            keys.as_mut_ptr(),
+            keys.len(),
+            coefficients.as_mut_ptr(),
+            coefficients.len(),
+            numbers.as_mut_ptr(),
+            numbers.len(),
+            ends.as_mut_ptr(),
+            ends.len(),
+            shares.as_mut_ptr(),
+            shares.len(),
+        )
+    }
+}
+
 /// Runs a sheet to the program's lines: their length. As much of them as `text` has room for is put there.
 pub fn print(sheet: &[u8], text: &mut [u8]) -> usize {
     // SAFETY: as in `call`.
@@ -512,6 +587,50 @@ pub fn run_book(
             numbers.len(),
             ends.as_mut_ptr(),
             ends.len(),
+        )
+    }
+}
+
+/// Runs a book as [`run_book`] does, and stores its shares besides, as [`shares`] does.
+pub fn shares_book(
+    book: HandedBook<'_>,
+    keys: &mut [u16],
+    coefficients: &mut [i64],
+    numbers: &mut [u64],
+    ends: &mut [i64],
+    shares: &mut [u64],
+) -> u8 {
+    // SAFETY: as in `call`.
+    unsafe {
+        hechroung_shares_book(
+            book.n,
+            book.d,
+            book.model_count,
+            book.step_count,
+            book.ns.as_ptr(),
+            book.ns.len(),
+            book.counts.as_ptr(),
+            book.counts.len(),
+            book.radii.as_ptr(),
+            book.radii.len(),
+            book.keys.as_ptr(),
+            book.keys.len(),
+            book.coefficients.as_ptr(),
+            book.coefficients.len(),
+            book.fields.as_ptr(),
+            book.fields.len(),
+            book.values.as_ptr(),
+            book.values.len(),
+            keys.as_mut_ptr(),
+            keys.len(),
+            coefficients.as_mut_ptr(),
+            coefficients.len(),
+            numbers.as_mut_ptr(),
+            numbers.len(),
+            ends.as_mut_ptr(),
+            ends.len(),
+            shares.as_mut_ptr(),
+            shares.len(),
         )
     }
 }

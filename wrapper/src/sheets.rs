@@ -15,6 +15,30 @@ pub struct Summary {
     pub refusal: Option<Refusal>,
 }
 
+/// Where the radius of a step came from: four whole numbers that sum to [`UNIT`](crate::UNIT) times the radius. A
+/// product and an antiderivative have what they made themselves; a substitution has the shares of its last product,
+/// which carries the radii of the earlier ones, and the radius of its first step as carried; every other step is all
+/// carried.
+#[derive(Clone, Copy, Debug, Default, PartialEq, Eq)]
+pub struct Shares {
+    /// From the radii of the operands.
+    pub carried: u64,
+    /// From coefficients that were rounded.
+    pub rounding: u64,
+    /// From terms above the order, or dropped by a sweep.
+    pub swept: u64,
+    /// What rounding the radius up added.
+    pub slack: u64,
+}
+
+/// What a run gives, and the shares of each of its steps: zeros for a refused step and those after it, for steps that
+/// there are none of, and for all steps where the sheet or the book is refused before it runs.
+#[derive(Clone, Copy, Debug, PartialEq, Eq)]
+pub struct Report {
+    pub summary: Summary,
+    pub shares: [Shares; MOST_STEPS],
+}
+
 /// The length of what was written, 0 beside a refusal.
 #[derive(Clone, Copy, Debug, PartialEq, Eq)]
 pub struct Written {
@@ -104,6 +128,59 @@ pub fn run_book(book: &Book) -> Summary {
             ends,
         )
     })
+}
+
+/// Runs a sheet, and tells where the radius of each of its steps came from. Refusals 1 to 9, 12.
+///
+/// ```
+/// // x, and x times x, of order 1: there is no room for a square.
+/// let sheet = [2, 0, 0, 1, 0, 0, 0, 0, 6, 0, 0, 0, 0, 0, 0, 0, 1, 1, 0, 2, 0, 0, 0x4D, 0x4B];
+/// let report = hechroung::shares(&sheet);
+/// assert_eq!(report.summary.model.radius, 1 << 20);
+/// assert_eq!((report.shares[1].swept, report.shares[1].slack), (1 << 40, 0));
+/// ```
+pub fn shares(sheet: &[u8]) -> Report {
+    reported(|model, numbers, ends, shares| {
+        raw::shares(
+            sheet,
+            &mut model.keys,
+            &mut model.coefficients,
+            numbers,
+            ends,
+            shares,
+        )
+    })
+}
+
+/// Runs a book in memory, and tells where the radius of each of its steps came from. Refusals 3, 5 to 9, 12.
+pub fn shares_book(book: &Book) -> Report {
+    let flat = Flat::of(book);
+    reported(|model, numbers, ends, shares| {
+        raw::shares_book(
+            flat.handed(book),
+            &mut model.keys,
+            &mut model.coefficients,
+            numbers,
+            ends,
+            shares,
+        )
+    })
+}
+
+/// What a run with shares stored.
+fn reported(run: impl FnOnce(&mut Model, &mut [u64], &mut [i64], &mut [u64]) -> u8) -> Report {
+    let mut stored = [0; 4 * MOST_STEPS];
+    let summary = summary(|model, numbers, ends| run(model, numbers, ends, &mut stored));
+    let mut shares = [Shares::default(); MOST_STEPS];
+    for (row, stored) in shares.iter_mut().zip(stored.chunks(4)) {
+        *row = Shares {
+            carried: stored[0],
+            rounding: stored[1],
+            swept: stored[2],
+            slack: stored[3],
+        };
+    }
+    Report { summary, shares }
 }
 
 /// What a run stored.

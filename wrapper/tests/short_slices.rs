@@ -15,15 +15,21 @@ struct Room {
     coefficients: Vec<i64>,
     numbers: Vec<u64>,
     ends: Vec<i64>,
+    shares: Vec<u64>,
 }
 
 impl Room {
     fn new([keys, coefficients, numbers, ends]: [usize; 4]) -> Room {
+        Room::with_shares([keys, coefficients, numbers, ends, 0])
+    }
+
+    fn with_shares([keys, coefficients, numbers, ends, shares]: [usize; 5]) -> Room {
         Room {
             keys: vec![MARK.into(); keys],
             coefficients: vec![MARK.into(); coefficients],
             numbers: vec![MARK.into(); numbers],
             ends: vec![MARK.into(); ends],
+            shares: vec![MARK.into(); shares],
         }
     }
 
@@ -32,6 +38,7 @@ impl Room {
             && self.coefficients.iter().all(|c| *c == MARK.into())
             && self.numbers.iter().all(|x| *x == MARK.into())
             && self.ends.iter().all(|e| *e == MARK.into())
+            && self.shares.iter().all(|s| *s == MARK.into())
     }
 
     fn run(&mut self) -> u8 {
@@ -41,6 +48,28 @@ impl Room {
             &mut self.coefficients,
             &mut self.numbers,
             &mut self.ends,
+        )
+    }
+
+    fn shares(&mut self, sheet: &[u8]) -> u8 {
+        raw::shares(
+            sheet,
+            &mut self.keys,
+            &mut self.coefficients,
+            &mut self.numbers,
+            &mut self.ends,
+            &mut self.shares,
+        )
+    }
+
+    fn shares_book(&mut self, book: HandedBook<'_>) -> u8 {
+        raw::shares_book(
+            book,
+            &mut self.keys,
+            &mut self.coefficients,
+            &mut self.numbers,
+            &mut self.ends,
+            &mut self.shares,
         )
     }
 
@@ -159,6 +188,95 @@ fn a_run_of_a_book_needs_every_model_every_step_and_room() {
     assert_eq!((room.keys[0], room.coefficients[0]), (0, 1));
     assert_eq!(room.coefficients[1..], [0; 63]);
     assert_eq!(room.ends, [1, 1, 2, 2]);
+}
+
+/// Room for a run and 256 shares.
+const ENOUGH_SHARES: [usize; 5] = [64, 64, 4, 4, 256];
+
+#[test]
+fn shares_need_a_run_s_room_and_256_places() {
+    for short in 0..5 {
+        let mut lengths = ENOUGH_SHARES;
+        lengths[short] -= 1;
+        let mut room = Room::with_shares(lengths);
+        assert_eq!(room.shares(&SHEET), MISUSED, "slice {short}");
+        assert!(room.unchanged(), "slice {short}");
+        assert_eq!(room.shares_book(BOOK), MISUSED, "slice {short}");
+        assert!(room.unchanged(), "slice {short}");
+    }
+    for (k, book) in short_books().into_iter().enumerate() {
+        let mut room = Room::with_shares(ENOUGH_SHARES);
+        assert_eq!(room.shares_book(book), MISUSED, "slice {k}");
+        assert!(room.unchanged(), "slice {k}");
+    }
+}
+
+/// Radii 2 and 3 without terms, their product, and a sum above the span; then the product once more.
+const RADII: HandedBook<'static> = HandedBook {
+    n: 1,
+    d: 1,
+    model_count: 3,
+    step_count: 6,
+    ns: &[1; 3],
+    counts: &[0; 3],
+    radii: &[2, 3, 1 << 30],
+    keys: &[0; 192],
+    coefficients: &[0; 192],
+    fields: &[
+        0, 0, 0, 0, 0, 1, 0, 0, 6, 0, 1, 0, 0, 2, 0, 0, 4, 3, 0, 0, 6, 0, 1, 0,
+    ],
+    values: &[0; 6],
+};
+
+#[test]
+fn shares_stand_at_four_places_a_step() {
+    const U: u64 = 1 << 20;
+    let mut lengths = ENOUGH_SHARES;
+    lengths[4] += 1;
+    let mut rows = vec![0; 256];
+    rows[0] = 2 * U;
+    rows[4] = 3 * U;
+    (rows[8], rows[11]) = (6, U - 6);
+    let mut sheet = [0; 100];
+    let mut numbers = [0; 2];
+    for (count, number, place) in [(3, 0, 0), (6, 7, 4)] {
+        let book = HandedBook {
+            step_count: count,
+            ..RADII
+        };
+        if count == 6 {
+            rows[12] = U << 30;
+        }
+        let mut room = Room::with_shares(lengths);
+        assert_eq!((room.shares_book(book), room.numbers[0]), (number, place));
+        // What lies behind stays.
+        assert_eq!(
+            (&room.shares[..256], room.shares[256]),
+            (&rows[..], MARK.into())
+        );
+        let mut plain = Room::new([64, 64, 4, 4]);
+        assert_eq!(plain.run_book(book), number);
+        assert_eq!(
+            (&room.keys, &room.coefficients),
+            (&plain.keys, &plain.coefficients)
+        );
+        assert_eq!((&room.numbers, &room.ends), (&plain.numbers, &plain.ends));
+        // The same as a sheet.
+        assert_eq!(raw::write(book, &mut sheet, &mut numbers), 0);
+        let mut room = Room::with_shares(lengths);
+        assert_eq!(
+            (room.shares(&sheet[..numbers[1] as usize]), room.numbers[0]),
+            (number, place)
+        );
+        assert_eq!(
+            (&room.shares[..256], room.shares[256]),
+            (&rows[..], MARK.into())
+        );
+    }
+    // A sheet that is not read has zeros.
+    let mut room = Room::with_shares(ENOUGH_SHARES);
+    assert_eq!(room.shares(&[]), 1);
+    assert_eq!(room.shares, [0; 256]);
 }
 
 #[test]

@@ -144,6 +144,7 @@ struct Answer {
     coefficients: [i64; MOST_TERMS],
     numbers: [u64; 4],
     ends: [i64; 4],
+    shares: [u64; 4 * MOST_STEPS],
 }
 
 impl Answer {
@@ -153,6 +154,7 @@ impl Answer {
         coefficients: [0; MOST_TERMS],
         numbers: [0; 4],
         ends: [0; 4],
+        shares: [0; 4 * MOST_STEPS],
     };
 
     fn call(&mut self, code: u8, d: u8, i: u8, f: &Lent, g: &Lent) {
@@ -196,6 +198,28 @@ impl Answer {
             &mut self.coefficients,
             &mut self.numbers,
             &mut self.ends,
+        );
+    }
+
+    fn shares(&mut self, sheet: &[u8]) {
+        self.number = raw::shares(
+            sheet,
+            &mut self.keys,
+            &mut self.coefficients,
+            &mut self.numbers,
+            &mut self.ends,
+            &mut self.shares,
+        );
+    }
+
+    fn shares_book(&mut self, book: HandedBook<'_>) {
+        self.number = raw::shares_book(
+            book,
+            &mut self.keys,
+            &mut self.coefficients,
+            &mut self.numbers,
+            &mut self.ends,
+            &mut self.shares,
         );
     }
 }
@@ -438,6 +462,15 @@ fn a_run_stays_within_its_figure() {
         .iter()
         .map(|book| stack.run(|| answer.run_book(book.handed())));
     most("run_book", RUN, used);
+    let used = sheets
+        .iter()
+        .map(|sheet| stack.run(|| answer.shares(sheet)));
+    most("shares", RUN, used);
+    assert_eq!(answer.number, 0, "the heaviest is accepted");
+    let used = books
+        .iter()
+        .map(|book| stack.run(|| answer.shares_book(book.handed())));
+    most("shares_book", RUN, used);
 }
 
 #[test]
