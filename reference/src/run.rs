@@ -78,26 +78,29 @@ pub fn run_book(book: &Book) -> RunAnswer {
 
 /// Runs a sheet, with the shares of its steps.
 pub fn report_sheet(bytes: &[u8]) -> ReportAnswer {
-    report(sheet::sound_book(bytes))
+    let run = sheet::sound_book(bytes).map(|book| trace(&book));
+    ReportAnswer::of(run.as_ref())
 }
 
 /// Runs a book, with the shares of its steps.
 pub fn report_book(book: &Book) -> ReportAnswer {
-    report(book.sound())
+    let run = book.sound().map(|book| trace(&book));
+    ReportAnswer::of(run.as_ref())
 }
 
-fn report(book: Result<SoundBook, Refusal>) -> ReportAnswer {
-    let mut shares = [Shares::default(); MOST_STEPS];
-    let result = book.and_then(|book| {
-        let trace = trace(&book);
-        for (row, step) in shares.iter_mut().zip(&trace.steps) {
+impl ReportAnswer {
+    /// What the steps of a book gave, or the refusal of one that is not sound.
+    pub fn of(run: Result<&Trace, &Refusal>) -> ReportAnswer {
+        let steps = run.map_or(&[][..], |trace| &trace.steps);
+        let mut shares = [Shares::default(); MOST_STEPS];
+        for (row, step) in shares.iter_mut().zip(steps) {
             *row = step.shares;
         }
-        trace.result()
-    });
-    ReportAnswer {
-        answer: RunAnswer::from(result),
-        shares,
+        let run = run.map_err(|refusal| *refusal);
+        ReportAnswer {
+            answer: RunAnswer::from(run.and_then(Trace::result)),
+            shares,
+        }
     }
 }
 
@@ -114,12 +117,12 @@ pub struct Trace {
 }
 
 impl Trace {
-    fn result(mut self) -> Result<RunResult, Refusal> {
+    fn result(&self) -> Result<RunResult, Refusal> {
         if let Some(refusal) = self.refusal {
             return Err(refusal);
         }
-        let last = self.steps.pop().expect("test 3 leaves at least one step");
-        Ok(RunResult::of(last.model))
+        let last = self.steps.last().expect("test 3 leaves at least one step");
+        Ok(RunResult::of(last.model.clone()))
     }
 }
 

@@ -4,12 +4,13 @@
 mod common;
 
 use common::*;
-use reference::book::{Step, ADD, MOST_STEPS, MULTIPLY, NEGATE, SUBTRACT};
-use reference::generate::{self, books, Draft, DraftModel};
+use reference::book::{Step, ADD, MOST_STEPS, MULTIPLY, NEGATE, SUBSTITUTE, SUBTRACT};
+use reference::generate::{self, books, mixes, Draft, DraftModel, Expected, Random};
 use reference::model::UNIT as ONE;
 use reference::run::{report_book, report_sheet, run_book, run_sheet, trace};
 use reference::shares::Shares;
 use reference::sheet::{read, sound_book};
+use std::collections::BTreeMap;
 
 /// U/2.
 const HALVES: i128 = ONE / 2;
@@ -304,5 +305,40 @@ fn the_shares_sum_to_the_radius() {
         for (shares, step) in report.shares.iter().zip(&steps) {
             assert_eq!(shares.sum(), ONE * step.model.radius);
         }
+    }
+}
+
+/// Which of the four are not 0.
+fn mix(shares: &Shares) -> [bool; 4] {
+    row(shares).map(|share| share != 0)
+}
+
+/// Every mix of shares is made, by a product and by a substitution; slack comes only beside others.
+#[test]
+fn every_mix_of_shares_is_generated() {
+    for (kind, code) in mixes::KINDS.iter().zip([MULTIPLY, SUBSTITUTE]) {
+        let mut random = Random::new(113);
+        let mut seen: BTreeMap<[bool; 4], usize> = BTreeMap::new();
+        for _ in 0..3_000 {
+            let sample = kind.sample(&mut random);
+            let book = sound_book(&sample.bytes).expect("a sound sheet");
+            let trace = trace(&book);
+            match sample.expected {
+                Expected::Accepted => assert_eq!(trace.refusal, None),
+                Expected::Refused(number, place) => {
+                    assert_eq!(pair(trace.refusal), Some((number, place)));
+                }
+                Expected::Unknown => unreachable!("the kind knows"),
+            }
+            // The prepared step is the last with its code that is accepted.
+            let mut steps = book.steps.iter().zip(&trace.steps);
+            let last = steps.rfind(|(step, _)| step.code == code);
+            *seen
+                .entry(mix(&last.expect("it is there").1.shares))
+                .or_default() += 1;
+        }
+        println!("{}: {seen:?}", kind.name);
+        assert_eq!(seen.len(), 15);
+        assert!(seen.values().all(|&times| times >= 30));
     }
 }

@@ -11,6 +11,7 @@ pub mod faults;
 pub mod functions;
 pub mod hostile;
 pub mod limits;
+pub mod mixes;
 pub mod models;
 pub mod noise;
 pub mod pitfalls;
@@ -73,7 +74,7 @@ pub fn named_sheets() -> Vec<Sample> {
 /// independent of each other, so that a comparison can go straight to one.
 pub fn sheet(seed: u64, number: u64) -> Sample {
     let mut random = Random::new(seed ^ number.wrapping_mul(0x9E37_79B9_7F4A_7C15));
-    match random.below(10) {
+    match random.below(11) {
         0..=3 => {
             let shape = *random.pick(&sound::SHAPES);
             let draft = sound::sheet(&mut random, shape);
@@ -81,6 +82,7 @@ pub fn sheet(seed: u64, number: u64) -> Sample {
         }
         4..=6 => random.pick(&damage::KINDS).sample(&mut random),
         7..=8 => random.pick(&faults::KINDS).sample(&mut random),
+        9 => random.pick(&mixes::KINDS).sample(&mut random),
         _ => random.pick(&noise::KINDS).sample(&mut random),
     }
 }

@@ -1,6 +1,7 @@
 //! One case fed to both implementations.
 
 use crate::case::Case;
+use crate::rows::Rows;
 use crate::{shaped, sheets, stepping};
 use hechroung::{Answer, Bounds, Ends, Model};
 use reference::calls::{Call, CallAnswer};
@@ -15,6 +16,8 @@ pub struct Seen {
     pub misused: bool,
     /// How much of the enclosure was tried.
     pub tried: Tried,
+    /// The shares of a run's steps.
+    pub rows: Rows,
     pub text: String,
 }
 
@@ -39,6 +42,7 @@ impl Seen {
             refusal,
             misused: false,
             tried: Tried::default(),
+            rows: Rows::default(),
             text: refusal.map_or("accepted".into(), |(number, place)| {
                 format!("refused {number} {place}")
             }),

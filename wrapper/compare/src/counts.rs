@@ -1,6 +1,7 @@
 //! How often each kind of case was compared and each refusal reached.
 
 use crate::agree::{Seen, Tried};
+use crate::rows::Rows;
 use std::collections::BTreeMap;
 
 /// The refusals of documents 01 and 02.
@@ -15,6 +16,9 @@ const REACHED: [(&str, &[u8]); 7] = [
     ("book written", &[3, 5, 6, 11]),
     ("book run", &[3, 5, 6, 7, 8, 9, 12]),
 ];
+
+/// The kinds of case whose runs have to reach every mix of shares.
+const WITH_ROWS: [&str; 2] = ["sheet", "book run"];
 
 /// Places that are listed one by one: those of a sheet's models.
 const MOST_LISTED: usize = 17;
@@ -34,6 +38,7 @@ struct Kind {
     misused: u64,
     /// By number: how often at each place.
     refused: BTreeMap<u8, BTreeMap<usize, u64>>,
+    rows: Rows,
 }
 
 impl Counts {
@@ -41,6 +46,7 @@ impl Counts {
         self.try_add(seen.tried);
         let kind = self.kinds.entry(kind).or_default();
         kind.cases += 1;
+        kind.rows.add(&seen.rows);
         match seen.refusal {
             _ if seen.misused => kind.misused += 1,
             None => kind.accepted += 1,
@@ -75,8 +81,21 @@ impl Counts {
         self.kinds.values().map(|kind| kind.cases).sum()
     }
 
-    /// The refusals that no case reached, each with its kind of case.
-    pub fn unreached(&self) -> Vec<(&'static str, u8)> {
+    /// The refusals and shares that no case reached, each with its kind of case.
+    pub fn unreached(&self) -> Vec<String> {
+        let refusals = self.unreached_refusals().into_iter();
+        let mut missing: Vec<String> = refusals
+            .map(|(kind, number)| format!("{kind}: refusal {number}"))
+            .collect();
+        for name in WITH_ROWS {
+            let rows = self.kinds.get(name).map(|kind| kind.rows.unreached());
+            let rows = rows.unwrap_or_else(|| vec!["any".into()]).into_iter();
+            missing.extend(rows.map(|row| format!("{name}: {row}")));
+        }
+        missing
+    }
+
+    fn unreached_refusals(&self) -> Vec<(&'static str, u8)> {
         let reached = |kind: &Kind, number| kind.refused.contains_key(&number);
         let by_any = |number: &u8| self.kinds.values().any(|kind| reached(kind, *number));
         let by_kind = |name, number: &u8| {
@@ -98,6 +117,7 @@ impl Counts {
         let mut all = Kind::default();
         for (name, kind) in &self.kinds {
             kind.print(name);
+            kind.rows.print();
             all.add(kind.clone_counts());
         }
         all.print("all");
@@ -119,6 +139,7 @@ impl Kind {
         self.cases += other.cases;
         self.accepted += other.accepted;
         self.misused += other.misused;
+        self.rows.add(&other.rows);
         for (number, places) in other.refused {
             let mine = self.refused.entry(number).or_default();
             for (place, times) in places {
@@ -130,6 +151,7 @@ impl Kind {
     fn clone_counts(&self) -> Kind {
         Kind {
             refused: self.refused.clone(),
+            rows: Rows::default(),
             ..*self
         }
     }

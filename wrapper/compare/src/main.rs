@@ -5,7 +5,8 @@
 //!     compare --program PATH [SHEETS [SEED]]
 //!                               so many generated sheets, each handed to the program by its standard input
 //!
-//! The exit status is 0 only if all answers agree and every refusal that can be reached was reached.
+//! The exit status is 0 only if all answers agree and every refusal and every mix of shares that can be reached was
+//! reached.
 
 #![forbid(unsafe_code)]
 
@@ -14,6 +15,7 @@ mod case;
 mod counts;
 mod limits;
 mod program;
+mod rows;
 mod shaped;
 mod sheets;
 mod stepping;
@@ -111,7 +113,7 @@ fn generated_cases(cases: u64, seed: u64) -> ExitCode {
     );
     let unreached = counts.unreached();
     if !unreached.is_empty() {
-        println!("not reached: refusals {unreached:?}");
+        println!("not reached: {}", unreached.join("; "));
     }
     ended(&failures, unreached.is_empty())
 }

@@ -1,15 +1,17 @@
 //! Sheets and books, fed to both implementations.
 
 use crate::agree::{pair, same, to_ends, to_model, to_refusal, Seen, Tried};
+use crate::rows::Rows;
 use hechroung::{Step, Summary, Written};
-use reference::book::Book;
+use reference::book::{Book, SoundBook};
 use reference::exact::check_result;
 use reference::exact::outcome::{has_antiderivative, has_quotient};
 use reference::generate::{functions, Random};
 use reference::model::{monomial_of_key, Model};
 use reference::operations::Ends;
 use reference::records;
-use reference::run::{run_book, run_sheet, RunAnswer, RunResult};
+use reference::refusal::Refusal;
+use reference::run::{trace, ReportAnswer, RunAnswer, RunResult, Trace};
 use reference::text;
 use reference::write::write;
 use reference::{sheet, write::WriteAnswer};
@@ -17,14 +19,18 @@ use reference::{sheet, write::WriteAnswer};
 /// One accepted sheet in so many is also tried for enclosure, which is slow.
 const TRIED: u64 = 16;
 
-/// Run, lines and records of a sheet; now and then the exact enclosure.
+/// Run, shares, lines and records of a sheet; now and then the exact enclosure.
 pub fn compare(bytes: &[u8]) -> Result<Seen, String> {
-    let expected = run_sheet(bytes);
+    let run = traced(sheet::sound_book(bytes));
+    let expected = ReportAnswer::of(run.as_ref().map(|(_, trace)| trace));
     let summary = hechroung::run(bytes);
-    same(&summary, &translated(&expected))?;
-    same(&hechroung::lines(bytes), &text::lines(&expected))?;
+    same(&summary, &translated(&expected.answer))?;
+    same(&hechroung::lines(bytes), &text::lines(&expected.answer))?;
     compare_records(bytes)?;
-    let mut seen = Seen::of(expected.refusal.map(pair));
+    let mut seen = Seen::of(expected.answer.refusal.map(pair));
+    let report = hechroung::shares(bytes);
+    same(&report.summary, &summary)?;
+    seen.rows = Rows::compared(&report.shares, &expected, &run)?;
     let mark = bytes.iter().fold(0u64, |mark, &byte| {
         mark.wrapping_mul(0x0100_0000_01B3) ^ u64::from(byte)
     });
@@ -34,11 +40,25 @@ pub fn compare(bytes: &[u8]) -> Result<Seen, String> {
     Ok(seen)
 }
 
-/// A book in memory, run.
+/// What each step of a sound book gives.
+fn traced(book: Result<SoundBook, Refusal>) -> Result<(SoundBook, Trace), Refusal> {
+    let book = book?;
+    let trace = trace(&book);
+    Ok((book, trace))
+}
+
+/// A book in memory, run, with the shares of its steps.
 pub fn compare_run_book(book: &Book) -> Result<Seen, String> {
-    let expected = run_book(book);
-    same(&hechroung::run_book(&to_book(book)), &translated(&expected))?;
-    Ok(Seen::of(expected.refusal.map(pair)))
+    let run = traced(book.sound());
+    let expected = ReportAnswer::of(run.as_ref().map(|(_, trace)| trace));
+    let handed = to_book(book);
+    let summary = hechroung::run_book(&handed);
+    same(&summary, &translated(&expected.answer))?;
+    let mut seen = Seen::of(expected.answer.refusal.map(pair));
+    let report = hechroung::shares_book(&handed);
+    same(&report.summary, &summary)?;
+    seen.rows = Rows::compared(&report.shares, &expected, &run)?;
+    Ok(seen)
 }
 
 /// The second implementation's answer in the wrapper's types.
