@@ -46,6 +46,13 @@ int main(void) {
     }
     if (count != 4) return 1;
 
+    /* order 1, the second byte of the trailer, has no room for the square: the radius of step 3 is what was swept */
+    struct hechroung_shares shares[HECHROUNG_MOST_STEPS];
+    sheet[length - 7] = 1;
+    if (hechroung_shares_sheet(sheet, length, &of_sheet, shares, NULL)) return 1;
+    printf("with order 1: radius %" PRIu64 " from %" PRIu64 " %" PRIu64 " %" PRIu64 " %" PRIu64 "\n",
+           of_sheet.model.radius, shares[3].carried, shares[3].rounding, shares[3].swept, shares[3].slack);
+
     /* the second model is no model of one variable */
     half.n = 7;
     uint8_t number = hechroung_add(&x, &half, &sum, &place);

@@ -50,10 +50,13 @@ int main(void) {
                                             {.code = 1, .value = HALF_TIME * HECHROUNG_UNIT},
                                             {.code = 6, .a = 4, .b = 5}};
     struct hechroung_summary summary;
-    if (hechroung_run_models(1, ORDER, &flow, 1, steps, 7, &summary, NULL) || summary.model.count != litres.count ||
-        summary.model.radius != litres.radius ||
+    struct hechroung_shares shares[HECHROUNG_MOST_STEPS];
+    if (hechroung_shares_models(1, ORDER, &flow, 1, steps, 7, &summary, shares, NULL) ||
+        summary.model.count != litres.count || summary.model.radius != litres.radius ||
         memcmp(summary.model.coefficients, litres.coefficients, sizeof litres.coefficients) != 0)
         return 1;
+    printf("carried, rounding, swept, slack: %" PRIu64 " %" PRIu64 " %" PRIu64 " %" PRIu64 "\n", shares[6].carried,
+           shares[6].rounding, shares[6].swept, shares[6].slack);
 
     /* one order less has no room for the fourth power: it goes into the radius */
     if (gathered(3, &flow, &lower)) return 1;

@@ -2,7 +2,7 @@
 misuse."""
 
 from hechroung import UNIT, Misused, Model, Refused
-from hechroung import add, constant, evaluate, lines, multiply, range_of, records, run_book, stepped, variable
+from hechroung import add, constant, evaluate, lines, multiply, range_of, records, run_book, shares, stepped, variable
 
 x = variable(1, 1)
 half = constant(1, UNIT // 2)
@@ -28,6 +28,10 @@ result, ends, _ = run_book(1, 2, [], [(2, 0, 0, 1, 0), (1, 0, 0, 0, UNIT // 2), 
 assert (result.terms, ends) == (square.terms, range_of(square))
 print("sheet of", len(sheet), "bytes")
 print(lines(sheet), end="")
+
+# Order 1, the second byte of the trailer, has no room for the square: the radius of step 3 is what was swept.
+report = shares(sheet[:-7] + b"\x01" + sheet[-6:])
+print("with order 1: radius", report.summary.model.radius, "from", *report.shares[3])
 
 # The second model is no model of one variable.
 try:

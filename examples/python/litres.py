@@ -2,7 +2,7 @@
 single call and as a step, then a lower order, a refusal and a misuse. examples/litres.md says what the lines mean."""
 
 from hechroung import UNIT, Misused, Model, Refused
-from hechroung import antiderivative, constant, evaluate, multiply, run_book, substitute, subtract
+from hechroung import antiderivative, constant, evaluate, multiply, shares_book, substitute, subtract
 
 ORDER = 4
 # Minutes from the middle of the milking to its end, where x is 1.
@@ -34,8 +34,10 @@ for minutes, x in [(0, -UNIT), (3, 0), (6, UNIT)]:
 # The same as a sheet: the antiderivative is code 10, with its step in a and its variable in v.
 steps = [(0, 0, 0, 0, 0), (10, 0, 0, 1, 0), (1, 0, 0, 0, -UNIT), (7, 1, 2, 1, 0), (5, 1, 3, 0, 0),
          (1, 0, 0, 0, HALF_TIME * UNIT), (6, 4, 5, 0, 0)]
-result = run_book(1, ORDER, [flow], steps)[0]
+report = shares_book(1, ORDER, [flow], steps)
+result = report.summary.model
 assert (result.radius, result.terms) == (litres.radius, litres.terms)
+print("carried, rounding, swept, slack:", *report.shares[6])
 
 # One order less has no room for the fourth power: it goes into the radius.
 print("with order 3: radius", gathered(3, flow).radius)

@@ -4,7 +4,7 @@
 #![forbid(unsafe_code)]
 
 use hechroung::raw::{self, Handed};
-use hechroung::{add, evaluate, lines, multiply, range, write, Book, Model, Refusal, Step};
+use hechroung::{add, evaluate, lines, multiply, range, shares, write, Book, Model, Refusal, Step};
 use hechroung::{LONGEST_SHEET, UNIT};
 
 fn main() -> Result<(), Refusal> {
@@ -50,6 +50,15 @@ fn main() -> Result<(), Refusal> {
     let length = write(&Book::new(1, 2, &[], &steps), &mut sheet).accepted()?;
     println!("sheet of {length} bytes");
     print!("{}", lines(&sheet[..length]));
+
+    // Order 1, the second byte of the trailer, has no room for the square: the radius of step 3 is what was swept.
+    sheet[length - 7] = 1;
+    let report = shares(&sheet[..length]);
+    let (radius, row) = (report.summary.accepted()?.model.radius, report.shares[3]);
+    println!(
+        "with order 1: radius {radius} from {} {} {} {}",
+        row.carried, row.rounding, row.swept, row.slack
+    );
 
     // The second model is no model of one variable.
     let unfit = Model { n: 7, ..half };

@@ -4,7 +4,7 @@
 #![forbid(unsafe_code)]
 
 use hechroung::raw::{self, Handed};
-use hechroung::{antiderivative, evaluate, multiply, run_book, substitute, subtract};
+use hechroung::{antiderivative, evaluate, multiply, shares_book, substitute, subtract};
 use hechroung::{Book, Model, Refusal, Step, UNIT};
 
 const ORDER: u8 = 4;
@@ -50,7 +50,13 @@ fn main() -> Result<(), Refusal> {
         value,
     });
     let book = Book::new(1, ORDER, &[flow], &steps);
-    assert_eq!(run_book(&book).accepted()?.model, litres);
+    let report = shares_book(&book);
+    assert_eq!(report.summary.accepted()?.model, litres);
+    let row = report.shares[6];
+    println!(
+        "carried, rounding, swept, slack: {} {} {} {}",
+        row.carried, row.rounding, row.swept, row.slack
+    );
 
     // One order less has no room for the fourth power: it goes into the radius.
     println!("with order 3: radius {}", gathered(3, &flow)?.radius);
