@@ -7,6 +7,7 @@ mod growth;
 mod inputs;
 mod products;
 mod quotients;
+mod shares;
 mod sheets;
 mod timing;
 
@@ -21,5 +22,6 @@ fn main() {
     quotients::print(seed);
     antiderivatives::print(seed);
     sheets::print(&mut random);
+    shares::print(seed);
     growth::print(&mut random);
 }
