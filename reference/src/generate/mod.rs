@@ -17,6 +17,7 @@ pub mod noise;
 pub mod pitfalls;
 pub mod proposals;
 pub mod quotients;
+pub mod radii;
 pub mod random;
 pub mod samples;
 pub mod sound;
@@ -67,7 +68,7 @@ impl Kind {
 
 /// Every named sheet.
 pub fn named_sheets() -> Vec<Sample> {
-    [limits::samples(), pitfalls::samples()].concat()
+    [limits::samples(), pitfalls::samples(), radii::samples()].concat()
 }
 
 /// A stream of sheets of every kind, one for each number from 0. Numbers are
