@@ -4,7 +4,7 @@
 //! has places up to 3), 10, 6, 9, and then what the operation itself gives.
 
 use crate::model::{Model, LARGEST_DEGREE, LARGEST_SPAN, MOST_VARIABLES, UNIT};
-use crate::operations::{self, Ends};
+use crate::operations::{self, Ends, Integral};
 use crate::refusal::Refusal;
 use crate::stored::StoredModel;
 
@@ -19,6 +19,13 @@ pub struct ModelAnswer {
 #[derive(Clone, Copy, Debug, PartialEq, Eq)]
 pub struct EndsAnswer {
     pub ends: Ends,
+    pub refusal: Option<Refusal>,
+}
+
+/// The answer of the call that gives an integral.
+#[derive(Clone, Copy, Debug, PartialEq, Eq)]
+pub struct IntegralAnswer {
+    pub integral: Integral,
     pub refusal: Option<Refusal>,
 }
 
@@ -41,6 +48,15 @@ impl From<Result<Ends, Refusal>> for EndsAnswer {
     fn from(result: Result<Ends, Refusal>) -> Self {
         EndsAnswer {
             ends: result.unwrap_or_default(),
+            refusal: result.err(),
+        }
+    }
+}
+
+impl From<Result<Integral, Refusal>> for IntegralAnswer {
+    fn from(result: Result<Integral, Refusal>) -> Self {
+        IntegralAnswer {
+            integral: result.unwrap_or_default(),
             refusal: result.err(),
         }
     }
@@ -113,8 +129,8 @@ pub fn range(f: &StoredModel) -> EndsAnswer {
 }
 
 /// Tests 5.
-pub fn integral(f: &StoredModel) -> EndsAnswer {
-    EndsAnswer::from(only_model(f).map(|f| operations::integral(&f)))
+pub fn integral(f: &StoredModel) -> IntegralAnswer {
+    IntegralAnswer::from(only_model(f).map(|f| operations::integral(&f)))
 }
 
 /// Tests 5, 6 (coordinates above n), 9 (the first n), and then what the inner
@@ -308,6 +324,7 @@ pub enum Call {
 pub enum CallAnswer {
     Model(Box<ModelAnswer>),
     Ends(EndsAnswer),
+    Integral(IntegralAnswer),
 }
 
 impl CallAnswer {
@@ -315,6 +332,7 @@ impl CallAnswer {
         match self {
             CallAnswer::Model(answer) => answer.refusal,
             CallAnswer::Ends(answer) => answer.refusal,
+            CallAnswer::Integral(answer) => answer.refusal,
         }
     }
 }
@@ -328,6 +346,12 @@ impl From<ModelAnswer> for CallAnswer {
 impl From<EndsAnswer> for CallAnswer {
     fn from(answer: EndsAnswer) -> Self {
         CallAnswer::Ends(answer)
+    }
+}
+
+impl From<IntegralAnswer> for CallAnswer {
+    fn from(answer: IntegralAnswer) -> Self {
+        CallAnswer::Integral(answer)
     }
 }
 

@@ -39,6 +39,25 @@ pub struct Ends {
     pub high: i128,
 }
 
+/// D: the product of (exponent + 1) of every monomial of degree at most 15 in
+/// four variables whose exponents are all even divides it.
+pub const DENOMINATOR: i128 = 212_837_625;
+
+/// A whole number of units and a rest: q + r / D, with r from 0 to D - 1.
+#[derive(Clone, Copy, Debug, Default, PartialEq, Eq)]
+pub struct Exact {
+    pub quotient: i128,
+    pub remainder: i128,
+}
+
+/// The integral over the box: its ends, and that of the polynomial part without
+/// any rounding.
+#[derive(Clone, Copy, Debug, Default, PartialEq, Eq)]
+pub struct Integral {
+    pub ends: Ends,
+    pub exact: Exact,
+}
+
 /// One term of key 0, or none if the value is 0.
 pub fn constant(n: usize, value: i128) -> Model {
     let mut model = Model::zero(n);
@@ -326,23 +345,52 @@ pub fn range(f: &Model) -> Ends {
     ends
 }
 
-/// The integral over the box; each term is rounded by itself.
-pub fn integral(f: &Model) -> Ends {
+/// The integral over the box. All terms are summed over one denominator, and
+/// rounded once.
+pub fn integral(f: &Model) -> Integral {
+    let volume = 1_i128 << f.n;
+    let total: i128 = even_terms(f)
+        .map(|(divisor, c)| {
+            assert_eq!(DENOMINATOR % divisor, 0, "D serves every even term");
+            c * volume * (DENOMINATOR / divisor)
+        })
+        .sum();
+    let quotient = divided_down(total, DENOMINATOR);
+    let remainder = total - quotient * DENOMINATOR;
+    let above = i128::from(remainder != 0);
+    Integral {
+        ends: Ends {
+            low: quotient - volume * f.radius,
+            high: quotient + volume * f.radius + above,
+        },
+        exact: Exact {
+            quotient,
+            remainder,
+        },
+    }
+}
+
+/// The ends of document 01, where each term is rounded by itself.
+pub fn integral_by_terms(f: &Model) -> Ends {
     let volume = 1_i128 << f.n;
     let mut ends = Ends {
         low: -volume * f.radius,
         high: volume * f.radius,
     };
-    for (monomial, c) in &f.polynomial {
-        let exponents = &monomial[..f.n];
-        if exponents.iter().any(|exponent| exponent % 2 == 1) {
-            continue;
-        }
-        let divisor = exponents.iter().map(|&k| i128::from(k) + 1).product();
+    for (divisor, c) in even_terms(f) {
         ends.low += divided_down(c * volume, divisor);
         ends.high += divided_up(c * volume, divisor);
     }
     ends
+}
+
+/// Of each term whose exponents are all even the product of (exponent + 1), to
+/// which the variables above n give 1, and the coefficient. The other terms have
+/// the integral 0.
+fn even_terms(f: &Model) -> impl Iterator<Item = (i128, i128)> + '_ {
+    let is_even = |monomial: &Monomial| monomial.iter().all(|k| k % 2 == 0);
+    let even = f.polynomial.iter().filter(move |(m, _)| is_even(m));
+    even.map(|(monomial, &c)| (monomial.iter().map(|&k| i128::from(k) + 1).product(), c))
 }
 
 /// The range of what is left once the constants are put in, one after another.

@@ -5,18 +5,19 @@ use crate::book::{
     QUOTIENT, SUBSTITUTE, SUBTRACT, SWEEP, VARIABLE,
 };
 use crate::model::Model;
-use crate::operations::{self, Cause, Ends};
+use crate::operations::{self, Cause, Ends, Integral};
 use crate::refusal::Refusal;
 use crate::shares::{Reported, Shares};
 use crate::sheet;
 use crate::stored::StoredModel;
 
-/// The complete answer of a run: a refused one has the zero model and ends 0.
+/// The complete answer of a run: a refused one has the zero model, ends 0 and the
+/// exact integral 0.
 #[derive(Clone, Debug, PartialEq, Eq)]
 pub struct RunAnswer {
     pub model: StoredModel,
     pub range: Ends,
-    pub integral: Ends,
+    pub integral: Integral,
     pub refusal: Option<Refusal>,
 }
 
@@ -25,7 +26,7 @@ pub struct RunAnswer {
 pub struct RunResult {
     pub model: Model,
     pub range: Ends,
-    pub integral: Ends,
+    pub integral: Integral,
 }
 
 impl RunResult {
@@ -50,7 +51,7 @@ impl From<Result<RunResult, Refusal>> for RunAnswer {
             Err(refusal) => RunAnswer {
                 model: StoredModel::REFUSED,
                 range: Ends::default(),
-                integral: Ends::default(),
+                integral: Integral::default(),
                 refusal: Some(refusal),
             },
         }

@@ -1,7 +1,7 @@
 //! The program's lines.
 
 use crate::model::monomial_of_key;
-use crate::operations::Ends;
+use crate::operations::{Ends, Exact};
 use crate::run::{run_sheet, RunAnswer};
 use crate::stored::{StoredModel, StoredTerm};
 
@@ -18,7 +18,12 @@ pub fn lines(answer: &RunAnswer) -> String {
     let mut text = format!("radius {}\n", answer.model.radius);
     text += &term_lines(&answer.model);
     text += &ends_line("range", answer.range);
-    text += &ends_line("integral", answer.integral);
+    text += &ends_line("integral", answer.integral.ends);
+    let Exact {
+        quotient,
+        remainder,
+    } = answer.integral.exact;
+    text += &format!("exact {quotient} {remainder}\n");
     text
 }
 

@@ -137,11 +137,11 @@ fn a_square_gathered_as_a_sheet() {
         Step::antiderivative(3, 1),
     ];
     let expected = "radius 1\nterm 1 262144\nterm 2 524288\nterm 3 349525\n\
-        range -611670 1135958\nintegral 349523 349528\n";
+        range -611670 1135958\nintegral 349523 349528\nexact 349525 70945875\n";
     assert_eq!(lines(3, &[], &steps), expected);
     // With order 2 the third power is swept: 349526 units; the integral of x²/2 is 349525.33.
     let expected = "radius 349526\nterm 1 262144\nterm 2 524288\n\
-        range -611670 1135958\nintegral -349527 1048578\n";
+        range -611670 1135958\nintegral -349527 1048578\nexact 349525 70945875\n";
     assert_eq!(lines(2, &[], &steps), expected);
     // Broken forms: a later step, a wrong variable, fields that are not named.
     let refused = |step: Step| {
@@ -160,7 +160,7 @@ fn a_square_gathered_as_a_sheet() {
     steps.push(Step::substitute(4, 5, 1));
     assert_eq!(
         lines(3, &[], &steps),
-        "radius 1\nrange -1 1\nintegral -2 2\n"
+        "radius 1\nrange -1 1\nintegral -2 2\nexact 0 0\n"
     );
 }
 

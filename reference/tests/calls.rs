@@ -8,7 +8,7 @@ use reference::exact::check::encloses;
 use reference::exact::{ExactPolynomial, Fraction};
 use reference::generate::hostile;
 use reference::model::{LARGEST_DEGREE, UNIT};
-use reference::operations::Ends;
+use reference::operations::{Ends, Integral};
 use reference::stored::StoredModel;
 use std::collections::{BTreeMap, BTreeSet};
 
@@ -185,6 +185,10 @@ fn hostile_calls_are_answered() {
                 Some(_) => assert_eq!(answer.ends, Ends::default()),
                 None => assert!(answer.ends.low <= answer.ends.high),
             },
+            CallAnswer::Integral(answer) => match answer.refusal {
+                Some(_) => assert_eq!(answer.integral, Integral::default()),
+                None => assert!(answer.integral.ends.low <= answer.integral.ends.high),
+            },
         }
     }
 }
@@ -255,7 +259,7 @@ fn accepted_ends_enclose_the_exact_values() {
                 if answer.refusal.is_none() {
                     let n = usize::from(f.n);
                     let value = |p: &ExactPolynomial| p.integral(n);
-                    assert_encloses(&f, answer.ends, 1 << n, value);
+                    assert_encloses(&f, answer.integral.ends, 1 << n, value);
                     checked += 1;
                 }
             }

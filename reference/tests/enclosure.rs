@@ -9,6 +9,7 @@ use reference::exact::{Fraction, Point, Violation};
 use reference::generate::sound::{self, Shape};
 use reference::generate::{self, faults, functions, quotients, Draft, DraftModel, Random};
 use reference::model::UNIT as ONE;
+use reference::operations::{Exact, DENOMINATOR};
 use reference::run::run;
 use reference::sheet::sound_book;
 
@@ -149,11 +150,38 @@ fn the_check_finds_a_range_that_is_too_narrow() {
 fn the_check_finds_a_wrong_integral() {
     // 2/3 × U is 699050.67.
     let (book, mut result) = ran(&tight());
-    result.integral.high = 699_051;
+    result.integral.ends.high = 699_051;
     assert!(check_result(&book, &result, &[], &[]).is_ok());
-    result.integral.high = 699_050;
+    result.integral.ends.high = 699_050;
     let found = check_result(&book, &result, &[], &[]);
     assert_eq!(found, Err(Violation::Integral));
+}
+
+/// The exact integral is that of the result's polynomial, and not of the outcome: q + r / D and nothing else.
+#[test]
+fn the_check_finds_a_wrong_exact_integral() {
+    // (x + 1/2)² is kept whole by order 2.
+    let steps = vec![
+        Step::variable(1),
+        Step::constant(UNIT / 2),
+        Step::two(ADD, 0, 1),
+        Step::two(MULTIPLY, 2, 2),
+    ];
+    let (book, result) = ran(&Draft::new(1, 2, Vec::new(), steps));
+    let found = |quotient: i128, remainder: i128| {
+        let mut claimed = result.clone();
+        claimed.integral.exact = Exact {
+            quotient,
+            remainder,
+        };
+        check_result(&book, &claimed, &[], &[]).map(|checked| checked.integral)
+    };
+    assert_eq!(found(1_223_338, 141_891_750), Ok(true));
+    assert_eq!(found(1_223_338, 141_891_751), Err(Violation::Exact));
+    assert_eq!(found(1_223_339, 141_891_750), Err(Violation::Exact));
+    // The same number, but with a rest that is not from 0 to D - 1.
+    let below = 141_891_750 - DENOMINATOR;
+    assert_eq!(found(1_223_339, below), Err(Violation::Exact));
 }
 
 /// A plausible error: e1 × e2 dropped as small.
@@ -250,7 +278,7 @@ fn the_check_claims_no_integral_of_a_quotient() {
     let mut draft = tight_quotient();
     for _ in 0..2 {
         let (book, mut result) = ran(&draft);
-        result.integral.high = result.integral.low;
+        result.integral.ends.high = result.integral.ends.low;
         let checked = check_result(&book, &result, &[], &corners(1));
         let checked = checked.expect("points only");
         assert_eq!((checked.points, checked.integral), (2, false));

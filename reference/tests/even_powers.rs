@@ -114,7 +114,7 @@ fn a_curve_that_stays_in_the_box_by_its_even_power() {
     ];
     let steps = [input(0), input(1), Step::substitute(0, 1, 1)];
     let expected = "radius 0\nterm 0 524288\nterm 2 -1048576\n\
-        range -524288 524288\nintegral 349525 349526\n";
+        range -524288 524288\nintegral 349525 349526\nexact 349525 70945875\n";
     assert_eq!(lines(2, &models, &steps), expected);
     // One unit more leaves it.
     let beyond = model(0, &[(0, UNIT), (0x2000, -2 * UNIT - 1)]);
@@ -144,7 +144,8 @@ fn a_quotient_that_is_certified_by_its_even_power() {
     let g = model(0, &[(0, UNIT), (0x2000, 3 * HALF)]);
     let one = model(0, &[(0, UNIT)]);
     let half = model(0, &[(0, HALF)]);
-    let expected = "radius 524288\nterm 0 524288\nrange 0 1048576\nintegral 0 2097152\n";
+    let expected =
+        "radius 524288\nterm 0 524288\nrange 0 1048576\nintegral 0 2097152\nexact 1048576 0\n";
     let models = [one.clone(), g, half.clone(), half.clone()];
     assert_eq!(quotient_lines(&models), expected);
     // 0 over 1 + c x² with w = 1/2: 1/2 - c x²/2 reaches -U at c = 3.
@@ -154,7 +155,7 @@ fn a_quotient_that_is_certified_by_its_even_power() {
         quotient_lines(&[zero.clone(), g, zero, half.clone()])
     };
     assert_eq!(over(3 * UNIT), "refused 12 4\n");
-    let expected = "radius 0\nrange 0 0\nintegral 0 0\n";
+    let expected = "radius 0\nrange 0 0\nintegral 0 0\nexact 0 0\n";
     assert_eq!(over(3 * UNIT - 2), expected);
     // mu from the upper end: 1 over 1 - c x² with h = w = 1: c x² reaches U at 1,
     // and at 1/2 both beta and mu are U/2.
@@ -173,7 +174,7 @@ fn beta_uses_the_even_powers_too() {
     // so that beta is 4 where it was 12; mu is 0.
     let h = model(0, &[(0, -4), (0x2000, 8)]);
     let one = || model(0, &[(0, UNIT)]);
-    let expected = "radius 4\nterm 0 -4\nterm 2 8\nrange -8 8\nintegral -11 6\n";
+    let expected = "radius 4\nterm 0 -4\nterm 2 8\nrange -8 8\nintegral -11 6\nexact -3 70945875\n";
     assert_eq!(quotient_lines(&[model(0, &[]), one(), h, one()]), expected);
 }
 

@@ -19,8 +19,9 @@ fn rounded(coefficient: i64, radius: i64) -> String {
         c => format!("term 0 {c}\n"),
     };
     let (low, high) = (coefficient - radius, coefficient + radius);
-    let (twice_low, twice_high) = (2 * low, 2 * high);
-    format!("radius {radius}\n{term}range {low} {high}\nintegral {twice_low} {twice_high}\n")
+    let [twice_low, twice_high, twice] = [low, high, coefficient].map(|end| 2 * end);
+    let integral = format!("integral {twice_low} {twice_high}\nexact {twice} 0\n");
+    format!("radius {radius}\n{term}range {low} {high}\n{integral}")
 }
 
 fn constants_product(f: i32, g: i32) -> String {
@@ -101,7 +102,7 @@ fn what_meets_is_collected_before_its_size_is_taken() {
     // (x + y)(x - y): the two products at xy cancel; x^2 and y^2 are above order 1.
     let f = model(0, &[(0x0100, UNIT), (0x1000, UNIT)]);
     let g = model(0, &[(0x0100, -UNIT), (0x1000, UNIT)]);
-    let expected = "radius 2097152\nrange -2097152 2097152\nintegral -8388608 8388608\n";
+    let expected = "radius 2097152\nrange -2097152 2097152\nintegral -8388608 8388608\nexact 0 0\n";
     assert_eq!(product_lines(2, 1, f, g), expected);
 }
 
@@ -110,7 +111,8 @@ fn high_exponents_do_not_meet() {
     // Four different monomials above the order, also y^17 and x z^16.
     let f = model(0, &[(0x0800, UNIT), (0x1080, UNIT)]);
     let g = model(0, &[(0x0080, -UNIT), (0x0900, UNIT)]);
-    let expected = "radius 4194304\nrange -4194304 4194304\nintegral -33554432 33554432\n";
+    let expected =
+        "radius 4194304\nrange -4194304 4194304\nintegral -33554432 33554432\nexact 0 0\n";
     assert_eq!(product_lines(3, 15, f, g), expected);
 }
 
@@ -120,12 +122,12 @@ fn the_radius_of_a_product() {
     // z = -35 are far below U together, so that the radius is 1.
     let f = model(11, &[(0, 5)]);
     let g = model(13, &[(0x1000, -7)]);
-    let expected = "radius 1\nrange -1 1\nintegral -2 2\n";
+    let expected = "radius 1\nrange -1 1\nintegral -2 2\nexact 0 0\n";
     assert_eq!(product_lines(1, 2, f, g), expected);
     // With e1 = U the sum is U × (7 + 13) + 5 × 13 + 35: one above 20.
     let f = model(1 << 20, &[(0, 5)]);
     let g = model(13, &[(0x1000, -7)]);
-    let expected = "radius 21\nrange -21 21\nintegral -42 42\n";
+    let expected = "radius 21\nrange -21 21\nintegral -42 42\nexact 0 0\n";
     assert_eq!(product_lines(1, 2, f, g), expected);
 }
 
@@ -134,7 +136,7 @@ fn dropped_terms_count_in_the_sums_of_a_product() {
     // x × x above order 1 goes into the radius, and e2 meets all of A.
     let f = model(0, &[(0x1000, UNIT)]);
     let g = model(3, &[(0x1000, HALF)]);
-    let expected = "radius 524291\nrange -524291 524291\nintegral -1048582 1048582\n";
+    let expected = "radius 524291\nrange -524291 524291\nintegral -1048582 1048582\nexact 0 0\n";
     assert_eq!(product_lines(1, 1, f, g), expected);
 }
 
@@ -144,7 +146,7 @@ fn substitution_goes_by_horner() {
     // times g: x^2 by 1, exactly, and the radius 1 × 1/2 rounds up to 1.
     let models = [model(0, &[(0x2000, 3)]), model(0, &[(0x1000, HALF)])];
     let steps = [input(0), input(1), Step::substitute(0, 1, 1)];
-    let expected = "radius 1\nterm 2 1\nrange -1 2\nintegral -2 3\n";
+    let expected = "radius 1\nterm 2 1\nrange -1 2\nintegral -2 3\nexact 0 141891750\n";
     assert_eq!(lines(2, &models, &steps), expected);
 }
 
@@ -152,7 +154,7 @@ fn substitution_goes_by_horner() {
 fn the_radius_of_f_is_added_last() {
     let models = [model(100, &[(0x1000, UNIT)]), model(7, &[(0, 9)])];
     let steps = [input(0), input(1), Step::substitute(0, 1, 1)];
-    let expected = "radius 107\nterm 0 9\nrange -98 116\nintegral -196 232\n";
+    let expected = "radius 107\nterm 0 9\nrange -98 116\nintegral -196 232\nexact 18 0\n";
     assert_eq!(lines(1, &models, &steps), expected);
 }
 
@@ -162,7 +164,7 @@ fn substitution_merges_monomials() {
     let f = model(0, &[(0x0300, 5 * UNIT), (0x1200, UNIT)]);
     let g = model(0, &[(0x0100, UNIT)]);
     let steps = [input(0), input(1), Step::substitute(0, 1, 1)];
-    let expected = "radius 0\nterm 0 3 6291456\nrange -6291456 6291456\nintegral 0 0\n";
+    let expected = "radius 0\nterm 0 3 6291456\nrange -6291456 6291456\nintegral 0 0\nexact 0 0\n";
     assert_eq!(lines_of(2, 3, &[f, g], &steps), expected);
 }
 
@@ -170,15 +172,16 @@ fn substitution_merges_monomials() {
 fn a_sweep_spares_the_constant() {
     let models = [model(1, &[(0, 2), (0x1000, -2), (0x2000, 3)])];
     let steps = [input(0), Step::sweep(0, 2)];
-    let expected = "radius 3\nterm 0 2\nterm 2 3\nrange -1 8\nintegral 0 12\n";
+    let expected = "radius 3\nterm 0 2\nterm 2 3\nrange -1 8\nintegral 0 12\nexact 6 0\n";
     assert_eq!(lines(2, &models, &steps), expected);
 }
 
 #[test]
-fn an_integral_rounds_each_term() {
-    // 4/3 - 8/9 in two variables: 1 - 1 below, 2 - 0 above, and 4 × 1 for the radius.
+fn an_integral_is_rounded_once() {
+    // 4/3 - 8/9 in two variables is 4/9: 0 below, 1 above, and 4 × 1 for the radius.
     let models = [model(1, &[(0x0200, 1), (0x2200, -2)])];
-    let expected = "radius 1\nterm 0 2 1\nterm 2 2 -2\nrange -3 2\nintegral -4 6\n";
+    let expected =
+        "radius 1\nterm 0 2 1\nterm 2 2 -2\nrange -3 2\nintegral -4 5\nexact 0 94594500\n";
     assert_eq!(lines_of(2, 4, &models, &[input(0)]), expected);
 }
 
@@ -186,22 +189,22 @@ fn an_integral_rounds_each_term() {
 fn negation_and_difference() {
     let models = [model(4, &[(0, 7), (0x1000, -3)]), model(5, &[(0, 7)])];
     let negated = [input(0), Step::one(NEGATE, 0)];
-    let expected = "radius 4\nterm 0 -7\nterm 1 3\nrange -14 0\nintegral -22 -6\n";
+    let expected = "radius 4\nterm 0 -7\nterm 1 3\nrange -14 0\nintegral -22 -6\nexact -14 0\n";
     assert_eq!(lines(1, &models, &negated), expected);
     let difference = [input(0), input(1), Step::two(SUBTRACT, 0, 1)];
-    let expected = "radius 9\nterm 1 -3\nrange -12 12\nintegral -18 18\n";
+    let expected = "radius 9\nterm 1 -3\nrange -12 12\nintegral -18 18\nexact 0 0\n";
     assert_eq!(lines(1, &models, &difference), expected);
 }
 
 #[test]
 fn a_result_without_terms_keeps_its_n() {
-    let expected = "radius 1\nrange -1 1\nintegral -16 16\n";
+    let expected = "radius 1\nrange -1 1\nintegral -16 16\nexact 0 0\n";
     assert_eq!(lines_of(4, 1, &[model(1, &[])], &[input(0)]), expected);
 }
 
 #[test]
 fn four_exponents_stand_in_a_line() {
-    let expected = "radius 0\nterm 1 2 3 4 9\nrange -9 9\nintegral 0 0\n";
+    let expected = "radius 0\nterm 1 2 3 4 9\nrange -9 9\nintegral 0 0\nexact 0 0\n";
     let models = [model(0, &[(0x1234, 9)])];
     assert_eq!(lines_of(4, 10, &models, &[input(0)]), expected);
 }
@@ -212,7 +215,7 @@ fn terms_that_round_to_zero_are_not_counted() {
     // 72 × 490000 / 1048576 is 33.6.
     let row: Vec<(u16, i32)> = (0..8).map(|k| (k << 12, 700)).collect();
     let column: Vec<(u16, i32)> = (0..9).map(|k| (k << 8, 700)).collect();
-    let expected = "radius 34\nrange -34 34\nintegral -136 136\n";
+    let expected = "radius 34\nrange -34 34\nintegral -136 136\nexact 0 0\n";
     let found = product_lines(2, 15, model(0, &row), model(0, &column));
     assert_eq!(found, expected);
 }
@@ -230,7 +233,7 @@ fn a_full_exponent_is_not_a_neighbour() {
     let f = model(0, &[(0x0000, HALF), (0x00F0, UNIT)]);
     let g = model(0, &[(0x0010, -UNIT), (0x0100, UNIT)]);
     let expected = "radius 2097152\nterm 0 0 1 -524288\nterm 0 1 0 524288\n\
-        range -3145728 3145728\nintegral -16777216 16777216\n";
+        range -3145728 3145728\nintegral -16777216 16777216\nexact 0 0\n";
     assert_eq!(product_lines(3, 15, f, g), expected);
 }
 
@@ -239,6 +242,6 @@ fn the_fifteenth_power_is_put_in() {
     let models = [model(0, &[(0xF000, UNIT)]), model(0, &[(0, -UNIT)])];
     let steps = [input(0), input(1), Step::substitute(0, 1, 1)];
     let expected =
-        "radius 0\nterm 0 -1048576\nrange -1048576 -1048576\nintegral -2097152 -2097152\n";
+        "radius 0\nterm 0 -1048576\nrange -1048576 -1048576\nintegral -2097152 -2097152\nexact -2097152 0\n";
     assert_eq!(lines(15, &models, &steps), expected);
 }

@@ -46,7 +46,8 @@ fn a_plain_proposal() {
     // 1 - w g = -x/4: mu = 262144.
     // 65536 × U / (U - 262144) = 65536 × 4/3 = 87381.33, up to 87382.
     let models = [quarter(), one_and_quarter(), quarter(), constant(UNIT)];
-    let expected = "radius 87382\nterm 1 262144\nrange -349526 349526\nintegral -174764 174764\n";
+    let expected =
+        "radius 87382\nterm 1 262144\nrange -349526 349526\nintegral -174764 174764\nexact 0 0\n";
     assert_eq!(quotient_lines(1, 2, models), expected);
 }
 
@@ -62,7 +63,7 @@ fn a_closer_proposal() {
     let h = model(0, &[(0x1000, UNIT / 4), (0x2000, -UNIT / 16)]);
     let w = model(0, &[(0, UNIT), (0x1000, -UNIT / 4)]);
     let expected = "radius 21846\nterm 1 262144\nterm 2 -65536\n\
-        range -349526 283990\nintegral -87383 2\n";
+        range -349526 283990\nintegral -87383 2\nexact -43691 70945875\n";
     let models = [quarter(), one_and_quarter(), h, w];
     assert_eq!(quotient_lines(1, 2, models), expected);
 }
@@ -73,7 +74,8 @@ fn two_variables() {
     // the order, which costs 65536 = beta; mu = 262144 as above.
     let f = || model(0, &[(0x0100, UNIT / 4)]);
     let models = [f(), one_and_quarter(), f(), constant(UNIT)];
-    let expected = "radius 87382\nterm 0 1 262144\nrange -349526 349526\nintegral -349528 349528\n";
+    let expected =
+        "radius 87382\nterm 0 1 262144\nrange -349526 349526\nintegral -349528 349528\nexact 0 0\n";
     assert_eq!(quotient_lines(2, 1, models), expected);
 }
 
@@ -81,7 +83,8 @@ fn two_variables() {
 fn mu_just_below_the_unit() {
     // g = 1 unit and w = 1: 1 - w g is U - 1 units, and so is mu.
     // beta = 5, and 5 × U / 1 is the radius.
-    let accepted = "radius 5242880\nrange -5242880 5242880\nintegral -10485760 10485760\n";
+    let accepted =
+        "radius 5242880\nrange -5242880 5242880\nintegral -10485760 10485760\nexact 0 0\n";
     assert_eq!(of_constants(5, 1, 0, UNIT), accepted);
     // g = 0: mu is U.
     assert_eq!(of_constants(5, 0, 0, UNIT), "refused 12 4\n");
@@ -109,7 +112,8 @@ fn mu_just_below_the_unit() {
 fn beta_of_zero() {
     // (3/2) / 3 with h = 1/2: g h - f = 0. With w = 349525 (nearly 1/3), w g is
     // 1048575 exactly, and mu is 1.
-    let expected = "radius 0\nterm 0 524288\nrange 524288 524288\nintegral 1048576 1048576\n";
+    let expected =
+        "radius 0\nterm 0 524288\nrange 524288 524288\nintegral 1048576 1048576\nexact 1048576 0\n";
     assert_eq!(of_constants(3 * HALF, 3 * UNIT, HALF, 349_525), expected);
     // A bad w does no harm here: w = 1/6 gives 1 - w g = 1/2.
     assert_eq!(of_constants(3 * HALF, 3 * UNIT, HALF, 174_763), expected);
@@ -117,7 +121,7 @@ fn beta_of_zero() {
 
 #[test]
 fn an_f_of_zero() {
-    let expected = "radius 0\nrange 0 0\nintegral 0 0\n";
+    let expected = "radius 0\nrange 0 0\nintegral 0 0\nexact 0 0\n";
     assert_eq!(of_constants(0, UNIT, 0, UNIT), expected);
     // A radius of 7 over 1/2, with w = 2: beta = 14, mu = 0.
     let models = [
@@ -126,7 +130,7 @@ fn an_f_of_zero() {
         constant(0),
         constant(2 * UNIT),
     ];
-    let expected = "radius 14\nrange -14 14\nintegral -28 28\n";
+    let expected = "radius 14\nrange -14 14\nintegral -28 28\nexact 0 0\n";
     assert_eq!(quotient_lines(1, 1, models), expected);
 }
 
@@ -135,7 +139,7 @@ fn the_radius_is_rounded_up() {
     // f = 1 unit, g = 1, h = 0, w = U - 1 units: w × (-1) has z = -(U - 1), which
     // becomes -1 with a rest of 1, so that beta is 1 + 1 = 2; mu is 1.
     // 2 × U / (U - 1) is just above 2.
-    let expected = "radius 3\nrange -3 3\nintegral -6 6\n";
+    let expected = "radius 3\nrange -3 3\nintegral -6 6\nexact 0 0\n";
     assert_eq!(of_constants(1, UNIT, 0, UNIT - 1), expected);
 }
 
@@ -154,12 +158,12 @@ fn the_radii_of_f_and_g_are_used() {
     // beta is 1; mu is U/4; 1 × 4/3 is rounded up to 2.
     let g = model(1 << 18, &[(0, UNIT)]);
     let models = [constant(4), g.clone(), constant(4), constant(UNIT)];
-    let expected = "radius 2\nterm 0 4\nrange 2 6\nintegral 4 12\n";
+    let expected = "radius 2\nterm 0 4\nrange 2 6\nintegral 4 12\nexact 8 0\n";
     assert_eq!(quotient_lines(1, 1, models), expected);
     // A radius of 2 in f makes beta 3, and 3 × 4/3 is 4.
     let f = model(2, &[(0, 4)]);
     let models = [f, g, constant(4), constant(UNIT)];
-    let expected = "radius 4\nterm 0 4\nrange 0 8\nintegral 0 16\n";
+    let expected = "radius 4\nterm 0 4\nrange 0 8\nintegral 0 16\nexact 8 0\n";
     assert_eq!(quotient_lines(1, 1, models), expected);
 }
 
@@ -170,7 +174,7 @@ fn the_largest_dividend() {
     assert_eq!(of_constants(LARGEST, 0, 0, UNIT), "refused 12 4\n");
     assert_eq!(of_constants(LARGEST, 1, 0, UNIT), "refused 7 4\n");
     let expected = "radius 1073741824\nrange -1073741824 1073741824\n\
-        integral -2147483648 2147483648\n";
+        integral -2147483648 2147483648\nexact 0 0\n";
     assert_eq!(of_constants(LARGEST, UNIT, 0, UNIT), expected);
     // 1024 × U is 2^30, 1025 × U is above.
     assert_eq!(of_constants(1024, 1, 0, UNIT), expected);
@@ -178,7 +182,7 @@ fn the_largest_dividend() {
     // h keeps its own share of the span: 2^30 - 10 and a radius of 10 or 11.
     let with = |f: i32| of_constants(f, UNIT, LARGEST - 10, UNIT);
     let expected = "radius 10\nterm 0 1073741814\nrange 1073741804 1073741824\n\
-        integral 2147483608 2147483648\n";
+        integral 2147483608 2147483648\nexact 2147483628 0\n";
     assert_eq!(with(LARGEST - 20), expected);
     assert_eq!(with(LARGEST - 21), "refused 7 4\n");
 }
@@ -230,19 +234,23 @@ fn a_quotient_is_a_step_like_others() {
         let steps = [steps.as_slice(), &[Step::constant(HALF), step]].concat();
         lines(2, &models, &steps)
     };
-    let expected = "radius 21846\nterm 1 65536\nrange -87382 87382\nintegral -43692 43692\n";
+    let expected =
+        "radius 21846\nterm 1 65536\nrange -87382 87382\nintegral -43692 43692\nexact 0 0\n";
     assert_eq!(after(Step::substitute(0, 4, 1)), expected);
     // 1/2 put into q: 131072, and the radius of q.
-    let expected = "radius 87382\nterm 0 131072\nrange 43690 218454\nintegral 87380 436908\n";
+    let expected =
+        "radius 87382\nterm 0 131072\nrange 43690 218454\nintegral 87380 436908\nexact 262144 0\n";
     assert_eq!(after(Step::substitute(4, 5, 1)), expected);
     // q × 1/2.
-    let expected = "radius 43691\nterm 1 131072\nrange -174763 174763\nintegral -87382 87382\n";
+    let expected =
+        "radius 43691\nterm 1 131072\nrange -174763 174763\nintegral -87382 87382\nexact 0 0\n";
     assert_eq!(after(Step::two(MULTIPLY, 4, 5)), expected);
     // q over q is not certified, as q may be zero.
     assert_eq!(after(Step::quotient(4, 4, 4, 3)), "refused 12 6\n");
     // q over g with h = q, of which only the polynomial is used, and w = 1: g h - f
     // is x²/16 with f's radius 87382, so that beta is 152918; × 4/3 is 203890.67.
-    let expected = "radius 203891\nterm 1 262144\nrange -466035 466035\nintegral -407782 407782\n";
+    let expected =
+        "radius 203891\nterm 1 262144\nrange -466035 466035\nintegral -407782 407782\nexact 0 0\n";
     assert_eq!(after(Step::quotient(4, 1, 4, 3)), expected);
 }
 
@@ -250,7 +258,7 @@ fn a_quotient_is_a_step_like_others() {
 fn operands_may_be_one_step() {
     // 1 / 1 with h and w the same step: exactly 1.
     let steps = [Step::constant(UNIT), Step::quotient(0, 0, 0, 0)];
-    let expected = "radius 0\nterm 0 1048576\nrange 1048576 1048576\nintegral 2097152 2097152\n";
+    let expected = "radius 0\nterm 0 1048576\nrange 1048576 1048576\nintegral 2097152 2097152\nexact 2097152 0\n";
     assert_eq!(lines(1, &[], &steps), expected);
 }
 

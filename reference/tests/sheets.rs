@@ -8,7 +8,7 @@ use reference::book::{Book, Step, ADD, ANTIDERIVATIVE, MULTIPLY, NEGATE};
 use reference::book::{QUOTIENT, SUBSTITUTE, SUBTRACT, SWEEP};
 use reference::generate::{self, books, damage, faults, hostile, noise, sound};
 use reference::generate::{Expected, Random, Sample};
-use reference::operations::Ends;
+use reference::operations::{Ends, Integral};
 use reference::refusal::Refusal;
 use reference::run::{run_book, run_sheet, RunAnswer};
 use reference::sheet;
@@ -33,12 +33,12 @@ fn assert_form(answer: &RunAnswer) {
     if answer.refusal.is_some() {
         assert_eq!(answer.model, StoredModel::REFUSED);
         assert_eq!(answer.range, Ends::default());
-        assert_eq!(answer.integral, Ends::default());
+        assert_eq!(answer.integral, Integral::default());
     } else {
         let model = answer.model.sound(15).expect("a sound result");
         assert_eq!(StoredModel::store(&model), answer.model);
         assert!(answer.range.low <= answer.range.high);
-        assert!(answer.integral.low <= answer.integral.high);
+        assert!(answer.integral.ends.low <= answer.integral.ends.high);
     }
 }
 

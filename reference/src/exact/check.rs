@@ -7,8 +7,8 @@ use super::outcome::{
 };
 use super::polynomial::{ExactPolynomial, SizeLimit};
 use crate::book::SoundBook;
-use crate::model::UNIT;
-use crate::operations::Ends;
+use crate::model::{Model, UNIT};
+use crate::operations::{Ends, Exact, DENOMINATOR};
 use crate::run::{self, RunResult};
 use crate::sheet;
 
@@ -35,6 +35,9 @@ pub enum Violation {
     ZeroDivisor(usize, Box<Point>),
     /// The integral is outside its ends.
     Integral,
+    /// The result's polynomial has another integral than q + r / D units, or r is
+    /// not from 0 to D - 1.
+    Exact,
     /// The outcome at the point and the outcome as a polynomial differ, which
     /// would be a fault of this check and not of a run.
     Disagreement(Box<Point>),
@@ -52,7 +55,8 @@ pub fn check_sheet(
     Some(check_result(&book, &result, functions, points))
 }
 
-/// Checks a claimed result, wherever it came from. Of a sheet with a quotient the
+/// Checks a claimed result, wherever it came from: that its exact integral is that
+/// of its polynomial, and the claim about its outcome. Of a sheet with a quotient the
 /// integral is not claimed; of one with an antiderivative nothing is, unless all
 /// functions are polynomials and no quotient feeds an antiderivative.
 pub fn check_result(
@@ -63,6 +67,9 @@ pub fn check_result(
 ) -> Result<Checked, Violation> {
     let limit = SizeLimit::default();
     let mut checked = Checked::default();
+    if !is_exact(&result.model, result.integral.exact) {
+        return Err(Violation::Exact);
+    }
     if !is_promised(book, functions) {
         checked.points_not_promised = points.len();
         return Ok(checked);
@@ -122,11 +129,22 @@ fn check_integral(
     result: &RunResult,
     polynomial: &ExactPolynomial,
 ) -> Result<(), Violation> {
-    if encloses(result.integral, &polynomial.integral(n)) {
+    if encloses(result.integral.ends, &polynomial.integral(n)) {
         Ok(())
     } else {
         Err(Violation::Integral)
     }
+}
+
+/// Whether q + r / D units are the integral of the model's polynomial, as fractions.
+pub fn is_exact(model: &Model, exact: Exact) -> bool {
+    let Exact {
+        quotient,
+        remainder,
+    } = exact;
+    let integral = ExactPolynomial::of_model(model).integral(model.n);
+    let claimed = Fraction::of(quotient * DENOMINATOR + remainder, DENOMINATOR * UNIT);
+    (0..DENOMINATOR).contains(&remainder) && claimed == integral
 }
 
 /// Whether the fraction times U lies between the ends.

@@ -133,6 +133,10 @@ pub fn translated(answer: &CallAnswer) -> Proved {
             ends: to_ends(answer.ends),
             refusal: answer.refusal.map(to_refusal),
         }),
+        CallAnswer::Integral(answer) => Proved::Ends(Bounds {
+            ends: to_ends(answer.integral.ends),
+            refusal: answer.refusal.map(to_refusal),
+        }),
     }
 }
 

@@ -109,6 +109,15 @@ pub fn compare(call: &Call, shape: &Shape) -> Result<Seen, String> {
                 &[ends.low, ends.high],
             )
         }
+        CallAnswer::Integral(answer) => {
+            let ends = to_ends(answer.integral.ends);
+            compare_ends(
+                &arguments,
+                shape,
+                answer.refusal.map(pair),
+                &[ends.low, ends.high],
+            )
+        }
     }
 }
 

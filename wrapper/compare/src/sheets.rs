@@ -8,7 +8,7 @@ use reference::exact::check_result;
 use reference::exact::outcome::{has_antiderivative, has_quotient};
 use reference::generate::{functions, Random};
 use reference::model::{monomial_of_key, Model};
-use reference::operations::Ends;
+use reference::operations::{integral, Ends, Integral};
 use reference::records;
 use reference::refusal::Refusal;
 use reference::run::{trace, ReportAnswer, RunAnswer, RunResult, Trace};
@@ -66,7 +66,7 @@ fn translated(expected: &RunAnswer) -> Summary {
     Summary {
         model: to_model(&expected.model),
         range: to_ends(expected.range),
-        integral: to_ends(expected.integral),
+        integral: to_ends(expected.integral.ends),
         refusal: expected.refusal.map(to_refusal),
     }
 }
@@ -87,10 +87,14 @@ fn enclosed(bytes: &[u8], summary: &Summary, seed: u64) -> Result<Tried, String>
     let mut random = Random::new(seed);
     let inside = functions::within_models(&mut random, &book);
     let points = functions::points(&mut random, book.n);
+    let model = sound(&summary.model);
     let result = RunResult {
-        model: sound(&summary.model),
         range: wide(summary.range),
-        integral: wide(summary.integral),
+        integral: Integral {
+            ends: wide(summary.integral),
+            ..integral(&model)
+        },
+        model,
     };
     let checked = check_result(&book, &result, &inside, &points)
         .map_err(|violation| format!("not enclosed: {violation:?}"))?;
