@@ -29,7 +29,7 @@ use Rattle.calculus.specs.Terms.{term}
 use Rattle.calculus.specs.Model.{Model, zero-model, _/U, _-ℚ_, distance, Point, polynomial, value, At}
 use Rattle.calculus.specs.Model.{Within}
 use Rattle.calculus.specs.Refusal.{done}
-use Rattle.calculus.specs.Operations.{Ends}
+use Rattle.calculus.specs.Operations.{Ends, Mixed}
 use Rattle.calculus.specs.Book.{input, constant, negate, multiply, quotient, antiderivative, Book, model-of}
 use Rattle.calculus.specs.Book.{Summary}
 use Rattle.calculus.specs.Book.{summary, last, run}
@@ -203,9 +203,15 @@ gathered-radius s c = let h : 2 ≤ s .model .radius + s .model .radius = bounde
     apart = ap₂ _-ℚ_ up-at-one down-at-one
         ∙ ap (λ z. whole (pos 1) +ℚ z) (sym (whole-neg (negsuc 0))) ∙ sym (whole-+ (pos 1) (pos 1))
 
-pub without-input-refuted : (r i : Ends)
-    → Claim gathered (record { model = record { vars = 1; radius = 0; terms = [] }; range = r; integral = i }) → ⊥
-without-input-refuted r i c = omega (arith, gathered-radius _ c)
+pub without-input-refuted : (r i : Ends) (x : Mixed)
+    → Claim gathered (record {
+      model = record { vars = 1; radius = 0; terms = [] };
+      range = r;
+      integral = i;
+      exact = x;
+    })
+    → ⊥
+without-input-refuted r i x c = omega (arith, gathered-radius _ c)
 
 -- ---- both growths are needed: c x in order d, in units, with radius 0
 unfoldable pub term-book : (d c : ℕ) → Book
@@ -239,10 +245,15 @@ module _ (d c : ℕ) where
       ∙ ap₂ _*ℚ_ (U-times (pos c)) (whole-reciprocal 2 (omega arith)) ∙ ℚR .*-one (natural c)
 
   -- without terms, an answer's radius is at least half of c
-  radius-enough : (e : ℕ) (r i : Ends)
-      → Claim (term-book d c) (record { model = record { vars = 1; radius = e; terms = [] }; range = r; integral = i })
+  radius-enough : (e : ℕ) (r i : Ends) (x : Mixed)
+      → Claim (term-book d c) (record {
+        model = record { vars = 1; radius = e; terms = [] };
+        range = r;
+        integral = i;
+        exact = x;
+      })
       → c ≤ 2 * e
-  radius-enough e r i g = bounded (pos c) (2 * e) _ twice-half
+  radius-enough e r i x g = bounded (pos c) (2 * e) _ twice-half
       (abs-mul ℚO (natural 2) _ ∙ ap (λ z. z *ℚ abs ℚO (natural U *ℚ half)) (abs-pos ℚO (natural-nonneg 2))
       ∙ ℚR .*-comm _ _
       ≡≤ *-mono ℚO (natural-nonneg 2) small
@@ -264,15 +275,25 @@ module _ (d c : ℕ) where
           ≡≤ both-near m (zero-model 1) right half 0ℚ (unfold zero-model in refl) near (zero-near 1 right)
           ≤≡ ap natural (unfold zero-model in (omega arith))
 
-pub without-rounding-refuted : (r i : Ends)
-    → Claim (term-book 2 1) (record { model = record { vars = 1; radius = 0; terms = [] }; range = r; integral = i })
+pub without-rounding-refuted : (r i : Ends) (x : Mixed)
+    → Claim (term-book 2 1) (record {
+      model = record { vars = 1; radius = 0; terms = [] };
+      range = r;
+      integral = i;
+      exact = x;
+    })
     → ⊥
-without-rounding-refuted r i c = omega (arith, radius-enough 2 1 0 r i c)
+without-rounding-refuted r i x c = omega (arith, radius-enough 2 1 0 r i x c)
 
-pub without-swept-refuted : (r i : Ends)
-    → Claim (term-book 1 2) (record { model = record { vars = 1; radius = 0; terms = [] }; range = r; integral = i })
+pub without-swept-refuted : (r i : Ends) (x : Mixed)
+    → Claim (term-book 1 2) (record {
+      model = record { vars = 1; radius = 0; terms = [] };
+      range = r;
+      integral = i;
+      exact = x;
+    })
     → ⊥
-without-swept-refuted r i c = omega (arith, radius-enough 1 2 0 r i c)
+without-swept-refuted r i x c = omega (arith, radius-enough 1 2 0 r i x c)
 
 -- ---- the antiderivative that is zero at -1: the claim would be false of this accepted book
 unfoldable pub ramp : Book

@@ -9,7 +9,7 @@ use Rattle.calculus.specs.Model.{Model, zero-model, between, sound}
 use Rattle.calculus.specs.Refusal.{bad-limits, bad-model, bad-step, Answer, accepted, Result, done, at-place}
 use Rattle.calculus.specs.Refusal.{require-at, require-each, _followed-by_, Returned, returned}
 use Rattle.calculus.specs.Operations as Op
-use Rattle.calculus.specs.Operations.{Ends, zero-ends, range, integral}
+use Rattle.calculus.specs.Operations.{Ends, zero-ends, Mixed, zero-mixed, range, integral, exact-part}
 use Rattle.calculus.specs.Tests.{vars-sound, order-sound, constant-sound, variable-sound, threshold-sound}
 
 -- operands a, b, h and w are steps, but a of an input is a model; v is a variable
@@ -126,15 +126,16 @@ unfoldable pub last : {A : Type 0} → A → List A → A
 last a [] = a
 last a (c ∷ l) = last c l
 
--- the last step's result, its range and its integral
+-- the last step's result, its range, its integral, and its polynomial part's integral with its remainder
 pub record Summary : Type 0 where
   pub model : Model
   pub range : Ends
   pub integral : Ends
+  pub exact : Mixed
 
 -- of a model
 unfoldable pub summary : Model → Summary
-summary m = record { model = m; range = range m; integral = integral m }
+summary m = record { model = m; range = range m; integral = integral m; exact = exact-part m }
 
 -- the run of a book that passes the tests
 unfoldable pub run-sound : Book → Result Summary
@@ -146,6 +147,7 @@ run-sound book =
 unfoldable pub run : Book → Result Summary
 run book = tested book (run-sound book)
 
--- what a run hands back: with a refusal the zero model with n = 1 and ends 0
+-- what a run hands back: with a refusal the zero model with n = 1, ends 0, q and r 0
 unfoldable pub returned-summary : Result Summary → Returned Summary
-returned-summary = returned (record { model = zero-model 1; range = zero-ends; integral = zero-ends })
+returned-summary =
+    returned (record { model = zero-model 1; range = zero-ends; integral = zero-ends; exact = zero-mixed })

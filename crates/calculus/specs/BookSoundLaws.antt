@@ -21,7 +21,8 @@ use Rattle.calculus.specs.SoundLaws.{Sound, sound-parts, parts-sound, ze
 use Rattle.calculus.specs.SoundLaws.{subtract-sound, multiply-sound, substitute-sound, sweep-sound}
 use Rattle.calculus.specs.SoundLaws.{quotient-sound, antiderivative-sound}
 use Rattle.calculus.specs.EachLaws.{All, nil, each-snoc, each-at, each-last}
-use Rattle.calculus.specs.BookLaws.{Passes, model-passes, model-vars, between-low, variable-inside, Ran}
+use Rattle.calculus.specs.BookLaws.{Passes, model-passes, model-vars, between-low, between-high}
+use Rattle.calculus.specs.BookLaws.{variable-inside, Ran}
 use Rattle.calculus.specs.BookLaws.{sound-ran, next-number}
 
 module _ (b : Book) (p : Passes b) where
@@ -34,12 +35,16 @@ module _ (b : Book) (p : Passes b) where
   vars-pass = and-left (vars-sound (b .vars)) _ (and-left (vars-sound (b .vars) && order-sound (b .order)) _
       (and-left (vars-sound (b .vars) && order-sound (b .order) && leb (length (b .models)) most-models) _ (p .limits)))
 
-  order-pos : 1 ≤ b .order
+  order-pass : T (between 1 most-degree (b .order))
   unfolding limits-sound order-sound
-  order-pos = between-low 1 most-degree (b .order)
-      (and-right (vars-sound (b .vars)) _ (and-left (vars-sound (b .vars) && order-sound (b .order)) _
-      (and-left (vars-sound (b .vars) && order-sound (b .order) && leb (length (b .models)) most-models) _
-      (p .limits))))
+  order-pass = and-right (vars-sound (b .vars)) _ (and-left (vars-sound (b .vars) && order-sound (b .order)) _
+      (and-left (vars-sound (b .vars) && order-sound (b .order) && leb (length (b .models)) most-models) _ (p .limits)))
+
+  order-pos : 1 ≤ b .order
+  order-pos = between-low 1 most-degree (b .order) order-pass
+
+  pub order-high : b .order ≤ most-degree
+  order-high = between-high 1 most-degree (b .order) order-pass
 
   operand : {results : List Model} → All Good results → (a : ℕ) → Good (result-of b results a)
   unfolding result-of

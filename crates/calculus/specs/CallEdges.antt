@@ -6,18 +6,19 @@ use lib.IntN.{ℤ, pos}
 use Rattle.calculus.specs.Terms.{term}
 use Rattle.calculus.specs.Model.{Model}
 use Rattle.calculus.specs.Refusal.{Result, Returned}
-use Rattle.calculus.specs.Operations.{Ends}
+use Rattle.calculus.specs.Operations.{Ends, Integral}
 use Rattle.calculus.specs.Calls.{call-constant, call-variable, call-negate, call-sweep, call-range, call-integral}
 use Rattle.calculus.specs.Calls.{call-evaluate, call-antiderivative, call-add, call-subtract, call-multiply}
-use Rattle.calculus.specs.Calls.{call-substitute, returned-model, returned-ends}
+use Rattle.calculus.specs.Calls.{call-substitute, returned-model, returned-ends, returned-integral}
 use Rattle.calculus.specs.Computing.{calls}
-use Rattle.calculus.specs.Forms.{at-key, model, ends, minus, line, forms}
+use Rattle.calculus.specs.Forms.{at-key, model, ends, minus, mixed, line, forms}
 use Rattle.calculus.specs.Edges.{one-term, terms-from}
 
 -- what a call hands back
 pub data Handed-back : Type 0 where
   of-model : Returned Model → Handed-back
   of-ends : Returned Ends → Handed-back
+  of-integral : Returned Integral → Handed-back
 
 -- a row of the table: its number, what the call hands back, and what it must be
 pub record Call-edge : Type 0 where
@@ -52,6 +53,14 @@ refuses-ends i c r = record {
   number = i;
   given = of-ends (returned-ends c);
   wanted = of-ends (back r 0 (ends (pos 0) (pos 0)));
+}
+
+-- a call for an integral that is refused, at place 0: both ends, q and r are 0
+unfoldable pub refuses-integral : (number : ℕ) → Result Integral → (refusal : ℕ) → Call-edge
+refuses-integral i c r = record {
+  number = i;
+  given = of-integral (returned-integral c);
+  wanted = of-integral (back r 0 (record { ends = ends (pos 0) (pos 0); exact = mixed (pos 0) 0 }));
 }
 
 -- a coefficient 0 breaks a rule
@@ -147,7 +156,7 @@ call-edges =
     ∷ gives 10 (call-add (model 1 1073741823 []) (model 1 1 [])) (model 1 1073741824 [])
     -- 5 for ends
     ∷ refuses-ends 11 (call-range bad) 5
-    ∷ refuses-ends 11 (call-integral bad) 5
+    ∷ refuses-integral 11 (call-integral bad) 5
     -- evaluation: 5, then 6 above n, then 9 among the first n
     ∷ refuses-ends 12 (call-evaluate (pos 1048577 ∷ pos 1 ∷ []) bad) 5
     ∷ refuses-ends 12 (call-evaluate (pos 1048577 ∷ pos 1 ∷ []) line) 6
@@ -233,6 +242,6 @@ call-edges =
 pub call-edges-hold : map (λ r. r .given) call-edges ≡ map (λ r. r .wanted) call-edges
 unfolding
     calls forms one-term terms-from
-    back gives refuses gives-ends refuses-ends bad cube two-variables outside near-limit times about
+    back gives refuses gives-ends refuses-ends refuses-integral bad cube two-variables outside near-limit times about
     constant-and-square square-minus integrated square call-edges
 call-edges-hold = refl

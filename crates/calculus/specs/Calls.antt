@@ -9,7 +9,7 @@ use Rattle.calculus.specs.Model.{Model, zero-model, most-degree, sound}
 use Rattle.calculus.specs.Refusal.{bad-limits, bad-model, bad-step, leaves-box, variables-differ, Result, done}
 use Rattle.calculus.specs.Refusal.{at-place, require-at, Returned, returned}
 use Rattle.calculus.specs.Operations as Op
-use Rattle.calculus.specs.Operations.{Ends, zero-ends}
+use Rattle.calculus.specs.Operations.{Ends, zero-ends, Integral, zero-integral}
 use Rattle.calculus.specs.Tests.{vars-sound, order-sound, constant-sound, variable-sound, threshold-sound}
 use Rattle.calculus.specs.Tests.{all-zero, all-in-unit}
 
@@ -45,8 +45,8 @@ unfoldable pub call-range : Model → Result Ends
 call-range f = require-at 0 (sound most-degree f) bad-model (done (Op.range f))
 
 -- 5
-unfoldable pub call-integral : Model → Result Ends
-call-integral f = require-at 0 (sound most-degree f) bad-model (done (Op.integral f))
+unfoldable pub call-integral : Model → Result Integral
+call-integral f = require-at 0 (sound most-degree f) bad-model (done (Op.whole-integral f))
 
 -- 5, 6 for a coordinate above n, 9 for one of the first n, then what the substitutions give: there are four coordinates
 -- in the code, and evaluation reads the first n
@@ -115,3 +115,7 @@ returned-model = returned (zero-model 1)
 -- with a refusal both ends 0
 unfoldable pub returned-ends : Result Ends → Returned Ends
 returned-ends = returned zero-ends
+
+-- with a refusal both ends, q and r 0
+unfoldable pub returned-integral : Result Integral → Returned Integral
+returned-integral = returned zero-integral

@@ -26,7 +26,7 @@ use Rattle.fixed.specs.Fixed.{U}
 use Rattle.calculus.specs.Model.{Model, zero-model, _/U, _-ℚ_, distance, Point, In-box, polynomial, value, At}
 use Rattle.calculus.specs.Model.{Within}
 use Rattle.calculus.specs.Operations as Op
-use Rattle.calculus.specs.Operations.{Ends, zero-ends}
+use Rattle.calculus.specs.Operations.{Ends, zero-ends, Mixed, zero-mixed}
 use Rattle.calculus.specs.Book.{constant, negate, Book, model-of, last}
 use Rattle.calculus.specs.Outcome.{Function, 0ℚ, ℚ-Polynomial, value-of, exact-integral, functions, polynomials}
 use Rattle.calculus.specs.Outcome.{input-outcome, step-value, step-polynomial, step-outcome, outcome-of}
@@ -107,10 +107,11 @@ unfoldable pub one-step : List Model → Book
 one-step ms = record { vars = 1; order = 1; models = ms; steps = constant (pos 1) ∷ [] }
 
 -- the zero model is not its result
-pub radius-refutes : (ms : List Model) (n : ℕ) (r i : Ends)
-    → Claim (one-step ms) (record { model = zero-model n; range = r; integral = i }) → ⊥
+pub radius-refutes : (ms : List Model) (n : ℕ) (r i : Ends) (x : Mixed)
+    → Claim (one-step ms) (record { model = zero-model n; range = r; integral = i; exact = x }) → ⊥
 unfolding one-step outcome outcomes outcomes-after step-outcome step-value last zero-model
-radius-refutes ms n r i c = false-≤ 1 0 (omega arith) (sym (abs-whole (pos 1)) ≡≤ ap (abs ℚO) (sym difference) ≡≤ near)
+radius-refutes ms n r i x c =
+    false-≤ 1 0 (omega arith) (sym (abs-whole (pos 1)) ≡≤ ap (abs ℚO) (sym difference) ≡≤ near)
   where
     at : At (zero-model n) (origin 1) (pos 1 /U)
     at = c .within-radius (functions (own (one-step ms))) (origin 1) (own-given (one-step ms) (unfold promises in tt))
@@ -123,20 +124,20 @@ radius-refutes ms n r i c = false-≤ 1 0 (omega arith) (sym (abs-whole (pos 1))
     difference = ring 2 ℚR (λ u a. u ⊠ a ⊟ u ⊠ 𝟎) (λ u a. u ⊠ a) refl (natural U) (pos 1 /U) ∙ U-times (pos 1)
 
 -- 0 to 0 is not its range
-pub range-refutes : (m : Model) (i : Ends)
-    → Claim (one-step []) (record { model = m; range = zero-ends; integral = i }) → ⊥
+pub range-refutes : (m : Model) (i : Ends) (x : Mixed)
+    → Claim (one-step []) (record { model = m; range = zero-ends; integral = i; exact = x }) → ⊥
 unfolding one-step zero-ends outcome outcomes outcomes-after step-outcome step-value last
-range-refutes m i c = false-≤ 1 0 (omega arith) (sym (U-times (pos 1)) ≡≤ lies .to)
+range-refutes m i x c = false-≤ 1 0 (omega arith) (sym (U-times (pos 1)) ≡≤ lies .to)
   where
     lies : Lies (pos 1 /U) zero-ends
     lies = c .in-range (functions (own (one-step []))) (origin 1) (own-given (one-step []) (unfold promises in tt))
 
 -- 0 to 0 is not its integral
-pub integral-refutes : (m : Model) (r : Ends)
-    → Claim (one-step []) (record { model = m; range = r; integral = zero-ends }) → ⊥
+pub integral-refutes : (m : Model) (r : Ends) (x : Mixed)
+    → Claim (one-step []) (record { model = m; range = r; integral = zero-ends; exact = x }) → ⊥
 unfolding one-step zero-ends outcome outcomes outcomes-after step-outcome step-polynomial last exact-integral
     promises
-integral-refutes m r c = false-≤ 2 0 (omega arith) (sym amount ≡≤ lies .to)
+integral-refutes m r x c = false-≤ 2 0 (omega arith) (sym amount ≡≤ lies .to)
   where
     lies : Lies (exact-integral 1 (P.constant ℚR (pos 1 /U))) zero-ends
     lies = c .integral-in-ends (own-polynomial (one-step [])) tt (own-polynomial-within (one-step []))
@@ -148,8 +149,10 @@ integral-refutes m r c = false-≤ 2 0 (omega arith) (sym amount ≡≤ lies .to
         ∙ ap₂ _*ℚ_ (U-times (pos 1)) (nat-whole 2) ∙ sym (natural-* 1 2)
 
 -- so the zero model with ends 0 is not the answer to every book
-pub claim-refuted : Claim (one-step []) (record { model = zero-model 1; range = zero-ends; integral = zero-ends }) → ⊥
-claim-refuted = range-refutes (zero-model 1) zero-ends
+pub claim-refuted : Claim (one-step [])
+    (record { model = zero-model 1; range = zero-ends; integral = zero-ends; exact = zero-mixed })
+    → ⊥
+claim-refuted = range-refutes (zero-model 1) zero-ends zero-mixed
 
 -- ---- and an operand passed through is not the answer of the step that takes it
 -- 1 / U, and minus that
@@ -157,10 +160,10 @@ unfoldable pub negated : Book
 negated = record { vars = 1; order = 1; models = []; steps = constant (pos 1) ∷ negate 0 ∷ [] }
 
 -- the model of 1 / U is not its result
-pub passing-refuted : (r i : Ends)
-    → Claim negated (record { model = Op.constant 1 (pos 1); range = r; integral = i }) → ⊥
+pub passing-refuted : (r i : Ends) (x : Mixed)
+    → Claim negated (record { model = Op.constant 1 (pos 1); range = r; integral = i; exact = x }) → ⊥
 unfolding negated outcome outcomes outcomes-after step-outcome step-value outcome-of last
-passing-refuted r i c = false-≤ 2 0 (omega arith) (sym (abs-whole (negsuc 1)) ≡≤ ap (abs ℚO) (sym difference) ≡≤ near)
+passing-refuted r i x c = false-≤ 2 0 (omega arith) (sym (abs-whole (negsuc 1)) ≡≤ ap (abs ℚO) (sym difference) ≡≤ near)
   where
     m : Model
     m = Op.constant 1 (pos 1)

@@ -5,7 +5,7 @@ use mathlib.Core.List.{List, [], _∷_, _++_}
 use mathlib.Core.Option.{some}
 use Prim.Native.Nat.{ℕ, zero, suc, _<_}
 use native.Mathlib.Omega.{arith}
-use lib.Dec.{T, ltb, ltb→lt}
+use lib.Dec.{T, eqb, ltb, ltb→lt}
 use lib.IntN.{natAbs}
 use lib.ListN.{length, getElem?}
 use Rattle.algebra.specs.RationalOrder.{ℚO}
@@ -17,8 +17,8 @@ use Rattle.calculus.specs.Refusal.{leaves-box, uncertified, Answer, acce
 use Rattle.calculus.specs.Operations as Op
 use Rattle.calculus.specs.Operations.{range, integral, range-in-box}
 use Rattle.calculus.specs.Book.{Step, input, constant, variable, negate, add, subtract, multiply, substitute}
-use Rattle.calculus.specs.Book.{sweep, quotient, antiderivative, Book, step-sound, model-of, result-of}
-use Rattle.calculus.specs.Book.{run-step, run-steps, Summary, summary, last, run-sound, run}
+use Rattle.calculus.specs.Book.{sweep, quotient, antiderivative, Book, model-sound, step-sound, model-of}
+use Rattle.calculus.specs.Book.{result-of, run-step, run-steps, Summary, summary, last, run-sound, run}
 use Rattle.calculus.specs.Outcome.{0ℚ, with-coordinate, ℚ-Polynomial, value-of, exact-integral, Outcome, Inputs}
 use Rattle.calculus.specs.Outcome.{polynomials, input-outcome, step-value, step-outcome, zero-outcome, outcome-of}
 use Rattle.calculus.specs.Outcome.{outcomes-after, outcomes, outcome, antiderivative-of, mapped, value-of-made}
@@ -34,7 +34,8 @@ use Rattle.calculus.specs.RangeLaws.{range-encloses, in-box-encloses}
 use Rattle.calculus.specs.SubstituteLaws.{substitute-near}
 use Rattle.calculus.specs.QuotientLaws.{quotient-near, divisor-nonzero}
 use Rattle.calculus.specs.AntiderivativeEnclosureLaws.{antiderivative-near}
-use Rattle.calculus.specs.IntegralEndsLaws.{integral-encloses}
+use Rattle.calculus.specs.BookSoundLaws.{order-high, result-sound}
+use Rattle.calculus.specs.ExactIntegralLaws.{Served, sound-served, integral-encloses}
 use Rattle.calculus.specs.EachLaws.{Each, nil, each-length, each-snoc, each-at, each-last}
 use Rattle.calculus.specs.BookLaws.{Passes, Done, run-done, model-passes, model-vars, variable-inside, Ran}
 use Rattle.calculus.specs.BookLaws.{sound-ran, next-number}
@@ -266,6 +267,12 @@ summary-integral : (b : Book) (s : Summary) → Ran b s → s .integral ≡ inte
 unfolding summary
 summary-integral b s r = subst (λ (t : Summary). t .integral ≡ integral (t .model)) (r .is-summary) refl
 
+-- the denominator serves the result
+result-served : (b : Book) (s : Summary) → Passes b → run-sound b ≡ done s → Served (s .model)
+unfolding model-sound
+result-served b s p h = sound-served (b .order) (s .model) (order-high b p)
+    (and-right (eqb (s .model .vars) (b .vars)) _ (result-sound b p s h))
+
 -- it holds of every book that passes the tests and whose steps run
 pub claim-sound : (b : Book) (s : Summary) → Passes b → run-sound b ≡ done s → Claim b s
 claim-sound b s p h = record {
@@ -295,7 +302,8 @@ claim-sound b s p h = record {
         → Follows (b .vars) (outcome (polynomials Q) (b .steps)) (s .model)
         → Lies (exact-integral (b .vars) q) (s .integral)
     integral-of Q q m f = subst (Lies (exact-integral (b .vars) q)) (sym (summary-integral b s ran))
-        (subst (λ k. Lies (exact-integral k q) (integral (s .model))) (f .vars) (integral-encloses (s .model) q at))
+        (subst (λ k. Lies (exact-integral k q) (integral (s .model))) (f .vars)
+        (integral-encloses (s .model) (result-served b s p h) q at))
       where
         at : (x : Point) → In-box (s .model .vars) x → Near (s .model) x (value-of q x)
         at x hx = let hx′ : In-box (b .vars) x = subst (λ k. In-box k x) (f .vars) hx in

@@ -43,7 +43,8 @@ unfolding
     O.largest-exponent O.part-terms O.part O.horner O.widen O.substitute
     O.bare O.defect O.deviation O.largest-end O.largest-value O.quotient-radius O.certified O.quotient
     O.raised O.divided O.is-inexact O.growth-rounding O.growth-swept O.antiderivative
-    O.is-small O.sweep O.integral-sum O.integral
+    O.is-small O.sweep
+    O.common-denominator O.integral-parts O.exact-part O.one-if-any O.integral
 operations = tt
 
 -- the run of a book
@@ -71,12 +72,12 @@ unfoldable pub calls : Unit {0}
 unfolding
     runs
     R.number R.returned
-    O.zero-ends O.put-constants O.evaluate
+    O.zero-ends O.zero-mixed O.zero-integral O.whole-integral O.put-constants O.evaluate
     Te.all-zero Te.all-in-unit
     C.call-constant C.call-variable C.call-negate C.call-sweep C.call-range C.call-integral C.call-evaluate
     C.call-antiderivative
     C.require-two C.call-add C.call-subtract C.call-multiply C.call-substitute C.require-four C.call-quotient
-    C.returned-model C.returned-ends
+    C.returned-model C.returned-ends C.returned-integral
 calls = tt
 
 -- what is promised

@@ -12,7 +12,7 @@ use Rattle.calculus.specs.Refusal.{Result, stopped}
 use Rattle.calculus.specs.Book.{Step, input, constant, variable, negate, add, subtract, multiply, substitute}
 use Rattle.calculus.specs.Book.{sweep, antiderivative, Book, Summary, run}
 use Rattle.calculus.specs.Computing.{runs}
-use Rattle.calculus.specs.Forms.{at-key, model, book, ends, minus, gives, forms}
+use Rattle.calculus.specs.Forms.{at-key, model, book, ends, minus, mixed, gives, forms}
 
 -- a row of the table: its number, a book, and what its run must give
 pub record Book-edge : Type 0 where
@@ -51,16 +51,19 @@ unfoldable pub edges : List Book-edge
 edges =
     -- (x + y)(x - y) above order 1: |z| after collecting, and not |products|
     row 1 (book 2 1 [] (variable 1 ∷ variable 2 ∷ add 0 1 ∷ subtract 0 1 ∷ multiply 2 3 ∷ []))
-    (gives (model 2 2097152 []) (ends (minus 2097152) (pos 2097152)) (ends (minus 8388608) (pos 8388608)))
+    (gives (model 2 2097152 []) (ends (minus 2097152) (pos 2097152)) (ends (minus 8388608) (pos 8388608))
+    (mixed (pos 0) 0))
     -- (y^9 + x z^8)(y^8 - z^8): y^17 and x z^16 do not meet
     ∷ row 2 (book 3 15
     (model 3 0 (at-key 3 0x0900 (pos 1048576) ∷ at-key 3 0x1080 (pos 1048576) ∷ [])
     ∷ model 3 0 (at-key 3 0x0080 (minus 1048576) ∷ at-key 3 0x0800 (pos 1048576) ∷ []) ∷ [])
     (input 0 ∷ input 1 ∷ multiply 0 1 ∷ []))
-    (gives (model 3 4194304 []) (ends (minus 4194304) (pos 4194304)) (ends (minus 33554432) (pos 33554432)))
+    (gives (model 3 4194304 []) (ends (minus 4194304) (pos 4194304)) (ends (minus 33554432) (pos 33554432))
+    (mixed (pos 0) 0))
     -- -1 times 0.75: z below 0 goes to the nearest, and not toward 0
     ∷ row 3 (book 1 2 [] (constant (minus 1) ∷ constant (pos 786432) ∷ multiply 0 1 ∷ []))
-    (gives (model 1 1 (at-key 1 0x0000 (minus 1) ∷ [])) (ends (minus 2) (pos 0)) (ends (minus 4) (pos 0)))
+    (gives (model 1 1 (at-key 1 0x0000 (minus 1) ∷ [])) (ends (minus 2) (pos 0)) (ends (minus 4) (pos 0))
+    (mixed (minus 2) 0))
     -- 72 terms and a span above 2^30: 8 comes before 7
     ∷ row 4 (book 2 15
     (row-of-terms (0x0000 ∷ 0x1000 ∷ 0x2000 ∷ 0x3000 ∷ 0x4000 ∷ 0x5000 ∷ 0x6000 ∷ 0x7000 ∷ 0x8000 ∷ [])
@@ -88,33 +91,36 @@ edges =
     -- a constant is -2^30 to 2^30
     ∷ broken 9 (constant (pos 1073741825)) ∷ broken 9 (constant (minus 1073741825))
     ∷ row 9 (book 1 1 [] (constant (minus 1073741824) ∷ [])) (gives (one-term 1 0x0000 (minus 1073741824))
-    (ends (minus 1073741824) (minus 1073741824)) (ends (minus 2147483648) (minus 2147483648)))
+    (ends (minus 1073741824) (minus 1073741824)) (ends (minus 2147483648) (minus 2147483648))
+    (mixed (minus 2147483648) 0))
     -- a threshold is 0 to 2^30; the constant term stays, however small it is
     ∷ broken 10 (sweep 0 (minus 1)) ∷ broken 10 (sweep 0 (pos 1073741825))
     ∷ row 10 (book 1 1 (small-constant ∷ []) (input 0 ∷ sweep 0 (pos 1073741824) ∷ []))
-    (gives (model 1 3 (at-key 1 0x0000 (pos 2) ∷ [])) (ends (minus 1) (pos 5)) (ends (minus 2) (pos 10)))
+    (gives (model 1 3 (at-key 1 0x0000 (pos 2) ∷ [])) (ends (minus 1) (pos 5)) (ends (minus 2) (pos 10))
+    (mixed (pos 4) 0))
     -- 1 to 64 steps
     ∷ row 11 (book 1 1 [] []) (stopped bad-limits 0)
     ∷ row 11 (book 1 1 [] (replicate 64 (constant (pos 0))))
-    (gives (model 1 0 []) (ends (pos 0) (pos 0)) (ends (pos 0) (pos 0)))
+    (gives (model 1 0 []) (ends (pos 0) (pos 0)) (ends (pos 0) (pos 0)) (mixed (pos 0) 0))
     ∷ row 11 (book 1 1 [] (replicate 65 (constant (pos 0)))) (stopped bad-limits 0)
     -- 0 to 16 models
     ∷ row 12 (book 1 1 (replicate 16 (model 1 7 [])) (input 15 ∷ []))
-    (gives (model 1 7 []) (ends (minus 7) (pos 7)) (ends (minus 14) (pos 14)))
+    (gives (model 1 7 []) (ends (minus 7) (pos 7)) (ends (minus 14) (pos 14)) (mixed (pos 0) 0))
     ∷ row 12 (book 1 1 (replicate 17 (model 1 7 [])) (input 15 ∷ [])) (stopped bad-limits 0)
     -- 64 terms, plus x^8 - 1: 64 are left when the zero is dropped; plus x^8: 65; and a model of 65
     ∷ row 13 (book 2 14
     (model 2 0 (terms-from 0 64 (pos 1))
     ∷ model 2 0 (at-key 2 0x0000 (minus 1) ∷ at-key 2 0x8000 (pos 1) ∷ []) ∷ [])
     (input 0 ∷ input 1 ∷ add 0 1 ∷ []))
-    (gives (model 2 0 (terms-from 1 64 (pos 1))) (ends (minus 48) (pos 64)) (ends (pos 2) (pos 18)))
+    (gives (model 2 0 (terms-from 1 64 (pos 1))) (ends (minus 48) (pos 64)) (ends (pos 7) (pos 8))
+    (mixed (pos 7) 145347345))
     ∷ row 13 (book 2 14 (model 2 0 (terms-from 0 64 (pos 1)) ∷ one-term 2 0x8000 (pos 1) ∷ [])
     (input 0 ∷ input 1 ∷ add 0 1 ∷ []))
     (stopped too-many-terms 2)
     ∷ row 13 (book 2 14 (model 2 0 (terms-from 0 65 (pos 1)) ∷ []) (input 0 ∷ [])) (stopped bad-model 0)
     -- order 2: xy may stand in a book, xy^2 may not
     ∷ row 14 (book 2 2 (one-term 2 0x1100 (pos 7) ∷ []) (input 0 ∷ []))
-    (gives (one-term 2 0x1100 (pos 7)) (ends (minus 7) (pos 7)) (ends (pos 0) (pos 0)))
+    (gives (one-term 2 0x1100 (pos 7)) (ends (minus 7) (pos 7)) (ends (pos 0) (pos 0)) (mixed (pos 0) 0))
     ∷ row 14 (book 2 2 (one-term 2 0x1100 (pos 7) ∷ one-term 2 0x1200 (pos 7) ∷ []) (input 0 ∷ []))
     (stopped bad-model 1)
     -- a model in one variable may not stand in a book of two
@@ -128,27 +134,30 @@ edges =
     -- y^2/2 put in for x in xy, order 2: the order holds inside a substitution
     ∷ row 17 (book 2 2 (one-term 2 0x1100 (pos 1048576) ∷ one-term 2 0x0200 (pos 524288) ∷ [])
     (input 0 ∷ input 1 ∷ substitute 0 1 1 ∷ []))
-    (gives (model 2 524288 []) (ends (minus 524288) (pos 524288)) (ends (minus 2097152) (pos 2097152)))
+    (gives (model 2 524288 []) (ends (minus 524288) (pos 524288)) (ends (minus 2097152) (pos 2097152))
+    (mixed (pos 0) 0))
     -- f lacks the variable: 9 can refuse, otherwise f stays
     ∷ row 18 (book 2 2 [] (variable 2 ∷ constant (pos 1048577) ∷ substitute 0 1 1 ∷ [])) (stopped leaves-box 2)
     ∷ row 18 (book 2 2 [] (variable 2 ∷ constant (pos 524288) ∷ substitute 0 1 1 ∷ []))
-    (gives (one-term 2 0x0100 (pos 1048576)) (ends (minus 1048576) (pos 1048576)) (ends (pos 0) (pos 0)))
+    (gives (one-term 2 0x0100 (pos 1048576)) (ends (minus 1048576) (pos 1048576)) (ends (pos 0) (pos 0))
+    (mixed (pos 0) 0))
     -- f has no terms: the same
     ∷ row 19 (book 1 1 (model 1 1073741824 [] ∷ []) (input 0 ∷ constant (minus 1048577) ∷ substitute 0 1 1 ∷ []))
     (stopped leaves-box 2)
     ∷ row 19 (book 1 1 (model 1 1073741824 [] ∷ []) (input 0 ∷ constant (minus 1048576) ∷ substitute 0 1 1 ∷ []))
     (gives (model 1 1073741824 [])
-    (ends (minus 1073741824) (pos 1073741824)) (ends (minus 2147483648) (pos 2147483648)))
+    (ends (minus 1073741824) (pos 1073741824)) (ends (minus 2147483648) (pos 2147483648)) (mixed (pos 0) 0))
     -- x/2 put in for x in x^15, the largest K
     ∷ row 20 (book 1 15 (one-term 1 0xF000 (pos 1048576) ∷ one-term 1 0x1000 (pos 524288) ∷ [])
     (input 0 ∷ input 1 ∷ substitute 0 1 1 ∷ []))
-    (gives (one-term 1 0xF000 (pos 32)) (ends (minus 32) (pos 32)) (ends (pos 0) (pos 0)))
+    (gives (one-term 1 0xF000 (pos 32)) (ends (minus 32) (pos 32)) (ends (pos 0) (pos 0)) (mixed (pos 0) 0))
     -- x, x^2/2, x^3/6: U/2 over 3 is not whole
     ∷ row 21 (book 1 3 [] (variable 1 ∷ antiderivative 0 1 ∷ antiderivative 1 1 ∷ []))
-    (gives (model 1 1 (at-key 1 0x3000 (pos 174763) ∷ [])) (ends (minus 174764) (pos 174764)) (ends (minus 2) (pos 2)))
+    (gives (model 1 1 (at-key 1 0x3000 (pos 174763) ∷ [])) (ends (minus 174764) (pos 174764)) (ends (minus 2) (pos 2))
+    (mixed (pos 0) 0))
     -- with order 2 the last is swept, U/2 over 3 rounded up
     ∷ row 21 (book 1 2 [] (variable 1 ∷ antiderivative 0 1 ∷ antiderivative 1 1 ∷ []))
-    (gives (model 1 174763 []) (ends (minus 174763) (pos 174763)) (ends (minus 349526) (pos 349526)))
+    (gives (model 1 174763 []) (ends (minus 174763) (pos 174763)) (ends (minus 349526) (pos 349526)) (mixed (pos 0) 0))
     -- an antiderivative's operand is an earlier step, its variable 1 to n
     ∷ broken 22 (antiderivative 1 1) ∷ broken 22 (antiderivative 0 0) ∷ broken 22 (antiderivative 0 2)
     ∷ []

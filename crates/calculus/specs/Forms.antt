@@ -7,7 +7,7 @@ use Rattle.calculus.specs.Key.{key-width, key-exponents}
 use Rattle.calculus.specs.Terms.{Terms}
 use Rattle.calculus.specs.Model.{Model}
 use Rattle.calculus.specs.Refusal.{Result, done}
-use Rattle.calculus.specs.Operations.{Ends}
+use Rattle.calculus.specs.Operations.{Ends, Mixed}
 use Rattle.calculus.specs.Book.{Step, Book, Summary}
 
 -- the coefficient c at a key of n variables
@@ -30,9 +30,13 @@ ends l h = record { low = l; high = h }
 unfoldable pub minus : ℕ → ℤ
 minus n = negℤ (pos n)
 
--- accepted, with a model, its range and its integral
-unfoldable pub gives : Model → Ends → Ends → Result Summary
-gives m r i = done (record { model = m; range = r; integral = i })
+-- q and r
+unfoldable pub mixed : ℤ → ℕ → Mixed
+mixed q r = record { quotient = q; remainder = r }
+
+-- accepted, with a model, its range, its integral, q and r
+unfoldable pub gives : Model → Ends → Ends → Mixed → Result Summary
+gives m r i x = done (record { model = m; range = r; integral = i; exact = x })
 
 -- 5 + 3x
 unfoldable pub line : Model
@@ -40,5 +44,5 @@ line = model 1 0 (at-key 1 0x0000 (pos 5) ∷ at-key 1 0x1000 (pos 3) ∷ [])
 
 -- all of them, for facts that compute
 unfoldable pub forms : Unit {0}
-unfolding at-key model book ends minus gives line
+unfolding at-key model book ends minus mixed gives line
 forms = tt

@@ -3,7 +3,7 @@ use mathlib.Core.Path.{_≡_, refl, sym, _∙_, ap, subst}
 use mathlib.Core.Bool.{Bool, true, false}
 use mathlib.Core.List.{List, [], _∷_, map}
 use Prim.Native.Nat.{ℕ, _*_, _^_, _≤_}
-use lib.IntN.{ℤ, pos, _+ℤ_, _*ℤ_}
+use lib.IntN.{ℤ, pos, _+ℤ_, _-ℤ_, _*ℤ_}
 use native.Mathlib.Omega.{arith}
 use Rattle.algebra.specs.Ring.{Ring, nat}
 use Rattle.algebra.specs.RingLaws.{*-zero}
@@ -26,7 +26,7 @@ use Rattle.fixed.specs.DivisionLaws.{floor-le, le-ceiling}
 use Rattle.fixed.specs.Fixed.{U}
 use Rattle.calculus.specs.Terms.{Terms, sum-over}
 use Rattle.calculus.specs.Model.{Model, _-ℚ_, Point, In-box}
-use Rattle.calculus.specs.Operations.{integral-sum, integral}
+use Rattle.calculus.specs.Operations.{Ends, integral-sum, term-by-term}
 use Rattle.calculus.specs.Outcome.{ℚ-Polynomial, value-of, exact-integral}
 use Rattle.calculus.specs.Claim.{Lies}
 use Rattle.calculus.specs.SumLaws.{ℤ-addition, if-ℤ, if-ℚ, if-so, sum-select}
@@ -37,7 +37,7 @@ open Ordered ℚO using (≤-refl)
 open Ring ℚR using (*-one, *-assoc, *-comm)
 
 -- the terms as a polynomial, with the coefficients themselves for those of units
-whole-polynomial : Terms → ℚ-Polynomial
+unfoldable pub whole-polynomial : Terms → ℚ-Polynomial
 whole-polynomial = map (λ t. record { coefficient = whole (t .coefficient); exponents = t .exponents })
 
 eval-whole : (p : Terms) (x : Point) → eval ℚR (whole-polynomial p) x ≡ scaled-value p x
@@ -76,10 +76,10 @@ module _ (n : ℕ) where
   total rule p = sum-over _+ℤ_ (pos 0) (rounded rule) p
 
   -- the integral of a term, where b says that its exponents are all even
-  term-moment : (k : List ℕ) (c : ℤ) (b : Bool) → ℚ
+  unfoldable pub term-moment : (k : List ℕ) (c : ℤ) (b : Bool) → ℚ
   term-moment k c b = whole c *ℚ if-ℚ b (natural (2 ^ n) *ℚ reciprocal (divisor n k))
 
-  moment-is : (k : List ℕ) (c : ℤ) → whole c *ℚ moment ℚF n k ≡ term-moment k c (all-even n k)
+  pub moment-is : (k : List ℕ) (c : ℤ) → whole c *ℚ moment ℚF n k ≡ term-moment k c (all-even n k)
   unfolding moment term-moment if-so
   moment-is k c = go (all-even n k)
     where
@@ -124,16 +124,33 @@ unfolding integral-sum total rounded
 total-is rule m = sum-select ℤ-addition _ (λ k c. all-even (m .vars) k) (m .terms)
 
 -- ---- the ends
-pub integral-encloses : (m : Model) (q : ℚ-Polynomial) → ((x : Point) → In-box (m .vars) x → Near m x (value-of q x))
-    → Lies (exact-integral (m .vars) q) (integral m)
-unfolding integral Near value-of exact-integral
-integral-encloses m q h = record {
-  from = whole-+ (integral-sum floor m) _ ∙ ap (λ z. whole (integral-sum floor m) +ℚ z) (whole-neg _ ∙ ap negℚ width)
-      ≡≤ +-mono ℚO (ap whole (total-is floor m) ≡≤ total-low n (m .terms) ≤≤ below) (≤-refl (negℚ w))
+-- the integral of a model's polynomial over the box, in units
+abbrev pub polynomial-integral : Model → ℚ
+polynomial-integral m = I.integral ℚF (m .vars) (whole-polynomial (m .terms))
+
+-- each term rounded down gives at most that, and rounded up at least
+pub down-below : (m : Model) → whole (integral-sum floor m) ≤ℚ polynomial-integral m
+down-below m = ap whole (total-is floor m) ≡≤ total-low (m .vars) (m .terms)
+
+pub up-above : (m : Model) → polynomial-integral m ≤ℚ whole (integral-sum ceiling m)
+up-above m = total-high (m .vars) (m .terms) ≤≡ ap whole (sym (total-is ceiling m))
+
+-- from l to h, widened by 2^n × e on both sides
+unfoldable pub widened-ends : Model → (l h : ℤ) → Ends
+widened-ends m l h = record { low = l -ℤ pos (2 ^ m .vars * m .radius); high = h +ℤ pos (2 ^ m .vars * m .radius) }
+
+-- where l and h enclose the integral of the model's polynomial, these enclose that of a polynomial within the model
+pub widened-encloses : (m : Model) (q : ℚ-Polynomial) → ((x : Point) → In-box (m .vars) x → Near m x (value-of q x))
+    → (l k : ℤ) → whole l ≤ℚ polynomial-integral m → polynomial-integral m ≤ℚ whole k
+    → Lies (exact-integral (m .vars) q) (widened-ends m l k)
+unfolding widened-ends Near value-of exact-integral
+widened-encloses m q h l k hl hk = record {
+  from = whole-+ l _ ∙ ap (λ z. whole l +ℚ z) (whole-neg _ ∙ ap negℚ width)
+      ≡≤ +-mono ℚO (hl ≤≤ below) (≤-refl (negℚ w))
       ≤≡ ring 2 ℚR (λ a w. a ⊞ w ⊟ w) (λ a w. a) refl (natural U *ℚ I.integral ℚF n q) w;
   to = above
-      ≤≤ +-mono ℚO (total-high n (m .terms) ≤≡ ap whole (sym (total-is ceiling m))) (≤-refl w)
-      ≤≡ sym (whole-+ (integral-sum ceiling m) _ ∙ ap (λ z. whole (integral-sum ceiling m) +ℚ z) width);
+      ≤≤ +-mono ℚO hk (≤-refl w)
+      ≤≡ sym (whole-+ k _ ∙ ap (λ z. whole k +ℚ z) width);
 }
   where
     n : ℕ
@@ -169,3 +186,11 @@ integral-encloses m q h = record {
 
     above : natural U *ℚ I.integral ℚF n q ≤ℚ I.integral ℚF n P +ℚ w
     above = sym (integral-scale ℚF n (natural U) q) ≡≤ integral-mono ℚF n (scale ℚR (natural U) q) P e upper
+
+-- the ends of the term-by-term rule
+pub term-by-term-encloses : (m : Model) (q : ℚ-Polynomial)
+    → ((x : Point) → In-box (m .vars) x → Near m x (value-of q x))
+    → Lies (exact-integral (m .vars) q) (term-by-term m)
+unfolding term-by-term widened-ends
+term-by-term-encloses m q h =
+    widened-encloses m q h (integral-sum floor m) (integral-sum ceiling m) (down-below m) (up-above m)

@@ -30,7 +30,7 @@ use Rattle.calculus.specs.Monomial.{index-of}
 use Rattle.calculus.specs.Model.{Model, zero-model, _/U, _-ℚ_, distance, Point, In-box, polynomial, value, At}
 use Rattle.calculus.specs.Model.{Within}
 use Rattle.calculus.specs.Refusal.{done}
-use Rattle.calculus.specs.Operations.{Ends}
+use Rattle.calculus.specs.Operations.{Ends, Mixed}
 use Rattle.calculus.specs.Book.{input, constant, variable, negate, add, multiply, substitute, sweep, Book}
 use Rattle.calculus.specs.Book.{model-of, Summary, summary, last, run}
 use Rattle.calculus.specs.Outcome.{Function, 0ℚ, coordinate, with-coordinate, ℚ-Polynomial, value-of, Inputs}
@@ -196,13 +196,25 @@ swept-radius s e c = let h : 8 ≤ s .model .radius + 0 = unfold zero-model in b
     apart = ring 2 ℚR (λ u y. u ⊠ y ⊟ u ⊠ 𝟎) (λ u y. u ⊠ y) refl (natural U) (woven-outcome down) ∙ outcome-down
 
 -- so these answers are refuted: the radius without the input's, and without the term's
-pub without-input-refuted : (r i : Ends)
-    → Claim woven (record { model = record { vars = 1; radius = 5; terms = [] }; range = r; integral = i }) → ⊥
-without-input-refuted r i c = omega (arith, swept-radius _ refl c)
+pub without-input-refuted : (r i : Ends) (x : Mixed)
+    → Claim woven (record {
+      model = record { vars = 1; radius = 5; terms = [] };
+      range = r;
+      integral = i;
+      exact = x;
+    })
+    → ⊥
+without-input-refuted r i x c = omega (arith, swept-radius _ refl c)
 
-pub without-swept-refuted : (r i : Ends)
-    → Claim woven (record { model = record { vars = 1; radius = 3; terms = [] }; range = r; integral = i }) → ⊥
-without-swept-refuted r i c = omega (arith, swept-radius _ refl c)
+pub without-swept-refuted : (r i : Ends) (x : Mixed)
+    → Claim woven (record {
+      model = record { vars = 1; radius = 3; terms = [] };
+      range = r;
+      integral = i;
+      exact = x;
+    })
+    → ⊥
+without-swept-refuted r i x c = omega (arith, swept-radius _ refl c)
 
 -- ---- these functions are no polynomials
 -- the sum of all |c|

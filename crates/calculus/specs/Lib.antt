@@ -16,6 +16,7 @@ pub mod Edges
 pub mod CallEdges
 pub mod QuotientEdges
 pub mod ShareEdges
+pub mod IntegralEdges
 -- Lists of definitions that facts by computation open.
 pub mod Computing
 -- Laws: of tests and answers, of monomials and keys, of terms.
@@ -50,6 +51,8 @@ pub mod QuotientLaws
 pub mod AntiderivativeEnclosureLaws
 pub mod EvaluateLaws
 pub mod IntegralEndsLaws
+pub mod DenominatorLaws
+pub mod ExactIntegralLaws
 -- The claim.
 pub mod OutcomeLaws
 pub mod StepKindLaws

@@ -1,7 +1,7 @@
 -- The operations on models, each with its refusals.
-use mathlib.Core.Bool.{Bool, not, _&&_}
+use mathlib.Core.Bool.{Bool, true, false, not, _&&_}
 use mathlib.Core.List.{List, [], _∷_, _++_}
-use Prim.Native.Nat.{ℕ, zero, suc, _+_, _-_, _*_, _%_, _^_, max}
+use Prim.Native.Nat.{ℕ, zero, suc, _+_, _-_, _*_, _/_, _%_, _^_, max}
 use lib.Dec.{eqb, leb, ltb}
 use lib.IntN.{ℤ, pos, negℤ, _+ℤ_, _-ℤ_, _*ℤ_, natAbs}
 use lib.ListN.{length}
@@ -9,7 +9,7 @@ use lib.Signed.{leZ}
 use Rattle.algebra.specs.IntegerRing.{ℤR}
 use Rattle.polynomial.specs.Polynomial.{product, exponent, without, raise}
 use Rattle.polynomial.specs.Integral.{all-even, divisor}
-use Rattle.fixed.specs.Division.{floor, ceiling, divided-up, nearest}
+use Rattle.fixed.specs.Division.{floor, ceiling, remainder, divided-up, nearest}
 use Rattle.fixed.specs.Fixed.{U, span-limit, round, residual, round-up}
 use Rattle.calculus.specs.Monomial.{degree, zeros, single, index-of}
 use Rattle.calculus.specs.Terms.{Terms, term, select, sum-ℕ, sum-ℤ, size, map-coefficients, map-terms}
@@ -184,18 +184,70 @@ sweep t f = record {
   terms = select (λ k c. not (is-small t k c)) (f .terms);
 }
 
--- ---- integral over the box
+-- ---- integral over the box, term by term
 -- a term with any odd exponent gives 0, others c × 2^n divided by the product of (exponent + 1), each rounded by a rule
 unfoldable pub integral-sum : (ℤ → ℕ → ℤ) → Model → ℤ
 integral-sum rule m =
     sum-ℤ (λ k c. rule (c *ℤ pos (2 ^ m .vars)) (divisor (m .vars) k)) (select (λ k c. all-even (m .vars) k) (m .terms))
 
 -- low: each rounded down, minus 2^n × e; high: each rounded up, plus 2^n × e
-unfoldable pub integral : Model → Ends
-integral m = record {
+unfoldable pub term-by-term : Model → Ends
+term-by-term m = record {
   low = integral-sum floor m -ℤ pos (2 ^ m .vars * m .radius);
   high = integral-sum ceiling m +ℤ pos (2 ^ m .vars * m .radius);
 }
+
+-- ---- integral over the box, with its remainder (request 7)
+-- it serves every even term of degree at most 15 in four variables
+unfoldable pub common-denominator : ℕ
+common-denominator = 212837625
+
+-- the polynomial part's integral times that: a term with any odd exponent gives 0, others c × 2^n × that divided by the
+-- product of (exponent + 1), which leaves nothing
+unfoldable pub integral-parts : Model → ℤ
+integral-parts m =
+    sum-ℤ (λ k c. c *ℤ pos (2 ^ m .vars * (common-denominator / divisor (m .vars) k)))
+    (select (λ k c. all-even (m .vars) k) (m .terms))
+
+-- q and r: the number q + r / 212,837,625
+pub record Mixed : Type 0 where
+  pub quotient : ℤ
+  pub remainder : ℕ
+
+-- both 0
+unfoldable pub zero-mixed : Mixed
+zero-mixed = record { quotient = pos 0; remainder = 0 }
+
+-- the polynomial part's integral, in units: q is rounded down, r from 0 to 212,837,624
+unfoldable pub exact-part : Model → Mixed
+exact-part m = record {
+  quotient = floor (integral-parts m) common-denominator;
+  remainder = remainder (integral-parts m) common-denominator;
+}
+
+-- 1 if r is not 0
+unfoldable pub one-if-any : ℕ → ℕ
+one-if-any r = elim (eqb r 0) [ true ↦ 0 | false ↦ 1 ]
+
+-- low: q - 2^n × e; high: q + 2^n × e, plus 1 if r is not 0
+unfoldable pub integral : Model → Ends
+integral m = record {
+  low = exact-part m .quotient -ℤ pos (2 ^ m .vars * m .radius);
+  high = exact-part m .quotient +ℤ pos (2 ^ m .vars * m .radius) +ℤ pos (one-if-any (exact-part m .remainder));
+}
+
+-- what a call answers: the ends, and the polynomial part's integral with its remainder
+pub record Integral : Type 0 where
+  pub ends : Ends
+  pub exact : Mixed
+
+-- both 0
+unfoldable pub zero-integral : Integral
+zero-integral = record { ends = zero-ends; exact = zero-mixed }
+
+-- of a model
+unfoldable pub whole-integral : Model → Integral
+whole-integral m = record { ends = integral m; exact = exact-part m }
 
 -- ---- evaluate at whole numbers X_1 .. X_n, standing for X_i/U
 -- the constants X_i, X_(i+1), .. put in for variables i, i + 1, .., order 15

@@ -21,7 +21,7 @@ use Rattle.fixed.specs.Fixed.{U}
 use Rattle.calculus.specs.Monomial.{index-of}
 use Rattle.calculus.specs.Model.{Model, zero-model, _/U, _-ℚ_, Point, In-box, polynomial, value, At}
 use Rattle.calculus.specs.Refusal.{done}
-use Rattle.calculus.specs.Operations.{Ends}
+use Rattle.calculus.specs.Operations.{Ends, Mixed}
 use Rattle.calculus.specs.Book.{input, constant, quotient, Book, model-of, Summary, summary, last, run}
 use Rattle.calculus.specs.Outcome.{0ℚ, coordinate, ℚ-Polynomial, value-of, Inputs, functions, input-outcome}
 use Rattle.calculus.specs.Outcome.{step-value, step-outcome, outcome-of, outcomes-after, outcomes, outcome}
@@ -149,13 +149,25 @@ least-radius e s c = let h : 12 ≤ s .model .radius + s .model .radius = bounde
         ∙ ap (λ z. whole (pos 6) +ℚ z) (sym (whole-neg (negsuc 5))) ∙ sym (whole-+ (pos 6) (pos 6))
 
 -- so these answers are refuted: h with its own radius, and the radius 3 × U / U
-pub own-radius-refuted : (r i : Ends)
-    → Claim (halved 1) (record { model = record { vars = 1; radius = 1; terms = [] }; range = r; integral = i }) → ⊥
-own-radius-refuted r i c = omega (arith, least-radius 1 _ c)
+pub own-radius-refuted : (r i : Ends) (x : Mixed)
+    → Claim (halved 1) (record {
+      model = record { vars = 1; radius = 1; terms = [] };
+      range = r;
+      integral = i;
+      exact = x;
+    })
+    → ⊥
+own-radius-refuted r i x c = omega (arith, least-radius 1 _ c)
 
-pub whole-unit-refuted : (r i : Ends)
-    → Claim (halved 1) (record { model = record { vars = 1; radius = 3; terms = [] }; range = r; integral = i }) → ⊥
-whole-unit-refuted r i c = omega (arith, least-radius 1 _ c)
+pub whole-unit-refuted : (r i : Ends) (x : Mixed)
+    → Claim (halved 1) (record {
+      model = record { vars = 1; radius = 3; terms = [] };
+      range = r;
+      integral = i;
+      exact = x;
+    })
+    → ⊥
+whole-unit-refuted r i x c = omega (arith, least-radius 1 _ c)
 
 -- if the outcome of h were the quotient's, the claim would be false of this accepted book
 unfoldable pub proposal-outcome : Inputs → Point → ℚ

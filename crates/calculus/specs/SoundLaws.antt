@@ -100,6 +100,11 @@ module _ (d : ℕ) (m : Model) where
       rising-before : T (v && c && f && z)
       rising-before = and-left (v && c && f && z) r span-before
 
+  pub sound-vars : T (sound d m) → T (between 1 most-vars (m .vars))
+  unfolding sound v c f z r s
+  sound-vars h = and-left v c (and-left (v && c) f (and-left (v && c && f) z (and-left (v && c && f && z) r
+      (and-left (v && c && f && z && r) s h))))
+
   pub parts-sound : T (between 1 most-vars (m .vars)) → Sound (m .vars) d m → T (sound d m)
   unfolding sound v c f z r s
   parts-sound b h = both (v && c && f && z && r) s

@@ -32,6 +32,6 @@ writes = tt
 unfoldable pub prints : Unit {0}
 unfolding
     reads
-    L.text L.digits L.decimal L.signed-decimal L.line L.term-line L.ends-line L.radius-line L.refusal-line
+    L.text L.digits L.decimal L.signed-decimal L.line L.term-line L.ends-line L.exact-line L.radius-line L.refusal-line
     L.lines L.printed
 prints = tt

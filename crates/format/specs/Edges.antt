@@ -7,7 +7,7 @@ use lib.IntN.{pos, negsuc, negℤ}
 use lib.ListN.{replicate, length}
 use Rattle.fixed.specs.Fixed.{U}
 use Rattle.calculus.specs.Refusal.{uncertified, done, stopped}
-use Rattle.calculus.specs.Forms.{at-key, model, ends, gives}
+use Rattle.calculus.specs.Forms.{at-key, model, ends, mixed, gives}
 use Rattle.format.specs.Bytes.{join}
 use Rattle.format.specs.HeldBook.{Held-model, Held-book}
 use Rattle.format.specs.Format.{longest, returned-book, opened, run-sheet, written}
@@ -126,7 +126,7 @@ quotient-sheet step = hex (
 -- beta is 3, and 1 from the radius of f, mu is U / 2; h and w exchanged: mu is above U; g = 2 and w = 1: mu is U
 pub edge-quotients : (run-sheet (quotient-sheet "09 00 01 02 03 00 00 00")
     ≡ gives (model 1 8 (at-key 1 0x0000 (pos 1572866) ∷ []))
-    (ends (pos 1572858) (pos 1572874)) (ends (pos 3145716) (pos 3145748)))
+    (ends (pos 1572858) (pos 1572874)) (ends (pos 3145716) (pos 3145748)) (mixed (pos 3145732) 0))
     × (run-sheet (quotient-sheet "09 00 01 03 02 00 00 00") ≡ stopped uncertified 4)
     × (run-sheet (hex ("01 00 00 00 00 00 20 00" ∷ "01 00 00 00 00 00 10 00" ∷ "09 00 00 00 01 00 00 00" ∷
     "01 02 00 03 00 00 4D 4B" ∷ [])) ≡ stopped uncertified 2)
@@ -139,10 +139,11 @@ edge-quotients = (refl, refl, refl)
 pub edge-antiderivatives : (run-sheet (hex ("02 00 00 00 02 00 00 05 00 00 00 00 10 03 00 00 00" ∷
     "00 00 00 00 00 00 00 00" ∷ "0A 00 00 01 00 00 00 00" ∷ "01 02 01 02 11 00 4D 4B" ∷ []))
     ≡ gives (model 1 3 (at-key 1 0x1000 (pos 5) ∷ at-key 1 0x2000 (pos 2) ∷ []))
-    (ends (negsuc 7) (pos 10)) (ends (negsuc 4) (pos 8)))
+    (ends (negsuc 7) (pos 10)) (ends (negsuc 4) (pos 8)) (mixed (pos 1) 70945875))
     × (run-sheet (hex ("01 00 00 00 00 00 10 00" ∷ "09 00 00 00 00 00 00 00" ∷ "0A 01 00 01 00 00 00 00" ∷
     "01 02 00 03 00 00 4D 4B" ∷ []))
-    ≡ gives (model 1 0 (at-key 1 0x1000 (pos U) ∷ [])) (ends (negℤ (pos U)) (pos U)) (ends (pos 0) (pos 0)))
+    ≡ gives (model 1 0 (at-key 1 0x1000 (pos U) ∷ [])) (ends (negℤ (pos U)) (pos U)) (ends (pos 0) (pos 0))
+    (mixed (pos 0) 0))
 unfolding reads sheet-forms
 edge-antiderivatives = (refl, refl)
 

@@ -9,7 +9,7 @@ use lib.IntN.{ℤ, pos, negsuc}
 use lib.ListN.{take}
 use Rattle.polynomial.specs.Polynomial.{Term}
 use Rattle.calculus.specs.Refusal.{number, Result, done, stopped}
-use Rattle.calculus.specs.Operations.{Ends}
+use Rattle.calculus.specs.Operations.{Ends, Mixed}
 use Rattle.calculus.specs.Book.{Summary}
 use Rattle.format.specs.Bytes.{join}
 use Rattle.format.specs.Format.{longest, run-sheet}
@@ -47,6 +47,10 @@ term-line t = line (text "term" ∷ (map decimal (t .exponents) ++ (signed-decim
 unfoldable pub ends-line : List ℕ → Ends → List ℕ
 ends-line word e = line (word ∷ signed-decimal (e .low) ∷ signed-decimal (e .high) ∷ [])
 
+-- `exact`, q and r
+unfoldable pub exact-line : Mixed → List ℕ
+exact-line x = line (text "exact" ∷ signed-decimal (x .quotient) ∷ decimal (x .remainder) ∷ [])
+
 -- `radius` and the radius
 unfoldable pub radius-line : ℕ → List ℕ
 radius-line e = line (text "radius" ∷ decimal e ∷ [])
@@ -60,7 +64,8 @@ unfoldable pub lines : Result Summary → List ℕ
 lines (done s) =
     radius-line (s .model .radius)
     ++ (join (map term-line (s .model .terms))
-    ++ (ends-line (text "range") (s .range) ++ ends-line (text "integral") (s .integral)))
+    ++ (ends-line (text "range") (s .range)
+    ++ (ends-line (text "integral") (s .integral) ++ exact-line (s .exact))))
 lines (stopped r i) = refusal-line (number r) i
 
 -- what the program prints: of its input it reads at most one byte more than the largest sheet has
