@@ -1,11 +1,12 @@
 -- The structs of a call's outcome hand back document 01's number, place and value, for every case of the outcome.
 use mathlib.Core.Path.{_≡_, refl, ap}
 use Rattle.calculus.specs.Model as C
-use Rattle.calculus.specs.Operations.{Ends}
+use Rattle.calculus.specs.Operations.{Ends, Integral, zero-integral}
 use Rattle.calculus.specs.Refusal as R
 use Rattle.calculus.specs.Refusal.{Result, done, stopped, returned}
-use Rattle.calculus.specs.Calls.{returned-model, returned-ends}
+use Rattle.calculus.specs.Calls.{returned-model, returned-ends, returned-integral}
 use Rattle.model_types.specs.ModelStruct.{pack, verdict-number, verdict-place, answer, bounds}
+use Rattle.model_types.specs.ModelStruct.{integral-answer, integral-held}
 use Rattle.model_types.specs.ModelStructLaws.{cause-refusal}
 
 -- ---- models: the number, the place
@@ -46,3 +47,20 @@ pub bounds-high : (r : Result Ends) → bounds r .high ≡ returned-ends r .valu
 unfolding bounds returned-ends returned
 bounds-high (done e) = refl
 bounds-high (stopped r i) = refl
+
+-- ---- integrals: the number, the place
+pub integral-number : (r : Result Integral) → verdict-number (integral-answer r .verdict) ≡ returned-integral r .number
+unfolding integral-answer verdict-number returned-integral returned
+integral-number (done v) = refl
+integral-number (stopped r i) = ap R.number (cause-refusal r)
+
+pub integral-place : (r : Result Integral) → verdict-place (integral-answer r .verdict) ≡ returned-integral r .place
+unfolding integral-answer verdict-place returned-integral returned
+integral-place (done v) = refl
+integral-place (stopped r i) = refl
+
+-- and the ends, q and r
+pub integral-value : (r : Result Integral) → integral-held (integral-answer r) ≡ returned-integral r .value
+unfolding integral-answer integral-held returned-integral returned zero-integral
+integral-value (done v) = refl
+integral-value (stopped r i) = refl

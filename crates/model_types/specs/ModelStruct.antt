@@ -10,7 +10,8 @@ use Rattle.calculus.specs.Key.{key-width, key, key-fits, monomial-of, key-degre
 use Rattle.calculus.specs.Terms.{term, is-nonzero}
 use Rattle.calculus.specs.Model as C
 use Rattle.calculus.specs.Model.{most-terms, zero-model}
-use Rattle.calculus.specs.Operations.{Ends, zero-ends}
+use Rattle.calculus.specs.Operations.{Ends, zero-ends, zero-mixed}
+use Rattle.calculus.specs.Operations as Op
 use Rattle.calculus.specs.Refusal as R
 use Rattle.calculus.specs.Refusal.{Result, done, stopped}
 use Rattle.model_types.specs.Arrays.{first-places, padded}
@@ -25,6 +26,7 @@ use Rattle.model_types.specs.declared.Verdict.{Verdict}
 use Rattle.model_types.specs.declared.Verdict.the-variants.{Accepted, Refused}
 use Rattle.model_types.specs.declared.Answer.{Answer}
 use Rattle.model_types.specs.declared.Bounds.{Bounds}
+use Rattle.model_types.specs.declared.Integral.{Integral}
 
 -- what stands in a place that is not used
 abbrev pub zero-term : Term
@@ -124,3 +126,27 @@ answer (stopped r i) = record { model = pack (zero-model 1); verdict = Refused (
 unfoldable pub bounds : Result Ends → Bounds
 bounds (done e) = record { low = e .low; high = e .high; verdict = Accepted }
 bounds (stopped r i) = record { low = zero-ends .low; high = zero-ends .high; verdict = Refused (refusal r) i }
+
+-- an integral, or zeros beside the refusal
+unfoldable pub integral-answer : Result Op.Integral → Integral
+integral-answer (done i) = record {
+  low = i .ends .low;
+  high = i .ends .high;
+  quotient = i .exact .quotient;
+  remainder = i .exact .remainder;
+  verdict = Accepted;
+}
+integral-answer (stopped r i) = record {
+  low = zero-ends .low;
+  high = zero-ends .high;
+  quotient = zero-mixed .quotient;
+  remainder = zero-mixed .remainder;
+  verdict = Refused (refusal r) i;
+}
+
+-- the ends, q and r that a struct holds
+unfoldable pub integral-held : Integral → Op.Integral
+integral-held i = record {
+  ends = record { low = i .low; high = i .high };
+  exact = record { quotient = i .quotient; remainder = i .remainder };
+}

@@ -13,6 +13,7 @@ ghost use Rattle.calculus.specs.Calls.{«call-constant», «call-variable»};
 ghost use Rattle.calculus.specs.Shares.{grown, «all-carried»};
 ghost use Rattle.model_types.specs.ModelStruct.{pack, «one-term», cause, answer, bounds};
 ghost use Rattle.model_types.specs.SharesStruct.{«stored-shares», «unless-refused», accounted};
+ghost use Rattle.model_types.specs.ModelStruct.{«integral-answer»};
 
 // The places of a model's terms.
 pub const MOST_TERMS: usize = 64;
@@ -84,6 +85,16 @@ pub struct Accounted {
 pub struct Bounds {
     pub low: i64,
     pub high: i64,
+    pub verdict: Verdict,
+}
+
+// The two ends of an integral, and that of the polynomial part alone: quotient + remainder / 212,837,625, exactly. All
+// are 0 beside a refusal.
+pub struct Integral {
+    pub low: i64,
+    pub high: i64,
+    pub quotient: i64,
+    pub remainder: u64,
     pub verdict: Verdict,
 }
 
@@ -237,6 +248,18 @@ pub fn refuse_bounds(refusal: Refusal, place: usize) -> Bounds
     Bounds {
         low: 0,
         high: 0,
+        verdict: Verdict::Refused(refusal, place),
+    }
+}
+
+pub fn refuse_integral(refusal: Refusal, place: usize) -> Integral
+    ensures { λ r. ⌜ r ≡ integral-answer (stopped (cause refusal) place) ⌝ }
+{
+    Integral {
+        low: 0,
+        high: 0,
+        quotient: 0,
+        remainder: 0,
         verdict: Verdict::Refused(refusal, place),
     }
 }
