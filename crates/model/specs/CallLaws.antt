@@ -26,7 +26,7 @@ module _ (f : Model) where
   unfolding call-range single-model _followed-by_
   range-is = sym (at-followed 0 _ _ _ _)
 
-  pub integral-is : call-integral f ≡ (single-model f followed-by (λ u. done (Op.integral f)))
+  pub integral-is : call-integral f ≡ (single-model f followed-by (λ u. done (Op.whole-integral f)))
   unfolding call-integral single-model _followed-by_
   integral-is = sym (at-followed 0 _ _ _ _)
 

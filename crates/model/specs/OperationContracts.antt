@@ -6,5 +6,3 @@ pub use Rattle.model_multiplication.specs.Factors.{Factors}
 pub use Rattle.model_substitution.specs.Substitute.{Substitution}
 pub use Rattle.model_proposal.specs.Proposal.{Proposal}
 pub use Rattle.product_collector.specs.CollectorContracts.{Lent-table, Free-table}
--- the rounding of a quotient
-unfoldable pub use Rattle.model_integral.specs.Rounding.{rule}

@@ -7,9 +7,10 @@ ghost use Rattle.calculus.specs.Model.{«zero-model», «one-model»};
 ghost use Rattle.calculus.specs.Calls.{call-negate, call-add, call-subtract, call-multiply, call-substitute};
 ghost use Rattle.calculus.specs.Calls.{call-sweep, call-range, call-integral, call-evaluate, call-antiderivative};
 ghost use Rattle.calculus.specs.Calls.{call-quotient};
-ghost use Rattle.model_types.specs.ModelStruct.{view, pack, answer, bounds};
+ghost use Rattle.model_types.specs.ModelStruct.{view, pack, answer, bounds, «integral-answer»};
 pub use model_types::Answer;
 pub use model_types::Bounds;
+pub use model_types::Integral;
 pub use model_types::Model;
 pub use model_types::Refusal;
 pub use model_types::Term;
@@ -91,14 +92,15 @@ pub fn range(m: Model) -> Bounds
     }
 }
 
-// The integral over the box, in units. 5.
-pub fn integral(m: Model) -> Bounds
-    ensures { λ r. ⌜ r ≡ bounds (call-integral (view m)) ⌝ }
+// The integral over the box, in units: two ends, and of the polynomial part alone a quotient and a remainder, which are
+// exact. 5.
+pub fn integral(m: Model) -> Integral
+    ensures { λ r. ⌜ r ≡ integral-answer (call-integral (view m)) ⌝ }
 {
     let v = model_call_tests::single_model(m);
     match v {
         Verdict::Accepted => model_integral::integral_of(m),
-        Verdict::Refused(refusal, place) => model_types::refuse_bounds(refusal, place),
+        Verdict::Refused(refusal, place) => model_types::refuse_integral(refusal, place),
     }
 }
 
@@ -212,7 +214,7 @@ pub use model_antiderivative::integrated_accounted;
 // The two ends of `range`, for a sound model.
 pub use model_range::range_of;
 
-// The two ends of `integral`, for a sound model.
+// The answer of `integral`, for a sound model.
 pub use model_integral::integral_of;
 
 // The answer of `add`, for two sound models in the same variables.

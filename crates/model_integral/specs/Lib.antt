@@ -1,2 +1,2 @@
-pub mod Rounding
-pub mod IntegralSizeLaws
+pub mod IntegralParts
+pub mod IntegralPartsLaws

@@ -1,15 +1,19 @@
-// The integral of a model over the box.
+// The integral of a model over the box: of its polynomial part exactly, and two ends around it.
 ghost use mathlib.Core.Path.{_≡_};
-ghost use Prim.Native.Nat.{_*_, _^_, _<_, _≤_};
+ghost use Prim.Native.Nat.{_*_, _/_, _^_, _<_, _≤_};
 ghost use lib.Dec.{T};
-ghost use lib.IntN.{natAbs, _*ℤ_};
+ghost use lib.IntN.{pos, natAbs, _*ℤ_};
+ghost use Rattle.fixed.specs.Division.{floor, remainder};
 ghost use Rattle.calculus.specs.Key.{«key-width»};
 ghost use Rattle.calculus.specs.Model.{«most-degree», sound};
 ghost use Rattle.calculus.specs.Refusal.{done};
-ghost use Rattle.calculus.specs.Operations.{«integral-sum», integral};
+ghost use Rattle.calculus.specs.Operations.{«common-denominator», «integral-parts», «one-if-any», «whole-integral»};
 ghost use Rattle.model_keys.specs.Keys.{«key-divisor»};
-ghost use Rattle.model_types.specs.ModelStruct.{view, bounds};
-ghost use Rattle.model_integral.specs.Rounding.{rule};
+ghost use Rattle.model_types.specs.ModelStruct.{view, «integral-answer»};
+ghost use Rattle.model_integral.specs.IntegralParts.{«most-parts»};
+
+// The common denominator: a multiple of the product of (exponent + 1) of every even term.
+const DENOMINATOR: u64 = 212837625;
 
 // 2^n, the volume of the box.
 fn volume(n: u8) -> u64
@@ -28,58 +32,67 @@ fn volume(n: u8) -> u64
     16
 }
 
-// A quotient, rounded up or down.
-fn divided(up: bool, z: i64, d: u64) -> i64
-    requires { ⌜ (natAbs z < 2 ^ 63) × (0 < d) ⌝ }
-    ensures { λ r. ⌜ r ≡ rule up z d ⌝ }
+// The integral of one term with even exponents, for a box of volume `scale`, in parts of the denominator.
+fn parts(scale: u64, key: u16, coefficient: i64) -> i64
+    requires { ⌜ (scale ≤ 16) × (natAbs coefficient * (16 * common-denominator) < 2 ^ 63) ⌝ }
+    ensures { λ r. ⌜ r ≡ coefficient *ℤ pos (scale * (common-denominator / key-divisor key)) ⌝ }
 {
-    if up {
-        fixed::ceiling_divided(z, d)
-    } else {
-        fixed::floor_divided(z, d)
-    }
+    let share = DENOMINATOR / model_keys::divisor(key);
+    fixed::product(coefficient, fixed::signed(scale * share))
 }
 
-// The integral of one term with even exponents, for a box of volume `scale`.
-fn share(up: bool, scale: i64, key: u16, coefficient: i64) -> i64
-    requires { ⌜ natAbs coefficient * natAbs scale < 2 ^ 63 ⌝ }
-    ensures { λ r. ⌜ r ≡ rule up (coefficient *ℤ scale) (key-divisor key) ⌝ }
-{
-    divided(
-        up,
-        fixed::product(coefficient, scale),
-        model_keys::divisor(key),
-    )
-}
-
-// The sum of the terms' integrals, each rounded by itself.
-fn integral_sum(up: bool, m: model_types::Model) -> i64
+// The sum of the terms' integrals, in parts of the denominator: nothing is rounded.
+fn integral_parts(m: model_types::Model) -> i64
     requires { ⌜ T (sound most-degree (view m)) ⌝ }
-    ensures { λ r. ⌜ r ≡ integral-sum (rule up) (view m) ⌝ }
+    ensures { λ r. ⌜ r ≡ integral-parts (view m) ⌝ }
 {
     let count = m.count;
-    let scale = fixed::signed(volume(m.n));
+    let scale = volume(m.n);
     let mut total: i64 = 0;
     let mut i = 0;
     while i < count {
         let t = m.terms[i];
         i += 1;
         if model_keys::all_even(t.key) {
-            total = fixed::sum(total, share(up, scale, t.key, t.coefficient));
+            total = fixed::sum(total, parts(scale, t.key, t.coefficient));
         }
     }
     total
 }
 
-// The integral over the box.
-pub fn integral_of(m: model_types::Model) -> model_types::Bounds
-    requires { ⌜ T (sound most-degree (view m)) ⌝ }
-    ensures { λ r. ⌜ r ≡ bounds (done (integral (view m))) ⌝ }
+// The parts above the quotient.
+fn rest(total: i64, quotient: i64) -> u64
+    requires { ⌜ (natAbs total ≤ most-parts) × (quotient ≡ floor total common-denominator) ⌝ }
+    ensures { λ r. ⌜ r ≡ remainder total common-denominator ⌝ }
 {
+    let whole = fixed::product(quotient, fixed::signed(DENOMINATOR));
+    fixed::magnitude(fixed::difference(total, whole))
+}
+
+// 1 if there are parts above the quotient.
+fn one_if_any(remainder: u64) -> u64
+    ensures { λ r. ⌜ r ≡ one-if-any remainder ⌝ }
+{
+    if remainder == 0 { 0 } else { 1 }
+}
+
+// The integral over the box: the quotient is rounded down, and the ends are 2^n times the radius around it.
+pub fn integral_of(m: model_types::Model) -> model_types::Integral
+    requires { ⌜ T (sound most-degree (view m)) ⌝ }
+    ensures { λ r. ⌜ r ≡ integral-answer (done (whole-integral (view m))) ⌝ }
+{
+    let total = integral_parts(m);
+    let quotient = fixed::floor_divided(total, DENOMINATOR);
+    let remainder = rest(total, quotient);
     let around = fixed::signed(volume(m.n) * m.radius);
-    model_types::Bounds {
-        low: fixed::difference(integral_sum(false, m), around),
-        high: fixed::sum(integral_sum(true, m), around),
+    let above = fixed::signed(one_if_any(remainder));
+    let low = fixed::difference(quotient, around);
+    let high = fixed::sum(fixed::sum(quotient, around), above);
+    model_types::Integral {
+        low: low,
+        high: high,
+        quotient: quotient,
+        remainder: remainder,
         verdict: model_types::Verdict::Accepted,
     }
 }

@@ -55,11 +55,19 @@ pub struct Ends {
     pub high: i64,
 }
 
-// The last step's result, its range and its integral; or the zero model and ends 0 beside a refusal.
+// The number quotient + remainder / 212,837,625, in units of 1/U; the remainder is below that.
+pub struct Exact {
+    pub quotient: i64,
+    pub remainder: u64,
+}
+
+// The last step's result, its range and its integral, and the integral of its polynomial part, exactly; or the zero
+// model and zeros beside a refusal.
 pub struct Summary {
     pub model: Model,
     pub range: Ends,
     pub integral: Ends,
+    pub exact: Exact,
     pub verdict: Verdict,
 }
 
@@ -96,6 +104,14 @@ impl Step {
 impl Ends {
     // The ends beside a refusal.
     pub const ZERO: Ends = Ends { low: 0, high: 0 };
+}
+
+impl Exact {
+    // Beside a refusal.
+    pub const ZERO: Exact = Exact {
+        quotient: 0,
+        remainder: 0,
+    };
 }
 
 // ---- test 3

@@ -1,7 +1,7 @@
 -- `integral` makes the tests of one model, then takes its integral.
 use mathlib.Core.Path.{_≡_, sym, _∙_, ap}
 use borrow.Author.Needs.{needs}
-use Rattle.model_types.specs.ModelStruct.{view, verdict, bounds}
+use Rattle.model_types.specs.ModelStruct.{view, verdict, integral-answer}
 use Rattle.model_types.specs.declared.Verdict.the-variants.{Accepted}
 use Rattle.model_call_tests.specs.Admission.{single-model}
 use Rattle.model_call_tests.specs.AdmissionLaws.{single-passed, goes-on, is-refused}
@@ -29,17 +29,17 @@ integral-of-requires c κs = single-passed _ (passed c)
 enum-known-v : tie.Need-enum-known-v
 enum-known-v c = search needs
 
-refuse-bounds-requires : tie.Need-refuse-bounds-requires
-refuse-bounds-requires c κs = search needs
+refuse-integral-requires : tie.Need-refuse-integral-requires
+refuse-integral-requires c κs = search needs
 
 returns : tie.Need-returns
-returns c = c .integral-of .ensures ∙ ap bounds (sym (integral-is _ ∙ goes-on _ _ (passed (c .before))))
+returns c = c .integral-of .ensures ∙ ap integral-answer (sym (integral-is _ ∙ goes-on _ _ (passed (c .before))))
 
 returns-2 : tie.Need-returns-2
 returns-2 c =
     let k = c .before .before in
     let e = sym (k .before .before .single-model .ensures) ∙ k .v .given .1 in
-    c .refuse-bounds .ensures ∙ ap bounds (sym (integral-is _ ∙ is-refused _ _ _ _ e))
+    c .refuse-integral .ensures ∙ ap integral-answer (sym (integral-is _ ∙ is-refused _ _ _ _ e))
 
 pub integral-spec : {M : Type 1} → statement M
 integral-spec =
@@ -49,6 +49,6 @@ integral-spec =
     enum-told
     integral-of-requires
     enum-known-v
-    refuse-bounds-requires
+    refuse-integral-requires
     returns
     returns-2)

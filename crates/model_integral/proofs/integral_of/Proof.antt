@@ -1,18 +1,26 @@
--- `integral_of` is the sum rounded down or up, minus or plus 2^n times the radius; all is within 2^n times the span.
-use mathlib.Core.Path.{_≡_, _∙_, ap, ap₂}
-use mathlib.Core.Bool.{Bool, true, false}
-use Prim.Native.Nat.{_+_, _*_, _^_, _<_}
+-- `integral_of` divides the parts once; the ends are 2^n times the radius around the quotient, all within 2^n times the
+-- span.
+use mathlib.Core.Path.{_≡_, refl, _∙_, ap, ap₂}
+use Prim.Native.Nat.{ℕ, _+_, _*_, _^_, _≤_, _<_}
+use native.Mathlib.Nat as NatL
 use native.Mathlib.Omega.{arith}
 use borrow.Author.Needs.{needs}
-use lib.IntN.{pos, natAbs, _+ℤ_, _-ℤ_}
+use lib.IntN.{ℤ, pos, natAbs, _+ℤ_, _-ℤ_}
 use mir.Syntax.{w64}
 use mir.Val.{toZ, ofZ}
+use Rattle.algebra.specs.Integer.{natAbs-add}
+use Rattle.fixed.specs.Division.{floor, remainder}
+use Rattle.fixed.specs.FixedLaws.{span-fits}
 use Rattle.fixed.specs.MachineLaws.{answered}
-use Rattle.calculus.specs.Operations.{integral-sum, integral}
-use Rattle.model_types.specs.ModelStruct.{view, bounds}
+use Rattle.calculus.specs.Terms.{size}
+use Rattle.calculus.specs.Model.{span}
+use Rattle.calculus.specs.Operations.{common-denominator, integral-parts, exact-part, one-if-any, integral}
+use Rattle.calculus.specs.Operations.{whole-integral}
+use Rattle.model_types.specs.ModelStruct.{view, integral-answer}
 use Rattle.model_types.specs.ModelStructLaws.{Limits, limits}
-use Rattle.model_integral.specs.Rounding.{rule}
-use Rattle.model_integral.specs.IntegralSizeLaws.{integral-within, scaled-fits}
+use Rattle.model_integral.specs.IntegralParts.{most-parts}
+use Rattle.model_integral.specs.IntegralPartsLaws.{volume-le, parts-within, scaled-within, quotient-within}
+use Rattle.model_integral.specs.IntegralPartsLaws.{one-at-most}
 use Rattle.model_integral.proofs.integral_of.Statement.{statement}
 use Rattle.model_integral.proofs.integral_of.Tie as tie
 
@@ -20,70 +28,142 @@ module _ (c : tie.Start) where
   known : Limits (c .args .m)
   known = limits _ _ (c .pre)
 
-  room : (up : Bool) → natAbs (integral-sum (rule up) (view (c .args .m))) + 2 ^ c .args .m .n * c .args .m .radius
-      < 2 ^ 63
-  unfolding view
-  room up = omega (arith, integral-within up (view (c .args .m)), scaled-fits _ _ (known .width) (known .small))
+  abbrev q : ℤ
+  q = floor (integral-parts (view (c .args .m))) common-denominator
 
--- 2^n times the radius
-product : (c : tie.After-struct-known) → c .before .volume .result * c .before .before .args .m .radius
-    ≡ 2 ^ c .before .before .args .m .n * c .before .before .args .m .radius
-product c = ap (λ v. v * c .before .before .args .m .radius) (c .before .volume .ensures)
+  abbrev wide : ℕ
+  wide = 2 ^ c .args .m .n * c .args .m .radius
+
+  few-parts : natAbs (integral-parts (view (c .args .m))) ≤ most-parts
+  unfolding view span
+  few-parts = NatL.le-trans (parts-within (view (c .args .m)))
+      (scaled-within (c .args .m .n) (size (view (c .args .m) .terms)) (known .width) (omega (arith, known .small)))
+
+  room : natAbs q + wide + 1 < 2 ^ 63
+  unfolding view
+  room = omega (
+    arith,
+    quotient-within (view (c .args .m)),
+    span-fits,
+    NatL.mul-le-mul (known .small) (volume-le (c .args .m .n) (known .width)),
+  )
+
+-- the sum, its quotient and remainder
+total : (c : tie.After-integral-parts) → toZ w64 (ofZ w64 (c .integral-parts .result))
+    ≡ integral-parts (view (c .before .args .m))
+total c = answered (c .integral-parts .ok) (c .integral-parts .ensures)
+
+quotient : (c : tie.After-floor-divided) → toZ w64 (ofZ w64 (c .floor-divided .result)) ≡ q (c .before .before)
+unfolding common-denominator
+quotient c = answered (c .floor-divided .ok)
+    (c .floor-divided .ensures ∙ ap (λ z. floor z common-denominator) (total (c .before)))
+
+above : (c : tie.After-rest) → c .rest .result
+    ≡ remainder (integral-parts (view (c .before .before .before .args .m))) common-denominator
+above c = c .rest .ensures ∙ ap (λ z. remainder z common-denominator) (total (c .before .before))
+
+-- 2^n times the radius, and 1 if there is a remainder
+product : (c : tie.After-struct-known) → c .before .volume .result * c .before .before .before .before .before .args .m .radius
+    ≡ wide (c .before .before .before .before .before)
+product c = ap (λ v. v * c .before .before .before .before .before .args .m .radius) (c .before .volume .ensures)
 
 around : (c : tie.After-signed) → toZ w64 (ofZ w64 (c .signed .result))
-    ≡ pos (2 ^ c .before .before .before .args .m .n * c .before .before .before .args .m .radius)
+    ≡ pos (wide (c .before .before .before .before .before .before))
 around c = answered (c .signed .ok) (c .signed .ensures ∙ ap pos (product (c .before)))
 
--- the two sums
-lower : (c : tie.After-integral-sum) → toZ w64 (ofZ w64 (c .integral-sum .result))
-    ≡ integral-sum (rule false) (view (c .before .before .before .before .args .m))
-lower c = answered (c .integral-sum .ok) (c .integral-sum .ensures)
+one : (c : tie.After-signed2) → toZ w64 (ofZ w64 (c .signed2 .result))
+    ≡ pos (one-if-any (c .before .before .before .before .before .rest .result))
+one c = answered (c .signed2 .ok) (c .signed2 .ensures ∙ ap pos (c .before .one-if-any .ensures))
 
-upper : (c : tie.After-integral-sum2) → toZ w64 (ofZ w64 (c .integral-sum2 .result))
-    ≡ integral-sum (rule true) (view (c .before .before .before .before .before .before .args .m))
-upper c = answered (c .integral-sum2 .ok) (c .integral-sum2 .ensures)
+-- the high end without it
+sum : (c : tie.After-sum) → toZ w64 (ofZ w64 (c .sum .result))
+    ≡ q (c .before .before .before .before .before .before .before .before .before .before)
+    +ℤ pos (wide (c .before .before .before .before .before .before .before .before .before .before))
+sum c =
+    let t = c .before .before .before .before in
+    answered (c .sum .ok)
+    (c .sum .ensures ∙ ap₂ _+ℤ_ (quotient (t .before .before .before .before)) (around t))
+
+integral-parts-requires : tie.Need-integral-parts-requires
+integral-parts-requires c κs = search needs
+
+floor-divided-requires : tie.Need-floor-divided-requires
+floor-divided-requires c κs = search needs
+
+rest-requires : tie.Need-rest-requires
+rest-requires c κs = rw (quotient c, total (c .before)) (few-parts (c .before .before), refl)
 
 volume-requires : tie.Need-volume-requires
-volume-requires c κs = (known c .some, known c .width)
+volume-requires c κs =
+    let k = known (c .before .before .before) in
+    (k .some, k .width)
 
 mul-signed : tie.Need-mul-signed
-mul-signed c = omega (arith, product c, room (c .before .before) true)
+mul-signed c = omega (arith, product c, room (c .before .before .before .before .before))
 
 signed-requires : tie.Need-signed-requires
-signed-requires c κs = omega (arith, product c, room (c .before .before) true)
+signed-requires c κs = omega (arith, product c, room (c .before .before .before .before .before))
 
-integral-sum-requires : tie.Need-integral-sum-requires
-integral-sum-requires c κs = search needs
+one-if-any-requires : tie.Need-one-if-any-requires
+one-if-any-requires c κs = search needs
+
+signed-requires-2 : tie.Need-signed-requires-2
+signed-requires-2 c κs =
+    omega (arith, c .one-if-any .ensures, one-at-most (c .before .before .before .before .rest .result))
 
 difference-requires : tie.Need-difference-requires
-difference-requires c κs = rw (lower c, around (c .before)) (room (c .before .before .before .before) false)
-
-integral-sum-requires-2 : tie.Need-integral-sum-requires-2
-integral-sum-requires-2 c κs = search needs
+difference-requires c κs =
+    let t = c .before .before in
+    rw (quotient (t .before .before .before .before), around t)
+    (omega (arith, room (t .before .before .before .before .before .before)))
 
 sum-requires : tie.Need-sum-requires
 sum-requires c κs =
-    rw (upper c, around (c .before .before .before)) (room (c .before .before .before .before .before .before) true)
+    let t = c .before .before .before in
+    rw (quotient (t .before .before .before .before), around t)
+    (omega (arith, room (t .before .before .before .before .before .before)))
+
+sum-requires-2 : tie.Need-sum-requires-2
+sum-requires-2 c κs =
+    let t = c .before .before .before .before in
+    let s = t .before .before .before .before .before .before in
+    rw (sum c, one (c .before .before))
+    (omega (
+      arith,
+      room s,
+      natAbs-add (q s) (pos (wide s)),
+      one-at-most (t .before .before .before .rest .result),
+    ))
 
 returns : tie.Need-returns
-unfolding rule integral view bounds
+unfolding integral-answer whole-integral integral exact-part view
 returns c =
-    let u = c .before in
-    let l = u .before .before in
+    let t = c .before .before .before .before .before in
+    let f = t .before .before .before .before in
+    let r = t .before .before .before in
     rw (
-      answered (u .before .difference .ok) (u .before .difference .ensures ∙ ap₂ _-ℤ_ (lower l) (around (l .before))),
-      answered (c .sum .ok) (c .sum .ensures ∙ ap₂ _+ℤ_ (upper u) (around (l .before))),
+      answered (c .before .before .difference .ok)
+          (c .before .before .difference .ensures ∙ ap₂ _-ℤ_ (quotient f) (around t)),
+      answered (c .sum2 .ok)
+          (c .sum2 .ensures
+          ∙ ap₂ _+ℤ_ (sum (c .before)) (one (c .before .before .before) ∙ ap (λ r. pos (one-if-any r)) (above r))),
+      quotient f,
+      above r,
     )
 
 pub integral-of-spec : {M : Type 1} → statement M
 integral-of-spec =
     tie.close
     (tie.spec
+    integral-parts-requires
+    floor-divided-requires
+    rest-requires
     volume-requires
     mul-signed
     signed-requires
-    integral-sum-requires
+    one-if-any-requires
+    signed-requires-2
     difference-requires
-    integral-sum-requires-2
     sum-requires
+    sum-requires-2
     returns)
