@@ -41,7 +41,8 @@ use Rattle.format.specs.Computing.{reads}
 use Rattle.format.specs.Samples.{hex, sheet-forms}
 use Rattle.format.specs.SheetClaim.{Sheet-claim}
 use Rattle.sheet_book.specs.declared.Summary.{Summary}
-use Rattle.sheet_book.specs.SummaryStruct.{stored-ends, ends-of, summary-of, refused-summary, run-answer}
+use Rattle.sheet_book.specs.SummaryStruct.{stored-ends, stored-exact, ends-of, exact-of, summary-of}
+use Rattle.sheet_book.specs.SummaryStruct.{refused-summary, run-answer}
 use Rattle.sheet_book.specs.SummaryStructLaws.{answer-number}
 use Rattle.sheet_running.specs.RunLaws.{in-limits-of}
 use Rattle.sheet.specs.Sheet.{Encloses}
@@ -115,7 +116,7 @@ over-sooner = hex ("01 00 00 00 00 00 00 40" ∷ "04 00 00 00 00 00 00 00" ∷ "
 answers : Unit {0}
 unfolding
     reads sheet-forms are-bytes nothing one one-beside minus-one over over-sooner
-    stored-ends ends-of summary-of refused-summary run-answer operands last-operands constant-part
+    stored-ends stored-exact ends-of exact-of summary-of refused-summary run-answer operands last-operands constant-part
     K.encode first-places padded view-term view pack-term pack refusal cause
     verdict-number verdict-place
 answers = tt
@@ -339,23 +340,26 @@ module _ (W : Program) (c : Enclosing W) where
   -- so it is where the model that is answered is m
   claimed-of : (at : Accepted-sheet) (m : C.Model) → model-by W (at .sheet) ≡ m
       → let s = summary-of (W (at .sheet)) in
-      Claim (book-of at) (record { model = m; range = s .range; integral = s .integral })
+      Claim (book-of at) (record { model = m; range = s .range; integral = s .integral; exact = s .exact })
   unfolding summary-of
-  claimed-of at m e = subst (λ k. Claim (book-of at)
-      (record { model = k; range = ends-of (W (at .sheet) .range); integral = ends-of (W (at .sheet) .integral) }))
-      e (claimed at)
+  claimed-of at m e = subst (λ k. Claim (book-of at) (record {
+    model = k;
+    range = ends-of (W (at .sheet) .range);
+    integral = ends-of (W (at .sheet) .integral);
+    exact = exact-of (W (at .sheet) .exact);
+  })) e (claimed at)
 
   pub passing-not-enclosing : Passes-operands W → ⊥
   unfolding answers at-minus-one accepted-at negated
-  passing-not-enclosing w = passing-refuted _ _ (claimed-of at-minus-one _ (w at-minus-one _ _ _ refl refl refl))
+  passing-not-enclosing w = passing-refuted _ _ _ (claimed-of at-minus-one _ (w at-minus-one _ _ _ refl refl refl))
 
   pub zero-not-enclosing : Gives-zero W → ⊥
   unfolding answers at-one accepted-at one-step
-  zero-not-enclosing w = radius-refutes [] _ _ _ (claimed-of at-one _ (w at-one))
+  zero-not-enclosing w = radius-refutes [] _ _ _ _ (claimed-of at-one _ (w at-one))
 
   pub handing-back-not-enclosing : Hands-back W → ⊥
   unfolding answers at-one-beside accepted-at one-step
-  handing-back-not-enclosing w = radius-refutes _ 1 _ _ (claimed-of at-one-beside _ (w at-one-beside _ refl))
+  handing-back-not-enclosing w = radius-refutes _ 1 _ _ _ (claimed-of at-one-beside _ (w at-one-beside _ refl))
 
 -- so neither does the program that refuses every sheet, with the zero model beside the refusal
 pub refusing-not-enclosing : Enclosing refusing → ⊥

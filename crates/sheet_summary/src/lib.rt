@@ -9,6 +9,7 @@ ghost use Rattle.sheet_book.specs.SummaryStruct.{«run-answer», «refused-summ
 use model_types::Model;
 use model_types::Verdict;
 use sheet_book::Ends;
+use sheet_book::Exact;
 use sheet_book::Summary;
 
 // A refused run.
@@ -19,6 +20,7 @@ pub fn refused(verdict: Verdict) -> Summary
         model: Model::ZERO,
         range: Ends::ZERO,
         integral: Ends::ZERO,
+        exact: Exact::ZERO,
         verdict: verdict,
     }
 }
@@ -39,6 +41,10 @@ pub fn summarized(m: Model) -> Summary
         integral: Ends {
             low: integral.low,
             high: integral.high,
+        },
+        exact: Exact {
+            quotient: integral.quotient,
+            remainder: integral.remainder,
         },
         verdict: Verdict::Accepted,
     }

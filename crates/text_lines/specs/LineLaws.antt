@@ -12,7 +12,7 @@ use mir.Syntax.{w64}
 use mir.Val.{toZ, ofZ, hbits}
 use Rattle.polynomial.specs.Polynomial.{Term}
 use Rattle.calculus.specs.Refusal.{Refusal, number, done, stopped}
-use Rattle.calculus.specs.Operations.{Ends}
+use Rattle.calculus.specs.Operations.{Ends, Mixed}
 use Rattle.calculus.specs.Book.{Summary}
 use Rattle.model_types.specs.declared.Model.{Model}
 use Rattle.model_types.specs.ModelStruct.{zero-term, view-term, view}
@@ -21,7 +21,7 @@ use Rattle.format.specs.BytesLaws.{join-++}
 use Rattle.format.specs.Bytes.{join}
 use Rattle.format.specs.WriteLoopLaws.{join-more}
 use Rattle.format.specs.Lines.{text, decimal, signed-decimal, line, term-line, ends-line, radius-line, refusal-line}
-use Rattle.format.specs.Lines.{lines}
+use Rattle.format.specs.Lines.{exact-line, lines}
 use Rattle.text_decimal.specs.Put.{Put, Room, natural, integer}
 use Rattle.text_decimal.specs.PutLaws.{put-nothing, _then-put_, put-as}
 use Rattle.text_lines.specs.LineParts.{ends}
@@ -48,6 +48,14 @@ ends-pieces w e = ap (λ l. w ++ l)
     (sym (append-assoc (text " ") (signed-decimal (e .high)) line-end))
     ∙ sym (append-assoc (text " ") (signed-decimal (e .low)) _))
 
+pub exact-pieces : (x : Mixed)
+    → exact-line x ≡ text "exact" ++ (integer (x .quotient) ++ (natural (x .remainder) ++ line-end))
+unfolding exact-line line integer natural
+exact-pieces x = ap (λ l. text "exact" ++ l)
+    (ap (λ l. text " " ++ (signed-decimal (x .quotient) ++ l))
+    (sym (append-assoc (text " ") (decimal (x .remainder)) line-end))
+    ∙ sym (append-assoc (text " ") (signed-decimal (x .quotient)) _))
+
 -- a word, n exponents, a coefficient
 exponents-pieces : (w c : List ℕ) (es : List ℕ)
     → line (w ∷ (map decimal es ++ (c ∷ []))) ≡ w ++ (join (map natural es) ++ ((text " " ++ c) ++ line-end))
@@ -68,7 +76,8 @@ pub lines-pieces : (s : Summary)
     → lines (done s)
     ≡ radius-line (s .model .radius)
     ++ (join (map term-line (s .model .terms))
-    ++ (ends-line (text "range") (s .range) ++ ends-line (text "integral") (s .integral)))
+    ++ (ends-line (text "range") (s .range)
+    ++ (ends-line (text "integral") (s .integral) ++ exact-line (s .exact))))
 unfolding lines
 lines-pieces s = refl
 

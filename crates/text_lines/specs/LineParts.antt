@@ -1,11 +1,11 @@
--- What a line is put from: a term by its key, two ends by their numbers.
+-- What a line is put from: a term by its key, two ends, q and r by their numbers.
 use mathlib.Core.List.{List}
 use Prim.Native.Nat.{ℕ, _≤_}
 use lib.Dec.{T}
 use lib.IntN.{ℤ}
 use Rattle.calculus.specs.Key.{key-width, key-fits, monomial-of}
 use Rattle.calculus.specs.Terms.{term}
-use Rattle.calculus.specs.Operations.{Ends}
+use Rattle.calculus.specs.Operations.{Ends, Mixed}
 use Rattle.format.specs.Lines.{term-line}
 
 -- a key without exponents above n, and an n that is not above the width of keys
@@ -20,3 +20,7 @@ key-line n key coefficient = term-line (term coefficient (monomial-of n key))
 -- two ends
 abbrev pub ends : (low high : ℤ) → Ends
 ends low high = record { low = low; high = high }
+
+-- q and r
+abbrev pub mixed : (quotient : ℤ) (remainder : ℕ) → Mixed
+mixed quotient remainder = record { quotient = quotient; remainder = remainder }

@@ -5,9 +5,9 @@ ghost use Rattle.calculus.specs.Key.{«monomial-of»};
 ghost use Rattle.calculus.specs.Model.{«most-degree», sound};
 ghost use Rattle.model_types.specs.ModelStruct.{view};
 ghost use Rattle.format.specs.Bytes.{join};
-ghost use Rattle.format.specs.Lines.{«term-line», «ends-line», «radius-line», «refusal-line»};
+ghost use Rattle.format.specs.Lines.{«term-line», «ends-line», «exact-line», «radius-line», «refusal-line»};
 ghost use Rattle.text_decimal.specs.Put.{Put, Room, natural};
-ghost use Rattle.text_lines.specs.LineParts.{ends, «Key-in», «key-line»};
+ghost use Rattle.text_lines.specs.LineParts.{ends, mixed, «Key-in», «key-line»};
 use model_types::Model;
 
 // Every function below puts its bytes where the buffer has room for them and answers the place behind them, also where
@@ -66,6 +66,17 @@ pub fn put_ends(out: &mut [u8], at: usize, word: &[u8], low: i64, high: i64) -> 
     let first = text_decimal::put_bytes(out, at, word);
     let second = text_decimal::put_integer(out, first, low);
     let next = text_decimal::put_integer(out, second, high);
+    text_decimal::put_byte(out, next, b'\n')
+}
+
+// The line of an exact integral.
+pub fn put_exact(out: &mut [u8], at: usize, quotient: i64, remainder: u64) -> usize
+    requires { ⌜ Room at (exact-line (mixed quotient remainder)) ⌝ }
+    ensures { λ r. ⌜ Put (now (out .entry)) at (exact-line (mixed quotient remainder)) (now (out .exit)) r ⌝ }
+{
+    let word = text_decimal::put_bytes(out, at, b"exact");
+    let first = text_decimal::put_integer(out, word, quotient);
+    let next = text_decimal::put_natural(out, first, remainder);
     text_decimal::put_byte(out, next, b'\n')
 }
 

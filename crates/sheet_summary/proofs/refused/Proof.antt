@@ -1,4 +1,4 @@
--- `refused` answers the zero model and ends 0.
+-- `refused` answers the zero model, ends 0, q and r 0.
 use mathlib.Core.Path.{refl}
 use Rattle.calculus.specs.Model.{most-terms, zero-model}
 use Rattle.model_types.specs.Arrays.{padded}
