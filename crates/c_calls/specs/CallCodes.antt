@@ -3,16 +3,18 @@ use mathlib.Core.Bool.{Bool, true, false, _&&_, cond}
 use mathlib.Core.List.{List, [], _∷_}
 use Prim.Native.Nat.{ℕ}
 use lib.Dec.{eqb, leb}
-use lib.IntN.{ℤ}
+use lib.IntN.{ℤ, pos}
 use Rattle.calculus.specs.Model as C
-use Rattle.calculus.specs.Refusal.{Result}
-use Rattle.calculus.specs.Operations.{Ends}
+use Rattle.calculus.specs.Refusal.{Result, done, _followed-by_}
+use Rattle.calculus.specs.Operations as Op
+use Rattle.calculus.specs.Operations.{Ends, zero-mixed}
 use Rattle.calculus.specs.Calls.{call-constant, call-variable, call-negate, call-add, call-subtract, call-multiply}
 use Rattle.calculus.specs.Calls.{call-substitute, call-sweep, call-antiderivative, call-range, call-integral}
 use Rattle.calculus.specs.Calls.{call-evaluate}
 use Rattle.model_types.specs.declared.Answer.{Answer}
 use Rattle.model_types.specs.declared.Bounds.{Bounds}
-use Rattle.model_types.specs.ModelStruct.{answer, bounds, verdict-number, verdict-place}
+use Rattle.model_types.specs.declared.Integral.{Integral}
+use Rattle.model_types.specs.ModelStruct.{answer, integral-answer, verdict-number, verdict-place}
 use Rattle.c_models.specs.HandedModels.{lent, misused, over, stored-keys, stored-coefficients, stored-numbers}
 
 -- ---- the calls by their codes
@@ -30,12 +32,21 @@ model-call code d i v f g =
     (cond (eqb code 8) (call-sweep v f)
     (call-antiderivative d i f))))))))
 
--- the call with two ends that a code names: 1 range, 2 integral, 3 evaluate
-unfoldable pub ends-call : (code : ℕ) → List ℤ → C.Model → Result Ends
+-- two ends with q and r 0
+unfoldable pub alone : Result Ends → Result Op.Integral
+alone a = a followed-by (λ e. done (record { ends = e; exact = zero-mixed }))
+
+-- and as structs
+unfoldable pub ends-alone : Bounds → Integral
+ends-alone b =
+    record { low = b .low; high = b .high; quotient = pos 0; remainder = 0; verdict = b .verdict }
+
+-- the call with two ends that a code names: 1 range, 2 integral, 3 evaluate; only an integral has q and r
+unfoldable pub ends-call : (code : ℕ) → List ℤ → C.Model → Result Op.Integral
 ends-call code xs f =
-    cond (eqb code 1) (call-range f)
+    cond (eqb code 1) (alone (call-range f))
     (cond (eqb code 2) (call-integral f)
-    (call-evaluate xs f))
+    (alone (call-evaluate xs f)))
 
 -- ---- a call that answers with a model
 -- the number that it returns, and its slices
@@ -64,7 +75,7 @@ unfoldable pub called : (fits : Bool) → Result C.Model → List ℕ → List �
 called true a ks cs ns = stored-answer (answer a) ks cs ns
 called false a ks cs ns = called-state misused ks cs ns
 
--- ---- a call that answers with two ends
+-- ---- a call that answers with two ends, q and r
 -- the number that it returns, and its slice
 pub record Called-ends : Type 0 where
   pub number : ℕ
@@ -74,16 +85,17 @@ pub record Called-ends : Type 0 where
 unfoldable pub ends-state : (number : ℕ) → List ℤ → Called-ends
 ends-state number es = record { number = number; ends = es }
 
--- two ends, over what the slice holds
-unfoldable pub stored-bounds : Bounds → List ℤ → Called-ends
-stored-bounds b es = ends-state (verdict-number (b .verdict)) (over (b .low ∷ b .high ∷ []) es)
+-- two ends, q and r, over what the slice holds
+unfoldable pub stored-integral : Integral → List ℤ → Called-ends
+stored-integral b es =
+    ends-state (verdict-number (b .verdict)) (over (b .low ∷ b .high ∷ b .quotient ∷ pos (b .remainder) ∷ []) es)
 
 -- whether the code is known and the slices are long enough
 unfoldable pub ends-call-fits : (code count keys coefficients ends : ℕ) → Bool
 ends-call-fits code count keys coefficients ends =
-    leb 1 code && leb code 3 && lent count keys coefficients && leb 2 ends
+    leb 1 code && leb code 3 && lent count keys coefficients && leb 4 ends
 
 -- a call that fits is answered, any other returns 255 and changes nothing
-unfoldable pub called-ends : (fits : Bool) → Result Ends → List ℤ → Called-ends
-called-ends true a es = stored-bounds (bounds a) es
+unfoldable pub called-ends : (fits : Bool) → Result Op.Integral → List ℤ → Called-ends
+called-ends true a es = stored-integral (integral-answer a) es
 called-ends false a es = ends-state misused es

@@ -1,13 +1,24 @@
--- What a call that fits has room for.
-use mathlib.Core.Path.{_≡_, sym, subst}
-use mathlib.Core.Bool.{true, _&&_}
-use Prim.Native.Nat.{ℕ, _≤_}
-use lib.Dec.{T, leb, leb→le}
-use Rattle.calculus.specs.Model.{most-terms}
+-- What a call that fits has room for, two ends alone as structs, and how large a remainder is.
+use mathlib.Core.Path.{_≡_, refl, sym, subst}
+use mathlib.Core.Bool.{Bool, true, false, _&&_, cond}
+use mathlib.Core.List.{List}
+use Prim.Native.Nat.{ℕ, _^_, _≤_, _<_}
+use native.Mathlib.Omega.{arith}
+use lib.Dec.{T, eqb, leb, leb→le}
+use lib.IntN.{ℤ}
+use Rattle.fixed.specs.DivisionLaws.{remainder-lt}
+use Rattle.calculus.specs.Model as C
+use Rattle.calculus.specs.Model.{most-degree, most-terms, sound}
+use Rattle.calculus.specs.Refusal.{bad-model, Result, done, stopped, require-at, _followed-by_}
+use Rattle.calculus.specs.Operations as Op
+use Rattle.calculus.specs.Operations.{Ends, zero-ends, zero-mixed, common-denominator, integral-parts, exact-part}
+use Rattle.calculus.specs.Operations.{whole-integral}
+use Rattle.calculus.specs.Calls.{call-range, call-integral, call-evaluate}
 use Rattle.calculus.specs.TestLaws.{and-right}
+use Rattle.model_types.specs.ModelStruct.{bounds, integral-answer}
 use Rattle.c_models.specs.HandedModels.{lent, answer-numbers, model-room}
 use Rattle.c_models.specs.HandedModelsLaws.{room-parts}
-use Rattle.c_calls.specs.CallCodes.{call-fits, ends-call-fits}
+use Rattle.c_calls.specs.CallCodes.{alone, ends-alone, ends-call, call-fits, ends-call-fits}
 
 pub fits-room : (code c₁ k₁ z₁ c₂ k₂ z₂ k z n : ℕ) → call-fits code c₁ k₁ z₁ c₂ k₂ z₂ (model-room k z n) ≡ true
     → (most-terms ≤ k) × (most-terms ≤ z) × (answer-numbers ≤ n)
@@ -16,7 +27,43 @@ fits-room code c₁ k₁ z₁ c₂ k₂ z₂ k z n h =
     room-parts k z n
     (and-right (leb 1 code && leb code 9 && lent c₁ k₁ z₁ && lent c₂ k₂ z₂) (model-room k z n) (subst T (sym h) tt))
 
-pub fits-ends : (code c k z e : ℕ) → ends-call-fits code c k z e ≡ true → 2 ≤ e
+pub fits-ends : (code c k z e : ℕ) → ends-call-fits code c k z e ≡ true → 4 ≤ e
 unfolding ends-call-fits
 fits-ends code c k z e h =
-    leb→le 2 e (and-right (leb 1 code && leb code 3 && lent c k z) (leb 2 e) (subst T (sym h) tt))
+    leb→le 4 e (and-right (leb 1 code && leb code 3 && lent c k z) (leb 4 e) (subst T (sym h) tt))
+
+-- ---- two ends alone
+pub alone-answer : (a : Result Ends) → ends-alone (bounds a) ≡ integral-answer (alone a)
+unfolding ends-alone alone bounds integral-answer _followed-by_ zero-ends zero-mixed
+alone-answer (done e) = refl
+alone-answer (stopped r i) = refl
+
+-- ---- the remainder of an answer fits a signed word
+pub exact-small : (m : C.Model) → exact-part m .remainder < 2 ^ 63
+unfolding exact-part common-denominator
+exact-small m = omega (arith, remainder-lt (integral-parts m) common-denominator (omega arith))
+
+small-alone : (a : Result Ends) → integral-answer (alone a) .remainder < 2 ^ 63
+unfolding alone integral-answer _followed-by_ zero-mixed
+small-alone (done e) = omega arith
+small-alone (stopped r i) = omega arith
+
+small-integral : (f : C.Model) → integral-answer (call-integral f) .remainder < 2 ^ 63
+unfolding call-integral integral-answer whole-integral require-at zero-mixed
+small-integral f = go (sound most-degree f)
+  where
+    go : (b : Bool) → integral-answer (require-at 0 b bad-model (done (whole-integral f))) .remainder < 2 ^ 63
+    go true = exact-small f
+    go false = omega arith
+
+pub ends-call-small : (code : ℕ) (xs : List ℤ) (f : C.Model)
+    → integral-answer (ends-call code xs f) .remainder < 2 ^ 63
+unfolding ends-call
+ends-call-small code xs f = go (eqb code 1) (eqb code 2)
+  where
+    go : (a b : Bool)
+        → integral-answer (cond a (alone (call-range f)) (cond b (call-integral f) (alone (call-evaluate xs f))))
+        .remainder < 2 ^ 63
+    go true b = small-alone (call-range f)
+    go false true = small-integral f
+    go false false = small-alone (call-evaluate xs f)

@@ -1,18 +1,19 @@
 // The single call that a code names, on models that are handed over, and its answer stored into slices.
 ghost use mathlib.Core.Path.{_≡_};
-ghost use Prim.Native.Nat.{_≤_};
+ghost use Prim.Native.Nat.{_^_, _<_, _≤_};
 ghost use lib.ListN.{length};
 ghost use Rattle.calculus.specs.Model.{«most-terms»};
-ghost use Rattle.model_types.specs.ModelStruct.{view, answer, bounds};
+ghost use Rattle.model_types.specs.ModelStruct.{view, answer, «integral-answer»};
 ghost use Rattle.c_models.specs.HandedModels.{«answer-numbers»};
 ghost use Rattle.c_calls.specs.CallCodes.{«model-call», «ends-call», «call-fits», «ends-call-fits»};
-ghost use Rattle.c_calls.specs.CallCodes.{«called-state», «stored-answer», «ends-state», «stored-bounds»};
+ghost use Rattle.c_calls.specs.CallCodes.{«called-state», «stored-answer», «ends-alone», «ends-state», «stored-integral»};
 use model::Answer;
 use model::Bounds;
+use model::Integral;
 use model::Model;
 
-// The ends of an answer.
-const ENDS: usize = 2;
+// The ends of an answer, and the quotient and the remainder.
+const ENDS: usize = 4;
 
 // The last code of a call that answers with a model, and of one that answers with two ends.
 const ANTIDERIVATIVE: u8 = 9;
@@ -51,17 +52,34 @@ pub fn model_call(code: u8, d: u8, i: u8, value: i64, f: Model, g: Model) -> Ans
     model::antiderivative(d, i, f)
 }
 
-// The call that a code names: 1 range, 2 integral, any other evaluate.
-pub fn ends_call(code: u8, xs: [i64; model_types::MOST_VARS as usize], f: Model) -> Bounds
-    ensures { λ r. ⌜ r ≡ bounds (ends-call code xs (view f)) ⌝ }
+// Two ends with a quotient and a remainder of 0.
+fn alone(b: Bounds) -> Integral
+    ensures { λ r. ⌜ r ≡ ends-alone b ⌝ }
+{
+    let low = b.low;
+    let high = b.high;
+    let v = b.verdict;
+    Integral {
+        low: low,
+        high: high,
+        quotient: 0,
+        remainder: 0,
+        verdict: v,
+    }
+}
+
+// The call that a code names: 1 range, 2 integral, any other evaluate. Of the three only an integral has a quotient and
+// a remainder.
+pub fn ends_call(code: u8, xs: [i64; model_types::MOST_VARS as usize], f: Model) -> Integral
+    ensures { λ r. ⌜ r ≡ integral-answer (ends-call code xs (view f)) ⌝ }
 {
     if code == 1 {
-        return model::range(f);
+        return alone(model::range(f));
     }
     if code == 2 {
         return model::integral(f);
     }
-    model::evaluate(f, xs)
+    alone(model::evaluate(f, xs))
 }
 
 // An answer goes into the slices; its number.
@@ -127,15 +145,19 @@ pub fn ends_call_fits(code: u8, count: usize, keys: usize, coefficients: usize, 
     ENDS <= ends
 }
 
-// Two ends go into a slice; the number of the refusal.
-pub fn store_ends(b: Bounds, ends: &mut [i64]) -> u8
-    requires { ⌜ 2 ≤ length (now ends) ⌝ }
-    ensures { λ r. ⌜ ends-state r (now (ends .exit)) ≡ stored-bounds b (now (ends .entry)) ⌝ }
+// Two ends, the quotient and the remainder go into a slice; the number of the refusal.
+pub fn store_ends(b: Integral, ends: &mut [i64]) -> u8
+    requires { ⌜ (4 ≤ length (now ends)) × (b .remainder < 2 ^ 63) ⌝ }
+    ensures { λ r. ⌜ ends-state r (now (ends .exit)) ≡ stored-integral b (now (ends .entry)) ⌝ }
 {
     let low = b.low;
     let high = b.high;
+    let quotient = b.quotient;
+    let remainder = fixed::signed(b.remainder);
     ends[0] = low;
     ends[1] = high;
+    ends[2] = quotient;
+    ends[3] = remainder;
     let v = b.verdict;
     c_models::verdict_number(v)
 }

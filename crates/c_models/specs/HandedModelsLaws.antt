@@ -89,6 +89,18 @@ over-four (w ∷ x ∷ []) a b c e h = absurd (omega arith)
 over-four (w ∷ x ∷ y ∷ []) a b c e h = absurd (omega arith)
 over-four (w ∷ x ∷ y ∷ z ∷ l) a b c e h = refl
 
+-- six stores
+pub over-six : {A : Type 0} (l : List A) (a b c e f g : A) → 6 ≤ length l
+    → set (set (set (set (set (set l 0 a) 1 b) 2 c) 3 e) 4 f) 5 g ≡ over (a ∷ b ∷ c ∷ e ∷ f ∷ g ∷ []) l
+unfolding over
+over-six [] a b c e f g h = absurd (omega arith)
+over-six (u ∷ []) a b c e f g h = absurd (omega arith)
+over-six (u ∷ v ∷ []) a b c e f g h = absurd (omega arith)
+over-six (u ∷ v ∷ w ∷ []) a b c e f g h = absurd (omega arith)
+over-six (u ∷ v ∷ w ∷ x ∷ []) a b c e f g h = absurd (omega arith)
+over-six (u ∷ v ∷ w ∷ x ∷ y ∷ []) a b c e f g h = absurd (omega arith)
+over-six (u ∷ v ∷ w ∷ x ∷ y ∷ z ∷ l) a b c e f g h = refl
+
 -- ---- room for an answer
 pub room-parts : (k z n : ℕ) → T (model-room k z n) → (most-terms ≤ k) × (most-terms ≤ z) × (answer-numbers ≤ n)
 unfolding model-room

@@ -4,3 +4,4 @@ pub mod SheetCalls
 pub mod SheetCallsLaws
 pub mod ShareCalls
 pub mod StepCalls
+pub mod RemainderLaws

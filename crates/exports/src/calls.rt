@@ -61,8 +61,9 @@ pub extern "C" fn hechroung_call(
     c_calls::store_answer(a, keys, coefficients, numbers)
 }
 
-// A call that answers with two ends: the refusal's number, 0 without one, or MISUSED. The ends go into the slice. The
-// coordinates are evaluate's. The place of every refusal is 0.
+// A call that answers with two ends: the refusal's number, 0 without one, or MISUSED. The ends, the quotient and the
+// remainder go into the slice; the last two are 0 but for an integral. The coordinates are evaluate's. The place of
+// every refusal is 0.
 #[no_mangle]
 pub extern "C" fn hechroung_ends(
     code: u8,

@@ -1,7 +1,7 @@
 // Sheets and books in memory, run to a model with its range and its integral.
 ghost use mathlib.Core.Path.{_≡_};
 ghost use mathlib.Core.Bool.{_&&_};
-ghost use Prim.Native.Nat.{_≤_};
+ghost use Prim.Native.Nat.{_^_, _<_, _≤_};
 ghost use lib.Dec.{leb};
 ghost use lib.ListN.{length};
 ghost use Rattle.calculus.specs.Model.{«most-terms»};
@@ -13,28 +13,33 @@ ghost use Rattle.c_models.specs.HandedModels.{«answer-numbers», «model-room�
 ghost use Rattle.c_books.specs.HandedBooks.{«step-places», «handed-steps», «model-places», «handed-models»};
 ghost use Rattle.c_books.specs.HandedBooks.{«handed-book»};
 ghost use Rattle.exports.specs.WriteCalls.{«book-fits»};
-ghost use Rattle.exports.specs.SheetCalls.{«four-ends», «run-state», «stored-summary», «called-run»};
+ghost use Rattle.exports.specs.SheetCalls.{«six-ends», «run-state», «stored-summary», «called-run»};
 use super::MISUSED;
 use super::books::book_fits;
 use sheet::Ends;
+use sheet::Exact;
 use sheet::Summary;
 
-// The ends of a run: those of the range and those of the integral.
-const ENDS: usize = 4;
+// The ends of a run: those of the range and those of the integral, the quotient and the remainder.
+const ENDS: usize = 6;
 
-// Two pairs of ends go into a slice.
-fn store_ends(range: Ends, integral: Ends, ends: &mut [i64])
-    requires { ⌜ 4 ≤ length (now ends) ⌝ }
-    ensures { λ r. ⌜ now (ends .exit) ≡ four-ends range integral (now (ends .entry)) ⌝ }
+// Two pairs of ends, the quotient and the remainder go into a slice.
+fn store_ends(range: Ends, integral: Ends, exact: Exact, ends: &mut [i64])
+    requires { ⌜ (6 ≤ length (now ends)) × (exact .remainder < 2 ^ 63) ⌝ }
+    ensures { λ r. ⌜ now (ends .exit) ≡ six-ends range integral exact (now (ends .entry)) ⌝ }
 {
     let low = range.low;
     let high = range.high;
     let least = integral.low;
     let most = integral.high;
+    let quotient = exact.quotient;
+    let remainder = fixed::signed(exact.remainder);
     ends[0] = low;
     ends[1] = high;
     ends[2] = least;
     ends[3] = most;
+    ends[4] = quotient;
+    ends[5] = remainder;
 }
 
 // What a run answers goes into the slices; the refusal's number.
@@ -46,7 +51,7 @@ pub fn store_summary(
     ends: &mut [i64],
 ) -> u8
     requires { ⌜ (most-terms ≤ length (now keys)) × (most-terms ≤ length (now coefficients))
-        × (answer-numbers ≤ length (now numbers)) × (4 ≤ length (now ends)) ⌝ }
+        × (answer-numbers ≤ length (now numbers)) × (6 ≤ length (now ends)) × (s .exact .remainder < 2 ^ 63) ⌝ }
     ensures { λ r. ⌜ run-state r (now (keys .exit)) (now (coefficients .exit)) (now (numbers .exit)) (now (ends .exit))
         ≡ stored-summary s (now (keys .entry)) (now (coefficients .entry)) (now (numbers .entry))
         (now (ends .entry)) ⌝ }
@@ -55,15 +60,16 @@ pub fn store_summary(
     let v = s.verdict;
     let range = s.range;
     let integral = s.integral;
+    let exact = s.exact;
     c_models::store_terms(m, keys, coefficients);
     c_models::store_numbers(c_models::verdict_place(v), m, numbers);
-    store_ends(range, integral, ends);
+    store_ends(range, integral, exact, ends);
     c_models::verdict_number(v)
 }
 
 // A sheet is run: the refusal's number, 0 without one, or MISUSED. The result's 64 keys and coefficients go into two
-// slices, the refusal's place, n, the count and the radius into the third, the ends of the range and of the integral
-// into the fourth.
+// slices, the refusal's place, n, the count and the radius into the third, the ends of the range and of the integral,
+// the quotient and the remainder into the fourth.
 #[no_mangle]
 pub extern "C" fn hechroung_run(
     sheet: &[u8],
@@ -74,7 +80,7 @@ pub extern "C" fn hechroung_run(
 ) -> u8
     ensures { λ r. ⌜ run-state r (now (keys .exit)) (now (coefficients .exit)) (now (numbers .exit)) (now (ends .exit))
         ≡ called-run (model-room (length (now (keys .entry))) (length (now (coefficients .entry)))
-        (length (now (numbers .entry)))) (leb 4 (length (now (ends .entry))))
+        (length (now (numbers .entry)))) (leb 6 (length (now (ends .entry))))
         (run-answer (run-sheet (now (sheet .entry))))
         (now (keys .entry)) (now (coefficients .entry)) (now (numbers .entry)) (now (ends .entry)) ⌝ }
 {
@@ -116,7 +122,7 @@ pub extern "C" fn hechroung_run_book(
         (length (now (numbers .entry)))
         && model-room (length (now (keys .entry))) (length (now (coefficients .entry)))
         (length (now (numbers .entry))))
-        (leb 4 (length (now (ends .entry))))
+        (leb 6 (length (now (ends .entry))))
         (run-answer (run-held (held-book (handed-book n d modelcount stepcount
         (handed-models (now (ns .entry)) (now (counts .entry)) (now (radii .entry)) (now (bookkeys .entry))
         (now (bookcoefficients .entry)))

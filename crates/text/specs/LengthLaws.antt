@@ -7,12 +7,13 @@ use native.Mathlib.Decide.{decLe}
 use native.Mathlib.Nat as NatL
 use native.Mathlib.Omega.{arith}
 use lib.Dec.{T, lit<}
-use lib.IntN.{ℤ, pos, negsuc, natAbs, _-ℤ_, negℤ}
+use lib.IntN.{ℤ, pos, negsuc, natAbs, _+ℤ_, _-ℤ_, negℤ}
 use lib.ListN.{length, take, drop, length-append}
 use lib.Seq.{take-append-seam}
 use Rattle.algebra.specs.Integer.{natAbs-add, natAbs-neg}
 use Rattle.polynomial.specs.Polynomial.{Term}
-use Rattle.fixed.specs.Division.{floor, ceiling}
+use Rattle.fixed.specs.Division.{floor, remainder}
+use Rattle.fixed.specs.DivisionLaws.{remainder-lt}
 use Rattle.fixed.specs.FixedLaws.{span-four-bytes}
 use Rattle.calculus.specs.Monomial.{degree}
 use Rattle.calculus.specs.Key.{key-width}
@@ -23,21 +24,21 @@ use Rattle.calculus.specs.Refusal.{Refusal, bad-length, bad-mark, bad-limits, b
 use Rattle.calculus.specs.Refusal.{over-span, too-many-terms, leaves-box, variables-differ, short-buffer}
 use Rattle.calculus.specs.Refusal.{uncertified}
 use Rattle.calculus.specs.Refusal.{number, Result, done, stopped}
-use Rattle.calculus.specs.Operations.{Ends, range, integral, integral-sum, constant-part, below, above}
+use Rattle.calculus.specs.Operations.{Ends, range, constant-part, below, above, integral, Mixed}
+use Rattle.calculus.specs.Operations.{common-denominator, integral-parts, exact-part, one-if-any}
 use Rattle.calculus.specs.Book.{Summary, summary}
 use Rattle.calculus.specs.FitsLaws.{fits-length, fits-degree}
 use Rattle.calculus.specs.SoundLaws.{sound-parts}
 use Rattle.model_types.specs.ModelStructLaws.{vars-range, sound-vars}
-use Rattle.model.specs.OperationContracts.{rule}
-use Rattle.model.specs.OperationLaws.{below-within, above-within, integral-within, volume-le}
+use Rattle.model.specs.OperationLaws.{below-within, above-within, volume-le, quotient-within, one-at-most}
 use Rattle.format.specs.Bytes.{join}
 use Rattle.format.specs.Format.{run-sheet}
 use Rattle.format.specs.Lines.{text, decimal, signed-decimal, term-line, ends-line, radius-line, refusal-line}
-use Rattle.format.specs.Lines.{lines, printed}
+use Rattle.format.specs.Lines.{exact-line, lines, printed}
 use Rattle.format.specs.LinesLaws.{decimal-digit, decimal-more}
 use Rattle.text_decimal.specs.Put.{natural, integer}
 use Rattle.text_lines.specs.LineLaws.{line-end, radius-pieces, refusal-pieces, ends-pieces, term-pieces, lines-pieces}
-use Rattle.text_lines.specs.LineLaws.{refused-line}
+use Rattle.text_lines.specs.LineLaws.{exact-pieces, refused-line}
 use Rattle.text.specs.Text.{laid, most-text}
 use Rattle.text.specs.TextLaws.{laid-whole}
 use Rattle.text.specs.RefusalPlaceLaws.{near-sheet, near-place}
@@ -95,6 +96,17 @@ ends-length k w e h l = omega (
   length-append (integer (e .high)) line-end,
   integer-length k (e .low) h,
   integer-length k (e .high) l,
+)
+
+exact-length : (x : Mixed) → natAbs (x .quotient) < 10 ^ 11 → x .remainder < 10 ^ 9 → length (exact-line x) ≤ 29
+unfolding text
+exact-length x h l = omega (
+  arith,
+  ap length (exact-pieces x),
+  length-append (integer (x .quotient)) (natural (x .remainder) ++ line-end),
+  length-append (natural (x .remainder)) line-end,
+  integer-length 10 (x .quotient) h,
+  natural-length 8 (x .remainder) l,
 )
 
 exponents-length : (es : List ℕ) → degree es < 10 ^ 2 → length (join (map natural es)) ≤ 3 * length es
@@ -165,34 +177,56 @@ module _ (m : Model) (h : T (sound most-degree m)) where
   volume : span m * 2 ^ m .vars ≤ 2 ^ 31 * 16
   volume = NatL.mul-le-mul {n₂ = 2 ^ 31} (omega (arith, small)) (volume-le (m .vars) (unfold key-width in width))
 
+  -- the quotient, the remainder, and 2^n times the radius
+  abbrev q : ℤ
+  q = floor (integral-parts m) common-denominator
+
+  abbrev r : ℕ
+  r = remainder (integral-parts m) common-denominator
+
+  abbrev w : ℕ
+  w = 2 ^ m .vars * m .radius
+
   integral-small : length (ends-line (text "integral") (integral m)) ≤ 35
-  unfolding integral text rule
+  unfolding integral exact-part text
   integral-small = omega (
     arith,
     ends-length 10 (text "integral") (integral m)
-        (omega (arith, volume, integral-within false m, natAbs-sub (integral-sum floor m) (2 ^ m .vars * m .radius)))
+        (omega (arith, volume, quotient-within m, natAbs-sub q w))
         (omega (
           arith,
           volume,
-          integral-within true m,
-          natAbs-add (integral-sum ceiling m) (pos (2 ^ m .vars * m .radius)),
+          quotient-within m,
+          natAbs-add q (pos w),
+          natAbs-add (q +ℤ pos w) (pos (one-if-any r)),
+          one-at-most r,
         )),
   )
 
-  summary-length : length (lines (done (summary m))) ≤ 1939
+  exact-small : length (exact-line (exact-part m)) ≤ 29
+  unfolding exact-part common-denominator
+  exact-small = exact-length (exact-part m) (omega (arith, volume, quotient-within m))
+      (omega (arith, remainder-lt (integral-parts m) common-denominator (omega arith)))
+
+  summary-length : length (lines (done (summary m))) ≤ 1968
   unfolding summary span
   summary-length = omega (
     arith,
     ap length (lines-pieces (summary m)),
     length-append (radius-line (m .radius)) (join (map term-line (m .terms))
-        ++ (ends-line (text "range") (range m) ++ ends-line (text "integral") (integral m))),
+        ++ (ends-line (text "range") (range m)
+        ++ (ends-line (text "integral") (integral m) ++ exact-line (exact-part m)))),
     length-append (join (map term-line (m .terms)))
-        (ends-line (text "range") (range m) ++ ends-line (text "integral") (integral m)),
-    length-append (ends-line (text "range") (range m)) (ends-line (text "integral") (integral m)),
+        (ends-line (text "range") (range m)
+        ++ (ends-line (text "integral") (integral m) ++ exact-line (exact-part m))),
+    length-append (ends-line (text "range") (range m))
+        (ends-line (text "integral") (integral m) ++ exact-line (exact-part m)),
+    length-append (ends-line (text "integral") (integral m)) (exact-line (exact-part m)),
     radius-length (m .radius) (omega (arith, small)),
     terms-small,
     range-small,
     integral-small,
+    exact-small,
   )
 
 -- ---- the text of any sheet

@@ -25,10 +25,12 @@ fn put_summary(out: &mut [u8], summary: Summary) -> usize
     let m = summary.model;
     let range = summary.range;
     let integral = summary.integral;
+    let exact = summary.exact;
     let radius = text_lines::put_radius(out, m.radius);
     let terms = text_lines::put_terms(out, radius, m);
     let next = text_lines::put_ends(out, terms, b"range", range.low, range.high);
-    text_lines::put_ends(out, next, b"integral", integral.low, integral.high)
+    let last = text_lines::put_ends(out, next, b"integral", integral.low, integral.high);
+    text_lines::put_exact(out, last, exact.quotient, exact.remainder)
 }
 
 // Runs a sheet and writes its lines from the start of the buffer, as much of them as it has room for; the rest of the
