@@ -17,8 +17,8 @@ ghost use Rattle.exports.specs.SheetCalls.{«six-ends», «run-state», 
 use super::MISUSED;
 use super::books::book_fits;
 use sheet::Ends;
-use sheet::Exact;
 use sheet::Summary;
+use sheet_book::Exact;
 
 // The ends of a run: those of the range and those of the integral, the quotient and the remainder.
 const ENDS: usize = 6;

@@ -18,7 +18,6 @@ pub use model_types::Term;
 pub use model_types::Verdict;
 pub use sheet_book::Book;
 pub use sheet_book::Ends;
-pub use sheet_book::Exact;
 pub use sheet_book::Kind;
 pub use sheet_book::Read;
 pub use sheet_book::Report;

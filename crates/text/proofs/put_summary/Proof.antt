@@ -1,18 +1,19 @@
--- `put_summary` puts the line of the radius, those of the terms, the range and the integral.
+-- `put_summary` puts the line of the radius, those of the terms, the range, the integral, and quotient and remainder.
 use mathlib.Core.Path.{_≡_, sym, ap}
 use mathlib.Core.List.{List, _++_, map}
 use Prim.Native.Nat.{ℕ}
 use borrow.Author.Needs.{needs}
+use mir.Facts.{toZ-ofZ}
 use mir.Syntax.{w64}
 use mir.Val.{toZ, ofZ}
 use Rattle.calculus.specs.Book.{Summary}
 use Rattle.model_types.specs.ModelStruct.{view}
 use Rattle.format.specs.Bytes.{join}
-use Rattle.format.specs.Lines.{text, term-line, ends-line, radius-line}
-use Rattle.sheet_book.specs.SummaryStruct.{ends-of, summary-of}
+use Rattle.format.specs.Lines.{text, term-line, ends-line, exact-line, radius-line}
+use Rattle.sheet_book.specs.SummaryStruct.{ends-of, exact-of, summary-of}
 use Rattle.text_decimal.specs.Put.{Put, Room}
 use Rattle.text_decimal.specs.PutLaws.{_then-put_, put-as, room-before, room-behind}
-use Rattle.text_lines.specs.LineParts.{ends}
+use Rattle.text_lines.specs.LineParts.{ends, mixed}
 use Rattle.text_lines.specs.LineLaws.{lines-pieces, ends-back}
 use Rattle.text.proofs.put_summary.Statement.{statement}
 use Rattle.text.proofs.put_summary.Tie as tie
@@ -34,13 +35,16 @@ module _ (c : tie.Start) where
   abbrev integral : List ℕ
   integral = ends-line (text "integral") (ends (c .args .summary .integral .low) (c .args .summary .integral .high))
 
-  whole : Room 0 (radius ++ (terms ++ (range ++ integral)))
-  unfolding view summary-of ends-of
+  abbrev exact : List ℕ
+  exact = exact-line (mixed (c .args .summary .exact .quotient) (c .args .summary .exact .remainder))
+
+  whole : Room 0 (radius ++ (terms ++ (range ++ (integral ++ exact))))
+  unfolding view summary-of ends-of exact-of
   whole = rw (lines-pieces result) at (c .pre .1)
 
 -- where each call began
 abbrev start₁ : tie.After-put-radius → tie.Start
-start₁ c = c .before .before .before .before .before .before
+start₁ c = c .before .before .before .before .before .before .before
 
 abbrev start₂ : tie.After-put-terms → tie.Start
 start₂ c = start₁ (c .before .before .before .before)
@@ -48,7 +52,10 @@ start₂ c = start₁ (c .before .before .before .before)
 abbrev start₃ : tie.After-put-ends → tie.Start
 start₃ c = start₂ (c .before .before .before .before .before .before .before)
 
--- the ends as the calls see them
+abbrev start₄ : tie.After-put-ends2 → tie.Start
+start₄ c = start₃ (c .before .before .before .before .before .before .before)
+
+-- the ends and the quotient as the calls see them
 range-is : (c : tie.After-struct-told2)
     → let s = start₂ (c .before .before .before .before .before .before) .args .summary .range in
     ends (toZ w64 (ofZ w64 (s .low))) (toZ w64 (ofZ w64 (s .high))) ≡ ends (s .low) (s .high)
@@ -59,12 +66,19 @@ integral-is : (c : tie.After-struct-told4)
     ends (toZ w64 (ofZ w64 (s .low))) (toZ w64 (ofZ w64 (s .high))) ≡ ends (s .low) (s .high)
 integral-is c = ends-back (c .struct-told4 .given .0 .1) (c .struct-told4 .given .1 .0 .1)
 
--- room behind the radius, behind the terms, and behind the range
+exact-is : (c : tie.After-struct-told5)
+    → let s = start₄ (c .before .before .before .before) .args .summary .exact in
+    mixed (toZ w64 (ofZ w64 (s .quotient))) (s .remainder) ≡ mixed (s .quotient) (s .remainder)
+exact-is c = ap (λ q. mixed q (start₄ (c .before .before .before .before) .args .summary .exact .remainder))
+    (toZ-ofZ (record { sfits = c .struct-told5 .given .0 .1 }))
+
+-- room behind the radius, behind the terms, behind the range, and behind the integral
 room₁ : (c : tie.After-put-radius)
-    → Room (c .put-radius .result) (terms (start₁ c) ++ (range (start₁ c) ++ integral (start₁ c)))
+    → Room (c .put-radius .result) (terms (start₁ c) ++ (range (start₁ c) ++ (integral (start₁ c) ++ exact (start₁ c))))
 room₁ c = room-behind (radius (start₁ c)) _ (whole (start₁ c)) (c .put-radius .ensures)
 
-room₂ : (c : tie.After-put-terms) → Room (c .put-terms .result) (range (start₂ c) ++ integral (start₂ c))
+room₂ : (c : tie.After-put-terms)
+    → Room (c .put-terms .result) (range (start₂ c) ++ (integral (start₂ c) ++ exact (start₂ c)))
 room₂ c = room-behind (terms (start₂ c)) _ (room₁ (c .before .before .before .before)) (c .put-terms .ensures)
 
 range-put : (c : tie.After-put-ends)
@@ -73,7 +87,7 @@ range-put : (c : tie.After-put-ends)
 unfolding text
 range-put c = put-as (ap (ends-line (text "range")) (range-is (c .before))) (c .put-ends .ensures)
 
-room₃ : (c : tie.After-put-ends) → Room (c .put-ends .result) (integral (start₃ c))
+room₃ : (c : tie.After-put-ends) → Room (c .put-ends .result) (integral (start₃ c) ++ exact (start₃ c))
 room₃ c =
     let p = c .before .before .before .before .before .before .before in
     room-behind (range (start₃ c)) _ (room₂ p) (range-put c)
@@ -85,9 +99,20 @@ integral-put : (c : tie.After-put-ends2)
 unfolding text
 integral-put c = put-as (ap (ends-line (text "integral")) (integral-is (c .before))) (c .put-ends2 .ensures)
 
+room₄ : (c : tie.After-put-ends2) → Room (c .put-ends2 .result) (exact (start₄ c))
+room₄ c =
+    let p = c .before .before .before .before .before .before .before in
+    room-behind (integral (start₄ c)) _ (room₃ p) (integral-put c)
+
+exact-put : (c : tie.After-put-exact)
+    → let e = c .before .before .before .before .before in
+    Put (e .put-ends2 .last .0) (e .put-ends2 .result) (exact (start₄ e)) (c .put-exact .last .0)
+    (c .put-exact .result)
+exact-put c = put-as (ap exact-line (exact-is (c .before))) (c .put-exact .ensures)
+
 put-radius-requires : tie.Need-put-radius-requires
 put-radius-requires c κs =
-    let s = c .before .before .before .before .before in
+    let s = c .before .before .before .before .before .before in
     room-before (radius s) _ (whole s)
 
 put-terms-requires : tie.Need-put-terms-requires
@@ -109,20 +134,27 @@ slice-aggregate-put-ends-2 c = search needs
 
 put-ends-requires-2 : tie.Need-put-ends-requires-2
 unfolding text
-put-ends-requires-2 c κs = rw (integral-is c) (room₃ (c .before .before .before .before .before .before))
+put-ends-requires-2 c κs =
+    let p = c .before .before .before .before .before .before in
+    rw (integral-is c) (room-before (integral (start₃ p)) _ (room₃ p))
+
+put-exact-requires : tie.Need-put-exact-requires
+put-exact-requires c κs = rw (exact-is c) (room₄ (c .before .before .before .before))
 
 same-length : tie.Need-same-length
 same-length c = search needs
 
 returns : tie.Need-returns
-unfolding view summary-of ends-of
+unfolding view summary-of ends-of exact-of
 returns c =
-    let i = c .before .before in
+    let x = c .before .before in
+    let i = x .before .before .before .before .before in
     let r = i .before .before .before .before .before .before .before in
     let t = r .before .before .before .before .before .before .before in
     let e = t .before .before .before .before in
     put-as (sym (lines-pieces (result (start₁ e))))
-    (e .put-radius .ensures then-put (t .put-terms .ensures then-put (range-put r then-put integral-put i)))
+    (e .put-radius .ensures
+    then-put (t .put-terms .ensures then-put (range-put r then-put (integral-put i then-put exact-put x))))
 
 pub put-summary-spec : {M : Type 1} → statement M
 put-summary-spec =
@@ -134,5 +166,6 @@ put-summary-spec =
     put-ends-requires
     slice-aggregate-put-ends-2
     put-ends-requires-2
+    put-exact-requires
     same-length
     returns)

@@ -6,7 +6,7 @@ use mir.Val.{toZ, ofZ}
 use borrow.Author.Needs.{needs}
 use borrow.Author.Tests.{not-true, not-false}
 use Rattle.c_calls.specs.CallCodes.{called-ends}
-use Rattle.c_calls.specs.CallCodesLaws.{fits-ends}
+use Rattle.c_calls.specs.CallCodesLaws.{fits-ends, ends-call-small}
 use Rattle.exports.proofs.calls.hechroung_ends.Statement.{statement}
 use Rattle.exports.proofs.calls.hechroung_ends.Tie as tie
 
@@ -39,8 +39,10 @@ ends-call-requires c κs = search needs
 
 store-ends-requires : tie.Need-store-ends-requires
 store-ends-requires c κs =
-    let e = c .before .before .before in
-    fits-ends _ _ _ _ _ (sym (e .before .ends-call-fits .ensures) ∙ not-false _ (e .if1 .left))
+    let e = c .before .before .before in (
+      fits-ends _ _ _ _ _ (sym (e .before .ends-call-fits .ensures) ∙ not-false _ (e .if1 .left)),
+      rw (c .before .ends-call .ensures) (ends-call-small _ _ _),
+    )
 
 same-length : tie.Need-same-length
 same-length c = search needs

@@ -4,6 +4,7 @@ use borrow.Author.Needs.{needs}
 use borrow.Author.Tests.{le-leb, lt-leb, not-true, not-false}
 use Rattle.c_models.specs.HandedModelsLaws.{room}
 use Rattle.exports.specs.SheetCalls.{called-run}
+use Rattle.exports.specs.RemainderLaws.{sheet-small}
 use Rattle.exports.proofs.runs.hechroung_run.Statement.{statement}
 use Rattle.exports.proofs.runs.hechroung_run.Tie as tie
 
@@ -18,7 +19,7 @@ returns-2 : tie.Need-returns-2
 unfolding called-run
 returns-2 c =
     let e = c .before in
-    rw (sym (e .before .model-room .ensures) ∙ not-false _ (e .if1 .left), lt-leb 4 _ (c .if2 .taken))
+    rw (sym (e .before .model-room .ensures) ∙ not-false _ (e .if1 .left), lt-leb 6 _ (c .if2 .taken))
 
 run-requires : tie.Need-run-requires
 run-requires c κs = search needs
@@ -28,7 +29,7 @@ store-summary-requires c κs =
     let e = c .before .before .before .before .before in
     let m = e .before in
     let r = room _ _ _ (sym (m .before .model-room .ensures) ∙ not-false _ (m .if1 .left)) in
-    (r .0, r .1, r .2, e .if2 .left)
+    (r .0, r .1, r .2, e .if2 .left, rw (c .before .before .before .before .run .ensures .0) (sheet-small _))
 
 same-length : tie.Need-same-length
 same-length c = search needs
@@ -53,7 +54,7 @@ returns-3 c =
       a .store-summary .ensures,
       r .run .ensures .0,
       sym (m .before .model-room .ensures) ∙ not-false _ (m .if1 .left),
-      le-leb 4 _ (e .if2 .left),
+      le-leb 6 _ (e .if2 .left),
     )
 
 pub hechroung-run-spec : {M : Type 1} → statement M

@@ -4,6 +4,7 @@ use borrow.Author.Needs.{needs}
 use borrow.Author.Tests.{le-leb, lt-leb, not-true, not-false}
 use Rattle.c_models.specs.HandedModelsLaws.{room}
 use Rattle.exports.specs.SheetCalls.{called-run}
+use Rattle.exports.specs.RemainderLaws.{held-small}
 use Rattle.exports.proofs.runs.hechroung_run_book.Statement.{statement}
 use Rattle.exports.proofs.runs.hechroung_run_book.Tie as tie
 
@@ -57,7 +58,7 @@ returns-3 c =
       sym (p .step-places .ensures),
       sym (f .book-fits .ensures) ∙ not-false _ (e .if1 .left),
       sym (r .model-room .ensures) ∙ not-false _ (m .if2 .left),
-      lt-leb 4 _ (c .if3 .taken),
+      lt-leb 6 _ (c .if3 .taken),
     )
 
 handed-book-requires : tie.Need-handed-book-requires
@@ -71,7 +72,7 @@ store-summary-requires c κs =
     let e = c .before .before .before .before .before .before in
     let m = e .before in
     let r = room _ _ _ (sym (m .before .model-room .ensures) ∙ not-false _ (m .if2 .left)) in
-    (r .0, r .1, r .2, e .if3 .left)
+    (r .0, r .1, r .2, e .if3 .left, rw (c .before .before .before .before .run-book .ensures .0) (held-small _))
 
 same-length : tie.Need-same-length
 same-length c = search needs
@@ -105,7 +106,7 @@ returns-4 c =
       sym (p .step-places .ensures),
       sym (f .book-fits .ensures) ∙ not-false _ (e .if1 .left),
       sym (r .model-room .ensures) ∙ not-false _ (m .if2 .left),
-      le-leb 4 _ (d .if3 .left),
+      le-leb 6 _ (d .if3 .left),
     )
 
 pub hechroung-run-book-spec : {M : Type 1} → statement M

@@ -1,4 +1,4 @@
--- `store_ends` stores four ends.
+-- `store_ends` stores four ends, the quotient and the remainder.
 use mathlib.Core.Path.{_≡_}
 use native.Mathlib.Omega.{arith}
 use lib.ListN.{length-set}
@@ -6,8 +6,8 @@ use mir.Facts.{toZ-ofZ}
 use mir.Syntax.{w64}
 use mir.Val.{toZ, ofZ}
 use borrow.Author.Needs.{needs}
-use Rattle.exports.specs.SheetCalls.{four-ends}
-use Rattle.c_models.specs.HandedModelsLaws.{over-four}
+use Rattle.exports.specs.SheetCalls.{six-ends}
+use Rattle.c_models.specs.HandedModelsLaws.{over-six}
 use Rattle.exports.proofs.runs.store_ends.Statement.{statement}
 use Rattle.exports.proofs.runs.store_ends.Tie as tie
 
@@ -45,7 +45,7 @@ same-length : tie.Need-same-length
 same-length c = search needs
 
 returns : tie.Need-returns
-unfolding four-ends
+unfolding six-ends
 returns c =
     let i = c .before in
     let r = i .before .before in
