@@ -18,7 +18,8 @@ use Rattle.c_calls.specs.CallCodesLaws.{exact-small}
 -- that of a book
 sound-small : (b : Book) (s : B.Summary) → run-sound b ≡ done s → s .exact .remainder < 2 ^ 63
 unfolding summary
-sound-small b s e = subst (λ (t : B.Summary). t .exact .remainder < 2 ^ 63) (sound-ran b s e .is-summary) (exact-small _)
+sound-small b s e =
+    subst (λ (t : B.Summary). t .exact .remainder < 2 ^ 63) (sound-ran b s e .is-summary) (exact-small _)
 
 -- as a struct; 0 beside a refusal
 answer-small : (a : Result B.Summary) → ((s : B.Summary) → a ≡ done s → s .exact .remainder < 2 ^ 63)

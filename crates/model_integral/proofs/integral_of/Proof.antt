@@ -63,7 +63,8 @@ above : (c : tie.After-rest) → c .rest .result
 above c = c .rest .ensures ∙ ap (λ z. remainder z common-denominator) (total (c .before .before))
 
 -- 2^n times the radius, and 1 if there is a remainder
-product : (c : tie.After-struct-known) → c .before .volume .result * c .before .before .before .before .before .args .m .radius
+product : (c : tie.After-struct-known)
+    → c .before .volume .result * c .before .before .before .before .before .args .m .radius
     ≡ wide (c .before .before .before .before .before)
 product c = ap (λ v. v * c .before .before .before .before .before .args .m .radius) (c .before .volume .ensures)
 

@@ -110,13 +110,13 @@ parts-requires c κs =
     let s = start t in (
       omega (arith, scaled (place t .before), volume-le _ (known s .width)),
       rw (read-back c)
-      (omega (
-        arith,
-        parts-fit,
-        NatL.mul-le-mul-right (16 * common-denominator)
-            (NatL.le-trans (within-span (s .args .t1) (place t .loop .i) (long s) (t .before .loop-test .taken))
-            (known s .small)),
-      )),
+          (omega (
+            arith,
+            parts-fit,
+            NatL.mul-le-mul-right (16 * common-denominator)
+                (NatL.le-trans (within-span (s .args .t1) (place t .loop .i) (long s) (t .before .loop-test .taken))
+                (known s .small)),
+          )),
     )
 
 shared : (c : tie.After-parts Inv-loop μ-loop)
