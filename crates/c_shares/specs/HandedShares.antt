@@ -19,4 +19,4 @@ stored-rows r = over (row-numbers (r .shares))
 -- whether slices of these lengths have room for a run's answer with its rows
 unfoldable pub report-room : (keys coefficients numbers ends shares : ℕ) → Bool
 report-room keys coefficients numbers ends shares =
-    model-room keys coefficients numbers && leb 4 ends && leb 256 shares
+    model-room keys coefficients numbers && leb 6 ends && leb 256 shares

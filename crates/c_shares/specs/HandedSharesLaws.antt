@@ -68,15 +68,15 @@ rows-more rows k i h w =
 
 -- ---- room
 pub report-fits : (k z n e s : ℕ) → report-room k z n e s ≡ true
-    → (most-terms ≤ k) × (most-terms ≤ z) × (answer-numbers ≤ n) × (4 ≤ e) × (256 ≤ s)
+    → (most-terms ≤ k) × (most-terms ≤ z) × (answer-numbers ≤ n) × (6 ≤ e) × (256 ≤ s)
 unfolding report-room
 report-fits k z n e s h =
     let t = subst T (sym h) tt in
-    let l = and-left (model-room k z n && leb 4 e) (leb 256 s) t in
-    let m = room-parts k z n (and-left (model-room k z n) (leb 4 e) l) in (
+    let l = and-left (model-room k z n && leb 6 e) (leb 256 s) t in
+    let m = room-parts k z n (and-left (model-room k z n) (leb 6 e) l) in (
       m .0,
       m .1,
       m .2,
-      leb→le 4 e (and-right (model-room k z n) (leb 4 e) l),
-      leb→le 256 s (and-right (model-room k z n && leb 4 e) (leb 256 s) t),
+      leb→le 6 e (and-right (model-room k z n) (leb 6 e) l),
+      leb→le 256 s (and-right (model-room k z n && leb 6 e) (leb 256 s) t),
     )

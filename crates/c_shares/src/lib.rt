@@ -5,8 +5,8 @@ ghost use lib.ListN.{length};
 ghost use Rattle.c_shares.specs.HandedShares.{«stored-rows», «report-room»};
 use sheet_book::Report;
 
-// The ends of a run: those of the range and those of the integral.
-const ENDS: usize = 4;
+// The ends of a run: those of the range and those of the integral, the quotient and the remainder.
+const ENDS: usize = 6;
 
 // The numbers of all rows.
 const ROW_NUMBERS: usize = 256;

@@ -1,7 +1,7 @@
 // Sheets and books in memory, run as in runs.rt, with where the radius of each step came from.
 ghost use mathlib.Core.Path.{_≡_};
 ghost use mathlib.Core.Bool.{_&&_};
-ghost use Prim.Native.Nat.{_≤_};
+ghost use Prim.Native.Nat.{_^_, _<_, _≤_};
 ghost use lib.ListN.{length};
 ghost use Rattle.calculus.specs.Model.{«most-terms»};
 ghost use Rattle.format.specs.Format.{«run-sheet», «sheet-rows»};
@@ -31,7 +31,8 @@ fn store_report(
     shares: &mut [u64],
 ) -> u8
     requires { ⌜ (most-terms ≤ length (now keys)) × (most-terms ≤ length (now coefficients))
-        × (answer-numbers ≤ length (now numbers)) × (4 ≤ length (now ends)) × (256 ≤ length (now shares)) ⌝ }
+        × (answer-numbers ≤ length (now numbers)) × (6 ≤ length (now ends)) × (256 ≤ length (now shares))
+        × (r .summary .exact .remainder < 2 ^ 63) ⌝ }
     ensures { λ u. ⌜ report-state (run-state u (now (keys .exit)) (now (coefficients .exit)) (now (numbers .exit))
         (now (ends .exit))) (now (shares .exit))
         ≡ stored-report r (now (keys .entry)) (now (coefficients .entry)) (now (numbers .entry))

@@ -17,13 +17,13 @@ returns-2 : tie.Need-returns-2
 unfolding report-room
 returns-2 c =
     let e = c .before in
-    rw (sym (e .before .model-room .ensures) ∙ not-false _ (e .if1 .left), lt-leb 4 _ (c .if2 .taken))
+    rw (sym (e .before .model-room .ensures) ∙ not-false _ (e .if1 .left), lt-leb 6 _ (c .if2 .taken))
 
 returns-3 : tie.Need-returns-3
 unfolding report-room
 returns-3 c =
     let e = c .before in
-    rw (sym (e .before .model-room .ensures) ∙ not-false _ (e .if1 .left), le-leb 4 _ (c .if2 .left))
+    rw (sym (e .before .model-room .ensures) ∙ not-false _ (e .if1 .left), le-leb 6 _ (c .if2 .left))
 
 pub report-room-spec : {M : Type 1} → statement M
 report-room-spec = tie.close (tie.spec model-room-requires returns returns-2 returns-3)

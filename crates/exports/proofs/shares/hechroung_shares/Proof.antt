@@ -2,7 +2,9 @@
 use mathlib.Core.Path.{sym, _∙_}
 use borrow.Author.Needs.{needs}
 use borrow.Author.Tests.{not-true, not-false}
+use Rattle.sheet_book.specs.ReportStruct.{report}
 use Rattle.c_shares.specs.HandedSharesLaws.{report-fits}
+use Rattle.exports.specs.RemainderLaws.{sheet-small}
 use Rattle.exports.specs.ShareCalls.{called-report}
 use Rattle.exports.proofs.shares.hechroung_shares.Statement.{statement}
 use Rattle.exports.proofs.shares.hechroung_shares.Tie as tie
@@ -18,9 +20,12 @@ run-reported-requires : tie.Need-run-reported-requires
 run-reported-requires c κs = search needs
 
 store-report-requires : tie.Need-store-report-requires
+unfolding report
 store-report-requires c κs =
-    let e = c .before .before .before .before .before .before in
-    report-fits _ _ _ _ _ (sym (e .before .report-room .ensures) ∙ not-false _ (e .if1 .left))
+    let r = c .before .before .before .before .before in
+    let e = r .before in
+    let f = report-fits _ _ _ _ _ (sym (e .before .report-room .ensures) ∙ not-false _ (e .if1 .left)) in
+    (f .0, f .1, f .2, f .3, f .4, rw (r .run-reported .ensures .0) (sheet-small _))
 
 same-length : tie.Need-same-length
 same-length c = search needs

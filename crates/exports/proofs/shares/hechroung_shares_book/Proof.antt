@@ -2,7 +2,9 @@
 use mathlib.Core.Path.{sym, _∙_}
 use borrow.Author.Needs.{needs}
 use borrow.Author.Tests.{not-true, not-false}
+use Rattle.sheet_book.specs.ReportStruct.{report}
 use Rattle.c_shares.specs.HandedSharesLaws.{report-fits}
+use Rattle.exports.specs.RemainderLaws.{held-small}
 use Rattle.exports.specs.ShareCalls.{called-report}
 use Rattle.exports.proofs.shares.hechroung_shares_book.Statement.{statement}
 use Rattle.exports.proofs.shares.hechroung_shares_book.Tie as tie
@@ -51,9 +53,12 @@ run-book-reported-requires : tie.Need-run-book-reported-requires
 run-book-reported-requires c κs = search needs
 
 store-report-requires : tie.Need-store-report-requires
+unfolding report
 store-report-requires c κs =
-    let m = c .before .before .before .before .before .before .before in
-    report-fits _ _ _ _ _ (sym (m .before .report-room .ensures) ∙ not-false _ (m .if2 .left))
+    let r = c .before .before .before .before .before in
+    let m = r .before .before in
+    let f = report-fits _ _ _ _ _ (sym (m .before .report-room .ensures) ∙ not-false _ (m .if2 .left)) in
+    (f .0, f .1, f .2, f .3, f .4, rw (r .run-book-reported .ensures .0) (held-small _))
 
 same-length : tie.Need-same-length
 same-length c = search needs
