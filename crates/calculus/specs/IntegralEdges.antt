@@ -5,11 +5,13 @@ use Prim.Native.Nat.{ℕ}
 use lib.IntN.{pos}
 use Rattle.calculus.specs.Model.{Model}
 use Rattle.calculus.specs.Refusal.{Result, done}
-use Rattle.calculus.specs.Operations.{Ends, Mixed, Integral}
+use Rattle.calculus.specs.Operations.{Ends, Mixed, Integral, integral-sum, term-by-term}
 use Rattle.calculus.specs.Calls.{call-integral}
+use Rattle.calculus.specs.Book.{run, returned-summary}
 use Rattle.calculus.specs.Computing.{calls}
-use Rattle.calculus.specs.Forms.{at-key, model, ends, minus, mixed, forms}
-use Rattle.calculus.specs.Edges.{one-term}
+use Rattle.calculus.specs.Forms.{at-key, model, book, ends, minus, mixed, forms}
+use Rattle.calculus.specs.Edges.{one-term, terms-from}
+use Rattle.calculus.specs.CallEdges.{back}
 
 -- a row of the table: a model, and what its integral must be
 pub record Integral-edge : Type 0 where
@@ -108,3 +110,29 @@ integral-edges =
 pub integral-edges-hold : map (λ r. call-integral (r .model)) integral-edges ≡ map (λ r. r .result) integral-edges
 unfolding calls forms one-term integrates ones integral-edges
 integral-edges-hold = refl
+
+-- ---- a refused run
+-- both are 0, beside the zero model and the ends 0
+pub refused-run-hands-back : returned-summary (run (book 1 1 [] []))
+    ≡ back 3 0 (record {
+      model = model 1 0 [];
+      range = ends (pos 0) (pos 0);
+      integral = ends (pos 0) (pos 0);
+      exact = mixed (pos 0) 0;
+    })
+unfolding calls forms back returned-summary
+refused-run-hands-back = refl
+
+-- ---- the term-by-term rule
+-- sample 1; -x^2; x^2 + x^4 and its negative, each term rounded by itself; a radius; 64 terms in two variables
+pub term-by-term-stands : map term-by-term
+    (model 1 0 (at-key 1 0x0000 (pos 262144) ∷ at-key 1 0x1000 (pos 1048576) ∷ at-key 1 0x2000 (pos 1048576) ∷ [])
+    ∷ one-term 1 0x2000 (minus 1)
+    ∷ model 1 2 (at-key 1 0x2000 (pos 1) ∷ at-key 1 0x4000 (pos 1) ∷ [])
+    ∷ model 1 0 (at-key 1 0x2000 (minus 1) ∷ at-key 1 0x4000 (minus 1) ∷ [])
+    ∷ model 2 5 []
+    ∷ model 2 0 (terms-from 1 64 (pos 1)) ∷ [])
+    ≡ ends (pos 1223338) (pos 1223339) ∷ ends (minus 1) (pos 0) ∷ ends (minus 4) (pos 6) ∷ ends (minus 2) (pos 0)
+    ∷ ends (minus 20) (pos 20) ∷ ends (pos 2) (pos 18) ∷ []
+unfolding calls forms one-term terms-from integral-sum term-by-term
+term-by-term-stands = refl
