@@ -268,7 +268,7 @@ unfolding summary
 summary-integral b s r = subst (λ (t : Summary). t .integral ≡ integral (t .model)) (r .is-summary) refl
 
 -- the denominator serves the result
-result-served : (b : Book) (s : Summary) → Passes b → run-sound b ≡ done s → Served (s .model)
+pub result-served : (b : Book) (s : Summary) → Passes b → run-sound b ≡ done s → Served (s .model)
 unfolding model-sound
 result-served b s p h = sound-served (b .order) (s .model) (order-high b p)
     (and-right (eqb (s .model .vars) (b .vars)) _ (result-sound b p s h))

@@ -135,7 +135,7 @@ module _ (m : Model) (s : Served m) where
 
   -- comparing with E is comparing with the parts
   below-E : (l : ℤ) → (l *ℤ pos D) ≤ℤ integral-parts m → whole l ≤ℚ E
-  below-E l h = sym (over-D (whole l) )
+  below-E l h = sym (over-D (whole l))
       ≡≤ *-mono ℚO (reciprocal-nonneg ℚF D D-pos)
       (*-comm _ _ ∙ sym (whole-* l (pos D)) ≡≤ whole-≤ h ≤≡ parts-are)
       ≤≡ over-D E

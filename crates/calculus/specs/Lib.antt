@@ -57,6 +57,7 @@ pub mod ExactIntegralLaws
 pub mod OutcomeLaws
 pub mod StepKindLaws
 pub mod ClaimProof
+pub mod ExactRunLaws
 pub mod ClaimFacts
 pub mod JumpFacts
 pub mod QuotientFacts
