@@ -23,6 +23,7 @@ pub mod PlaceLaws
 -- The claim about a sheet, and its proof.
 pub mod SheetClaim
 pub mod SheetClaimProof
+pub mod SheetExactLaws
 pub mod SheetRowLaws
 pub mod SheetShareLaws
 pub mod SheetRowEdges
