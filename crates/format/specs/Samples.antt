@@ -140,3 +140,9 @@ pub other-lines : (printed (hex ("01 00 00 00 00 00 00 00" ∷ "01 02 00 01 00 0
     × (printed (hex ("01 00 00 00 01 00 00 40" ∷ "01 02 00 01 00 00 4D 4B" ∷ [])) ≡ text "refused 6 0\n")
 unfolding prints sheet-forms
 other-lines = (refl, refl)
+
+-- the lines of sample 12: q is below 0, and r is not
+pub negative-lines : printed (hex ("00 00 00 00 01 00 20 FF FF FF FF" ∷ "00 00 00 00 00 00 00 00" ∷
+    "01 02 01 01 0B 00 4D 4B" ∷ [])) ≡ text "radius 0\nterm 2 -1\nrange -1 0\nintegral -1 0\nexact -1 70945875\n"
+unfolding prints sheet-forms
+negative-lines = refl
