@@ -7,7 +7,7 @@
    Answers. Every function that makes a call returns a byte:
      0                   accepted
      1 to 12             the refusal of documents 01 and 02; the answer is then the zero model in one variable, or
-                         ends 0
+                         ends 0 and the exact integral 0
      HECHROUNG_MISUSED   no call was made and nothing was written: a pointer is null, a slice is too short, or a code
                          names no call
 
@@ -30,7 +30,14 @@
 extern "C" {
 #endif
 
+/* The number of this layout. A program that hands slices to the functions declared extern can test it when it is
+   compiled: #if HECHROUNG_ABI != 2. In layout 1, whose header did not name it, `ends` of a run had 4 numbers and those
+   of a single call 2; now they have 6 and 4, with the exact integral behind the ends, and a slice that is too short for
+   it is answered with HECHROUNG_MISUSED. */
+#define HECHROUNG_ABI 2
+
 #define HECHROUNG_UNIT 1048576
+#define HECHROUNG_DENOMINATOR 212837625
 #define HECHROUNG_MOST_TERMS 64
 #define HECHROUNG_MOST_MODELS 16
 #define HECHROUNG_MOST_STEPS 64
@@ -54,13 +61,22 @@ struct hechroung_ends {
     int64_t low, high;
 };
 
-/* What a run gives: the last step's model, the ends of its range and of its integral over the box. Demand 3 of document
+/* The integral of a polynomial over the box without any rounding: quotient + remainder / HECHROUNG_DENOMINATOR units,
+   with a remainder from 0 to HECHROUNG_DENOMINATOR - 1; the quotient is rounded down, also below 0. Sums of these are
+   exact: add quotients and remainders, and carry. */
+struct hechroung_exact {
+    int64_t quotient, remainder;
+};
+
+/* What a run gives: the last step's model, the ends of its range and of its integral over the box, and the exact
+   integral of its polynomial, without its radius. Demand 3 of document
    01 holds of it, for all functions within the sheet's models and all points of the box with fraction coordinates. Of a
    sheet with an antiderivative it holds for all polynomials within them, unless a quotient feeds one, directly or
    through other steps; of a sheet with a quotient nothing is said about the integral. */
 struct hechroung_summary {
     struct hechroung_model model;
     struct hechroung_ends range, integral;
+    struct hechroung_exact exact;
 };
 
 /* Where the radius of a step came from: four whole numbers that sum to HECHROUNG_UNIT times the radius. carried is from
@@ -117,8 +133,9 @@ extern uint8_t hechroung_quotient(uint8_t d, const uint8_t *ns, size_t ns_length
                                   uint64_t *out_numbers, size_t out_numbers_length);
 
 /* A call that answers with two ends. Codes: 1 range, 2 integral, 3 evaluate at the point x1, .., x4; the others do not
-   look at the point. The place of a refusal is 0. Read: as above. Written: ends, at least 2, hold the low and the high
-   end. */
+   look at the point. The place of a refusal is 0. Read: as above. Written: ends, at least 4, hold the low and the high
+   end, and the quotient and the remainder of the exact integral; these two are 0 for range and evaluate, and beside a
+   refusal. */
 extern uint8_t hechroung_ends(uint8_t code, uint8_t n, size_t count, uint64_t radius,
                               const uint16_t *keys, size_t keys_length,
                               const int64_t *coefficients, size_t coefficients_length,
@@ -126,7 +143,8 @@ extern uint8_t hechroung_ends(uint8_t code, uint8_t n, size_t count, uint64_t ra
                               int64_t *ends, size_t ends_length);
 
 /* Runs a sheet: refusals 1 to 9, 12. Read: the sheet, of any length. Written: keys, coefficients and numbers as above;
-   ends, at least 4, hold the low and high end of the range, then those of the integral. */
+   ends, at least 6, hold the low and high end of the range, then those of the integral, then the quotient and the
+   remainder of the exact integral. */
 extern uint8_t hechroung_run(const uint8_t *sheet, size_t sheet_length,
                              uint16_t *keys, size_t keys_length, int64_t *coefficients, size_t coefficients_length,
                              uint64_t *numbers, size_t numbers_length, int64_t *ends, size_t ends_length);
@@ -322,39 +340,52 @@ static inline uint8_t hechroung_divide(uint8_t d, const struct hechroung_model *
     return number;
 }
 
+/* The exact integral is stored where `exact` is not null. */
 static inline uint8_t hechroung_ended_(uint8_t code, const struct hechroung_model *f, const int64_t point[4],
-                                       struct hechroung_ends *answer) {
-    int64_t ends[2] = {0, 0};
+                                       struct hechroung_ends *answer, struct hechroung_exact *exact) {
+    int64_t ends[4] = {0, 0, 0, 0};
     uint8_t number;
     if (f == NULL || point == NULL || answer == NULL) return HECHROUNG_MISUSED;
     number = hechroung_ends(code, f->n, f->count, f->radius,
                             f->keys, HECHROUNG_MOST_TERMS, f->coefficients, HECHROUNG_MOST_TERMS,
-                            point[0], point[1], point[2], point[3], ends, 2);
+                            point[0], point[1], point[2], point[3], ends, 4);
     answer->low = ends[0];
     answer->high = ends[1];
+    if (exact != NULL) {
+        exact->quotient = ends[2];
+        exact->remainder = ends[3];
+    }
     return number;
 }
 
 /* The range over the box: every function within the model has its values, times U, between the ends. Refusal 5. */
 static inline uint8_t hechroung_range(const struct hechroung_model *f, struct hechroung_ends *answer) {
     static const int64_t nowhere[4] = {0, 0, 0, 0};
-    return hechroung_ended_(1, f, nowhere, answer);
+    return hechroung_ended_(1, f, nowhere, answer, NULL);
 }
 
 /* The integral over the box, times U. Refusal 5. */
 static inline uint8_t hechroung_integral(const struct hechroung_model *f, struct hechroung_ends *answer) {
     static const int64_t nowhere[4] = {0, 0, 0, 0};
-    return hechroung_ended_(2, f, nowhere, answer);
+    return hechroung_ended_(2, f, nowhere, answer, NULL);
+}
+
+/* The same, with the exact integral of the polynomial. Refusal 5. */
+static inline uint8_t hechroung_integral_exact(const struct hechroung_model *f, struct hechroung_ends *answer,
+                                               struct hechroung_exact *exact) {
+    static const int64_t nowhere[4] = {0, 0, 0, 0};
+    if (exact == NULL) return HECHROUNG_MISUSED;
+    return hechroung_ended_(2, f, nowhere, answer, exact);
 }
 
 /* The values at the point X_i/U; coordinates above n are 0. Refusals 5, 6 (a coordinate above n), 9 (one outside
    -U to U), 7. */
 static inline uint8_t hechroung_evaluate(const struct hechroung_model *f, const int64_t point[4],
                                          struct hechroung_ends *answer) {
-    return hechroung_ended_(3, f, point, answer);
+    return hechroung_ended_(3, f, point, answer, NULL);
 }
 
-static inline void hechroung_summed_(const uint64_t numbers[4], const int64_t ends[4], struct hechroung_summary *answer,
+static inline void hechroung_summed_(const uint64_t numbers[4], const int64_t ends[6], struct hechroung_summary *answer,
                                      size_t *place) {
     answer->model.n = (uint8_t)numbers[1];
     answer->model.count = (size_t)numbers[2];
@@ -363,6 +394,8 @@ static inline void hechroung_summed_(const uint64_t numbers[4], const int64_t en
     answer->range.high = ends[1];
     answer->integral.low = ends[2];
     answer->integral.high = ends[3];
+    answer->exact.quotient = ends[4];
+    answer->exact.remainder = ends[5];
     if (place != NULL) *place = (size_t)numbers[0];
 }
 
@@ -370,11 +403,11 @@ static inline void hechroung_summed_(const uint64_t numbers[4], const int64_t en
 static inline uint8_t hechroung_run_sheet(const uint8_t *sheet, size_t length, struct hechroung_summary *answer,
                                           size_t *place) {
     uint64_t numbers[4] = {0, 0, 0, 0};
-    int64_t ends[4] = {0, 0, 0, 0};
+    int64_t ends[6] = {0, 0, 0, 0, 0, 0};
     uint8_t number;
     if (sheet == NULL || answer == NULL) return HECHROUNG_MISUSED;
     number = hechroung_run(sheet, length, answer->model.keys, HECHROUNG_MOST_TERMS,
-                           answer->model.coefficients, HECHROUNG_MOST_TERMS, numbers, 4, ends, 4);
+                           answer->model.coefficients, HECHROUNG_MOST_TERMS, numbers, 4, ends, 6);
     hechroung_summed_(numbers, ends, answer, place);
     return number;
 }
@@ -395,12 +428,12 @@ static inline void hechroung_shared_(const uint64_t numbers[4 * HECHROUNG_MOST_S
 static inline uint8_t hechroung_shares_sheet(const uint8_t *sheet, size_t length, struct hechroung_summary *answer,
                                              struct hechroung_shares shares[HECHROUNG_MOST_STEPS], size_t *place) {
     uint64_t numbers[4] = {0, 0, 0, 0}, rows[4 * HECHROUNG_MOST_STEPS];
-    int64_t ends[4] = {0, 0, 0, 0};
+    int64_t ends[6] = {0, 0, 0, 0, 0, 0};
     uint8_t number;
     if (sheet == NULL || answer == NULL || shares == NULL) return HECHROUNG_MISUSED;
     memset(rows, 0, sizeof rows);
     number = hechroung_shares(sheet, length, answer->model.keys, HECHROUNG_MOST_TERMS,
-                              answer->model.coefficients, HECHROUNG_MOST_TERMS, numbers, 4, ends, 4,
+                              answer->model.coefficients, HECHROUNG_MOST_TERMS, numbers, 4, ends, 6,
                               rows, 4 * HECHROUNG_MOST_STEPS);
     hechroung_summed_(numbers, ends, answer, place);
     hechroung_shared_(rows, shares);
@@ -469,7 +502,7 @@ static inline uint8_t hechroung_run_models(uint8_t n, uint8_t d,
                                            struct hechroung_summary *answer, size_t *place) {
     struct hechroung_flat_ flat;
     uint64_t numbers[4] = {0, 0, 0, 0};
-    int64_t ends[4] = {0, 0, 0, 0};
+    int64_t ends[6] = {0, 0, 0, 0, 0, 0};
     uint8_t number;
     if (answer == NULL || !hechroung_flat_(models, model_count, steps, step_count, &flat)) return HECHROUNG_MISUSED;
     number = hechroung_run_book(n, d, model_count, step_count, flat.ns, HECHROUNG_MOST_MODELS,
@@ -478,7 +511,7 @@ static inline uint8_t hechroung_run_models(uint8_t n, uint8_t d,
                                 flat.coefficients, HECHROUNG_MOST_MODELS * HECHROUNG_MOST_TERMS,
                                 flat.fields, 4 * HECHROUNG_MOST_STEPS, flat.values, HECHROUNG_MOST_STEPS,
                                 answer->model.keys, HECHROUNG_MOST_TERMS,
-                                answer->model.coefficients, HECHROUNG_MOST_TERMS, numbers, 4, ends, 4);
+                                answer->model.coefficients, HECHROUNG_MOST_TERMS, numbers, 4, ends, 6);
     hechroung_summed_(numbers, ends, answer, place);
     return number;
 }
@@ -492,7 +525,7 @@ static inline uint8_t hechroung_shares_models(uint8_t n, uint8_t d,
                                               struct hechroung_shares shares[HECHROUNG_MOST_STEPS], size_t *place) {
     struct hechroung_flat_ flat;
     uint64_t numbers[4] = {0, 0, 0, 0}, rows[4 * HECHROUNG_MOST_STEPS];
-    int64_t ends[4] = {0, 0, 0, 0};
+    int64_t ends[6] = {0, 0, 0, 0, 0, 0};
     uint8_t number;
     if (answer == NULL || shares == NULL || !hechroung_flat_(models, model_count, steps, step_count, &flat))
         return HECHROUNG_MISUSED;
@@ -503,7 +536,7 @@ static inline uint8_t hechroung_shares_models(uint8_t n, uint8_t d,
                                    flat.coefficients, HECHROUNG_MOST_MODELS * HECHROUNG_MOST_TERMS,
                                    flat.fields, 4 * HECHROUNG_MOST_STEPS, flat.values, HECHROUNG_MOST_STEPS,
                                    answer->model.keys, HECHROUNG_MOST_TERMS,
-                                   answer->model.coefficients, HECHROUNG_MOST_TERMS, numbers, 4, ends, 4,
+                                   answer->model.coefficients, HECHROUNG_MOST_TERMS, numbers, 4, ends, 6,
                                    rows, 4 * HECHROUNG_MOST_STEPS);
     hechroung_summed_(numbers, ends, answer, place);
     hechroung_shared_(rows, shares);

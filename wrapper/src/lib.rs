@@ -32,6 +32,8 @@ use std::fmt;
 
 /// U: a coefficient c stands for c / U.
 pub const UNIT: i64 = 1 << 20;
+/// D: an exact integral is so many units and so many parts of D of a unit.
+pub const DENOMINATOR: i64 = 212_837_625;
 /// The places of a model's terms.
 pub const MOST_TERMS: usize = 64;
 /// The places of a book's models and of its steps.
@@ -72,6 +74,22 @@ pub struct Answer {
 pub struct Ends {
     pub low: i64,
     pub high: i64,
+}
+
+/// The integral of a polynomial over the box without any rounding: quotient + remainder / [`DENOMINATOR`] units, with a
+/// remainder from 0 to [`DENOMINATOR`] - 1; the quotient is rounded down, also below 0.
+#[derive(Clone, Copy, Debug, Default, PartialEq, Eq)]
+pub struct Exact {
+    pub quotient: i64,
+    pub remainder: i64,
+}
+
+/// The ends of an integral and the exact one of the model's polynomial, or zeros beside a refusal.
+#[derive(Clone, Copy, Debug, PartialEq, Eq)]
+pub struct Integral {
+    pub ends: Ends,
+    pub exact: Exact,
+    pub refusal: Option<Refusal>,
 }
 
 /// Two ends, or zeros beside a refusal.
@@ -127,6 +145,13 @@ impl Answer {
 impl Bounds {
     pub fn accepted(self) -> Result<Ends, Refusal> {
         self.refusal.map_or(Ok(self.ends), Err)
+    }
+}
+
+impl Integral {
+    /// The integral, or why the call is refused.
+    pub fn accepted(self) -> Result<Integral, Refusal> {
+        self.refusal.map_or(Ok(self), Err)
     }
 }
 
@@ -246,9 +271,29 @@ pub fn range(f: &Model) -> Bounds {
     bounds(1, f, [0; 4])
 }
 
-/// The integral over the box. Refusal 5.
-pub fn integral(f: &Model) -> Bounds {
-    bounds(2, f, [0; 4])
+/// The integral over the box, with the exact one of the model's polynomial. Refusal 5.
+///
+/// ```
+/// use hechroung::{integral, Model, DENOMINATOR};
+///
+/// // 2/3 of a unit.
+/// let mut square = Model::ZERO;
+/// (square.count, square.keys[0], square.coefficients[0]) = (1, 0x2000, 1);
+/// let found = integral(&square).accepted()?;
+/// assert_eq!((found.ends.low, found.ends.high), (0, 1));
+/// assert_eq!((found.exact.quotient, found.exact.remainder), (0, DENOMINATOR / 3 * 2));
+/// # Ok::<(), hechroung::Refusal>(())
+/// ```
+pub fn integral(f: &Model) -> Integral {
+    let ([low, high, quotient, remainder], refusal) = ended(2, f, [0; 4]);
+    Integral {
+        ends: Ends { low, high },
+        exact: Exact {
+            quotient,
+            remainder,
+        },
+        refusal,
+    }
 }
 
 /// The values at the point X_1/U, .., X_n/U; coordinates above n are 0. Refusals 5, 6, 9, 7.
@@ -287,15 +332,19 @@ fn answered(call: impl FnOnce(&mut Model, &mut [u64]) -> u8) -> Answer {
     }
 }
 
-/// The place of a refused call of one model is 0.
 fn bounds(code: u8, f: &Model, point: [i64; 4]) -> Bounds {
-    let mut ends = [0; 2];
-    let number = raw::ends(code, f.handed(), point, &mut ends);
-    let [low, high] = ends;
+    let ([low, high, _, _], refusal) = ended(code, f, point);
     Bounds {
         ends: Ends { low, high },
-        refusal: refusal(number, 0),
+        refusal,
     }
+}
+
+/// What a call of one model stored: both ends, and the exact integral. The place of its refusal is 0.
+fn ended(code: u8, f: &Model, point: [i64; 4]) -> ([i64; 4], Option<Refusal>) {
+    let mut ends = [0; 4];
+    let number = raw::ends(code, f.handed(), point, &mut ends);
+    (ends, refusal(number, 0))
 }
 
 fn refusal(number: u8, place: usize) -> Option<Refusal> {

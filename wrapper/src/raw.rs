@@ -372,7 +372,8 @@ pub fn quotient(
 }
 
 /// A call that answers with two ends. Codes: 1 range, 2 integral, 3 evaluate at `point`. It returns the refusal's
-/// number, 0 without one; the low and the high end go into `ends`.
+/// number, 0 without one; the low and the high end go into `ends`, and behind them the quotient and the remainder of
+/// the exact integral, or 0 for the other codes.
 pub fn ends(code: u8, f: Handed<'_>, point: [i64; 4], ends: &mut [i64]) -> u8 {
     let [x1, x2, x3, x4] = point;
     // SAFETY: as in `call`.
@@ -397,7 +398,8 @@ pub fn ends(code: u8, f: Handed<'_>, point: [i64; 4], ends: &mut [i64]) -> u8 {
 }
 
 /// Runs a sheet: the refusal's number, 0 without one. The result goes into `keys`, `coefficients` and `numbers` as in
-/// [`call`], the ends of its range and of its integral into `ends`.
+/// [`call`]; the ends of its range, those of its integral, and the quotient and the remainder of the exact integral go
+/// into `ends`.
 pub fn run(
     sheet: &[u8],
     keys: &mut [u16],

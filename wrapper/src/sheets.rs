@@ -1,10 +1,11 @@
 //! Sheets and books.
 
 use crate::raw::{self, HandedBook};
-use crate::{narrowed, refusal, Ends, Model, Refusal};
+use crate::{narrowed, refusal, Ends, Exact, Model, Refusal};
 use crate::{LONGEST_RECORD, MOST_MODELS, MOST_STEPS, MOST_TERMS};
 
-/// What a run gives: the last step's model, its range and its integral; beside a refusal the zero model and ends 0.
+/// What a run gives: the last step's model, its range, its integral and the exact integral of its polynomial, without
+/// its radius; beside a refusal the zero model, ends 0 and the exact integral 0.
 /// Of a sheet with an antiderivative the promise holds for polynomials within its models, unless a quotient feeds one;
 /// nothing is said about the integral of a sheet with a quotient.
 #[derive(Clone, Copy, Debug, PartialEq, Eq)]
@@ -12,6 +13,7 @@ pub struct Summary {
     pub model: Model,
     pub range: Ends,
     pub integral: Ends,
+    pub exact: Exact,
     pub refusal: Option<Refusal>,
 }
 
@@ -187,19 +189,23 @@ fn reported(run: impl FnOnce(&mut Model, &mut [u64], &mut [i64], &mut [u64]) -> 
 fn summary(run: impl FnOnce(&mut Model, &mut [u64], &mut [i64]) -> u8) -> Summary {
     let mut model = Model::ZERO;
     let mut numbers = [0; 4];
-    let mut ends = [0; 4];
+    let mut ends = [0; 6];
     let number = run(&mut model, &mut numbers, &mut ends);
     let [place, n, count, radius] = numbers;
     model.n = narrowed(n);
     model.count = narrowed(count);
     model.radius = radius;
-    let [low, high, integral_low, integral_high] = ends;
+    let [low, high, integral_low, integral_high, quotient, remainder] = ends;
     Summary {
         model,
         range: Ends { low, high },
         integral: Ends {
             low: integral_low,
             high: integral_high,
+        },
+        exact: Exact {
+            quotient,
+            remainder,
         },
         refusal: refusal(number, narrowed(place)),
     }

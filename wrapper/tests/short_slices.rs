@@ -95,8 +95,8 @@ impl Room {
 }
 
 #[test]
-fn a_run_needs_64_keys_64_coefficients_4_numbers_and_4_ends() {
-    const ENOUGH: [usize; 4] = [64, 64, 4, 4];
+fn a_run_needs_64_keys_64_coefficients_4_numbers_and_6_ends() {
+    const ENOUGH: [usize; 4] = [64, 64, 4, 6];
     for short in 0..4 {
         let mut lengths = ENOUGH;
         lengths[short] -= 1;
@@ -110,7 +110,7 @@ fn a_run_needs_64_keys_64_coefficients_4_numbers_and_4_ends() {
         (room.numbers[1], room.numbers[2], room.coefficients[0]),
         (1, 1, 1)
     );
-    assert_eq!(room.ends, [1, 1, 2, 2]);
+    assert_eq!(room.ends, [1, 1, 2, 2, 2, 0]);
 }
 
 #[test]
@@ -169,7 +169,7 @@ fn short_books() -> [HandedBook<'static>; 7] {
 
 #[test]
 fn a_run_of_a_book_needs_every_model_every_step_and_room() {
-    const ENOUGH: [usize; 4] = [64, 64, 4, 4];
+    const ENOUGH: [usize; 4] = [64, 64, 4, 6];
     for (k, book) in short_books().into_iter().enumerate() {
         let mut room = Room::new(ENOUGH);
         assert_eq!(room.run_book(book), MISUSED, "slice {k}");
@@ -187,11 +187,11 @@ fn a_run_of_a_book_needs_every_model_every_step_and_room() {
     assert_eq!(room.numbers, [0, 1, 1, 0]);
     assert_eq!((room.keys[0], room.coefficients[0]), (0, 1));
     assert_eq!(room.coefficients[1..], [0; 63]);
-    assert_eq!(room.ends, [1, 1, 2, 2]);
+    assert_eq!(room.ends, [1, 1, 2, 2, 2, 0]);
 }
 
 /// Room for a run and 256 shares.
-const ENOUGH_SHARES: [usize; 5] = [64, 64, 4, 4, 256];
+const ENOUGH_SHARES: [usize; 5] = [64, 64, 4, 6, 256];
 
 #[test]
 fn shares_need_a_run_s_room_and_256_places() {
@@ -254,7 +254,7 @@ fn shares_stand_at_four_places_a_step() {
             (&room.shares[..256], room.shares[256]),
             (&rows[..], MARK.into())
         );
-        let mut plain = Room::new([64, 64, 4, 4]);
+        let mut plain = Room::new([64, 64, 4, 6]);
         assert_eq!(plain.run_book(book), number);
         assert_eq!(
             (&room.keys, &room.coefficients),
@@ -344,7 +344,7 @@ fn a_call_needs_its_places_and_room() {
         },
     ];
     for f in short {
-        let mut room = Room::new([64, 64, 4, 2]);
+        let mut room = Room::new([64, 64, 4, 4]);
         let called = raw::call(
             3,
             1,
@@ -361,7 +361,7 @@ fn a_call_needs_its_places_and_room() {
         assert!(room.unchanged());
     }
     for short in 0..3 {
-        let mut lengths = [64, 64, 4, 2];
+        let mut lengths = [64, 64, 4, 4];
         lengths[short] -= 1;
         let mut room = Room::new(lengths);
         let called = raw::call(
@@ -378,11 +378,11 @@ fn a_call_needs_its_places_and_room() {
         assert_eq!(called, MISUSED, "slice {short}");
         assert!(room.unchanged(), "slice {short}");
     }
-    let mut one = [i64::from(MARK)];
-    assert_eq!(raw::ends(1, Handed::NONE, [0; 4], &mut one), MISUSED);
-    assert_eq!(one, [i64::from(MARK)]);
+    let mut three = [i64::from(MARK); 3];
+    assert_eq!(raw::ends(1, Handed::NONE, [0; 4], &mut three), MISUSED);
+    assert_eq!(three, [i64::from(MARK); 3]);
     for code in [0, 10, 255] {
-        let mut room = Room::new([64, 64, 4, 2]);
+        let mut room = Room::new([64, 64, 4, 4]);
         let none = Handed::NONE;
         let called = raw::call(
             code,
@@ -397,6 +397,37 @@ fn a_call_needs_its_places_and_room() {
         );
         assert_eq!(called, MISUSED, "code {code}");
         assert!(room.unchanged());
+    }
+}
+
+/// The exact integral stands behind the ends; with another code, and beside a refusal, it is 0.
+#[test]
+fn an_integral_has_its_quotient_and_its_remainder() {
+    let square = Handed {
+        n: 1,
+        count: 1,
+        radius: 2,
+        keys: &[0x2000],
+        coefficients: &[-1],
+    };
+    let broken = Handed { n: 5, ..square };
+    let mark = i64::from(MARK);
+    // -2/3 of a unit; the range is 0 and -1, and 2 to either side; at 1 the value is -1.
+    for (code, model, number, ends) in [
+        (2, square, 0, [-5, 4, -1, 70_945_875]),
+        (1, square, 0, [-3, 2, 0, 0]),
+        (3, square, 0, [-3, 1, 0, 0]),
+        (2, broken, 5, [0; 4]),
+        (1, broken, 5, [0; 4]),
+    ] {
+        let mut stored = [mark; 5];
+        let point = if code == 3 {
+            [1 << 20, 0, 0, 0]
+        } else {
+            [7; 4]
+        };
+        assert_eq!(raw::ends(code, model, point, &mut stored), number);
+        assert_eq!((&stored[..4], stored[4]), (&ends[..], mark), "code {code}");
     }
 }
 

@@ -3,7 +3,7 @@
 use crate::case::Case;
 use crate::rows::Rows;
 use crate::{shaped, sheets, stepping};
-use hechroung::{Answer, Bounds, Ends, Model};
+use hechroung::{Answer, Bounds, Ends, Exact, Integral, Model};
 use reference::calls::{Call, CallAnswer};
 use reference::refusal::Refusal;
 use reference::stored::StoredModel;
@@ -69,6 +69,7 @@ pub fn compare(case: &Case) -> Result<Seen, String> {
 pub enum Proved {
     Model(Box<Answer>),
     Ends(Bounds),
+    Integral(Integral),
 }
 
 fn compare_call(call: &Call) -> Result<Seen, String> {
@@ -117,7 +118,7 @@ fn proved_answer(call: &Call) -> Proved {
             model(hechroung::antiderivative(*order, *i, &to_model(f)))
         }
         Call::Range { f } => Proved::Ends(hechroung::range(&to_model(f))),
-        Call::Integral { f } => Proved::Ends(hechroung::integral(&to_model(f))),
+        Call::Integral { f } => Proved::Integral(hechroung::integral(&to_model(f))),
         Call::Evaluate { f, point } => Proved::Ends(hechroung::evaluate(&to_model(f), *point)),
     }
 }
@@ -133,8 +134,9 @@ pub fn translated(answer: &CallAnswer) -> Proved {
             ends: to_ends(answer.ends),
             refusal: answer.refusal.map(to_refusal),
         }),
-        CallAnswer::Integral(answer) => Proved::Ends(Bounds {
+        CallAnswer::Integral(answer) => Proved::Integral(Integral {
             ends: to_ends(answer.integral.ends),
+            exact: to_exact(answer.integral.exact),
             refusal: answer.refusal.map(to_refusal),
         }),
     }
@@ -162,5 +164,13 @@ pub fn to_ends(ends: reference::operations::Ends) -> Ends {
     Ends {
         low: narrowed(ends.low),
         high: narrowed(ends.high),
+    }
+}
+
+pub fn to_exact(exact: reference::operations::Exact) -> Exact {
+    let narrowed = |part| i64::try_from(part).expect("both parts are below 2^63");
+    Exact {
+        quotient: narrowed(exact.quotient),
+        remainder: narrowed(exact.remainder),
     }
 }

@@ -1,7 +1,7 @@
 //! The exported functions themselves, with slices of any length and any code: what is too short or unknown is answered
 //! with 255 and changes nothing, and what lies beyond an answer stays.
 
-use crate::agree::{pair, same, to_ends, to_model, Seen};
+use crate::agree::{pair, same, to_ends, to_exact, to_model, Seen};
 use crate::case::Bytes;
 use hechroung::raw::{self, Handed, HandedModels, MISUSED};
 use hechroung::Model;
@@ -102,21 +102,14 @@ pub fn compare(call: &Call, shape: &Shape) -> Result<Seen, String> {
         }
         CallAnswer::Ends(answer) => {
             let ends = to_ends(answer.ends);
-            compare_ends(
-                &arguments,
-                shape,
-                answer.refusal.map(pair),
-                &[ends.low, ends.high],
-            )
+            let stored = [ends.low, ends.high, 0, 0];
+            compare_ends(&arguments, shape, answer.refusal.map(pair), &stored)
         }
         CallAnswer::Integral(answer) => {
             let ends = to_ends(answer.integral.ends);
-            compare_ends(
-                &arguments,
-                shape,
-                answer.refusal.map(pair),
-                &[ends.low, ends.high],
-            )
+            let exact = to_exact(answer.integral.exact);
+            let stored = [ends.low, ends.high, exact.quotient, exact.remainder];
+            compare_ends(&arguments, shape, answer.refusal.map(pair), &stored)
         }
     }
 }
@@ -252,17 +245,17 @@ fn compare_ends(
     arguments: &Arguments,
     shape: &Shape,
     refusal: Option<(u8, usize)>,
-    ends: &[i64; 2],
+    ends: &[i64; 4],
 ) -> Result<Seen, String> {
-    let [length_keys, length_coefficients, length_ends, _] = shape.inputs.map(usize::from);
-    let length_ends = length_ends % 4;
+    let [length_keys, length_coefficients, _, _] = shape.inputs.map(usize::from);
+    let length_ends = usize::from(shape.outputs[2]);
     let (keys, coefficients) = slices(&arguments.f, length_keys, length_coefficients);
     let mut stored = vec![COEFFICIENT; length_ends];
     let handed = handed(&arguments.f, &keys, &coefficients);
     let number = raw::ends(arguments.code, handed, arguments.point, &mut stored);
     let fits = (1..=3).contains(&arguments.code)
         && lent(&arguments.f, length_keys, length_coefficients)
-        && length_ends >= 2;
+        && length_ends >= 4;
     if !fits {
         return misused(number, &stored, &vec![COEFFICIENT; length_ends]);
     }

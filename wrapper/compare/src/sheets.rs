@@ -1,6 +1,6 @@
 //! Sheets and books, fed to both implementations.
 
-use crate::agree::{pair, same, to_ends, to_model, to_refusal, Seen, Tried};
+use crate::agree::{pair, same, to_ends, to_exact, to_model, to_refusal, Seen, Tried};
 use crate::rows::Rows;
 use hechroung::{Step, Summary, Written};
 use reference::book::{Book, SoundBook};
@@ -8,7 +8,7 @@ use reference::exact::check_result;
 use reference::exact::outcome::{has_antiderivative, has_quotient};
 use reference::generate::{functions, Random};
 use reference::model::{monomial_of_key, Model};
-use reference::operations::{integral, Ends, Integral};
+use reference::operations::{Ends, Exact, Integral};
 use reference::records;
 use reference::refusal::Refusal;
 use reference::run::{trace, ReportAnswer, RunAnswer, RunResult, Trace};
@@ -67,6 +67,7 @@ fn translated(expected: &RunAnswer) -> Summary {
         model: to_model(&expected.model),
         range: to_ends(expected.range),
         integral: to_ends(expected.integral.ends),
+        exact: to_exact(expected.integral.exact),
         refusal: expected.refusal.map(to_refusal),
     }
 }
@@ -92,7 +93,7 @@ fn enclosed(bytes: &[u8], summary: &Summary, seed: u64) -> Result<Tried, String>
         range: wide(summary.range),
         integral: Integral {
             ends: wide(summary.integral),
-            ..integral(&model)
+            exact: wide_exact(summary.exact),
         },
         model,
     };
@@ -126,6 +127,13 @@ fn wide(ends: hechroung::Ends) -> Ends {
     Ends {
         low: i128::from(ends.low),
         high: i128::from(ends.high),
+    }
+}
+
+pub fn wide_exact(exact: hechroung::Exact) -> Exact {
+    Exact {
+        quotient: i128::from(exact.quotient),
+        remainder: i128::from(exact.remainder),
     }
 }
 

@@ -143,7 +143,7 @@ struct Answer {
     keys: [u16; MOST_TERMS],
     coefficients: [i64; MOST_TERMS],
     numbers: [u64; 4],
-    ends: [i64; 4],
+    ends: [i64; 6],
     shares: [u64; 4 * MOST_STEPS],
 }
 
@@ -153,7 +153,7 @@ impl Answer {
         keys: [0; MOST_TERMS],
         coefficients: [0; MOST_TERMS],
         numbers: [0; 4],
-        ends: [0; 4],
+        ends: [0; 6],
         shares: [0; 4 * MOST_STEPS],
     };
 
@@ -402,7 +402,7 @@ fn a_call_stays_within_its_figure() {
         let used = pairs.iter().map(|(f, _)| {
             let point = [1 << 19, -3, 7, 1 << 20].map(|x| if code == 3 { x } else { 0 });
             let point = [0, 1, 2, 3].map(|v| if v < f.n { point[usize::from(v)] } else { 0 });
-            let mut ends = [0; 2];
+            let mut ends = [0; 4];
             stack.run(|| {
                 raw::ends(code, f.handed(), point, &mut ends);
             })
