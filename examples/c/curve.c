@@ -33,7 +33,7 @@ int main(void) {
     /* the same book is run as it is, and the sheet stepped through */
     struct hechroung_summary of_book, of_sheet;
     if (hechroung_run_models(1, 2, NULL, 0, steps, 4, &of_book, NULL) ||
-        hechroung_run_sheet(sheet, length, &of_sheet, NULL) || of_book.integral.low != of_sheet.integral.low ||
+        hechroung_run_sheet(sheet, length, &of_sheet, NULL) || of_book.exact.remainder != of_sheet.exact.remainder ||
         of_book.model.coefficients[1] != square.coefficients[1])
         return 1;
     uint64_t numbers[2];

@@ -24,8 +24,8 @@ sheet = bytes.fromhex(
 )
 assert b"".join(records(sheet)) == sheet[:-8]
 assert list(stepped(sheet)) == [("step", record) for record in records(sheet)]
-result, ends, _ = run_book(1, 2, [], [(2, 0, 0, 1, 0), (1, 0, 0, 0, UNIT // 2), (4, 0, 1, 0, 0), (6, 2, 2, 0, 0)])
-assert (result.terms, ends) == (square.terms, range_of(square))
+summary = run_book(1, 2, [], [(2, 0, 0, 1, 0), (1, 0, 0, 0, UNIT // 2), (4, 0, 1, 0, 0), (6, 2, 2, 0, 0)])
+assert (summary.model.terms, summary.range) == (square.terms, range_of(square))
 print("sheet of", len(sheet), "bytes")
 print(lines(sheet), end="")
 

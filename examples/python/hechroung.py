@@ -9,6 +9,7 @@ import os
 from collections import namedtuple
 
 UNIT = 1 << 20
+DENOMINATOR = 212_837_625
 MOST_TERMS = 64
 MOST_STEPS = 64
 LONGEST_RECORD = 5 + 6 * MOST_TERMS
@@ -60,8 +61,11 @@ _shares_book = _library.hechroung_shares_book
 _shares_book.restype = _u8
 _shares_book.argtypes = [*_book, *_summary, ctypes.POINTER(_u64), _size]
 
-# What a run gives: the last step's model, the ends of its range and of its integral.
-Summary = namedtuple("Summary", "model range integral")
+# What a run gives: the last step's model, the ends of its range and of its integral, and the exact integral.
+Summary = namedtuple("Summary", "model range integral exact")
+# The integral of a polynomial without any rounding: quotient + remainder / DENOMINATOR units; the quotient is rounded
+# down, also below 0.
+Exact = namedtuple("Exact", "quotient remainder")
 # Where the radius of a step came from: four numbers that sum to UNIT times the radius.
 Shares = namedtuple("Shares", "carried rounding swept slack")
 # What a run gives, and the shares of each of 64 steps; zeros where there is no step.
@@ -123,9 +127,10 @@ def _called(code, d, i, value, f, g=Model(1)):
 
 
 def _ended(code, f, point=()):
-    ends = (_i64 * 2)()
+    """The two ends, and behind them the exact integral, if it is one."""
+    ends = (_i64 * 4)()
     coordinates = [*point, 0, 0, 0, 0][:4]
-    _check(_ends(code, *_arguments(f), *coordinates, ends, 2), 0)
+    _check(_ends(code, *_arguments(f), *coordinates, ends, 4), 0)
     return tuple(ends)
 
 
@@ -183,15 +188,20 @@ def sweep(f, threshold):
 
 
 def range_of(f):
-    return _ended(1, f)
+    return _ended(1, f)[:2]
 
 
 def integral(f):
-    return _ended(2, f)
+    return _ended(2, f)[:2]
+
+
+def exact_integral(f):
+    """The integral of the polynomial of f, without its radius."""
+    return Exact(*_ended(2, f)[2:])
 
 
 def evaluate(f, point):
-    return _ended(3, f, point)
+    return _ended(3, f, point)[:2]
 
 
 def lines(sheet):
@@ -225,13 +235,13 @@ def stepped(sheet):
 
 def _ran(run, arguments, rows=()):
     """Runs what the arguments hand over; `rows` is where shares are stored, if they are."""
-    keys, coefficients, numbers, ends = _Keys(), _Coefficients(), (_u64 * 4)(), (_i64 * 4)()
+    keys, coefficients, numbers, ends = _Keys(), _Coefficients(), (_u64 * 4)(), (_i64 * 6)()
     behind = [rows, len(rows)] if rows else []
-    number = run(*arguments, keys, MOST_TERMS, coefficients, MOST_TERMS, numbers, 4, ends, 4, *behind)
+    number = run(*arguments, keys, MOST_TERMS, coefficients, MOST_TERMS, numbers, 4, ends, 6, *behind)
     place, n, count, radius = numbers
     _check(number, place, _rows(rows))
     model = Model(n, radius, zip(keys[:count], coefficients[:count]))
-    return Summary(model, tuple(ends[:2]), tuple(ends[2:]))
+    return Summary(model, tuple(ends[:2]), tuple(ends[2:4]), Exact(*ends[4:]))
 
 
 def _rows(stored):

@@ -30,8 +30,9 @@ print("at 0.6 -0.3", *evaluate(corrected, [hundredths(60), hundredths(-30)]))
 
 # The same as a step: four inputs, then code 9 with f in a, g in b, step h in v and step w in value.
 inputs = [(0, model, 0, 0, 0) for model in range(4)]
-result, ends, _ = run_book(2, ORDER, [conductivity, temperature, h, w], [*inputs, (9, 0, 1, 2, 3)])
-assert (result.radius, result.terms, ends) == (corrected.radius, corrected.terms, range_of(corrected))
+summary = run_book(2, ORDER, [conductivity, temperature, h, w], [*inputs, (9, 0, 1, 2, 3)])
+assert (summary.model.radius, summary.model.terms) == (corrected.radius, corrected.terms)
+assert summary.range == range_of(corrected)
 
 # Without Newton's rule w is a constant. That is a proposal as well, only a poorer one.
 h, w = propose(ORDER, conductivity, temperature, rounds=0)
