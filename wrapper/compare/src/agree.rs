@@ -1,10 +1,12 @@
 //! One case fed to both implementations.
 
 use crate::case::Case;
+use crate::integrals::Integrals;
 use crate::rows::Rows;
 use crate::{shaped, sheets, stepping};
 use hechroung::{Answer, Bounds, Ends, Exact, Integral, Model};
 use reference::calls::{Call, CallAnswer};
+use reference::model::monomial_of_key;
 use reference::refusal::Refusal;
 use reference::stored::StoredModel;
 
@@ -18,6 +20,8 @@ pub struct Seen {
     pub tried: Tried,
     /// The shares of a run's steps.
     pub rows: Rows,
+    /// The exact integral of an accepted answer.
+    pub integrals: Integrals,
     pub text: String,
 }
 
@@ -43,6 +47,7 @@ impl Seen {
             misused: false,
             tried: Tried::default(),
             rows: Rows::default(),
+            integrals: Integrals::default(),
             text: refusal.map_or("accepted".into(), |(number, place)| {
                 format!("refused {number} {place}")
             }),
@@ -76,7 +81,13 @@ fn compare_call(call: &Call) -> Result<Seen, String> {
     let expected = call.answer();
     let proved = proved_answer(call);
     same(&proved, &translated(&expected))?;
-    Ok(Seen::of(expected.refusal().map(pair)))
+    let mut seen = Seen::of(expected.refusal().map(pair));
+    if let (Call::Integral { f }, Proved::Integral(answer)) = (call, proved) {
+        if answer.refusal.is_none() {
+            seen.integrals = Integrals::checked(&to_model(f), answer.exact)?;
+        }
+    }
+    Ok(seen)
 }
 
 pub fn same<T: PartialEq + std::fmt::Debug>(proved: &T, expected: &T) -> Result<(), String> {
@@ -172,5 +183,31 @@ pub fn to_exact(exact: reference::operations::Exact) -> Exact {
     Exact {
         quotient: narrowed(exact.quotient),
         remainder: narrowed(exact.remainder),
+    }
+}
+
+/// The model of an accepted answer.
+pub fn sound(model: &Model) -> reference::model::Model {
+    let terms = model
+        .terms()
+        .map(|(key, c)| (monomial_of_key(key), i128::from(c)));
+    reference::model::Model {
+        n: usize::from(model.n),
+        polynomial: terms.collect(),
+        radius: i128::from(model.radius),
+    }
+}
+
+pub fn wide(ends: Ends) -> reference::operations::Ends {
+    reference::operations::Ends {
+        low: i128::from(ends.low),
+        high: i128::from(ends.high),
+    }
+}
+
+pub fn wide_exact(exact: Exact) -> reference::operations::Exact {
+    reference::operations::Exact {
+        quotient: i128::from(exact.quotient),
+        remainder: i128::from(exact.remainder),
     }
 }

@@ -1,6 +1,7 @@
 //! How often each kind of case was compared and each refusal reached.
 
 use crate::agree::{Seen, Tried};
+use crate::integrals::Integrals;
 use crate::rows::Rows;
 use std::collections::BTreeMap;
 
@@ -19,6 +20,9 @@ const REACHED: [(&str, &[u8]); 7] = [
 
 /// The kinds of case whose runs have to reach every mix of shares.
 const WITH_ROWS: [&str; 2] = ["sheet", "book run"];
+
+/// The kinds of case whose answers have to reach every exact integral.
+const WITH_INTEGRALS: [&str; 3] = ["integral", "sheet", "book run"];
 
 /// Places that are listed one by one: those of a sheet's models.
 const MOST_LISTED: usize = 17;
@@ -39,6 +43,7 @@ struct Kind {
     /// By number: how often at each place.
     refused: BTreeMap<u8, BTreeMap<usize, u64>>,
     rows: Rows,
+    integrals: Integrals,
 }
 
 impl Counts {
@@ -47,6 +52,7 @@ impl Counts {
         let kind = self.kinds.entry(kind).or_default();
         kind.cases += 1;
         kind.rows.add(&seen.rows);
+        kind.integrals.add(&seen.integrals);
         match seen.refusal {
             _ if seen.misused => kind.misused += 1,
             None => kind.accepted += 1,
@@ -81,16 +87,23 @@ impl Counts {
         self.kinds.values().map(|kind| kind.cases).sum()
     }
 
-    /// The refusals and shares that no case reached, each with its kind of case.
+    /// The refusals, shares and exact integrals that no case reached, each with its kind of case.
     pub fn unreached(&self) -> Vec<String> {
         let refusals = self.unreached_refusals().into_iter();
         let mut missing: Vec<String> = refusals
             .map(|(kind, number)| format!("{kind}: refusal {number}"))
             .collect();
+        let mut miss = |name: &str, found: Option<Vec<String>>| {
+            let found = found.unwrap_or_else(|| vec!["any".into()]).into_iter();
+            missing.extend(found.map(|what| format!("{name}: {what}")));
+        };
         for name in WITH_ROWS {
-            let rows = self.kinds.get(name).map(|kind| kind.rows.unreached());
-            let rows = rows.unwrap_or_else(|| vec!["any".into()]).into_iter();
-            missing.extend(rows.map(|row| format!("{name}: {row}")));
+            let kind = self.kinds.get(name);
+            miss(name, kind.map(|kind| kind.rows.unreached()));
+        }
+        for name in WITH_INTEGRALS {
+            let kind = self.kinds.get(name);
+            miss(name, kind.map(|kind| kind.integrals.unreached()));
         }
         missing
     }
@@ -118,6 +131,7 @@ impl Counts {
         for (name, kind) in &self.kinds {
             kind.print(name);
             kind.rows.print();
+            kind.integrals.print();
             all.add(kind.clone_counts());
         }
         all.print("all");
@@ -140,6 +154,7 @@ impl Kind {
         self.accepted += other.accepted;
         self.misused += other.misused;
         self.rows.add(&other.rows);
+        self.integrals.add(&other.integrals);
         for (number, places) in other.refused {
             let mine = self.refused.entry(number).or_default();
             for (place, times) in places {

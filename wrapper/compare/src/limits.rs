@@ -23,7 +23,7 @@ pub fn call(random: &mut Random) -> Call {
             f: at_span(random, n, 15),
         },
         _ => Call::Integral {
-            f: at_span(random, n, 15),
+            f: integrand(random, n),
         },
     }
 }
@@ -208,6 +208,22 @@ fn evaluation(random: &mut Random, n: u8) -> Call {
         }
     });
     Call::Evaluate { f, point }
+}
+
+/// A model of a full span, or of even exponents alone, of which every term counts.
+fn integrand(random: &mut Random, n: u8) -> Box<StoredModel> {
+    if random.one_in(2) {
+        return at_span(random, n, 15);
+    }
+    let count = *random.pick(&[1, 2, 15, 64]);
+    let halves = rising_keys(random, n, 7, count);
+    let keys: Vec<u16> = halves.into_iter().map(|key| 2 * key).collect();
+    let span = match random.below(3) {
+        0 => (keys.len() as i64) * 3,
+        1 => about(random, UNIT).max(keys.len() as i64),
+        _ => about(random, LARGEST_SPAN),
+    };
+    with_span(random, n, &keys, span)
 }
 
 /// A model of up to 64 terms and a span of about 2^30.

@@ -5,14 +5,15 @@
 //!     compare --program PATH [SHEETS [SEED]]
 //!                               so many generated sheets, each handed to the program by its standard input
 //!
-//! The exit status is 0 only if all answers agree and every refusal and every mix of shares that can be reached was
-//! reached.
+//! The exit status is 0 only if all answers agree and every refusal, every mix of shares and every kind of exact
+//! integral that can be reached was reached.
 
 #![forbid(unsafe_code)]
 
 mod agree;
 mod case;
 mod counts;
+mod integrals;
 mod limits;
 mod program;
 mod rows;

@@ -1,14 +1,15 @@
 //! Sheets and books, fed to both implementations.
 
-use crate::agree::{pair, same, to_ends, to_exact, to_model, to_refusal, Seen, Tried};
+use crate::agree::{pair, same, sound, to_ends, to_exact, to_model, to_refusal, wide, wide_exact};
+use crate::agree::{Seen, Tried};
+use crate::integrals::Integrals;
 use crate::rows::Rows;
 use hechroung::{Step, Summary, Written};
 use reference::book::{Book, SoundBook};
 use reference::exact::check_result;
 use reference::exact::outcome::{has_antiderivative, has_quotient};
 use reference::generate::{functions, Random};
-use reference::model::{monomial_of_key, Model};
-use reference::operations::{Ends, Exact, Integral};
+use reference::operations::Integral;
 use reference::records;
 use reference::refusal::Refusal;
 use reference::run::{trace, ReportAnswer, RunAnswer, RunResult, Trace};
@@ -31,6 +32,9 @@ pub fn compare(bytes: &[u8]) -> Result<Seen, String> {
     let report = hechroung::shares(bytes);
     same(&report.summary, &summary)?;
     seen.rows = Rows::compared(&report.shares, &expected, &run)?;
+    if seen.refusal.is_none() {
+        seen.integrals = Integrals::checked(&summary.model, summary.exact)?;
+    }
     let mark = bytes.iter().fold(0u64, |mark, &byte| {
         mark.wrapping_mul(0x0100_0000_01B3) ^ u64::from(byte)
     });
@@ -58,6 +62,9 @@ pub fn compare_run_book(book: &Book) -> Result<Seen, String> {
     let report = hechroung::shares_book(&handed);
     same(&report.summary, &summary)?;
     seen.rows = Rows::compared(&report.shares, &expected, &run)?;
+    if seen.refusal.is_none() {
+        seen.integrals = Integrals::checked(&summary.model, summary.exact)?;
+    }
     Ok(seen)
 }
 
@@ -109,32 +116,6 @@ fn enclosed(bytes: &[u8], summary: &Summary, seed: u64) -> Result<Tried, String>
         points_too_large: checked.points_too_large as u64,
         integrals: u64::from(checked.integral),
     })
-}
-
-/// The model of an accepted answer.
-fn sound(model: &hechroung::Model) -> Model {
-    let terms = model
-        .terms()
-        .map(|(key, c)| (monomial_of_key(key), i128::from(c)));
-    Model {
-        n: usize::from(model.n),
-        polynomial: terms.collect(),
-        radius: i128::from(model.radius),
-    }
-}
-
-fn wide(ends: hechroung::Ends) -> Ends {
-    Ends {
-        low: i128::from(ends.low),
-        high: i128::from(ends.high),
-    }
-}
-
-pub fn wide_exact(exact: hechroung::Exact) -> Exact {
-    Exact {
-        quotient: i128::from(exact.quotient),
-        remainder: i128::from(exact.remainder),
-    }
 }
 
 /// A sheet read and written back. What was refused changes no byte.
