@@ -1,0 +1,50 @@
+"""Litres of a herd: the integrals of many runs added up, by their ends and without loss by their quotients and
+remainders, and how much narrower the band of the total is. examples/totals.md says what the lines mean."""
+
+from fractions import Fraction
+
+from hechroung import DENOMINATOR, UNIT, Model, run_book
+
+MILKINGS = 2000
+ORDER = 4
+# Minutes from the middle of a milking to its end, where x is 1.
+HALF_TIME = 3
+# The flow times the minutes: the integral of the product is the milk of one milking.
+STEPS = [(0, 0, 0, 0, 0), (1, 0, 0, 0, HALF_TIME * UNIT), (6, 0, 1, 0, 0)]
+
+
+def thousandths(value):
+    """A number of thousandths in units, rounded toward 0."""
+    return UNIT * value // 1000 if value >= 0 else -(UNIT * -value // 1000)
+
+
+def flow(k):
+    """Litres a minute of milking k, each a little different. Keys: x has hex 1000."""
+    values = [2900 + 7 * k % 611, -650 + 13 * k % 301, -2000 - 11 * k % 407, 310 + 5 * k % 97, -40 - 3 * k % 53]
+    return Model(1, 0, [(power << 12, thousandths(value)) for power, value in enumerate(values)])
+
+
+def exact(model):
+    """The integral of a polynomial in one variable, as a fraction of units: odd powers give 0."""
+    return sum(Fraction(2 * c, (key >> 12) + 1) for key, c in model.terms if (key >> 12) % 2 == 0)
+
+
+low = high = quotient = remainder = radii = 0
+checked = Fraction(0)
+for k in range(MILKINGS):
+    summary = run_book(1, ORDER, [flow(k)], STEPS)
+    low, high = low + summary.integral[0], high + summary.integral[1]
+    quotient, remainder = quotient + summary.exact.quotient, remainder + summary.exact.remainder
+    radii += summary.model.radius
+    checked += exact(summary.model)
+# What is a whole unit is carried; the radii count twice, as the box is 2 long.
+quotient, remainder = quotient + remainder // DENOMINATOR, remainder % DENOMINATOR
+assert checked == quotient + Fraction(remainder, DENOMINATOR)
+band = (quotient - 2 * radii, quotient + 2 * radii + (remainder != 0))
+assert low <= band[0] and band[1] <= high
+
+print("milkings", MILKINGS, "litres", quotient // UNIT)
+print("sum of ends", low, high, "width", high - low)
+print("exact", quotient, remainder)
+print("band", *band, "width", band[1] - band[0])
+print("narrower by", (high - low) - (band[1] - band[0]), "units, to 1 part in", (high - low) // (band[1] - band[0]))
