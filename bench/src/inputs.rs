@@ -2,7 +2,7 @@
 
 use hechroung::{Model, UNIT};
 use reference::book::{Step, ADD, INPUT, MULTIPLY};
-use reference::generate::{Draft, DraftModel, Random};
+use reference::generate::{self, Draft, DraftModel, Random};
 use std::collections::BTreeSet;
 
 /// The order of the largest sheets.
@@ -32,6 +32,39 @@ pub fn factors(random: &mut Random, terms: usize, order: u8, kind: Kind) -> (Mod
     let f = model(random, &keys, kind);
     let g = model(random, &other, kind);
     (f, g)
+}
+
+/// Which terms a model has whose integral is timed.
+#[derive(Clone, Copy, PartialEq)]
+pub enum Parity {
+    /// Any, of which most have an odd exponent and give 0.
+    Any,
+    /// Even in every variable: each one counts.
+    Even,
+}
+
+/// A model of this many terms with coefficients of any size.
+pub fn integrand(random: &mut Random, terms: usize, order: u8, parity: Parity) -> Model {
+    let keys = match parity {
+        Parity::Any => keys(random, terms, order),
+        Parity::Even => {
+            let halves = even_halves(random, terms, order / 2);
+            halves.into_iter().map(|key| 2 * key).collect()
+        }
+    };
+    model(random, &keys, Kind::Any)
+}
+
+/// Different rising keys of degree at most this, all equally likely to be tried.
+fn even_halves(random: &mut Random, terms: usize, degree: u8) -> BTreeSet<u16> {
+    let mut halves = BTreeSet::from([0]);
+    while halves.len() < terms {
+        let key = random.next_u64() as u16 & 0x7777;
+        if generate::models::degree(key) <= degree {
+            halves.insert(key);
+        }
+    }
+    halves
 }
 
 /// Different rising keys of degree at most the order, 0 among them. For high orders low exponents are the likelier.

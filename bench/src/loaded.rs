@@ -23,14 +23,15 @@ pub struct Library {
     record: Record,
 }
 
-/// All that a product or a run answers, as it is stored; a product has no ends.
+/// All that a product or a run answers, as it is stored; a product has no ends. A build of the layout before the exact
+/// integral fills the first four ends of a run, and the first two of a call.
 #[derive(Clone, Debug, PartialEq, Eq)]
 pub struct Answer {
     pub refusal: u8,
     numbers: [u64; 4],
     keys: [u16; MOST_TERMS],
     coefficients: [i64; MOST_TERMS],
-    ends: [i64; 4],
+    ends: [i64; 6],
 }
 
 impl Answer {
@@ -40,12 +41,23 @@ impl Answer {
         self
     }
 
+    /// The same without the integral, which comes last.
+    pub fn without_integral(mut self) -> Answer {
+        self.ends[2..].fill(0);
+        self
+    }
+
+    /// The ends of the integral.
+    pub fn integral(&self) -> [i64; 2] {
+        [self.ends[2], self.ends[3]]
+    }
+
     const EMPTY: Answer = Answer {
         refusal: 0,
         numbers: [0; 4],
         keys: [0; MOST_TERMS],
         coefficients: [0; MOST_TERMS],
-        ends: [0; 4],
+        ends: [0; 6],
     };
 }
 
@@ -112,11 +124,21 @@ impl Library {
 
     /// The two ends of the range.
     pub fn range(&self, f: &Model) -> [i64; 2] {
-        let mut ends = [0; 2];
+        let [low, high, _, _] = self.ended(1, f);
+        [low, high]
+    }
+
+    /// The two ends of the integral, and the exact one, or zeros where the build has none.
+    pub fn integral(&self, f: &Model) -> [i64; 4] {
+        self.ended(2, f)
+    }
+
+    fn ended(&self, code: u8, f: &Model) -> [i64; 4] {
+        let mut ends = [0; 4];
         // SAFETY: as in `multiply`.
         let refusal = unsafe {
             (self.ends)(
-                1,
+                code,
                 f.n,
                 f.count,
                 f.radius,

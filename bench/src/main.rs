@@ -5,6 +5,7 @@ mod antiderivatives;
 mod flint;
 mod growth;
 mod inputs;
+mod integrals;
 mod products;
 mod quotients;
 mod shares;
@@ -21,6 +22,7 @@ fn main() {
     products::print(&mut random);
     quotients::print(seed);
     antiderivatives::print(seed);
+    integrals::print(seed);
     sheets::print(&mut random);
     shares::print(seed);
     growth::print(&mut random);

@@ -1,13 +1,14 @@
 //! Two builds of the library by turns in one run, on the same inputs: for each row the ratio of their times, new / old,
 //! once for each seed. Every answer of one is compared with the other's, and the run stops where they differ.
-//! usage: versus NEW.so OLD.so SEEDS [ranges-differ]; with the last word the ends of ranges are not compared, for two
-//! builds with different rules for them
+//! usage: versus NEW.so OLD.so SEEDS [ranges-differ | integrals-differ]; with the last word the ends of ranges, or those
+//! of integrals and the exact ones, are not compared, for two builds with different rules for them. Of integrals the new
+//! ends must then lie within the old ones
 
 mod inputs;
 mod loaded;
 mod timing;
 
-use inputs::{factors, largest, typical, Kind, STEPS};
+use inputs::{factors, integrand, largest, typical, Kind, Parity, STEPS};
 use loaded::Library;
 use reference::generate::Random;
 use std::hint::black_box;
@@ -20,11 +21,12 @@ const SHEET_ROUNDS: usize = 60;
 /// The longest record: a model of 64 terms of 6 bytes, and more than its head.
 const ROOM: usize = 1_024;
 
-/// Whether both builds have one rule for ranges.
+/// What both builds have one rule for.
 #[derive(Clone, Copy, PartialEq)]
-enum Ranges {
-    Alike,
-    Differ,
+enum Alike {
+    All,
+    AllButRanges,
+    AllButIntegrals,
 }
 
 /// The new build and the old one.
@@ -38,18 +40,19 @@ type Measure = Box<dyn Fn(&Builds, &mut Random) -> Times>;
 
 fn main() {
     let words: Vec<String> = std::env::args().skip(1).collect();
-    let ([new, old, seeds], ranges) = (match &words[..] {
-        [first @ .., last] if last == "ranges-differ" => (first, Ranges::Differ),
-        all => (all, Ranges::Alike),
+    let ([new, old, seeds], alike) = (match &words[..] {
+        [first @ .., last] if last == "ranges-differ" => (first, Alike::AllButRanges),
+        [first @ .., last] if last == "integrals-differ" => (first, Alike::AllButIntegrals),
+        all => (all, Alike::All),
     }) else {
-        panic!("usage: versus NEW.so OLD.so SEEDS [ranges-differ]");
+        panic!("usage: versus NEW.so OLD.so SEEDS [ranges-differ | integrals-differ]");
     };
     let seeds: u64 = seeds.parse().expect("SEEDS is a number");
     assert!(seeds > 0, "at least one seed");
     let builds = [Library::load(new), Library::load(old)];
     println!("| Seeds: {seeds} | New, µs | Old, µs | New / old, median | Lowest | Highest |");
     println!("|---|---|---|---|---|---|");
-    for (name, measure) in rows(ranges) {
+    for (name, measure) in rows(alike) {
         let times: Vec<Times> = (0..seeds)
             .map(|seed| measure(&builds, &mut Random::new(seed)))
             .collect();
@@ -57,7 +60,7 @@ fn main() {
     }
 }
 
-fn rows(ranges: Ranges) -> Vec<(&'static str, Measure)> {
+fn rows(alike: Alike) -> Vec<(&'static str, Measure)> {
     vec![
         (
             "product, sparse 64 x 64, refused",
@@ -70,17 +73,29 @@ fn rows(ranges: Ranges) -> Vec<(&'static str, Measure)> {
         ("product, sparse 1 x 1", product(1, 15, Kind::Kept)),
         ("product, sparse 8 x 8", product(8, 15, Kind::Kept)),
         ("product, sparse 24 x 24", product(24, 15, Kind::Kept)),
-        ("range, sparse, 64 terms", range(64, 15, ranges)),
-        ("range, dense, 15 terms", range(15, 4, ranges)),
-        ("run, typical", run(typical, ranges)),
-        ("run, largest", run(|random| largest(random, STEPS), ranges)),
+        ("range, sparse, 64 terms", range(64, 15, alike)),
+        ("range, dense, 15 terms", range(15, 4, alike)),
+        (
+            "integral, sparse, 64 terms",
+            integral(64, 15, Parity::Any, alike),
+        ),
+        (
+            "integral, even, 64 terms",
+            integral(64, 15, Parity::Even, alike),
+        ),
+        (
+            "integral, dense, 15 terms",
+            integral(15, 4, Parity::Any, alike),
+        ),
+        ("run, typical", run(typical, alike)),
+        ("run, largest", run(|random| largest(random, STEPS), alike)),
         (
             "run, largest, 1 step",
-            run(|random| largest(random, 1), ranges),
+            run(|random| largest(random, 1), alike),
         ),
         (
             "run, largest, 8 steps",
-            run(|random| largest(random, 8), ranges),
+            run(|random| largest(random, 8), alike),
         ),
         ("tests 1 to 6, largest", Box::new(tests)),
     ]
@@ -102,7 +117,7 @@ fn product(terms: usize, order: u8, kind: Kind) -> Measure {
     })
 }
 
-fn range(terms: usize, order: u8, ranges: Ranges) -> Measure {
+fn range(terms: usize, order: u8, alike: Alike) -> Measure {
     Box::new(move |builds, random| {
         let models: Vec<_> = (0..PRODUCTS)
             .map(|_| factors(random, terms, order, Kind::Kept).0)
@@ -110,7 +125,7 @@ fn range(terms: usize, order: u8, ranges: Ranges) -> Measure {
         for f in &models {
             let [new, old] = builds.each_ref().map(|build| build.range(f));
             assert!(
-                ranges == Ranges::Differ || new == old,
+                alike == Alike::AllButRanges || new == old,
                 "both builds give one range"
             );
         }
@@ -120,16 +135,46 @@ fn range(terms: usize, order: u8, ranges: Ranges) -> Measure {
     })
 }
 
-fn run(sheet: impl Fn(&mut Random) -> Vec<u8> + 'static, ranges: Ranges) -> Measure {
+/// The integral of models of which each term counts, or only those that happen to be even in every variable.
+fn integral(terms: usize, order: u8, parity: Parity, alike: Alike) -> Measure {
+    Box::new(move |builds, random| {
+        let models: Vec<_> = (0..PRODUCTS)
+            .map(|_| integrand(random, terms, order, parity))
+            .collect();
+        for f in &models {
+            let [new, old] = builds.each_ref().map(|build| build.integral(f));
+            if alike == Alike::AllButIntegrals {
+                assert_inside([new[0], new[1]], [old[0], old[1]]);
+            } else {
+                assert_eq!(new, old, "both builds give one integral");
+            }
+        }
+        best(PRODUCT_ROUNDS, PRODUCTS, |way, input| {
+            let _ = black_box(builds[way].integral(&models[input]));
+        })
+    })
+}
+
+fn assert_inside(new: [i64; 2], old: [i64; 2]) {
+    let inside = old[0] <= new[0] && new[1] <= old[1];
+    assert!(
+        inside,
+        "the new ends {new:?} lie within the old ones {old:?}"
+    );
+}
+
+fn run(sheet: impl Fn(&mut Random) -> Vec<u8> + 'static, alike: Alike) -> Measure {
     Box::new(move |builds, random| {
         let sheets: Vec<_> = (0..SHEETS).map(|_| sheet(random)).collect();
         for sheet in &sheets {
-            let [new, old] = builds.each_ref().map(|build| {
-                let answer = build.run(sheet);
-                match ranges {
-                    Ranges::Alike => answer,
-                    Ranges::Differ => answer.without_range(),
-                }
+            let answers = builds.each_ref().map(|build| build.run(sheet));
+            if alike == Alike::AllButIntegrals {
+                assert_inside(answers[0].integral(), answers[1].integral());
+            }
+            let [new, old] = answers.map(|answer| match alike {
+                Alike::All => answer,
+                Alike::AllButRanges => answer.without_range(),
+                Alike::AllButIntegrals => answer.without_integral(),
             });
             assert_eq!(new, old, "both builds give one result");
             assert_eq!(new.refusal, 0, "the sheet is accepted");
