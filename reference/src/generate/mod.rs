@@ -10,6 +10,7 @@ pub mod draft;
 pub mod faults;
 pub mod functions;
 pub mod hostile;
+pub mod integrands;
 pub mod limits;
 pub mod mixes;
 pub mod models;
@@ -68,7 +69,13 @@ impl Kind {
 
 /// Every named sheet.
 pub fn named_sheets() -> Vec<Sample> {
-    [limits::samples(), pitfalls::samples(), radii::samples()].concat()
+    [
+        limits::samples(),
+        pitfalls::samples(),
+        radii::samples(),
+        integrands::samples(),
+    ]
+    .concat()
 }
 
 /// A stream of sheets of every kind, one for each number from 0. Numbers are
