@@ -122,7 +122,7 @@ pub fn difference(a: i64, b: i64) -> i64
 }
 
 // a b: two coefficients of sound models, each at most the span limit in size (`span-square-fits`), or a coefficient and
-// a power of two (`span-fits`).
+// a number below 2^32 (`span-fits`).
 pub fn product(a: i64, b: i64) -> i64
     requires { ⌜ natAbs a * natAbs b < 2 ^ 63 ⌝ }
     ensures { λ r. ⌜ r ≡ a *ℤ b ⌝ }
@@ -146,7 +146,7 @@ pub fn capped_sum(s: u64, x: u64) -> u64
 
 // ---- division
 
-// z / d rounded down, for the low end of an integral. The divisor there is a product of numbers from 1.
+// z / d rounded down, for the quotient of an integral. The divisor there is the common denominator.
 pub fn floor_divided(z: i64, d: u64) -> i64
     requires { ⌜ 0 < d ⌝ }
     ensures { λ r. ⌜ r ≡ floor z d ⌝ }
@@ -159,8 +159,8 @@ pub fn floor_divided(z: i64, d: u64) -> i64
     }
 }
 
-// z / d rounded up, for the high end of an integral. The dividend there is a coefficient of a sound model times a small
-// power of two (`span-fits`).
+// z / d rounded up, for the high end of a term's integral. The dividend there is a coefficient of a sound model times a
+// small power of two (`span-fits`).
 pub fn ceiling_divided(z: i64, d: u64) -> i64
     requires { ⌜ natAbs z < 2 ^ 63 ⌝ }
     requires { ⌜ 0 < d ⌝ }
