@@ -12,6 +12,7 @@
 //!   a radius came from, and [`calls`]: the single calls, which first test what
 //!   they are handed;
 //! - [`book`], [`sheet`], [`mod@write`], [`run`], [`records`], [`text`]: sheets;
+//! - [`renaming`]: sheets whose variables are renamed throughout;
 //! - [`exact`]: exact fractions and the check of the enclosure statement;
 //! - [`generate`]: reproducible inputs for a comparison.
 
@@ -25,6 +26,7 @@ pub mod model;
 pub mod operations;
 pub mod records;
 pub mod refusal;
+pub mod renaming;
 pub mod run;
 pub mod shares;
 pub mod sheet;

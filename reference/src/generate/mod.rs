@@ -20,6 +20,7 @@ pub mod proposals;
 pub mod quotients;
 pub mod radii;
 pub mod random;
+pub mod reorderings;
 pub mod samples;
 pub mod sound;
 
