@@ -30,7 +30,7 @@ module _ (b : Book) (p : Passes b) where
   abbrev pub Good : Model → Type 0
   Good = Sound (b .vars) (b .order)
 
-  vars-pass : T (vars-sound (b .vars))
+  pub vars-pass : T (vars-sound (b .vars))
   unfolding limits-sound
   vars-pass = and-left (vars-sound (b .vars)) _ (and-left (vars-sound (b .vars) && order-sound (b .order)) _
       (and-left (vars-sound (b .vars) && order-sound (b .order) && leb (length (b .models)) most-models) _ (p .limits)))
@@ -46,7 +46,7 @@ module _ (b : Book) (p : Passes b) where
   pub order-high : b .order ≤ most-degree
   order-high = between-high 1 most-degree (b .order) order-pass
 
-  operand : {results : List Model} → All Good results → (a : ℕ) → Good (result-of b results a)
+  pub operand : {results : List Model} → All Good results → (a : ℕ) → Good (result-of b results a)
   unfolding result-of
   operand g a = each-at (λ m k. Good k) (zero-model (b .vars)) (zero-model (b .vars))
       (zero-sound (b .vars) (b .order)) g a

@@ -262,7 +262,7 @@ module _ {A : Type 0} (N : Addition A) (g : List ℕ → ℤ → A) where
           (λ l. sum-cons N g s _ ∙ ap (plus (at-term N g s)) ih ∙ plus-swap N _ _ _
           ∙ ap (plus (at-term N g t)) (sym (sum-cons N g s p)))
 
-  sum-collect-distinct : (p : Terms) → T (distinct p) → sum N g (collect p) ≡ sum N g p
+  pub sum-collect-distinct : (p : Terms) → T (distinct p) → sum N g (collect p) ≡ sum N g p
   unfolding collect distinct
   sum-collect-distinct [] h = refl
   sum-collect-distinct (t ∷ p) h = sum-insert-new t (collect p) (collected (and-left (absent (t .exponents) p) _ h))

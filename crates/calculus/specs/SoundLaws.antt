@@ -239,7 +239,7 @@ module _ (n d : ℕ) where
       (fits-by n d (single n i) (length-single n i) (let e = degree-single n i in omega arith))
       U-within (rw U-nonzero tt)
 
-  negate-canonical : (f : Model) → Canonical n d f → Canonical n d (negate f)
+  pub negate-canonical : (f : Model) → Canonical n d f → Canonical n d (negate f)
   unfolding negate nonzero
   negate-canonical f h = record {
     vars = h .vars;
@@ -303,7 +303,8 @@ module _ (n d : ℕ) where
     rising-terms = rising-without (index-of i) k (f .terms) (h .rising-terms);
   }
 
-  horner-canonical : (i : ℕ) (f g : Model) → Canonical n d f → Canonical n d g → (k : ℕ) (h : Model) → Canonical n d h
+  pub horner-canonical : (i : ℕ) (f g : Model) → Canonical n d f → Canonical n d g
+      → (k : ℕ) (h : Model) → Canonical n d h
       → If-accepted (Canonical n d) (horner d i f g k h)
   unfolding horner
   horner-canonical i f g hf hg zero h c = holds c

@@ -84,7 +84,7 @@ model-same : (b c : Book) (m : Model) → b .vars ≡ c .vars → b .order ≡ c
 unfolding model-sound
 model-same b c m p q = rw (p, q)
 
-step-same : (b c : Book) (i : ℕ) (s : Step) → b .vars ≡ c .vars → length (b .models) ≡ length (c .models)
+pub step-same : (b c : Book) (i : ℕ) (s : Step) → b .vars ≡ c .vars → length (b .models) ≡ length (c .models)
     → step-sound b i s ≡ step-sound c i s
 unfolding step-sound
 step-same b c i (input a) p q = ap (ltb a) q
