@@ -1,6 +1,9 @@
 -- Definitions, in order of reading, and what is promised of them.
 pub mod Reordering
 pub mod RenamingClaim
+pub mod Edges
+-- A list of definitions that facts by computation open.
+pub mod Computing
 -- Laws: sums under a reordering, monomials by their exponents, renamed monomials.
 pub mod Additions
 pub mod TotalLaws
@@ -30,5 +33,6 @@ pub mod RenamedSheetLaws
 -- There and back.
 pub mod InverseLaws
 pub mod HeldInverseLaws
--- The theorems.
+-- The theorems, and facts beside them.
 pub mod RenamingProof
+pub mod RenamingFacts
