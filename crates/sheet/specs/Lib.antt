@@ -4,3 +4,4 @@ pub mod SteppingLaws
 pub mod Refuted
 pub mod SheetLaws
 pub mod RefutedLaws
+pub mod RenamedLaws
