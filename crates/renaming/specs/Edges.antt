@@ -8,6 +8,7 @@ use native.Mathlib.Omega.{arith}
 use lib.Dec.{lit<}
 use lib.IntN.{ℤ, pos}
 use lib.ListN.{getD}
+use Rattle.algebra.specs.Rational.{ℚ}
 use Rattle.calculus.specs.Refusal.{over-span, too-many-terms, leaves-box, uncertified, Result, stopped}
 use Rattle.calculus.specs.Book.{input, variable, multiply, substitute, quotient, antiderivative, Summary}
 use Rattle.calculus.specs.Terms.{Terms}
@@ -18,7 +19,8 @@ use Rattle.calculus.specs.Computing.{reports}
 use Rattle.format.specs.HeldBook.{Held-term, Held-model, Held-step, Held-book, view-book}
 use Rattle.format.specs.Format.{sheet-bytes, run-sheet, sheet-rows}
 use Rattle.format.specs.Computing.{writes}
-use Rattle.renaming.specs.Reordering.{Reordering, inverse, rename-book, rename-result, rename-held}
+use Rattle.renaming.specs.Reordering.{Reordering, inverse, rename, rename-point, rename-variable, rename-book}
+use Rattle.renaming.specs.Reordering.{rename-result, rename-field, rename-held}
 use Rattle.renaming.specs.Computing.{renames}
 
 -- ---- variable 1 becomes 2, 2 becomes 3, 3 becomes 1
@@ -187,6 +189,21 @@ unfolding
     share-forms onward backward circle at held step three row refused-row milking milking-before milking-after litres
     doubled powers crowded leaving uncertain renaming-edges
 renaming-forms = tt
+
+-- ---- what goes where
+-- a monomial, a point and the numbers of the variables: the first goes to the second place, the last to the first
+pub places-become : (i j k : ℕ) (x y z : ℚ)
+    → (rename circle (i ∷ j ∷ k ∷ []) ≡ k ∷ i ∷ j ∷ [])
+    × (rename-point circle (x ∷ y ∷ z ∷ []) ≡ z ∷ x ∷ y ∷ [])
+    × (map (rename-variable circle) (1 ∷ 2 ∷ 3 ∷ []) ≡ 2 ∷ 3 ∷ 1 ∷ [])
+unfolding renames renaming-forms rename-point
+places-become i j k x y z = (refl, refl, refl)
+
+-- the field v of each code from 0 to 10: three of them name a variable
+pub codes-become : map (λ code. rename-field circle code 1) (0 ∷ 1 ∷ 2 ∷ 3 ∷ 4 ∷ 5 ∷ 6 ∷ 7 ∷ 8 ∷ 9 ∷ 10 ∷ [])
+    ≡ 1 ∷ 1 ∷ 2 ∷ 1 ∷ 1 ∷ 1 ∷ 1 ∷ 2 ∷ 1 ∷ 1 ∷ 2 ∷ []
+unfolding renames renaming-forms
+codes-become = refl
 
 -- ---- the first row in small
 -- the fields v: those of a variable, a substitution and an antiderivative are renamed, and that of a quotient stays

@@ -59,16 +59,16 @@ rule = even-powers
 unfoldable pub squares : List Model
 squares = map (λ k. model 3 0 (at-key 3 k (pos U) ∷ [])) (0x2000 ∷ 0x0200 ∷ 0x0020 ∷ [])
 
--- each lies above 0,
-pub squares-stand : map (λ m. range-by rule m .low) squares ≡ pos 0 ∷ pos 0 ∷ pos 0 ∷ []
-unfolding calls renaming-forms squares first-even rule range-by falls rises
-squares-stand = refl
-
--- and with the variables put around it does so too
+-- with the variables put around each keeps its low end,
 pub renamed-squares-stand : map (λ m. range-by rule (rename-model circle m) .low) squares
     ≡ map (λ m. range-by rule m .low) squares
 unfolding calls renames renaming-forms squares first-even rule range-by falls rises
 renamed-squares-stand = refl
+
+-- which is 0
+pub squares-stand : map (λ m. range-by rule m .low) squares ≡ pos 0 ∷ pos 0 ∷ pos 0 ∷ []
+unfolding calls renaming-forms squares first-even rule range-by falls rises
+squares-stand = refl
 
 -- ---- what a renaming keeps
 -- the ends by a rule, for every reordering and every canonical model
