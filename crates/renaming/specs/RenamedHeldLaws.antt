@@ -24,6 +24,7 @@ use Rattle.calculus.specs.FitsLaws.{fits-length, fits-degree}
 use Rattle.calculus.specs.SoundLaws.{Canonical, sound-parts}
 use Rattle.calculus.specs.BookLaws.{model-vars}
 use Rattle.calculus.specs.BookSoundLaws.{vars-pass}
+use Rattle.format.specs.Fields as F
 use Rattle.format.specs.HeldBook.{Held-model, Held-step, Held-book, view-term, view-model, form, forms, step-of}
 use Rattle.format.specs.HeldBook.{view-step, view-steps, view-book, outline, outline-of, held-model-sound}
 use Rattle.format.specs.HeldBook.{held-step-sound, Held-passes}
@@ -35,6 +36,11 @@ use Rattle.renaming.specs.Reordering.{rename-held}
 use Rattle.renaming.specs.RenamedTermsLaws.{In-order}
 use Rattle.renaming.specs.RenamedModelLaws.{canonical-in-order, canonical-renamed}
 use Rattle.renaming.specs.RenamedTestLaws.{all-from-map, rules-renamed, step-sound-renamed}
+
+-- the codes whose field v is renamed are those whose field v test 6 takes for a variable
+pub names-agree : (code : ℕ) → names-variable code ≡ F.names-variable code
+unfolding names-variable F.names-variable
+names-agree code = refl
 
 -- ---- terms
 -- a monomial that fits is that of its key
