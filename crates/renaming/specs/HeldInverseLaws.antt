@@ -19,7 +19,7 @@ use Rattle.calculus.specs.TestLaws.{and-left, and-right}
 use Rattle.calculus.specs.TermsLaws.{every-head, every-tail}
 use Rattle.calculus.specs.SoundLaws.{Canonical}
 use Rattle.format.specs.Bytes.{join}
-use Rattle.format.specs.HeldBook.{Held-term, Held-model, Held-step, Held-book, view-term, view-model, form, forms}
+use Rattle.format.specs.HeldBook.{Held-term, Held-model, Held-step, Held-book, view-held-term, view-model, form, forms}
 use Rattle.format.specs.HeldBook.{step-of, view-step, outline, outline-of, held-model-sound, held-step-sound}
 use Rattle.format.specs.HeldBook.{Held-passes}
 use Rattle.format.specs.HeldBookLaws.{Stands-for, stands-for}
@@ -37,15 +37,16 @@ use Rattle.renaming.specs.RenamedHeldLaws.{held-renamed-passes}
 -- ---- terms
 -- a term whose monomial fits is that of the monomial's key
 held-view : (n d : ℕ) → n ≤ key-width → d < 16 → (l : List Held-term)
-    → T (every (λ k c. fits n d k) (map (view-term n) l)) → map held-term (map (view-term n) l) ≡ l
-unfolding view-term held-term
+    → T (every (λ k c. fits n d k) (map (view-held-term n) l)) → map held-term (map (view-held-term n) l) ≡ l
+unfolding view-held-term held-term
 held-view n d ln ld [] h = refl
 held-view n d ln ld (t ∷ l) h = ap₂ _∷_
     (ap (λ z. record { key = z; coefficient = t .coefficient }) (key-monomial n (t .key) ln inside))
-    (held-view n d ln ld l (every-tail (λ k c. fits n d k) (view-term n t) _ h))
+    (held-view n d ln ld l (every-tail (λ k c. fits n d k) (view-held-term n t) _ h))
   where
     inside : t .key < key-limit
-    inside = fits-below n (t .key) (fits-key n d (t .key) ln ld (every-head (λ k c. fits n d k) (view-term n t) _ h))
+    inside = fits-below n (t .key)
+        (fits-key n d (t .key) ln ld (every-head (λ k c. fits n d k) (view-held-term n t) _ h))
 
 -- ---- steps
 -- a form whose other fields are 0 is the step that is found
@@ -102,7 +103,7 @@ module _ (h : Held-book) (p : Held-passes h) (ρ : Reordering (h .n)) where
   -- the terms of a model that passes
   module _ (m : Held-model) (t : T (held-model-sound (outline-of h) m)) where
     abbrev old : Terms
-    old = map (view-term (m .n)) (m .terms)
+    old = map (view-held-term (m .n)) (m .terms)
 
     c : Canonical (h .n) (h .d) (view-model m)
     c = held-canonical h p ρ m t
@@ -118,7 +119,7 @@ module _ (h : Held-book) (p : Held-passes h) (ρ : Reordering (h .n)) where
         fitting = unfold view-model in c .fitting
 
     terms-there-and-back : map held-term (rename-terms (inverse ρ)
-        (map (view-term (m .n)) (map held-term (rename-terms ρ old)))) ≡ m .terms
+        (map (view-held-term (m .n)) (map held-term (rename-terms ρ old)))) ≡ m .terms
     unfolding view-model
     terms-there-and-back = ap (λ q. map held-term (rename-terms (inverse ρ) q))
         (renamed-viewed ρ (h .d) m (few h p ρ) (low h p ρ) (same-n h p ρ m t) c)
@@ -132,7 +133,7 @@ module _ (h : Held-book) (p : Held-passes h) (ρ : Reordering (h .n)) where
     count-renamed : length (rename-held-model ρ m .terms) ≡ length (m .terms)
     unfolding rename-held-model
     count-renamed = length-map (rename-terms ρ old) held-term ∙ length-renamed ρ old in-order
-        ∙ length-map (m .terms) (view-term (m .n))
+        ∙ length-map (m .terms) (view-held-term (m .n))
 
   step-there-and-back : (i : ℕ) (s : Held-step) → T (held-step-sound (outline-of h) i s)
       → rename-held-step (inverse ρ) (rename-held-step ρ s) ≡ s

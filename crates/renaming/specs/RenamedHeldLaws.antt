@@ -25,7 +25,7 @@ use Rattle.calculus.specs.SoundLaws.{Canonical, sound-parts}
 use Rattle.calculus.specs.BookLaws.{model-vars}
 use Rattle.calculus.specs.BookSoundLaws.{vars-pass}
 use Rattle.format.specs.Fields as F
-use Rattle.format.specs.HeldBook.{Held-model, Held-step, Held-book, view-term, view-model, form, forms, step-of}
+use Rattle.format.specs.HeldBook.{Held-model, Held-step, Held-book, view-held-term, view-model, form, forms, step-of}
 use Rattle.format.specs.HeldBook.{view-step, view-steps, view-book, outline, outline-of, held-model-sound}
 use Rattle.format.specs.HeldBook.{held-step-sound, Held-passes}
 use Rattle.format.specs.HeldBookLaws.{Stands-for, stands-for, view-more, view-passes}
@@ -50,8 +50,8 @@ view-key n d k l s h = ap (λ i. monomial-of i (key key-width k)) (sym (fits-len
 
 -- terms that fit are those that their keys stand for
 view-held : (n d : ℕ) → n ≤ key-width → d < 16 → (p : Terms) → T (every (λ k c. fits n d k) p)
-    → map (view-term n) (map held-term p) ≡ p
-unfolding view-term held-term
+    → map (view-held-term n) (map held-term p) ≡ p
+unfolding view-held-term held-term
 view-held n d l s [] h = refl
 view-held n d l s (t ∷ p) h = ap₂ _∷_
     (ap (λ k. record { coefficient = t .coefficient; exponents = k })
@@ -64,15 +64,15 @@ module _ {n : ℕ} (ρ : Reordering n) where
       (c : Canonical n d (view-model m)) where
     -- its terms
     abbrev pub viewed : Terms
-    viewed = map (view-term (m .n)) (m .terms)
+    viewed = map (view-held-term (m .n)) (m .terms)
 
     pub viewed-in-order : In-order n viewed
     unfolding view-model
     viewed-in-order = canonical-in-order c
 
     -- renamed, they are those of their keys
-    pub renamed-viewed : map (view-term (m .n)) (map held-term (rename-terms ρ viewed)) ≡ rename-terms ρ viewed
-    renamed-viewed = ap (λ k. map (view-term k) (map held-term (rename-terms ρ viewed))) e
+    pub renamed-viewed : map (view-held-term (m .n)) (map held-term (rename-terms ρ viewed)) ≡ rename-terms ρ viewed
+    renamed-viewed = ap (λ k. map (view-held-term k) (map held-term (rename-terms ρ viewed))) e
         ∙ view-held n d l s (rename-terms ρ viewed) fitting
       where
         fitting : T (every (λ k c. fits n d k) (rename-terms ρ viewed))

@@ -16,7 +16,7 @@ use Rattle.calculus.specs.Model.{Model, Point}
 use Rattle.calculus.specs.Refusal.{Result, done, stopped}
 use Rattle.calculus.specs.Book.{Step, input, constant, variable, negate, add, subtract, multiply, substitute, sweep}
 use Rattle.calculus.specs.Book.{quotient, antiderivative, Book, Summary}
-use Rattle.format.specs.HeldBook.{Held-term, Held-model, Held-step, Held-book, view-term}
+use Rattle.format.specs.HeldBook.{Held-term, Held-model, Held-step, Held-book, view-held-term}
 
 -- the place that each of n variables goes to, and the one that comes to each place; variables are counted from 0 here
 pub record Reordering (n : ℕ) : Type 0 where
@@ -117,7 +117,7 @@ module _ {n : ℕ} (ρ : Reordering n) where
   rename-held-model m = record {
     n = m .n;
     radius = m .radius;
-    terms = map held-term (rename-terms ρ (map (view-term (m .n)) (m .terms)));
+    terms = map held-term (rename-terms ρ (map (view-held-term (m .n)) (m .terms)));
   }
 
   -- the field v
