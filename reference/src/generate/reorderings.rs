@@ -15,7 +15,7 @@ pub fn reordering(random: &mut Random, n: usize) -> Reordering {
 
 /// A sheet that passes tests 1 to 6, whatever its run gives, and a reordering of
 /// its variables; one for each number from 0, independent of each other. Sheets
-/// of one variable, which have only one, come seldom.
+/// of one variable, and reorderings that change nothing, come seldom.
 pub fn renamed(seed: u64, number: u64) -> (Vec<u8>, Reordering) {
     let mut random = Random::new(seed ^ number.wrapping_mul(0xE703_7ED1_A0B4_28DB));
     loop {
@@ -23,8 +23,9 @@ pub fn renamed(seed: u64, number: u64) -> (Vec<u8>, Reordering) {
         let Ok(book) = sheet::sound_book(&bytes) else {
             continue;
         };
-        if book.n > 1 || random.one_in(16) {
-            return (bytes, reordering(&mut random, book.n));
+        let other = reordering(&mut random, book.n);
+        if other != Reordering::unchanged(book.n) || random.one_in(16) {
+            return (bytes, other);
         }
     }
 }

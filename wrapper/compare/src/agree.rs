@@ -2,8 +2,9 @@
 
 use crate::case::Case;
 use crate::integrals::Integrals;
+use crate::renamed::Renamed;
 use crate::rows::Rows;
-use crate::{shaped, sheets, stepping};
+use crate::{renamed, shaped, sheets, stepping};
 use hechroung::{Answer, Bounds, Ends, Exact, Integral, Model};
 use reference::calls::{Call, CallAnswer};
 use reference::model::monomial_of_key;
@@ -22,6 +23,8 @@ pub struct Seen {
     pub rows: Rows,
     /// The exact integral of an accepted answer.
     pub integrals: Integrals,
+    /// What was renamed.
+    pub renamed: Renamed,
     pub text: String,
 }
 
@@ -48,6 +51,7 @@ impl Seen {
             tried: Tried::default(),
             rows: Rows::default(),
             integrals: Integrals::default(),
+            renamed: Renamed::default(),
             text: refusal.map_or("accepted".into(), |(number, place)| {
                 format!("refused {number} {place}")
             }),
@@ -65,6 +69,7 @@ pub fn compare(case: &Case) -> Result<Seen, String> {
         Case::Book(book, length) => sheets::compare_write(book, *length),
         Case::RunBook(book) => sheets::compare_run_book(book),
         Case::Stepped(sheet, room) => stepping::compare(sheet, *room),
+        Case::Renamed(sheet, other) => renamed::compare(sheet, other),
     };
     found.map_err(|difference| format!("{}: {difference}\n{}", case.kind(), case.line()))
 }

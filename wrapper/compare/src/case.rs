@@ -4,6 +4,7 @@ use crate::shaped::Shape;
 use reference::book::{Book, Step};
 use reference::calls::Call;
 use reference::model::MOST_TERMS;
+use reference::renaming::Reordering;
 use reference::stored::{StoredModel, StoredTerm};
 use reference::text::bytes_of_hex;
 
@@ -24,6 +25,8 @@ pub enum Case {
     RunBook(Box<Book>),
     /// A sheet opened and stepped through, with room for so many bytes of a record.
     Stepped(Vec<u8>, usize),
+    /// A sheet that the reader accepts, with another order of its variables.
+    Renamed(Vec<u8>, Reordering),
 }
 
 impl Case {
@@ -37,6 +40,7 @@ impl Case {
             Case::Book(..) => "book written",
             Case::RunBook(_) => "book run",
             Case::Stepped(..) => "sheet stepped through",
+            Case::Renamed(..) => "renamed sheet",
         }
     }
 
@@ -76,6 +80,12 @@ impl Case {
                 bytes.extend(sheet);
                 "stepped"
             }
+            Case::Renamed(sheet, other) => {
+                bytes.push(other.variables() as u8);
+                bytes.extend(other.places().iter().map(|&place| place as u8));
+                bytes.extend(sheet);
+                "renamed"
+            }
         };
         format!("{word} {}", hex(&bytes))
     }
@@ -104,6 +114,10 @@ impl Case {
             "stepped" => {
                 let room = bytes.number()? as usize;
                 Case::Stepped(bytes.rest(), room)
+            }
+            "renamed" => {
+                let other = take_reordering(&mut bytes)?;
+                Case::Renamed(bytes.rest(), other)
             }
             _ => return None,
         };
@@ -287,6 +301,14 @@ fn take_call(bytes: &mut Bytes) -> Option<Call> {
     })
 }
 
+fn take_reordering(bytes: &mut Bytes) -> Option<Reordering> {
+    let mut places = Vec::new();
+    for _ in 0..bytes.byte()? {
+        places.push(usize::from(bytes.byte()?));
+    }
+    Reordering::new(&places)
+}
+
 fn take_point(bytes: &mut Bytes) -> Option<[i64; 4]> {
     let mut point = [0; 4];
     for x in &mut point {
@@ -312,12 +334,15 @@ fn take_model(bytes: &mut Bytes) -> Option<Box<StoredModel>> {
 #[cfg(test)]
 mod tests {
     use super::Case;
-    use crate::stream;
+    use crate::{renamed, stream};
 
     #[test]
     fn every_line_names_its_case() {
         for number in 0..3_000 {
             let case = stream::case(5, number);
+            assert_eq!(Case::from_line(&case.line()), Some(case));
+            let (sheet, other) = renamed::case(5, number);
+            let case = Case::Renamed(sheet, other);
             assert_eq!(Case::from_line(&case.line()), Some(case));
         }
     }
@@ -334,6 +359,8 @@ mod tests {
             "call 020101ff",
             "cal 020101",
             "shaped 00",
+            "renamed 020000",
+            "renamed 0201",
             "sheet 0",
         ] {
             assert_eq!(Case::from_line(line), None, "{line}");

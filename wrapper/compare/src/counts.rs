@@ -2,6 +2,7 @@
 
 use crate::agree::{Seen, Tried};
 use crate::integrals::Integrals;
+use crate::renamed::Renamed;
 use crate::rows::Rows;
 use std::collections::BTreeMap;
 
@@ -18,6 +19,8 @@ const REACHED: [(&str, &[u8]); 7] = [
     ("book run", &[3, 5, 6, 7, 8, 9, 12]),
 ];
 
+/// Those of a sheet that is read.
+const REFUSED_RUNS: [u8; 4] = [7, 8, 9, 12];
 /// The kinds of case whose runs have to reach every mix of shares.
 const WITH_ROWS: [&str; 2] = ["sheet", "book run"];
 
@@ -44,6 +47,7 @@ struct Kind {
     refused: BTreeMap<u8, BTreeMap<usize, u64>>,
     rows: Rows,
     integrals: Integrals,
+    renamed: Renamed,
 }
 
 impl Counts {
@@ -53,6 +57,7 @@ impl Counts {
         kind.cases += 1;
         kind.rows.add(&seen.rows);
         kind.integrals.add(&seen.integrals);
+        kind.renamed.add(&seen.renamed);
         match seen.refusal {
             _ if seen.misused => kind.misused += 1,
             None => kind.accepted += 1,
@@ -108,6 +113,21 @@ impl Counts {
         missing
     }
 
+    /// What no renamed sheet reached: each refusal of a run, each code, each kind of reordering.
+    pub fn unreached_renamed(&self, name: &str) -> Vec<String> {
+        let Some(kind) = self.kinds.get(name) else {
+            return vec!["any renamed sheet".into()];
+        };
+        let mut missing = kind.renamed.unreached();
+        let numbers = REFUSED_RUNS.iter();
+        let absent = numbers.filter(|number| !kind.refused.contains_key(number));
+        missing.extend(absent.map(|number| format!("refusal {number}")));
+        if kind.accepted == 0 {
+            missing.push("an accepted sheet".into());
+        }
+        missing
+    }
+
     fn unreached_refusals(&self) -> Vec<(&'static str, u8)> {
         let reached = |kind: &Kind, number| kind.refused.contains_key(&number);
         let by_any = |number: &u8| self.kinds.values().any(|kind| reached(kind, *number));
@@ -132,6 +152,7 @@ impl Counts {
             kind.print(name);
             kind.rows.print();
             kind.integrals.print();
+            kind.renamed.print();
             all.add(kind.clone_counts());
         }
         all.print("all");
@@ -155,6 +176,7 @@ impl Kind {
         self.misused += other.misused;
         self.rows.add(&other.rows);
         self.integrals.add(&other.integrals);
+        self.renamed.add(&other.renamed);
         for (number, places) in other.refused {
             let mine = self.refused.entry(number).or_default();
             for (place, times) in places {

@@ -4,6 +4,9 @@
 //!     compare --cases           the cases that standard input names, one a line, as a failure prints them
 //!     compare --program PATH [SHEETS [SEED]]
 //!                               so many generated sheets, each handed to the program by its standard input
+//!     compare --renamed PATH [SHEETS [SEED]]
+//!                               so many generated sheets, each with its variables renamed, by the library and by the
+//!                               program at the path
 //!
 //! The exit status is 0 only if all answers agree and every refusal, every mix of shares and every kind of exact
 //! integral that can be reached was reached.
@@ -16,6 +19,7 @@ mod counts;
 mod integrals;
 mod limits;
 mod program;
+mod renamed;
 mod rows;
 mod shaped;
 mod sheets;
@@ -33,6 +37,7 @@ use std::time::Instant;
 /// What the gate runs.
 const CASES: u64 = 300_000;
 const SHEETS: u64 = 10_000;
+const RENAMED_SHEETS: u64 = 20_000;
 const SEED: u64 = 1;
 /// Failures that are printed; all are counted.
 const MOST_PRINTED: usize = 20;
@@ -46,6 +51,9 @@ fn main() -> ExitCode {
         ["--program", path] => program_sheets(path, SHEETS, SEED),
         ["--program", path, sheets] => program_numbers(path, sheets, "1"),
         ["--program", path, sheets, seed] => program_numbers(path, sheets, seed),
+        ["--renamed", path] => renamed_sheets(path, RENAMED_SHEETS, SEED),
+        ["--renamed", path, sheets] => renamed_numbers(path, sheets, "1"),
+        ["--renamed", path, sheets, seed] => renamed_numbers(path, sheets, seed),
         [] => generated_cases(CASES, SEED),
         [cases] => numbers(cases, "1"),
         [cases, seed] => numbers(cases, seed),
@@ -54,7 +62,8 @@ fn main() -> ExitCode {
 }
 
 fn usage() -> ExitCode {
-    eprintln!("usage: compare [CASES [SEED]] | --cases < LINES | --program PATH [SHEETS [SEED]]");
+    eprintln!("usage: compare [CASES [SEED]] | --cases < LINES | --program PATH [SHEETS [SEED]] |");
+    eprintln!("       --renamed PATH [SHEETS [SEED]]");
     ExitCode::from(2)
 }
 
@@ -68,6 +77,13 @@ fn numbers(cases: &str, seed: &str) -> ExitCode {
 fn program_numbers(path: &str, sheets: &str, seed: &str) -> ExitCode {
     match (sheets.parse(), seed.parse()) {
         (Ok(sheets), Ok(seed)) => program_sheets(path, sheets, seed),
+        _ => usage(),
+    }
+}
+
+fn renamed_numbers(path: &str, sheets: &str, seed: &str) -> ExitCode {
+    match (sheets.parse(), seed.parse()) {
+        (Ok(sheets), Ok(seed)) => renamed_sheets(path, sheets, seed),
         _ => usage(),
     }
 }
@@ -138,6 +154,31 @@ fn program_sheets(path: &str, sheets: u64, seed: u64) -> ExitCode {
         started.elapsed().as_secs()
     );
     ended(&failures, true)
+}
+
+/// Compares the answers of renamed sheets with the renamed answers.
+fn renamed_sheets(path: &str, sheets: u64, seed: u64) -> ExitCode {
+    const NAME: &str = "renamed sheet";
+    let started = Instant::now();
+    let owned = path.to_owned();
+    let (counts, failures) = on_every_processor(move |first, step| {
+        let generated = (first..sheets).step_by(step);
+        noted(generated.map(|number| {
+            let (sheet, other) = renamed::case(seed, number);
+            (NAME, renamed::compare_both(&owned, &sheet, &other))
+        }))
+    });
+    counts.print();
+    println!(
+        "{sheets} generated sheets with seed {seed}, renamed, by the library and by the program: {} differ, {} s",
+        failures.len(),
+        started.elapsed().as_secs()
+    );
+    let unreached = counts.unreached_renamed(NAME);
+    if !unreached.is_empty() {
+        println!("not reached: {}", unreached.join("; "));
+    }
+    ended(&failures, unreached.is_empty())
 }
 
 /// One thread for each processor: it is told its number and how many there are.

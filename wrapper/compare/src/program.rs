@@ -31,7 +31,7 @@ pub fn compare(path: &str, sheet: &[u8]) -> Result<Seen, String> {
 }
 
 /// What the program writes; it says nothing on standard error and ends with status 0.
-fn written(path: &str, sheet: &[u8]) -> Result<String, String> {
+pub fn written(path: &str, sheet: &[u8]) -> Result<String, String> {
     let mut child = Command::new(path)
         .stdin(Stdio::piped())
         .stdout(Stdio::piped())

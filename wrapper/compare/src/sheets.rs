@@ -45,7 +45,7 @@ pub fn compare(bytes: &[u8]) -> Result<Seen, String> {
 }
 
 /// What each step of a sound book gives.
-fn traced(book: Result<SoundBook, Refusal>) -> Result<(SoundBook, Trace), Refusal> {
+pub fn traced(book: Result<SoundBook, Refusal>) -> Result<(SoundBook, Trace), Refusal> {
     let book = book?;
     let trace = trace(&book);
     Ok((book, trace))
@@ -69,7 +69,7 @@ pub fn compare_run_book(book: &Book) -> Result<Seen, String> {
 }
 
 /// The second implementation's answer in the wrapper's types.
-fn translated(expected: &RunAnswer) -> Summary {
+pub fn translated(expected: &RunAnswer) -> Summary {
     Summary {
         model: to_model(&expected.model),
         range: to_ends(expected.range),
@@ -156,7 +156,7 @@ pub fn patterned(length: usize) -> Vec<u8> {
     (0..length).map(|i| (i * 151 + 7) as u8).collect()
 }
 
-fn to_book(book: &Book) -> hechroung::Book {
+pub fn to_book(book: &Book) -> hechroung::Book {
     hechroung::Book {
         n: book.n,
         d: book.d,

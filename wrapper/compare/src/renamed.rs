@@ -1,0 +1,176 @@
+//! Sheets whose variables are renamed throughout: the answer of the renamed sheet is the renamed answer, of the library
+//! and of the program, and it is the second implementation's.
+
+use crate::agree::{pair, same, Seen};
+use crate::case::Case;
+use crate::integrals::Integrals;
+use crate::program;
+use crate::rows::Rows;
+use crate::sheets::{to_book, traced, translated};
+use hechroung::{Model, Report, Summary};
+use reference::generate::reorderings;
+use reference::model::{key_of_monomial, monomial_of_key};
+use reference::renaming::Reordering;
+use reference::run::ReportAnswer;
+use reference::sheet;
+
+/// How many codes of steps there are.
+const CODES: usize = 11;
+
+/// What was renamed.
+#[derive(Clone, Copy, Default)]
+pub struct Renamed {
+    /// Reorderings that change nothing, that are their own inverse, and others.
+    unchanged: u64,
+    own_inverse: u64,
+    others: u64,
+    /// Answers with other keys than before.
+    moved: u64,
+    /// Steps by their code.
+    steps: [u64; CODES],
+}
+
+impl Renamed {
+    fn of(bytes: &[u8], other: &Reordering, moved: bool) -> Renamed {
+        let mut renamed = Renamed {
+            moved: u64::from(moved),
+            ..Renamed::default()
+        };
+        let counted = if *other == Reordering::unchanged(other.variables()) {
+            &mut renamed.unchanged
+        } else if *other == other.inverse() {
+            &mut renamed.own_inverse
+        } else {
+            &mut renamed.others
+        };
+        *counted = 1;
+        for step in sheet::sound_book(bytes)
+            .into_iter()
+            .flat_map(|book| book.steps)
+        {
+            renamed.steps[usize::from(step.code)] += 1;
+        }
+        renamed
+    }
+
+    pub fn add(&mut self, other: &Renamed) {
+        self.unchanged += other.unchanged;
+        self.own_inverse += other.own_inverse;
+        self.others += other.others;
+        self.moved += other.moved;
+        for (mine, theirs) in self.steps.iter_mut().zip(other.steps) {
+            *mine += theirs;
+        }
+    }
+
+    fn is_empty(&self) -> bool {
+        self.unchanged + self.own_inverse + self.others == 0
+    }
+
+    /// What no sheet had.
+    pub fn unreached(&self) -> Vec<String> {
+        let mut missing = Vec::new();
+        for (name, times) in [
+            ("a reordering that is its own inverse", self.own_inverse),
+            ("a reordering that is not its own inverse", self.others),
+            ("an answer with other keys", self.moved),
+        ] {
+            if times == 0 {
+                missing.push(name.into());
+            }
+        }
+        let codes = self.steps.iter().enumerate();
+        let absent = codes.filter(|(_, &times)| times == 0);
+        missing.extend(absent.map(|(code, _)| format!("a step of code {code}")));
+        missing
+    }
+
+    pub fn print(&self) {
+        if self.is_empty() {
+            return;
+        }
+        println!(
+            "    reorderings that change nothing: {}, their own inverse: {}, others: {}; answers with other keys: {}",
+            self.unchanged, self.own_inverse, self.others, self.moved
+        );
+        let codes = self.steps.iter().enumerate();
+        let each = codes.map(|(code, times)| format!("{code}: {times}"));
+        println!("    steps by code {}", each.collect::<Vec<_>>().join(", "));
+    }
+}
+
+/// The sheet and the reordering of a number.
+pub fn case(seed: u64, number: u64) -> (Vec<u8>, Reordering) {
+    reorderings::renamed(seed, number)
+}
+
+/// By the library, and then by the program at the path.
+pub fn compare_both(path: &str, bytes: &[u8], other: &Reordering) -> Result<Seen, String> {
+    let found = compare(bytes, other).and_then(|seen| {
+        let [before, after] =
+            [bytes.to_vec(), renamed(bytes, other)?].map(|sheet| program::written(path, &sheet));
+        same(&after?, &other.lines(&before?))?;
+        Ok(seen)
+    });
+    found.map_err(|difference| {
+        let line = Case::Renamed(bytes.to_vec(), other.clone()).line();
+        format!("renamed: {difference}\n{line}")
+    })
+}
+
+/// By the library: the run with its shares, the plain run, the lines, the book in memory, and the sheet itself, which
+/// the reader accepts and which is written back as it is.
+pub fn compare(bytes: &[u8], other: &Reordering) -> Result<Seen, String> {
+    let sheet = renamed(bytes, other)?;
+    let (before, after) = (hechroung::shares(bytes), hechroung::shares(&sheet));
+    let expected = Report {
+        summary: renamed_summary(&before.summary, other),
+        ..before
+    };
+    same(&after, &expected)?;
+    let run = traced(sheet::sound_book(&sheet));
+    let second = ReportAnswer::of(run.as_ref().map(|(_, trace)| trace));
+    same(&after.summary, &translated(&second.answer))?;
+    same(&hechroung::run(&sheet), &after.summary)?;
+    let lines = other.lines(&hechroung::lines(bytes));
+    same(&hechroung::lines(&sheet), &lines)?;
+    let book = to_book(&sheet::read(&sheet).book);
+    same(&hechroung::shares_book(&book), &after)?;
+    let mut buffer = vec![0; bytes.len()];
+    let written = hechroung::rewrite(&sheet, &mut buffer);
+    same(&(written.refusal, buffer), &(None, sheet))?;
+
+    let mut seen = Seen::of(second.answer.refusal.map(pair));
+    seen.rows = Rows::compared(&after.shares, &second, &run)?;
+    if seen.refusal.is_none() {
+        seen.integrals = Integrals::checked(&after.summary.model, after.summary.exact)?;
+    }
+    seen.renamed = Renamed::of(bytes, other, after.summary != before.summary);
+    Ok(seen)
+}
+
+fn renamed(bytes: &[u8], other: &Reordering) -> Result<Vec<u8>, String> {
+    other
+        .sheet(bytes)
+        .ok_or_else(|| "the reader refuses the sheet, or it has another n".into())
+}
+
+/// Another key for each term, in key order again; everything else stays, and a refusal as it is.
+fn renamed_summary(summary: &Summary, other: &Reordering) -> Summary {
+    if summary.refusal.is_some() {
+        return *summary;
+    }
+    let key = |key| key_of_monomial(&other.monomial(&monomial_of_key(key)));
+    let mut terms: Vec<(u16, i64)> = summary.model.terms().map(|(k, c)| (key(k), c)).collect();
+    terms.sort_unstable();
+    let mut model = Model {
+        keys: Model::ZERO.keys,
+        coefficients: Model::ZERO.coefficients,
+        ..summary.model
+    };
+    for (place, (key, coefficient)) in terms.into_iter().enumerate() {
+        model.keys[place] = key;
+        model.coefficients[place] = coefficient;
+    }
+    Summary { model, ..*summary }
+}
