@@ -72,7 +72,11 @@ struct hechroung_exact {
    integral of its polynomial, without its radius. Demand 3 of document
    01 holds of it, for all functions within the sheet's models and all points of the box with fraction coordinates. Of a
    sheet with an antiderivative it holds for all polynomials within them, unless a quotient feeds one, directly or
-   through other steps; of a sheet with a quotient nothing is said about the integral. */
+   through other steps; of a sheet with a quotient nothing is said about the integral. Where the n variables of a sheet
+   or a book that passes tests 1 to 6 are renamed among themselves, with terms put back in key order, the answer has its
+   keys renamed likewise and is the same in everything else: coefficients, radius, ends, the exact integral and the
+   shares of each step, or the refusal and its place. The variable of a step is v in codes 2, 7 and 10. An evaluation at
+   the renamed point can have other ends: it puts the variables in one after the other and rounds between. */
 struct hechroung_summary {
     struct hechroung_model model;
     struct hechroung_ends range, integral;

@@ -7,7 +7,8 @@ use crate::{LONGEST_RECORD, MOST_MODELS, MOST_STEPS, MOST_TERMS};
 /// What a run gives: the last step's model, its range, its integral and the exact integral of its polynomial, without
 /// its radius; beside a refusal the zero model, ends 0 and the exact integral 0.
 /// Of a sheet with an antiderivative the promise holds for polynomials within its models, unless a quotient feeds one;
-/// nothing is said about the integral of a sheet with a quotient.
+/// nothing is said about the integral of a sheet with a quotient. Variables that are renamed among themselves
+/// throughout a sheet, with terms put back in key order, rename the keys of the answer and change nothing else.
 #[derive(Clone, Copy, Debug, PartialEq, Eq)]
 pub struct Summary {
     pub model: Model,
