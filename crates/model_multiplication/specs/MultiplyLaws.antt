@@ -21,12 +21,12 @@ zeros n s = elim (decLt s n) [
 ]
 
 pub zeros-empty : (products room : ℕ) → products ≤ room → room ≤ most-entries
-    → Empty-table products room (replicate (5 * room + 1) 0) (replicate (room + 1) 0)
+    → Empty-table products room (replicate (6 * room + 1) 0) (replicate (room + 1) 0)
     (replicate (room + 1) (pos 0))
 zeros-empty products room e l = record {
   enough = e;
   few = l;
-  empty = zeros (5 * room + 1);
+  empty = zeros (6 * room + 1);
   slots-room = rw length-replicate (omega arith);
   keys-room = rw length-replicate (omega arith);
   sums-room = rw length-replicate (omega arith);

@@ -8,7 +8,7 @@ use lib.ListN.{length, getD}
 use Rattle.calculus.specs.Terms.{Terms, every, size, drop-zeros}
 use Rattle.calculus.specs.Model.{Model, most-terms, most-degree, fits}
 use Rattle.calculus.specs.Operations.{products, kept}
-use Rattle.product_slots.specs.Slots.{home-slots}
+use Rattle.product_slots.specs.Slots.{Told, home-slots}
 use Rattle.product_table.specs.Table.{terms, entries, most-entries, Table}
 use Rattle.product_gathering.specs.declared.Gathered.{Gathered}
 use Rattle.product_gathering.specs.Wide.{wide-terms}
@@ -21,13 +21,13 @@ pub record Row-ready (homes : ℕ) (slots keys : List ℕ) (sums : List ℤ) (n 
   pub table : Table homes slots keys sums n
   pub homes-enough : count ≤ homes
   pub homes-few : homes ≤ home-slots
-  pub slots-room : homes + (n + count) < length slots
+  pub slots-room : homes + 2 * (n + count) ≤ length slots
   pub keys-room : n + count < length keys
   pub sums-room : n + count < length sums
   pub few : n + count ≤ most-entries
   pub keys-long : count ≤ length kb
   pub coefficients-long : count ≤ length cb
-  pub keys-small : (j : ℕ) → j < count → key + getD kb j 0 < 2 ^ 64
+  pub keys-told : (j : ℕ) → j < count → Told (key + getD kb j 0)
   pub small : natAbs c * size (terms count kb cb) + size (entries n keys sums) < 2 ^ 63
 
 -- an empty table with room for the products of na terms with nb others
@@ -36,7 +36,7 @@ pub record Collect-ready (homes : ℕ) (slots keys : List ℕ) (sums : List ℤ)
   pub empty : (s : ℕ) → getD slots s 0 ≡ 0
   pub homes-enough : na * nb ≤ homes
   pub homes-few : homes ≤ home-slots
-  pub slots-room : homes + na * nb < length slots
+  pub slots-room : homes + 2 * (na * nb) ≤ length slots
   pub keys-room : na * nb < length keys
   pub sums-room : na * nb < length sums
   pub first-few : na ≤ most-terms
@@ -45,7 +45,7 @@ pub record Collect-ready (homes : ℕ) (slots keys : List ℕ) (sums : List ℤ)
   pub first-coefficients : na ≤ length ca
   pub second-keys : nb ≤ length kb
   pub second-coefficients : nb ≤ length cb
-  pub keys-small : (i j : ℕ) → i < na → j < nb → getD ka i 0 + getD kb j 0 < 2 ^ 64
+  pub keys-told : (i j : ℕ) → i < na → j < nb → Told (getD ka i 0 + getD kb j 0)
   pub small : size (terms na ka ca) * size (terms nb kb cb) < 2 ^ 63
 
 -- a table of at most so many entries: the old ones and the terms q
@@ -56,12 +56,12 @@ pub record Collected (homes : ℕ) (old : Terms) (most : ℕ) (q : Terms) (slots
   pub sum : entries n keys sums ≡ accumulated-all old q
 
 -- ---- the product
--- two models in at most eight variables, held by the wide keys of their terms, whose products fit when summed
+-- two models in at most four variables, held by the wide keys of their terms, whose products fit when summed
 pub record Held-factors (ka : List ℕ) (ca : List ℤ) (na : ℕ) (kb : List ℕ) (cb : List ℤ) (nb : ℕ) : Type 0 where
   pub vars : ℕ
   pub first : Model
   pub second : Model
-  pub vars-few : vars ≤ 8
+  pub vars-few : vars ≤ 4
   pub first-fits : T (every (λ k c. fits vars most-degree k) (first .terms))
   pub second-fits : T (every (λ k c. fits vars most-degree k) (second .terms))
   pub first-held : terms na ka ca ≡ wide-terms (first .terms)
@@ -74,18 +74,18 @@ pub record Held-factors (ka : List ℕ) (ca : List ℤ) (na : ℕ) (kb : List �
   pub second-coefficients : nb ≤ length cb
   pub small : size (first .terms) * size (second .terms) < 2 ^ 63
 
--- an empty table with room for so many products or more: for each, four home slots and one more, and a slot behind all
+-- an empty table with room for so many products or more: for each, four home slots and two below its entry
 pub record Empty-table (products room : ℕ) (slots keys : List ℕ) (sums : List ℤ) : Type 0 where
   pub enough : products ≤ room
   pub few : room ≤ most-entries
   pub empty : (s : ℕ) → getD slots s 0 ≡ 0
-  pub slots-room : 5 * room < length slots
+  pub slots-room : 6 * room < length slots
   pub keys-room : room < length keys
   pub sums-room : room < length sums
 
 -- what is lent for any product: a table, whatever is in it
 pub record Lent-table (slots keys : List ℕ) (sums : List ℤ) : Type 0 where
-  pub slots-room : home-slots + most-entries < length slots
+  pub slots-room : home-slots + 2 * most-entries < length slots
   pub keys-room : most-entries < length keys
   pub sums-room : most-entries < length sums
 

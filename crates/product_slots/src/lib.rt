@@ -12,6 +12,11 @@ const HIGH_FACTOR: u64 = 1555934479;
 
 const HALF_WORD: u64 = 1 << 32;
 
+// A key's upper 28 bits tell it from all others; a 1 is put above them.
+const LOWER_BITS: u64 = 1 << 36;
+
+const ABOVE_UPPER: u64 = 1 << 28;
+
 // Where the search for a key begins, of so many slots: its halves, each times its factor, are added modulo 2^32, and as
 // the sum is to 2^32 so is the slot to their number. A remainder by that number would cost a division.
 fn home_slot(homes: usize, key: u64) -> usize
@@ -30,19 +35,22 @@ pub fn widened(x: u16) -> usize
     x as usize
 }
 
-// The first slot from the key's home slot on that leads to the key. It passes each entry once at the most, so that
-// 4,096 products pass some eight million slots at the worst, where all keys have the same home slot.
+// The first slot on the key's way that leads to the key. The way begins at its home slot and goes on below each entry
+// that it passes, to the left or the right by one bit of the key after the other. Two keys on one way agree in all bits
+// that it has used, so that it passes 28 entries at the most: `path` halves with each, and is never 0.
 pub fn find(slots: &[u16], keys: &[u64], homes: usize, key: u64) -> usize
     requires { ⌜ Searchable homes (now slots) (now keys) key ⌝ }
     ensures { λ r. ⌜ Found homes (now (slots .entry)) (now (keys .entry)) key r ⌝ }
 {
     let mut h = home_slot(homes, key);
+    let mut path = (key / LOWER_BITS + ABOVE_UPPER) as usize;
     loop {
         let x = widened(slots[h]);
         if keys[x] == key {
             return h;
         }
-        h += 1;
+        h = homes + 2 * x + path % 2;
+        path = path / 2;
     }
 }
 

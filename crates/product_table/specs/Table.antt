@@ -2,7 +2,7 @@
 use mathlib.Core.Path.{_≡_}
 use mathlib.Core.Bool.{true, false}
 use mathlib.Core.List.{List, [], _∷_}
-use Prim.Native.Nat.{ℕ, zero, suc, _+_, _^_, _<_, _≤_}
+use Prim.Native.Nat.{ℕ, zero, suc, _+_, _*_, _^_, _<_, _≤_}
 use lib.Dec.{T}
 use lib.IntN.{ℤ, pos, natAbs, _+ℤ_}
 use lib.ListN.{length, getD, drop}
@@ -10,7 +10,7 @@ use Rattle.polynomial.specs.Polynomial.{Term}
 use Rattle.calculus.specs.Monomial.{same}
 use Rattle.calculus.specs.Terms.{Terms, term, size}
 use Rattle.calculus.specs.Terms.{distinct}
-use Rattle.product_slots.specs.Slots.{home-slots, home-slot}
+use Rattle.product_slots.specs.Slots.{Told, home-slots, walked}
 
 -- ---- entries
 -- a coefficient at a key: a term in one variable
@@ -45,33 +45,35 @@ accumulated t (s ∷ p) = elim (same (t .exponents) (s .exponents)) [
 abbrev pub most-entries : ℕ
 most-entries = 4096
 
--- a search that begins at slot b comes to entry i, past full slots only
-pub record Reached (slots : List ℕ) (b i : ℕ) : Type 0 where
-  pub place : ℕ
-  pub after : b ≤ place
-  pub holds : getD slots place 0 ≡ i
-  pub full : (s : ℕ) → b ≤ s → s ≤ place → 0 < getD slots s 0
+-- the search for a key comes to entry i, past full slots only
+pub record Reached (homes : ℕ) (slots : List ℕ) (key i : ℕ) : Type 0 where
+  pub steps : ℕ
+  pub holds : getD slots (walked homes slots key steps) 0 ≡ i
+  pub full : (s : ℕ) → s < steps → 0 < getD slots (walked homes slots key s) 0
 
--- the slots lead to the n entries, each from its key's home slot; no key stands twice;
--- and the slots from homes + n on are empty
+-- the slots lead to the n entries, each on its key's way and from one slot only; no key stands twice, each is told by
+-- its upper bits; and the slots below entries that are not there yet are empty
 pub record Table (homes : ℕ) (slots keys : List ℕ) (sums : List ℤ) (n : ℕ) : Type 0 where
   pub keys-long : n < length keys
   pub sums-long : n < length sums
   pub low : (s : ℕ) → getD slots s 0 ≤ n
-  pub rest : (s : ℕ) → homes + n ≤ s → getD slots s 0 ≡ 0
-  pub reach : (i : ℕ) → 0 < i → i ≤ n → Reached slots (home-slot homes (getD keys i 0)) i
+  pub rest : (s : ℕ) → homes + 2 * (n + 1) ≤ s → getD slots s 0 ≡ 0
+  pub once : (s t : ℕ) → 0 < getD slots s 0 → getD slots s 0 ≡ getD slots t 0 → s ≡ t
+  pub reach : (i : ℕ) → 0 < i → i ≤ n → Reached homes slots (getD keys i 0) i
+  pub told : (i : ℕ) → 0 < i → i ≤ n → Told (getD keys i 0)
   pub distinct-keys : T (distinct (entries n keys sums))
 
 -- ---- one more term
--- there is room for one more entry, and its sum fits
-pub record Room (homes : ℕ) (slots keys : List ℕ) (sums : List ℤ) (n : ℕ) (z : ℤ) : Type 0 where
+-- there is room for one more entry, its key is told by its upper bits, and its sum fits
+pub record Room (homes : ℕ) (slots keys : List ℕ) (sums : List ℤ) (n key : ℕ) (z : ℤ) : Type 0 where
   pub table : Table homes slots keys sums n
   pub some : 0 < homes
   pub not-many : homes ≤ home-slots
-  pub slots-room : homes + (n + 1) < length slots
+  pub slots-room : homes + 2 * (n + 1) ≤ length slots
   pub keys-room : n + 1 < length keys
   pub sums-room : n + 1 < length sums
   pub few : n + 1 < 2 ^ 16
+  pub new-told : Told key
   pub small : natAbs z + size (entries n keys sums) < 2 ^ 63
 
 -- the table holds those entries and t

@@ -13,7 +13,7 @@ start c = c .before .before .before .before
 
 -- how many slots are used
 abbrev used : tie.After-struct-known2 → ℕ
-used c = 5 * (start c .args .f .count * start c .args .g .count) + 1
+used c = 6 * (start c .args .f .count * start c .args .g .count) + 1
 
 mul-products : tie.Need-mul-products
 mul-products c = let p = products-few _ _ _ (c .before .before .before .before .pre .0) in search needs
