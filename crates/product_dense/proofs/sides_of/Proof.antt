@@ -1,0 +1,64 @@
+-- `sides_of` computes the grid, without overflow.
+use mathlib.Core.Path.{refl}
+use native.Mathlib.Omega.{arith}
+use borrow.Author.Needs.{needs}
+use Rattle.product_dense.specs.Grid.{sides-for}
+use Rattle.product_dense.specs.GridLaws.{plane-fits, cube-fits, size-fits}
+use Rattle.product_dense.proofs.sides_of.Statement.{statement}
+use Rattle.product_dense.proofs.sides_of.Tie as tie
+use Rattle.product_dense.proofs.sides_of.Reads as reads
+use Rattle.product_dense.proofs.sides_of.Lts as lts
+
+add-first : tie.Need-add-first
+add-first c = search needs
+
+add-first-2 : tie.Need-add-first-2
+add-first-2 c = search needs
+
+add-second : tie.Need-add-second
+add-second c = search needs
+
+add-second-2 : tie.Need-add-second-2
+add-second-2 c = search needs
+
+add-third : tie.Need-add-third
+add-third c = search needs
+
+add-third-2 : tie.Need-add-third-2
+add-third-2 c = search needs
+
+add-fourth : tie.Need-add-fourth
+add-fourth c = search needs
+
+add-fourth-2 : tie.Need-add-fourth-2
+add-fourth-2 c = search needs
+
+mul-plane : tie.Need-mul-plane
+mul-plane c = let s = c .before .before .before .before .before .before .before .before in record { fits = omega (arith, plane-fits (s .args .e) (s .args .h) (s .pre .0) (s .pre .1)) }
+
+mul-cube : tie.Need-mul-cube
+mul-cube c = let s = c .before .before .before .before .before .before .before .before in record { fits = omega (arith, cube-fits (s .args .e) (s .args .h) (s .pre .0) (s .pre .1)) }
+
+mul-t9 : tie.Need-mul-t9
+mul-t9 c = let s = c .before .before .before .before .before .before .before .before in record { fits = omega (arith, size-fits (s .args .e) (s .args .h) (s .pre .0) (s .pre .1)) }
+
+returns : tie.Need-returns
+unfolding sides-for
+returns c = refl
+
+pub sides-of-spec : {M : Type 1} → statement M
+sides-of-spec =
+    tie.close
+    (tie.spec
+    add-first
+    add-first-2
+    add-second
+    add-second-2
+    add-third
+    add-third-2
+    add-fourth
+    add-fourth-2
+    mul-plane
+    mul-cube
+    mul-t9
+    returns)

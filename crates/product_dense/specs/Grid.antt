@@ -1,0 +1,88 @@
+-- A grid of monomials: how many places a variable's exponents take, and the place of a wide key among all.
+use Prim.Native.Nat.{ℕ, _+_, _*_, _/_, _%_, _^_, max, _<_, _≤_}
+use lib.ListN.{getD}
+use Rattle.model_keys.specs.Keys.{widened}
+use Rattle.model_types.specs.declared.Model.{Model}
+use Rattle.model_types.specs.ModelStruct.{zero-term}
+use Rattle.product_slots.specs.Slots.{Told}
+use Rattle.product_dense.specs.declared.Extents.{Extents}
+use Rattle.product_dense.specs.declared.Sides.{Sides}
+
+-- ---- the exponents of a wide key
+abbrev pub first-of : ℕ → ℕ
+first-of key = key / 2 ^ 57
+
+abbrev pub second-of : ℕ → ℕ
+second-of key = key / 2 ^ 50 % 2 ^ 7
+
+abbrev pub third-of : ℕ → ℕ
+third-of key = key / 2 ^ 43 % 2 ^ 7
+
+abbrev pub fourth-of : ℕ → ℕ
+fourth-of key = key / 2 ^ 36 % 2 ^ 7
+
+-- ---- the largest of each
+-- none above those of e
+pub record Within (e : Extents) (key : ℕ) : Type 0 where
+  pub first : first-of key ≤ e .first
+  pub second : second-of key ≤ e .second
+  pub third : third-of key ≤ e .third
+  pub fourth : fourth-of key ≤ e .fourth
+
+-- the larger of each and a key's
+unfoldable pub raised-by : (e : Extents) (key : ℕ) → Extents
+raised-by e key = record {
+  first = max (e .first) (first-of key);
+  second = max (e .second) (second-of key);
+  third = max (e .third) (third-of key);
+  fourth = max (e .fourth) (fourth-of key);
+}
+
+-- each fits four bits
+pub record Low (e : Extents) : Type 0 where
+  pub first : e .first < 2 ^ 4
+  pub second : e .second < 2 ^ 4
+  pub third : e .third < 2 ^ 4
+  pub fourth : e .fourth < 2 ^ 4
+
+-- the extents of a model's terms
+pub record Covered (m : Model) (e : Extents) : Type 0 where
+  pub low : Low e
+  pub each : (i : ℕ) → i < m .count → Within e (widened (getD (m .terms) i zero-term .key))
+
+-- ---- the grid
+-- for the products of terms within e and within h: a side for each variable but the first, and the number of places
+unfoldable pub sides-for : (e h : Extents) → Sides
+sides-for e h =
+    let second = e .second + h .second + 1 in
+    let third = e .third + h .third + 1 in
+    let fourth = e .fourth + h .fourth + 1 in
+    record {
+      second = second;
+      third = third;
+      fourth = fourth;
+      size = (e .first + h .first + 1) * second * third * fourth;
+    }
+
+-- no side too long
+pub record Narrow (second third fourth : ℕ) : Type 0 where
+  pub short-second : second < 2 ^ 8
+  pub short-third : third < 2 ^ 8
+  pub short-fourth : fourth < 2 ^ 8
+
+-- the place of a key: its exponents as the digits of one number, that of variable 1 the highest
+unfoldable pub place-by : (second third fourth key : ℕ) → ℕ
+place-by second third fourth key =
+    ((first-of key * second + second-of key) * third + third-of key) * fourth + fourth-of key
+
+-- in a grid
+abbrev pub place : (s : Sides) (key : ℕ) → ℕ
+place s = place-by (s .second) (s .third) (s .fourth)
+
+-- a key in the grid
+pub record Gridded (s : Sides) (key : ℕ) : Type 0 where
+  pub told : Told key
+  pub second : second-of key < s .second
+  pub third : third-of key < s .third
+  pub fourth : fourth-of key < s .fourth
+  pub below : place s key < s .size

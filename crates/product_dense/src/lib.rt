@@ -1,0 +1,153 @@
+// Products in a grid: where the exponents of two factors are small beside the number of their terms, each monomial of
+// the product has a place of its own, the sum of two numbers that are found once for each term.
+ghost use mathlib.Core.Path.{_≡_};
+ghost use Prim.Native.Nat.{ℕ, max, _<_, _≤_};
+ghost use lib.ListN.{length, getD};
+ghost use Rattle.calculus.specs.Key.{«key-width»};
+ghost use Rattle.calculus.specs.Model.{«most-terms»};
+ghost use Rattle.model_keys.specs.Keys.{widened};
+ghost use Rattle.product_dense.specs.Grid.{«first-of», «second-of», «third-of», «fourth-of», Low};
+ghost use Rattle.product_dense.specs.Grid.{«raised-by», Covered};
+ghost use Rattle.product_dense.specs.Grid.{«sides-for», Narrow, «place-by»};
+use model_types::Model;
+
+// ---- the exponents of a wide key: seven bits each, above 36 others
+const FIRST: u64 = 1 << 57;
+
+const SECOND: u64 = 1 << 50;
+
+const THIRD: u64 = 1 << 43;
+
+const FOURTH: u64 = 1 << 36;
+
+const DIGIT: u64 = 1 << 7;
+
+fn first_of(key: u64) -> usize
+    ensures { λ r. ⌜ r ≡ first-of key ⌝ }
+{
+    (key / FIRST) as usize
+}
+
+fn second_of(key: u64) -> usize
+    ensures { λ r. ⌜ r ≡ second-of key ⌝ }
+{
+    (key / SECOND % DIGIT) as usize
+}
+
+fn third_of(key: u64) -> usize
+    ensures { λ r. ⌜ r ≡ third-of key ⌝ }
+{
+    (key / THIRD % DIGIT) as usize
+}
+
+fn fourth_of(key: u64) -> usize
+    ensures { λ r. ⌜ r ≡ fourth-of key ⌝ }
+{
+    (key / FOURTH % DIGIT) as usize
+}
+
+// ---- the grid
+// The largest exponent of each variable.
+pub struct Extents {
+    pub first: usize,
+    pub second: usize,
+    pub third: usize,
+    pub fourth: usize,
+}
+
+// How many exponents of each variable but the first there can be in a product, and how many monomials.
+pub struct Sides {
+    pub second: usize,
+    pub third: usize,
+    pub fourth: usize,
+    pub size: usize,
+}
+
+fn larger(a: usize, b: usize) -> usize
+    ensures { λ r. ⌜ r ≡ max a b ⌝ }
+{
+    if a < b { b } else { a }
+}
+
+// The larger of the exponents so far and those of one more key.
+fn raised(e: Extents, narrow: u16) -> Extents
+    ensures exact { λ r. ⌜ r ≡ raised-by e (widened narrow) ⌝ }
+    ensures low { λ r. ⌜ (Low e → Low r) ⌝ }
+{
+    let key = model_keys::wide_key(narrow);
+    Extents {
+        first: larger(e.first, first_of(key)),
+        second: larger(e.second, second_of(key)),
+        third: larger(e.third, third_of(key)),
+        fourth: larger(e.fourth, fourth_of(key)),
+    }
+}
+
+// The largest exponents of a model's terms.
+pub fn extents_of(m: Model) -> Extents
+    requires { ⌜ m .count ≤ most-terms ⌝ }
+    ensures { λ r. ⌜ Covered m r ⌝ }
+{
+    let count = m.count;
+    let mut e = Extents {
+        first: 0,
+        second: 0,
+        third: 0,
+        fourth: 0,
+    };
+    let mut i = 0;
+    while i < count {
+        let t = m.terms[i];
+        e = raised(e, t.key);
+        i += 1;
+    }
+    e
+}
+
+// The grid for the products of terms with such exponents.
+pub fn sides_of(e: Extents, h: Extents) -> Sides
+    requires { ⌜ Low e ⌝ }
+    requires { ⌜ Low h ⌝ }
+    ensures { λ r. ⌜ r ≡ sides-for e h ⌝ }
+{
+    let first = e.first + h.first + 1;
+    let second = e.second + h.second + 1;
+    let third = e.third + h.third + 1;
+    let fourth = e.fourth + h.fourth + 1;
+    let plane = first * second;
+    let cube = plane * third;
+    Sides {
+        second: second,
+        third: third,
+        fourth: fourth,
+        size: cube * fourth,
+    }
+}
+
+// The place of a key in a grid with such sides.
+fn place_of(key: u64, second: usize, third: usize, fourth: usize) -> usize
+    requires { ⌜ Narrow second third fourth ⌝ }
+    ensures { λ r. ⌜ r ≡ place-by second third fourth key ⌝ }
+{
+    let a = first_of(key);
+    let b = second_of(key);
+    let c = third_of(key);
+    let d = fourth_of(key);
+    let line = a * second + b;
+    let plane = line * third + c;
+    plane * fourth + d
+}
+
+// The places of the first count keys.
+pub fn place_all(keys: &[u64], count: usize, second: usize, third: usize, fourth: usize, places: &mut [usize])
+    requires { ⌜ Narrow second third fourth ⌝ }
+    requires { ⌜ (count ≤ length (now keys)) × (count ≤ length (now places)) ⌝ }
+    ensures { λ r. ⌜ ((i : ℕ) → i < count
+        → getD (now (places .exit)) i 0 ≡ place-by second third fourth (getD (now (keys .entry)) i 0)) ⌝ }
+{
+    let mut i = 0;
+    while i < count {
+        places[i] = place_of(keys[i], second, third, fourth);
+        i += 1;
+    }
+}
