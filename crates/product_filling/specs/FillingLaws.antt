@@ -1,0 +1,198 @@
+-- Sums in a grid: none yet, one more term, and terms after others.
+use mathlib.Core.Path.{_≡_, refl, sym, _∙_, ap, subst}
+use mathlib.Core.Bool.{not}
+use mathlib.Core.List.{List, [], _∷_, _++_}
+use Prim.Native.Nat.{ℕ, zero, suc, _+_, _*_, _<_, _≤_}
+use native.Mathlib.Nat.{mul-le-mul-left, mul-le-mul-right}
+use native.Mathlib.Decide.{ℕ-discrete}
+use native.Mathlib.Omega.{arith}
+use lib.Dec.{T, not-T}
+use lib.IntN.{ℤ, pos, natAbs, _+ℤ_, _*ℤ_, +ℤ-assoc, +ℤ-comm, +ℤ-idl, +ℤ-idr}
+use lib.ListN.{length, getD, set, take, drop, take-append-drop}
+use lib.Seq.{getD-set-same, getD-set-other}
+use Rattle.algebra.specs.Integer.{natAbs-add}
+use Rattle.algebra.specs.IntegerRing.{ℤR}
+use Rattle.algebra.specs.Lexicographic.{same}
+use Rattle.algebra.specs.LexicographicLaws.{same-ok, same-refl}
+use Rattle.polynomial.specs.Polynomial.{Term, add-exponents, times, product}
+use Rattle.calculus.specs.Terms.{Terms, term, sum-over, size}
+use Rattle.calculus.specs.SumLaws.{ℕ-addition, sum-++}
+use Rattle.calculus.specs.CanonicalLaws.{coefficient-at, coefficient-nil, coefficient-cons, coefficient-++, share}
+use Rattle.calculus.specs.CanonicalLaws.{share-here, share-elsewhere}
+use Rattle.calculus.specs.LoopLaws.{times-snoc, product-snoc}
+use Rattle.product_collector.specs.ProductsLaws.{size-times, size-product}
+use Rattle.product_table.specs.Table.{at-key, terms}
+use Rattle.product_dense.specs.declared.Sides.{Sides}
+use Rattle.product_dense.specs.Grid.{place, Gridded}
+use Rattle.product_dense.specs.PlaceLaws.{place-apart}
+use Rattle.product_filling.specs.Filling.{Label, empty, full, Labels, Filled, Summed-up}
+
+-- ---- sizes
+pub size-append : (p q : Terms) → size (p ++ q) ≡ size p + size q
+unfolding size
+size-append p q = sum-++ ℕ-addition (λ k c. natAbs c) p q
+
+pub size-one : (t : Term ℤ) → size (t ∷ []) ≡ natAbs (t .coefficient)
+unfolding size sum-over
+size-one t = omega arith
+
+pub size-nil : size [] ≡ 0
+unfolding size sum-over
+size-nil = refl
+
+pub size-take : (p : Terms) (i : ℕ) → size (take i p) ≤ size p
+size-take p i =
+    let e : size p ≡ size (take i p) + size (drop i p) =
+    ap size (sym (take-append-drop i p)) ∙ size-append (take i p) (drop i p) in
+    omega arith
+
+-- ---- one key
+coefficient-one : (k : List ℕ) (t : Term ℤ) → coefficient-at (t ∷ []) k ≡ share k t
+coefficient-one k t = coefficient-cons k t [] ∙ rw (coefficient-nil k) (+ℤ-idr (share k t))
+
+other-key : (k l : ℕ) → (k ≡ l → ⊥) → T (not (same (k ∷ []) (l ∷ [])))
+other-key k l n = not-T (same (k ∷ []) (l ∷ [])) (λ h.
+    let e : k ∷ [] ≡ l ∷ [] = same-ok (k ∷ []) (l ∷ []) h in
+    let f : k ≡ l = cc in n f)
+
+-- ---- sums
+-- one more is 0
+pub zeros-more : (l : List ℤ) (i : ℕ) → i < length l → ((j : ℕ) → j < i → getD l j (pos 0) ≡ pos 0)
+    → (j : ℕ) → j < i + 1 → getD (set l i (pos 0)) j (pos 0) ≡ pos 0
+zeros-more l i h f j g = elim (ℕ-discrete j i) [
+  | yes e ↦ rw e (getD-set-same l i (pos 0) (pos 0) h)
+  | no n ↦ getD-set-other l i j (pos 0) (pos 0) n ∙ f j (omega arith)
+]
+
+-- nothing is added yet
+pub filled-none : (s : Sides) (keys : List ℕ) (sums : List ℤ) → Labels s keys sums → Filled s sums [] keys sums
+filled-none s keys sums l = record {
+  labels = l;
+  added = λ k g. rw (coefficient-nil (k ∷ [])) (sym (+ℤ-idr (getD sums (place s k) (pos 0))));
+  grown = λ i h. omega arith;
+}
+
+-- one more term
+module _ (s : Sides) (before : List ℤ) (q : Terms) (keys : List ℕ) (sums : List ℤ) (f : Filled s before q keys sums)
+    (keys-room : s .size ≤ length keys) (sums-room : s .size ≤ length sums)
+    (key : ℕ) (z v : ℤ) (g : Gridded s key) (p : ℕ) (at : p ≡ place s key) (e : v ≡ z +ℤ getD sums p (pos 0)) where
+  abbrev t : Term ℤ
+  t = at-key key z
+
+  abbrev new-keys : List ℕ
+  new-keys = set keys p key
+
+  abbrev new-sums : List ℤ
+  new-sums = set sums p v
+
+  inside : p < s .size
+  inside = rw at (g .below)
+
+  key-there : getD new-keys p 0 ≡ key
+  key-there = getD-set-same keys p key 0 (omega (arith, inside))
+
+  sum-there : getD new-sums p (pos 0) ≡ v
+  sum-there = getD-set-same sums p v (pos 0) (omega (arith, inside))
+
+  label-more : (i : ℕ) → i < s .size → Label s new-keys new-sums i
+  label-more i h = elim (ℕ-discrete i p) [
+    | yes c ↦ rw c (full (rw key-there g) (rw key-there (sym at)))
+    | no c ↦ other c (f .labels i h)
+  ]
+    where
+      other : (i ≡ p → ⊥) → Label s keys sums i → Label s new-keys new-sums i
+      other c (empty x) = empty (getD-set-other sums p i v (pos 0) c ∙ x)
+      other c (full x y) =
+          let k : getD new-keys i 0 ≡ getD keys i 0 = getD-set-other keys p i key 0 c in
+          full (rw k x) (rw k y)
+
+  coefficient-more : (k : List ℕ) → coefficient-at (q ++ (t ∷ [])) k ≡ coefficient-at q k +ℤ share k t
+  coefficient-more k =
+      coefficient-++ k q (t ∷ []) ∙ ap (λ x. coefficient-at q k +ℤ x) (coefficient-one k t)
+
+  added-more : (k : ℕ) → Gridded s k
+      → getD new-sums (place s k) (pos 0) ≡ getD before (place s k) (pos 0) +ℤ coefficient-at (q ++ (t ∷ [])) (k ∷ [])
+  added-more k x = elim (ℕ-discrete (place s k) p) [
+    | yes c ↦
+        let w : k ≡ key = place-apart s k key x g (c ∙ at) in
+        let here : share (k ∷ []) t ≡ z = share-here (k ∷ []) t (rw w (same-refl (key ∷ []))) in
+        rw (coefficient-more (k ∷ []), here, c, sum-there, e)
+        (ap (λ y. z +ℤ y) (rw c at (f .added k x))
+        ∙ +ℤ-comm z (getD before p (pos 0) +ℤ coefficient-at q (k ∷ []))
+        ∙ +ℤ-assoc (getD before p (pos 0)) (coefficient-at q (k ∷ [])) z)
+    | no c ↦
+        let away : share (k ∷ []) t ≡ pos 0 =
+        share-elsewhere (k ∷ []) t (other-key k key (λ w. c (ap (place s) w ∙ sym at))) in
+        rw (coefficient-more (k ∷ []), away, getD-set-other sums p (place s k) v (pos 0) c, +ℤ-idr) (f .added k x)
+  ]
+
+  grown-more : (i : ℕ) → i < s .size
+      → natAbs (getD new-sums i (pos 0)) ≤ natAbs (getD before i (pos 0)) + size (q ++ (t ∷ []))
+  grown-more i h =
+      let n : size (q ++ (t ∷ [])) ≡ size q + natAbs z = size-append q (t ∷ []) ∙ ap (λ x. size q + x) (size-one t) in
+      elim (ℕ-discrete i p) [
+        | yes c ↦ rw (c, sum-there, e)
+            (omega (arith, n, natAbs-add z (getD sums p (pos 0)), rw c at (f .grown i h)))
+        | no c ↦ rw (getD-set-other sums p i v (pos 0) c) (omega (arith, n, f .grown i h))
+      ]
+
+  pub filled-more : Filled s before (q ++ (t ∷ [])) new-keys new-sums
+  filled-more = record { labels = label-more; added = added-more; grown = grown-more }
+
+-- terms after others
+pub filled-after : (s : Sides) (before mid : List ℤ) (q r : Terms) (mid-keys keys : List ℕ) (sums : List ℤ)
+    → Filled s before q mid-keys mid → Filled s mid r keys sums → Filled s before (q ++ r) keys sums
+filled-after s before mid q r mid-keys keys sums f g = record {
+  labels = g .labels;
+  added = λ k x.
+      g .added k x
+      ∙ ap (λ y. y +ℤ coefficient-at r (k ∷ [])) (f .added k x)
+      ∙ +ℤ-assoc (getD before (place s k) (pos 0)) (coefficient-at q (k ∷ [])) (coefficient-at r (k ∷ []))
+      ∙ ap (λ y. getD before (place s k) (pos 0) +ℤ y) (sym (coefficient-++ (k ∷ []) q r));
+  grown = λ i h. omega (arith, f .grown i h, g .grown i h, size-append q r);
+}
+
+-- ---- a row of products, term by term
+module _ (t : Term ℤ) (bs : Terms) (j : ℕ) (b : Term ℤ) (e : take (suc j) bs ≡ take j bs ++ (b ∷ [])) where
+  abbrev made : Term ℤ
+  made = term (t .coefficient *ℤ b .coefficient) (add-exponents (t .exponents) (b .exponents))
+
+  pub times-more : times ℤR t (take (suc j) bs) ≡ times ℤR t (take j bs) ++ (made ∷ [])
+  times-more = ap (times ℤR t) e ∙ times-snoc t (take j bs) b
+
+  -- it is no more than the whole row
+  pub times-most : size (times ℤR t (take j bs)) + natAbs (made .coefficient) ≤ size (times ℤR t bs)
+  times-most =
+      let n : size (times ℤR t (take (suc j) bs)) ≡ size (times ℤR t (take j bs)) + natAbs (made .coefficient) =
+      ap size times-more ∙ size-append (times ℤR t (take j bs)) (made ∷ []) ∙ ap (λ x. size (times ℤR t (take j bs)) + x) (size-one made) in
+      let m : natAbs (t .coefficient) * size (take (suc j) bs) ≤ natAbs (t .coefficient) * size bs =
+      mul-le-mul-left (natAbs (t .coefficient)) (size-take bs (suc j)) in
+      omega (arith, n, m, size-times t (take (suc j) bs), size-times t bs)
+
+-- ---- all products, row by row
+-- sums that are all 0: nothing is added to none
+pub filled-first : (s : Sides) (keys : List ℕ) (sums : List ℤ) → ((i : ℕ) → i < s .size → getD sums i (pos 0) ≡ pos 0)
+    → Filled s [] [] keys sums
+filled-first s keys sums z = record {
+  labels = λ i h. empty (z i h);
+  added = λ k g. z (place s k) (g .below) ∙ rw (coefficient-nil (k ∷ [])) refl;
+  grown = λ i h. rw (z i h) (omega arith);
+}
+
+pub filled-last : (s : Sides) (p : Terms) (keys : List ℕ) (sums : List ℤ) → Filled s [] p keys sums
+    → Summed-up s p keys sums
+filled-last s p keys sums f =
+    record { labels = f .labels; sum = λ k g. f .added k g ∙ +ℤ-idl (coefficient-at p (k ∷ [])) }
+
+module _ (firsts seconds : Terms) (i : ℕ) (t : Term ℤ) (e : take (suc i) firsts ≡ take i firsts ++ (t ∷ [])) where
+  pub products-more : product ℤR (take (suc i) firsts) seconds
+      ≡ product ℤR (take i firsts) seconds ++ times ℤR t seconds
+  products-more = ap (λ p. product ℤR p seconds) e ∙ product-snoc (take i firsts) seconds t
+
+  pub products-most : size (product ℤR (take i firsts) seconds) + size (times ℤR t seconds)
+      ≤ size (product ℤR firsts seconds)
+  products-most =
+      let n = ap size products-more ∙ size-append (product ℤR (take i firsts) seconds) (times ℤR t seconds) in
+      let m : size (take (suc i) firsts) * size seconds ≤ size firsts * size seconds =
+      mul-le-mul-right (size seconds) (size-take firsts (suc i)) in
+      omega (arith, n, m, size-product (take (suc i) firsts) seconds, size-product firsts seconds)
