@@ -1,0 +1,3 @@
+pub mod GridContracts
+pub mod SameSumsLaws
+pub mod GridSumsLaws
