@@ -9,7 +9,7 @@ use Rattle.calculus.specs.Terms.{Terms, every, size, drop-zeros}
 use Rattle.calculus.specs.Model.{Model, most-terms, most-degree, fits}
 use Rattle.calculus.specs.Operations.{products, kept}
 use Rattle.product_slots.specs.Slots.{Told, home-slots}
-use Rattle.product_table.specs.Table.{terms, entries, most-entries, Table}
+use Rattle.product_table.specs.Table.{terms, entries, most-entries, lent-places, Table}
 use Rattle.product_gathering.specs.declared.Gathered.{Gathered}
 use Rattle.product_gathering.specs.Wide.{wide-terms}
 use Rattle.product_collector.specs.Collector.{accumulated-all, gathered-product}
@@ -86,8 +86,8 @@ pub record Empty-table (products room : ℕ) (slots keys : List ℕ) (sums : Lis
 -- what is lent for any product: a table, whatever is in it
 pub record Lent-table (slots keys : List ℕ) (sums : List ℤ) : Type 0 where
   pub slots-room : home-slots + 2 * most-entries < length slots
-  pub keys-room : most-entries < length keys
-  pub sums-room : most-entries < length sums
+  pub keys-room : lent-places ≤ length keys
+  pub sums-room : lent-places ≤ length sums
 
 -- what comes back of it: the content is left free, and each slice keeps its length
 pub record Free-table (slots-before keys-before : List ℕ) (sums-before : List ℤ)

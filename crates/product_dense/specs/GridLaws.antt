@@ -1,12 +1,18 @@
 -- How large a grid is, the extents of more and more terms, and places stored one after the other.
-use mathlib.Core.Path.{_≡_, _∙_}
-use mathlib.Core.List.{List}
-use Prim.Native.Nat.{ℕ, _+_, _-_, _*_, _^_, max, _<_, _≤_}
+use mathlib.Core.Path.{_≡_, sym, _∙_, ap}
+use mathlib.Core.List.{List, [], _∷_}
+use Prim.Native.Nat.{ℕ, suc, _+_, _-_, _*_, _^_, max, _<_, _≤_}
 use native.Mathlib.Nat.{mul-le-mul, le-max-left, le-max-right, max-le}
 use native.Mathlib.Decide.{ℕ-discrete}
 use native.Mathlib.Omega.{arith}
-use lib.ListN.{length, getD, set}
-use lib.Seq.{getD-set-same, getD-set-other}
+use lib.IntN.{pos}
+use lib.ListN.{length, getD, set, drop, length-map, length-take}
+use lib.Seq.{getD-set-same, getD-set-other, drop-cons}
+use Rattle.calculus.specs.Key.{monomial-of}
+use Rattle.calculus.specs.Terms.{Terms, term}
+use Rattle.model_types.specs.declared.Model.{Model}
+use Rattle.model_types.specs.ModelStruct.{zero-term, view-term, view}
+use Rattle.model_types.specs.ModelStructLaws.{read, term-at, view-terms, rest-more}
 use Rattle.product_dense.specs.declared.Extents.{Extents}
 use Rattle.product_dense.specs.Grid.{first-of, second-of, third-of, fourth-of, Within, raised-by, Low, sides-for}
 use Rattle.product_dense.specs.Grid.{Narrow}
@@ -113,3 +119,15 @@ stored-more l i x f h g e j k = elim (ℕ-discrete j i) [
   | yes c ↦ rw c (getD-set-same l i x 0 h ∙ e)
   | no c ↦ getD-set-other l i j x 0 c ∙ g j (omega arith)
 ]
+
+-- ---- the monomial at a place of a model
+pub viewed : (m : Model) → m .count ≤ length (m .terms) → (i : ℕ) → i < m .count
+    → getD (view m .terms) i (term (pos 0) []) .exponents ≡ monomial-of (m .n) (getD (m .terms) i zero-term .key)
+unfolding view-term
+viewed m w i h =
+    let p = read (m .n) (m .count) (m .terms) in
+    let long : i < length p = rw (length-map, length-take) (omega (arith, w, h)) in
+    let e : getD p i (term (pos 0) []) ∷ drop (suc i) p ≡ term-at (m .n) i (m .terms) ∷ drop (i + 1) p =
+    sym (drop-cons p i (term (pos 0) []) long) ∙ rest-more (m .n) (m .count) (m .terms) w i h in
+    let f : getD p i (term (pos 0) []) ≡ term-at (m .n) i (m .terms) = cc in
+    ap (λ (q : Terms). getD q i (term (pos 0) []) .exponents) (view-terms m w) ∙ ap (λ t. t .exponents) f

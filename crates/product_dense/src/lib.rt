@@ -3,7 +3,7 @@
 ghost use mathlib.Core.Path.{_≡_};
 ghost use Prim.Native.Nat.{ℕ, max, _<_, _≤_};
 ghost use lib.ListN.{length, getD};
-ghost use Rattle.calculus.specs.Key.{«key-width»};
+ghost use Rattle.calculus.specs.Key.{«key-width», «key-limit»};
 ghost use Rattle.calculus.specs.Model.{«most-terms»};
 ghost use Rattle.model_keys.specs.Keys.{widened};
 ghost use Rattle.product_dense.specs.Grid.{«first-of», «second-of», «third-of», «fourth-of», Low};
@@ -73,6 +73,7 @@ fn larger(a: usize, b: usize) -> usize
 fn raised(e: Extents, narrow: u16) -> Extents
     ensures exact { λ r. ⌜ r ≡ raised-by e (widened narrow) ⌝ }
     ensures low { λ r. ⌜ (Low e → Low r) ⌝ }
+    ensures small { λ r. ⌜ narrow < key-limit ⌝ }
 {
     let key = model_keys::wide_key(narrow);
     Extents {
@@ -85,7 +86,7 @@ fn raised(e: Extents, narrow: u16) -> Extents
 
 // The largest exponents of a model's terms.
 pub fn extents_of(m: Model) -> Extents
-    requires { ⌜ m .count ≤ most-terms ⌝ }
+    requires { ⌜ (m .count ≤ most-terms) × (m .n ≤ key-width) ⌝ }
     ensures { λ r. ⌜ Covered m r ⌝ }
 {
     let count = m.count;

@@ -45,6 +45,10 @@ accumulated t (s ∷ p) = elim (same (t .exponents) (s .exponents)) [
 abbrev pub most-entries : ℕ
 most-entries = 4096
 
+-- the places of keys and of sums that are lent: entries from place 1 on, or a grid
+abbrev pub lent-places : ℕ
+lent-places = 6561
+
 -- the search for a key comes to entry i, past full slots only
 pub record Reached (homes : ℕ) (slots : List ℕ) (key i : ℕ) : Type 0 where
   pub steps : ℕ

@@ -76,8 +76,13 @@ exact c =
 returns : tie.Need-returns
 returns c =
     let s = c .before .before .before .before .before .before .before .before .before in
-    (exact c, λ h. rw (exact c) (low-raised (s .args .e) (widened (s .args .narrow)) h
-    (widened-digits (s .args .narrow) (word-key _ (omega arith)))))
+    let small = word-key (s .args .narrow) (omega arith) in (
+      exact c,
+      (
+        λ h. rw (exact c) (low-raised (s .args .e) (widened (s .args .narrow)) h (widened-digits (s .args .narrow) small)),
+        small,
+      ),
+    )
 
 pub raised-spec : {M : Type 1} → statement M
 raised-spec =
