@@ -46,21 +46,21 @@ module _ (d : ℕ) (m : Model) (h : T (sound d (view m))) where
 
 -- ---- two
 module _ (d : ℕ) (f g : Model) (h : Factors d f g) where
-  first-fitting : T (every (λ k c. fits (f .n) d k) (view f .terms))
+  pub first-fitting : T (every (λ k c. fits (f .n) d k) (view f .terms))
   first-fitting = fitting d f (h .first)
 
-  second-fitting : T (every (λ k c. fits (f .n) d k) (view g .terms))
+  pub second-fitting : T (every (λ k c. fits (f .n) d k) (view g .terms))
   second-fitting = rw (h .vars) (fitting d g (h .second))
 
-  width : f .n ≤ key-width
+  pub width : f .n ≤ key-width
   width = limits d f (h .first) .width
 
   -- ---- the factors by their wide keys
   module _ {ka kb : List ℕ} {ca cb : List ℤ} {a b : ℕ} (uf : Unpacked f ka ca a) (ug : Unpacked g kb cb b)
       (lka : most-terms ≤ length ka) (lca : most-terms ≤ length ca)
       (lkb : most-terms ≤ length kb) (lcb : most-terms ≤ length cb) where
-    pub factors : Contracts.Held-factors ka ca (f .count) kb cb (g .count)
-    unfolding span
+    unfoldable pub factors : Contracts.Held-factors ka ca (f .count) kb cb (g .count)
+    unfolding span key-width
     factors =
         let lf = limits d f (h .first) in
         let lg = limits d g (h .second) in
@@ -70,7 +70,7 @@ module _ (d : ℕ) (f g : Model) (h : Factors d f g) where
           vars = f .n;
           first = view f;
           second = view g;
-          vars-few = unfold key-width in omega (arith, width);
+          vars-few = omega (arith, width);
           first-fits = fits-more (f .n) d most-degree (view f .terms) (h .order) first-fitting;
           second-fits = fits-more (f .n) d most-degree (view g .terms) (h .order) second-fitting;
           first-held = uf .held;

@@ -21,7 +21,7 @@ use Rattle.product_dense.specs.DigitLaws.{Digits, read-first, read-secon
 -- ---- how large they are
 module _ (e h : Extents) (p : Low e) (q : Low h) where
   pub plane-fits : (e .first + h .first + 1) * (e .second + h .second + 1) ≤ 2 ^ 16
-  plane-fits = 
+  plane-fits =
       let a : e .first + h .first + 1 ≤ 2 ^ 8 = omega (arith, p .first, q .first) in
       let b : e .second + h .second + 1 ≤ 2 ^ 8 = omega (arith, p .second, q .second) in
       mul-le-mul a b

@@ -148,11 +148,11 @@ module _ (e h : Extents) (low-e : Low e) (low-h : Low h) (k l : ℕ) (x : Digits
   unfolding place-by
   place-plus second third fourth =
       sym (
-        ap₂ (λ a b. a * fourth + b)
-        (ap₂ (λ a b. a * third + b)
-        (ap₂ (λ a b. a * second + b) plus-first plus-second ∙ digits-plus _ _ _ _ second)
-        plus-third ∙ digits-plus _ _ _ _ third)
-        plus-fourth ∙ digits-plus _ _ _ _ fourth
+      ap₂ (λ a b. a * fourth + b)
+      (ap₂ (λ a b. a * third + b)
+      (ap₂ (λ a b. a * second + b) plus-first plus-second ∙ digits-plus _ _ _ _ second)
+      plus-third ∙ digits-plus _ _ _ _ third)
+      plus-fourth ∙ digits-plus _ _ _ _ fourth
       )
 
   pub product-gridded : Gridded s (k + l)

@@ -140,7 +140,14 @@ fn place_of(key: u64, second: usize, third: usize, fourth: usize) -> usize
 }
 
 // The places of the first count keys.
-pub fn place_all(keys: &[u64], count: usize, second: usize, third: usize, fourth: usize, places: &mut [usize])
+pub fn place_all(
+    keys: &[u64],
+    count: usize,
+    second: usize,
+    third: usize,
+    fourth: usize,
+    places: &mut [usize],
+)
     requires { ⌜ Narrow second third fourth ⌝ }
     requires { ⌜ (count ≤ length (now keys)) × (count ≤ length (now places)) ⌝ }
     ensures { λ r. ⌜ ((i : ℕ) → i < count

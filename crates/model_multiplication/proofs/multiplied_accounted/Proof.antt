@@ -1,61 +1,40 @@
--- `multiplied_accounted` empties the slots that it uses, and multiplies.
-use mathlib.Core.Path.{_≡_, sym}
-use Prim.Native.Nat.{ℕ, _+_, _*_, _≤_}
+-- `multiplied_accounted` chooses between a grid and a table.
+use mathlib.Core.Path.{_≡_}
 use native.Mathlib.Omega.{arith}
 use borrow.Author.Needs.{needs}
-use lib.ListN.{length, take, length-take}
+use Rattle.model_types.specs.ModelStructLaws.{limits}
 use Rattle.model_multiplication.specs.MultiplyLaws.{products-few}
 use Rattle.model_multiplication.proofs.multiplied_accounted.Statement.{statement}
 use Rattle.model_multiplication.proofs.multiplied_accounted.Tie as tie
-
-abbrev start : tie.After-struct-known2 → tie.Start
-start c = c .before .before .before .before
-
--- how many slots are used
-abbrev used : tie.After-struct-known2 → ℕ
-used c = 6 * (start c .args .f .count * start c .args .g .count) + 1
+use Rattle.model_multiplication.proofs.multiplied_accounted.Reads as reads
+use Rattle.model_multiplication.proofs.multiplied_accounted.Lts as lts
+use Rattle.model_multiplication.proofs.grid_for.Reads as grid-for-reads
+use Rattle.model_multiplication.proofs.in_grid.Reads as in-grid-reads
+use Rattle.model_multiplication.proofs.multiplied_grid.Reads as multiplied-grid-reads
+use Rattle.model_multiplication.proofs.multiplied_table.Reads as multiplied-table-reads
 
 mul-products : tie.Need-mul-products
 mul-products c = let p = products-few _ _ _ (c .before .before .before .before .pre .0) in search needs
 
-mul-used : tie.Need-mul-used
-mul-used c = let p = products-few _ _ _ (c .before .before .before .before .pre .0) in search needs
+grid-for-requires : tie.Need-grid-for-requires
+grid-for-requires c κs =
+    let h = c .before .before .before .before .pre .0 in
+    let f = limits _ _ (h .first) in
+    let g = limits _ _ (h .second) in
+    ((f .few, f .width), (g .few, g .width))
 
-add-used : tie.Need-add-used
-add-used c = let p = products-few _ _ _ (c .before .before .before .before .pre .0) in search needs
+in-grid-requires : tie.Need-in-grid-requires
+in-grid-requires c κs = products-few _ _ _ (c .before .before .before .before .before .pre .0)
 
--- the part is within what is lent
-fits-in : (c : tie.After-struct-known2)
-    → used c ≤ length (start c .args .slots .now)
-fits-in c = omega (arith, products-few _ _ _ (start c .pre .0), start c .pre .1 .slots-room)
-
-part-long : (c : tie.After-struct-known2) → length (take (used c) (start c .args .slots .now)) ≡ used c
-part-long c = omega (arith, fits-in c, length-take (used c) (start c .args .slots .now))
-
-slice-relend-prefix-part : tie.Need-slice-relend-prefix-part
-slice-relend-prefix-part c = fits-in c
-
-slice-aggregate-part : tie.Need-slice-aggregate-part
-slice-aggregate-part c = sym (part-long (c .before))
-
-clear-requires : tie.Need-clear-requires
-clear-requires c κs = search needs
-
-multiplied-in-requires : tie.Need-multiplied-in-requires
-multiplied-in-requires c κs =
-    let l = c .before .before .before .before in
-    let k = l .before .before .before in
-    let s = start k in
-    let p = products-few _ _ _ (s .pre .0) in (
+multiplied-grid-requires : tie.Need-multiplied-grid-requires
+multiplied-grid-requires c κs =
+    let t = c .before .before in
+    let i = t .before in
+    let k = i .before in
+    let s = k .before .before .before .before .before in
+    let fits = i .in-grid .ensures (t .if1 .taken) in (
       s .pre .0,
-      record {
-        enough = omega arith;
-        few = omega (arith, p);
-        empty = l .clear .ensures;
-        slots-room = omega (arith, l .clear .kept .0, part-long k);
-        keys-room = omega (arith, p, s .pre .1 .keys-room);
-        sums-room = omega (arith, p, s .pre .1 .sums-room);
-      },
+      (k .grid-for .ensures, (omega (arith, fits, s .pre .1 .keys-room), omega (arith, fits, s .pre .1 .sums-room))),
     )
 
 same-length : tie.Need-same-length
@@ -64,27 +43,37 @@ same-length c = search needs
 same-length-2 : tie.Need-same-length-2
 same-length-2 c = search needs
 
+returns : tie.Need-returns
+returns c = search needs
+
+multiplied-table-requires : tie.Need-multiplied-table-requires
+multiplied-table-requires c κs = search needs
+
 same-length-3 : tie.Need-same-length-3
 same-length-3 c = search needs
 
-returns : tie.Need-returns
-returns c = (
-  search needs,
-  record { slots-length = search needs; keys-length = search needs; sums-length = search needs },
-)
+same-length-4 : tie.Need-same-length-4
+same-length-4 c = search needs
+
+same-length-5 : tie.Need-same-length-5
+same-length-5 c = search needs
+
+returns-2 : tie.Need-returns-2
+returns-2 c = search needs
 
 pub multiplied-accounted-spec : {M : Type 1} → statement M
 multiplied-accounted-spec =
     tie.close
     (tie.spec
     mul-products
-    mul-used
-    add-used
-    slice-relend-prefix-part
-    slice-aggregate-part
-    clear-requires
-    multiplied-in-requires
+    grid-for-requires
+    in-grid-requires
+    multiplied-grid-requires
     same-length
     same-length-2
+    returns
+    multiplied-table-requires
     same-length-3
-    returns)
+    same-length-4
+    same-length-5
+    returns-2)

@@ -1,0 +1,21 @@
+-- `in_grid` says yes only to a grid that fits.
+use mathlib.Core.Path.{_≡_, subst}
+use mathlib.Core.Bool.{Bool, not}
+use lib.Dec.{T}
+use borrow.Author.Needs.{needs}
+use Rattle.model_multiplication.proofs.in_grid.Statement.{statement}
+use Rattle.model_multiplication.proofs.in_grid.Tie as tie
+use Rattle.model_multiplication.proofs.in_grid.Reads as reads
+use Rattle.model_multiplication.proofs.in_grid.Lts as lts
+
+returns : tie.Need-returns
+returns c = λ e. absurd (subst (λ (b : Bool). T (not b)) e tt)
+
+mul-result : tie.Need-mul-result
+mul-result c = search needs
+
+returns-2 : tie.Need-returns-2
+returns-2 c = search needs
+
+pub in-grid-spec : {M : Type 1} → statement M
+in-grid-spec = tie.close (tie.spec returns mul-result returns-2)
