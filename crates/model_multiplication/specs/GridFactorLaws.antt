@@ -23,7 +23,7 @@ use Rattle.product_dense.specs.declared.Sides.{Sides}
 use Rattle.product_dense.specs.Grid.{Within, Narrow, place, Gridded, sides-for}
 use Rattle.product_dense.specs.DigitLaws.{Digits, wide-digits}
 use Rattle.product_dense.specs.GridLaws.{sides-narrow}
-use Rattle.product_dense.specs.PlaceLaws.{place-plus, product-gridded}
+use Rattle.product_dense.specs.GridPlaceLaws.{place-plus, product-gridded}
 use Rattle.product_grid.specs.GridContracts.{Grid-ready}
 use Rattle.model_multiplication.specs.Factors.{Factors}
 use Rattle.model_multiplication.specs.FactorLaws.{factors}

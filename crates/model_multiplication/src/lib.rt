@@ -160,8 +160,8 @@ fn multiplied_table(
     multiplied_in(d, f, g, part, keys, sums, products)
 }
 
-// f times g at order d with the shares of its radius, in a grid where the monomials are few, or else in a table. What is
-// lent serves for both, whatever is in it.
+// f times g at order d with the shares of its radius, in a grid where the monomials are few, or else in a table. What
+// is lent serves for both, whatever is in it.
 pub fn multiplied_accounted(
     d: u8,
     f: Model,

@@ -12,15 +12,19 @@ use Rattle.product_dense.specs.declared.Extents.{Extents}
 use Rattle.product_dense.specs.declared.Sides.{Sides}
 
 -- ---- the exponents of a wide key
+-- that of variable 1
 abbrev pub first-of : ℕ → ℕ
 first-of key = key / 2 ^ 57
 
+-- that of variable 2
 abbrev pub second-of : ℕ → ℕ
 second-of key = key / 2 ^ 50 % 2 ^ 7
 
+-- that of variable 3
 abbrev pub third-of : ℕ → ℕ
 third-of key = key / 2 ^ 43 % 2 ^ 7
 
+-- that of variable 4
 abbrev pub fourth-of : ℕ → ℕ
 fourth-of key = key / 2 ^ 36 % 2 ^ 7
 

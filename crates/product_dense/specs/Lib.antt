@@ -1,4 +1,4 @@
 pub mod Grid
 pub mod DigitLaws
 pub mod GridLaws
-pub mod PlaceLaws
+pub mod GridPlaceLaws

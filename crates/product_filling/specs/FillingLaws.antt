@@ -24,7 +24,7 @@ use Rattle.product_collector.specs.ProductsLaws.{size-times, size-product}
 use Rattle.product_table.specs.Table.{at-key, terms}
 use Rattle.product_dense.specs.declared.Sides.{Sides}
 use Rattle.product_dense.specs.Grid.{place, Gridded}
-use Rattle.product_dense.specs.PlaceLaws.{place-apart}
+use Rattle.product_dense.specs.GridPlaceLaws.{place-apart}
 use Rattle.product_filling.specs.Filling.{Label, empty, full, Labels, Filled, Summed-up}
 
 -- ---- sizes
@@ -164,7 +164,9 @@ module _ (t : Term ℤ) (bs : Terms) (j : ℕ) (b : Term ℤ) (e : take (suc j) 
   pub times-most : size (times ℤR t (take j bs)) + natAbs (made .coefficient) ≤ size (times ℤR t bs)
   times-most =
       let n : size (times ℤR t (take (suc j) bs)) ≡ size (times ℤR t (take j bs)) + natAbs (made .coefficient) =
-      ap size times-more ∙ size-append (times ℤR t (take j bs)) (made ∷ []) ∙ ap (λ x. size (times ℤR t (take j bs)) + x) (size-one made) in
+      ap size times-more
+      ∙ size-append (times ℤR t (take j bs)) (made ∷ [])
+      ∙ ap (λ x. size (times ℤR t (take j bs)) + x) (size-one made) in
       let m : natAbs (t .coefficient) * size (take (suc j) bs) ≤ natAbs (t .coefficient) * size bs =
       mul-le-mul-left (natAbs (t .coefficient)) (size-take bs (suc j)) in
       omega (arith, n, m, size-times t (take (suc j) bs), size-times t bs)

@@ -29,7 +29,7 @@ use Rattle.product_collector.specs.AccumulatedAllLaws.{size-accumulated-all}
 use Rattle.product_collector.specs.ProductsLaws.{size-nil}
 use Rattle.product_dense.specs.declared.Sides.{Sides}
 use Rattle.product_dense.specs.Grid.{place, Gridded}
-use Rattle.product_dense.specs.PlaceLaws.{place-less, place-apart}
+use Rattle.product_dense.specs.GridPlaceLaws.{place-less, place-apart}
 use Rattle.product_filling.specs.Filling.{Label, empty, full, Labels, Summed-up}
 
 other-key : (k l : ℕ) → (k ≡ l → ⊥) → T (not (same (k ∷ []) (l ∷ [])))
@@ -255,6 +255,7 @@ module _ (s : Sides) (p : Terms) (keys : List ℕ) (sums : List ℤ) (h : Summed
   -- they are no larger than the terms
   pub sums-small : size (terms (s .size) keys sums) ≤ size p
   sums-small =
-      let e : size (drop-zeros ts) ≡ size ts = unfold size in sum-drop-zeros ℕ-addition (λ k c. natAbs c) (λ k. refl) ts in
+      let e : size (drop-zeros ts) ≡ size ts =
+      unfold size in sum-drop-zeros ℕ-addition (λ k c. natAbs c) (λ k. refl) ts in
       let f = size-same (drop-zeros ts) ws (rising-distinct _ sums-rising) first-distinct same-sums in
       omega (arith, e, f, size-accumulated-all [] p, size-nil)

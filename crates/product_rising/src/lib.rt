@@ -1,5 +1,5 @@
-// What an order keeps of sums by wide key whose keys rise: rounded, without zeros, each behind those before it, and what
-// it loses.
+// What an order keeps of sums by wide key whose keys rise: rounded, without zeros, each behind those before it, and
+// what it loses.
 ghost use mathlib.Core.List.{[], _∷_};
 ghost use Prim.Native.Nat.{_<_};
 ghost use lib.ListN.{length};
@@ -14,8 +14,8 @@ const TOO_MANY: usize = model_types::MOST_TERMS + 1;
 // The sum z of one monomial: rounded and put behind the n that are kept, or swept; nothing where it is 0.
 fn push(keys: &mut [u64], coefficients: &mut [i64], n: usize, key: u64, z: i64, d: u64) -> Gathered
     requires { ⌜ (n < length (now keys)) × (n < length (now coefficients)) ⌝ }
-    ensures { λ r. ⌜ Pushed d (drop-zeros (at-key key z ∷ [])) (terms n (now (keys .entry)) (now (coefficients .entry))) n
-        (now (keys .exit)) (now (coefficients .exit)) r ⌝ }
+    ensures { λ r. ⌜ Pushed d (drop-zeros (at-key key z ∷ []))
+        (terms n (now (keys .entry)) (now (coefficients .entry))) n (now (keys .exit)) (now (coefficients .exit)) r ⌝ }
 {
     if z == 0 {
         return Gathered {

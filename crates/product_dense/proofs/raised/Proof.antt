@@ -79,7 +79,9 @@ returns c =
     let small = word-key (s .args .narrow) (omega arith) in (
       exact c,
       (
-        λ h. rw (exact c) (low-raised (s .args .e) (widened (s .args .narrow)) h (widened-digits (s .args .narrow) small)),
+        λ h.
+            rw (exact c)
+            (low-raised (s .args .e) (widened (s .args .narrow)) h (widened-digits (s .args .narrow) small)),
         small,
       ),
     )

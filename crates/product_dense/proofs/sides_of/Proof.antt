@@ -34,13 +34,19 @@ add-fourth-2 : tie.Need-add-fourth-2
 add-fourth-2 c = search needs
 
 mul-plane : tie.Need-mul-plane
-mul-plane c = let s = c .before .before .before .before .before .before .before .before in record { fits = omega (arith, plane-fits (s .args .e) (s .args .h) (s .pre .0) (s .pre .1)) }
+mul-plane c =
+    let s = c .before .before .before .before .before .before .before .before in
+    record { fits = omega (arith, plane-fits (s .args .e) (s .args .h) (s .pre .0) (s .pre .1)) }
 
 mul-cube : tie.Need-mul-cube
-mul-cube c = let s = c .before .before .before .before .before .before .before .before in record { fits = omega (arith, cube-fits (s .args .e) (s .args .h) (s .pre .0) (s .pre .1)) }
+mul-cube c =
+    let s = c .before .before .before .before .before .before .before .before in
+    record { fits = omega (arith, cube-fits (s .args .e) (s .args .h) (s .pre .0) (s .pre .1)) }
 
 mul-t9 : tie.Need-mul-t9
-mul-t9 c = let s = c .before .before .before .before .before .before .before .before in record { fits = omega (arith, size-fits (s .args .e) (s .args .h) (s .pre .0) (s .pre .1)) }
+mul-t9 c =
+    let s = c .before .before .before .before .before .before .before .before in
+    record { fits = omega (arith, size-fits (s .args .e) (s .args .h) (s .pre .0) (s .pre .1)) }
 
 returns : tie.Need-returns
 unfolding sides-for

@@ -18,7 +18,8 @@ use Rattle.product_table.specs.Table.{at-key, none, terms}
 use Rattle.product_table.specs.TermArrayLaws.{terms-length, terms-at}
 use Rattle.product_dense.specs.declared.Sides.{Sides}
 use Rattle.product_filling.specs.Filling.{Filled}
-use Rattle.product_filling.specs.FillingLaws.{filled-first, filled-after, filled-last, products-more, products-most}
+use Rattle.product_filling.specs.FillingLaws.{filled-first, filled-after, filled-last, products-more}
+use Rattle.product_filling.specs.FillingLaws.{products-most}
 use Rattle.product_filling.proofs.fill.Statement.{statement}
 use Rattle.product_filling.proofs.fill.Tie as tie
 use Rattle.product_filling.proofs.fill.Reads as reads

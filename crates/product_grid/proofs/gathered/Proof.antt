@@ -54,7 +54,7 @@ unfolding most-terms
 fill-requires c κs =
     let one = c .before .before .before .before .before .before .before .before in
     let two = c .before .before .before .before .before in
-    let s = c .before .before .before .before .before .before .before .before .before .before .before .before .before .before in
+    let s = one .before .before .before .before .before .before in
     let a = s .args in
     let q = s .pre in
     record {
@@ -79,7 +79,9 @@ fill-requires c κs =
 -- once the grid is filled
 module _ (f : tie.After-fill) where
   abbrev s : tie.Start
-  s = f .before .before .before .before .before .before .before .before .before .before .before .before .before .before .before
+  s =
+      f .before .before .before .before .before .before .before .before
+      .before .before .before .before .before .before .before
 
   abbrev p : Terms
   p = product ℤR (terms (s .args .na) (s .args .ka .now) (s .args .ca .now))

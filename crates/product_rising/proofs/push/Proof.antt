@@ -73,7 +73,8 @@ returns-2 c =
     let e = c .before .before .before in
     let s = e .before .before in
     let a = s .args in
-    let high : a .d < wide-degree (a .key) = omega (arith, c .before .before .wide-degree .ensures, c .before .if2 .taken) in
+    let high : a .d < wide-degree (a .key) =
+    omega (arith, c .before .before .wide-degree .ensures, c .before .if2 .taken) in
     rw (nonzero-stays (a .key) (a .z) (nonzero e))
     record {
       kept = rw (high-kept (a .d) (a .key) (a .z) high) (sym (append-nil _));
