@@ -2,19 +2,20 @@
 use mathlib.Core.Path.{_≡_, refl, sym, _∙_, ap, subst}
 use mathlib.Core.Bool.{true, _&&_}
 use mathlib.Core.List.{List, [], _∷_, _++_, map, append-assoc, map-append}
-use Prim.Native.Nat.{ℕ, zero, suc, _+_, _≤_, _<_, min}
+use Prim.Native.Nat.{ℕ, zero, suc, _+_, _-_, _≤_, _<_, min}
 use native.Mathlib.Numerals.{add-one}
 use native.Mathlib.Omega.{arith}
 use lib.Dec.{T, leb, leb→le}
 use lib.IntN.{ℤ, pos}
-use lib.ListN.{length, take, drop, getD, set, length-append, length-map}
+use lib.ListN.{length, take, drop, getD, set, replicate, length-append, length-map}
 use lib.Seq.{set-at, drop-cons, length-take-le}
 use Rattle.calculus.specs.Model.{most-terms}
 use Rattle.calculus.specs.TestLaws.{and-left, and-right}
 use Rattle.model_types.specs.declared.Term.{Term}
-use Rattle.model_types.specs.ModelStruct.{zero-term, pad}
+use Rattle.model_types.specs.Arrays.{first-places, padded}
+use Rattle.model_types.specs.ModelStruct.{zero-term, places, pad, view-term, view}
 use Rattle.model_types.specs.ModelStructLaws.{pad-more, take-more}
-use Rattle.c_models.specs.HandedModels.{terms-of, over, answer-numbers, model-room}
+use Rattle.c_models.specs.HandedModels.{terms-of, handed, over, answer-numbers, model-room}
 
 -- ---- terms of two slices
 terms-more : (i : ℕ) (ks : List ℕ) (cs : List ℤ) → i < length ks → i < length cs
@@ -54,6 +55,49 @@ terms-end (suc i) (suc n) (k ∷ ks) [] e = absurd (omega arith)
 terms-end zero (suc n) (k ∷ ks) (c ∷ cs) e = absurd (omega arith)
 terms-end (suc i) (suc n) (k ∷ ks) (c ∷ cs) e =
     ap (λ (r : List Term). record { key = k; coefficient = c } ∷ r) (terms-end i n ks cs (omega arith))
+
+-- places that are looked at hold what they hold, whether zeros stand behind or nothing
+first-zeros : (c n : ℕ) → places c (replicate n zero-term) ≡ places c []
+unfolding first-places
+first-zeros zero n = refl
+first-zeros (suc c) zero = refl
+first-zeros (suc c) (suc n) = ap (λ (r : List Term). zero-term ∷ r) (first-zeros c n)
+
+first-behind : (c n : ℕ) (l : List Term) → places c (l ++ replicate n zero-term) ≡ places c l
+unfolding first-places
+first-behind zero n l = refl
+first-behind (suc c) n [] = first-zeros (suc c) n
+first-behind (suc c) n (x ∷ l) = ap (λ (r : List Term). x ∷ r) (first-behind c n l)
+
+first-pad : (c : ℕ) (l : List Term) → places c (pad l) ≡ places c l
+unfolding padded
+first-pad c l = first-behind c (most-terms - length l) l
+
+-- so terms beyond a count may be left out
+first-terms : (c i n : ℕ) (ks : List ℕ) (cs : List ℤ) → i ≡ min (min c n) (min (length ks) (length cs))
+    → places c (terms-of i ks cs) ≡ places c (terms-of n ks cs)
+unfolding first-places terms-of
+first-terms zero i n ks cs e = refl
+first-terms (suc c) zero zero ks cs e = refl
+first-terms (suc c) (suc i) zero ks cs e = absurd (omega arith)
+first-terms (suc c) zero (suc n) [] cs e = refl
+first-terms (suc c) (suc i) (suc n) [] cs e = absurd (omega arith)
+first-terms (suc c) zero (suc n) (k ∷ ks) [] e = refl
+first-terms (suc c) (suc i) (suc n) (k ∷ ks) [] e = absurd (omega arith)
+first-terms (suc c) zero (suc n) (k ∷ ks) (x ∷ cs) e = absurd (omega arith)
+first-terms (suc c) (suc i) (suc n) (k ∷ ks) (x ∷ cs) e =
+    ap (λ (r : List Term). record { key = k; coefficient = x } ∷ r) (first-terms c i n ks cs (omega arith))
+
+-- the model that is taken is the one that is handed over
+pub taken-view : (n c e i : ℕ) (ks : List ℕ) (cs : List ℤ) → i ≡ min (min c most-terms) (min (length ks) (length cs))
+    → view (record { n = n; count = c; radius = e; terms = pad (terms-of i ks cs) }) ≡ view (handed n c e ks cs)
+unfolding view handed
+taken-view n c e i ks cs h =
+    ap
+    (λ (r : List Term). record { vars = n; radius = e; terms = map (view-term n) r })
+    (first-pad c (terms-of i ks cs)
+    ∙ first-terms c i most-terms ks cs h
+    ∙ sym (first-pad c (terms-of most-terms ks cs)))
 
 -- ---- a slice overwritten
 module _ {A : Type 0} (d : A) where

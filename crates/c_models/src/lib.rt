@@ -4,7 +4,7 @@ ghost use mathlib.Core.Path.{_≡_};
 ghost use Prim.Native.Nat.{_≤_, min};
 ghost use lib.ListN.{length};
 ghost use Rattle.calculus.specs.Model.{«most-terms»};
-ghost use Rattle.model_types.specs.ModelStruct.{«verdict-number», «verdict-place»};
+ghost use Rattle.model_types.specs.ModelStruct.{view, «verdict-number», «verdict-place»};
 ghost use Rattle.c_models.specs.HandedModels.{handed, lent, «answer-numbers», «model-room»};
 ghost use Rattle.c_models.specs.HandedModels.{«stored-keys», «stored-coefficients», «stored-numbers»};
 use model_types::Model;
@@ -41,6 +41,32 @@ pub fn handed(n: u8, count: usize, radius: u64, keys: &[u16], coefficients: &[i6
 {
     let both = least(keys.len(), coefficients.len());
     let places = least(model_types::MOST_TERMS, both);
+    let mut out = [Term::ZERO; model_types::MOST_TERMS];
+    let mut i = 0;
+    while i < places {
+        let k = keys[i];
+        let c = coefficients[i];
+        out[i] = Term {
+            key: k,
+            coefficient: c,
+        };
+        i += 1;
+    }
+    Model {
+        n: n,
+        count: count,
+        radius: radius,
+        terms: out,
+    }
+}
+
+// The same model to every call: only the places that its count names are copied, and zeros stand behind them.
+pub fn taken(n: u8, count: usize, radius: u64, keys: &[u16], coefficients: &[i64]) -> Model
+    ensures { λ r. ⌜ view r ≡ view (handed n count radius (now (keys .entry)) (now (coefficients .entry))) ⌝ }
+{
+    let both = least(keys.len(), coefficients.len());
+    let named = least(count, model_types::MOST_TERMS);
+    let places = least(named, both);
     let mut out = [Term::ZERO; model_types::MOST_TERMS];
     let mut i = 0;
     while i < places {

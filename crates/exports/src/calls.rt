@@ -55,8 +55,8 @@ pub extern "C" fn hechroung_call(
     ) {
         return MISUSED;
     }
-    let f = c_models::handed(n1, count1, radius1, keys1, coefficients1);
-    let g = c_models::handed(n2, count2, radius2, keys2, coefficients2);
+    let f = c_models::taken(n1, count1, radius1, keys1, coefficients1);
+    let g = c_models::taken(n2, count2, radius2, keys2, coefficients2);
     let a = c_calls::model_call(code, d, i, value, f, g);
     c_calls::store_answer(a, keys, coefficients, numbers)
 }
@@ -90,7 +90,7 @@ pub extern "C" fn hechroung_ends(
     if !c_calls::ends_call_fits(code, count, long, coefficients.len(), ends.len()) {
         return MISUSED;
     }
-    let f = c_models::handed(n, count, radius, keys, coefficients);
+    let f = c_models::taken(n, count, radius, keys, coefficients);
     let b = c_calls::ends_call(code, [x1, x2, x3, x4], f);
     c_calls::store_ends(b, ends)
 }

@@ -26,11 +26,11 @@ returns c = rw (
   sym (c .before .call-fits .ensures) ∙ not-true _ (c .if1 .taken),
 )
 
-handed-requires : tie.Need-handed-requires
-handed-requires c κs = search needs
+taken-requires : tie.Need-taken-requires
+taken-requires c κs = search needs
 
-handed-requires-2 : tie.Need-handed-requires-2
-handed-requires-2 c κs = search needs
+taken-requires-2 : tie.Need-taken-requires-2
+taken-requires-2 c κs = search needs
 
 model-call-requires : tie.Need-model-call-requires
 model-call-requires c κs = search needs
@@ -62,8 +62,8 @@ returns-2 c =
       a .store-answer .ensures,
       m .model-call .ensures,
       read-back (e .before .before .before .before .before .before .before),
-      g .handed2 .ensures,
-      f .handed .ensures,
+      g .taken2 .ensures,
+      f .taken .ensures,
       sym (e .before .before .model-room .ensures),
       sym (e .before .call-fits .ensures) ∙ not-false _ (e .if1 .left),
     )
@@ -75,8 +75,8 @@ hechroung-call-spec =
     model-room-requires
     call-fits-requires
     returns
-    handed-requires
-    handed-requires-2
+    taken-requires
+    taken-requires-2
     model-call-requires
     store-answer-requires
     same-length

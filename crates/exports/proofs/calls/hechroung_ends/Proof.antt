@@ -31,8 +31,8 @@ returns : tie.Need-returns
 unfolding called-ends
 returns c = rw (sym (c .before .ends-call-fits .ensures) ∙ not-true _ (c .if1 .taken))
 
-handed-requires : tie.Need-handed-requires
-handed-requires c κs = search needs
+taken-requires : tie.Need-taken-requires
+taken-requires c κs = search needs
 
 ends-call-requires : tie.Need-ends-call-requires
 ends-call-requires c κs = search needs
@@ -62,7 +62,7 @@ returns-2 c =
       back₂ s,
       back₃ s,
       back₄ s,
-      f .handed .ensures,
+      f .taken .ensures,
       sym (e .before .ends-call-fits .ensures) ∙ not-false _ (e .if1 .left),
     )
 
@@ -72,7 +72,7 @@ hechroung-ends-spec =
     (tie.spec
     ends-call-fits-requires
     returns
-    handed-requires
+    taken-requires
     ends-call-requires
     store-ends-requires
     same-length
