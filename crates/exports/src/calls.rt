@@ -57,7 +57,7 @@ pub extern "C" fn hechroung_call(
     }
     let f = c_models::taken(n1, count1, radius1, keys1, coefficients1);
     let g = c_models::taken(n2, count2, radius2, keys2, coefficients2);
-    let a = c_calls::model_call(code, d, i, value, f, g);
+    let a = c_calls::model_call(code, d, i, value, n1, f, g);
     c_calls::store_answer(a, keys, coefficients, numbers)
 }
 

@@ -23,6 +23,7 @@ returns c =
     rw (
       c .constant .ensures,
       read-back (t .before),
+      t .before .pre,
       vars-view _,
       eq-eqb _ 1 (t .if1 .taken),
     )
@@ -36,6 +37,7 @@ returns-2 c =
     let t = c .before in
     rw (
       c .variable .ensures,
+      t .before .before .pre,
       vars-view _,
       ne-eqb _ 1 (t .before .if1 .left),
       eq-eqb _ 2 (t .if2 .taken),

@@ -1,10 +1,12 @@
 -- `hechroung_call` tests what it is handed, builds both models, makes the call and stores its answer.
-use mathlib.Core.Path.{_≡_, sym, _∙_}
+use mathlib.Core.Path.{_≡_, sym, _∙_, ap}
 use mir.Facts.{toZ-ofZ}
 use mir.Syntax.{w64}
 use mir.Val.{toZ, ofZ}
 use borrow.Author.Needs.{needs}
 use borrow.Author.Tests.{not-true, not-false}
+use Rattle.model_types.specs.ModelStruct.{view}
+use Rattle.c_models.specs.HandedModels.{handed}
 use Rattle.c_calls.specs.CallCodes.{called}
 use Rattle.c_calls.specs.CallCodesLaws.{fits-room}
 use Rattle.exports.proofs.calls.hechroung_call.Statement.{statement}
@@ -33,7 +35,8 @@ taken-requires-2 : tie.Need-taken-requires-2
 taken-requires-2 c κs = search needs
 
 model-call-requires : tie.Need-model-call-requires
-model-call-requires c κs = search needs
+unfolding view handed
+model-call-requires c κs = ap (λ m. m .vars) (sym (c .before .taken .ensures))
 
 store-answer-requires : tie.Need-store-answer-requires
 store-answer-requires c κs =
