@@ -1,6 +1,7 @@
 -- `in_grid` says yes only to a grid that fits.
 use mathlib.Core.Path.{_≡_, subst}
 use mathlib.Core.Bool.{Bool, not}
+use native.Mathlib.Omega.{arith}
 use lib.Dec.{T}
 use borrow.Author.Needs.{needs}
 use Rattle.model_multiplication.proofs.in_grid.Statement.{statement}
@@ -15,7 +16,7 @@ mul-result : tie.Need-mul-result
 mul-result c = search needs
 
 returns-2 : tie.Need-returns-2
-returns-2 c = search needs
+returns-2 c = λ e. omega (arith, c .if1 .left)
 
 pub in-grid-spec : {M : Type 1} → statement M
 in-grid-spec = tie.close (tie.spec returns mul-result returns-2)
