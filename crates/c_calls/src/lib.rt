@@ -22,8 +22,8 @@ const ANTIDERIVATIVE: u8 = 9;
 const EVALUATE: u8 = 3;
 
 // The call that a code names: 1 constant, 2 variable, 3 negate, 4 add, 5 subtract, 6 multiply, 7 substitute, 8 sweep,
-// any other antiderivative. The constructors take the n of the first model, which is handed over beside it: read from it
-// here, it would have the compiler take the model apart and copy it.
+// any other antiderivative. The constructors take the n of the first model, which is handed over beside it: read here,
+// it would have the compiler take the model apart and copy it.
 pub fn model_call(code: u8, d: u8, i: u8, value: i64, n: u8, f: Model, g: Model) -> Answer
     requires { ⌜ n ≡ f .n ⌝ }
     ensures { λ r. ⌜ r ≡ answer (model-call code d i value (view f) (view g)) ⌝ }
