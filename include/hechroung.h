@@ -12,7 +12,7 @@
                          names no call
 
    Memory. The caller owns everything. Nothing is kept after a call, nothing is allocated, and there is no state, so
-   that any number of threads may call at once. A call needs up to 160 KB of stack, the run of a sheet or a book, with
+   that any number of threads may call at once. A call needs up to 224 KB of stack, the run of a sheet or a book, with
    shares or without, up to 400 KB, writing and writing back up to 160 KB, opening, a step and a record up to 4 KB (a KB
    is 1,024 bytes; the functions written out here add what they say). These figures are tested, not proved.
 

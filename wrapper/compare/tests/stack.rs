@@ -13,7 +13,7 @@ use std::ffi::{c_int, c_void};
 use std::process::Command;
 
 /// What the header says, in bytes: a single call; a run of a sheet or a book; reading and writing; stepping.
-const CALL: usize = 160 << 10;
+const CALL: usize = 224 << 10;
 const RUN: usize = 400 << 10;
 const WRITE: usize = 160 << 10;
 const STEP: usize = 4 << 10;
