@@ -29,8 +29,18 @@ pub fn factors(random: &mut Random, terms: usize, order: u8, kind: Kind) -> (Mod
         Kind::Kept => keys.clone(),
         Kind::Any => self::keys(random, terms, order),
     };
-    let f = model(random, &keys, kind);
-    let g = model(random, &other, kind);
+    factors_at(random, &keys, &other, kind)
+}
+
+/// Two factors with these keys.
+pub fn factors_at(
+    random: &mut Random,
+    keys: &[u16],
+    other: &[u16],
+    kind: Kind,
+) -> (Model, Model) {
+    let f = model(random, keys, kind);
+    let g = model(random, other, kind);
     (f, g)
 }
 

@@ -1,7 +1,9 @@
 //! Prints tables of times, each row measured side by side in one run: the proved library, FLINT, and the second
 //! implementation. Inputs are used in turn, so that no branch predictor learns one of them.
+//! usage: bench [SEED], or bench slow [SEED] for a search for sheets that run slowly
 
 mod antiderivatives;
+mod calls;
 mod flint;
 mod growth;
 mod inputs;
@@ -10,16 +12,27 @@ mod products;
 mod quotients;
 mod shares;
 mod sheets;
+mod slow;
 mod timing;
 
 use reference::generate::Random;
 
 fn main() {
-    let seed = std::env::args()
-        .nth(1)
+    let words: Vec<String> = std::env::args().skip(1).collect();
+    let (search, words) = match &words[..] {
+        [first, rest @ ..] if first == "slow" => (true, rest),
+        all => (false, all),
+    };
+    let seed = words
+        .first()
         .map_or(0, |word| word.parse().expect("a seed is a number"));
     let mut random = Random::new(seed);
+    if search {
+        slow::print(&mut random);
+        return;
+    }
     products::print(&mut random);
+    calls::print(&mut random);
     quotients::print(seed);
     antiderivatives::print(seed);
     integrals::print(seed);

@@ -1,9 +1,9 @@
-//! Products of two models in 4 variables. Ours is the whole public call through the library's C interface: both models
+//! Products of two models in 4 variables, or in the first of them alone. Ours is the whole public call through the library's C interface: both models
 //! copied from arrays and tested, all products collected by monomial, rounded, the radius, the result packed and stored.
 //! FLINT's is the exact product alone, of polynomials built beforehand. The second implementation's is its whole call.
 
 use crate::flint::Polynomial;
-use crate::inputs::{factors, Kind};
+use crate::inputs::{factors, factors_at, Kind};
 use crate::timing::best;
 use hechroung::Model;
 use reference::calls;
@@ -25,7 +25,10 @@ pub struct Pair {
 
 impl Pair {
     pub fn new(random: &mut Random, terms: usize, order: u8, kind: Kind) -> Pair {
-        let (f, g) = factors(random, terms, order, kind);
+        Pair::of(factors(random, terms, order, kind))
+    }
+
+    fn of((f, g): (Model, Model)) -> Pair {
         Pair {
             stored_f: stored(&f),
             stored_g: stored(&g),
@@ -63,13 +66,29 @@ pub fn print(random: &mut Random) {
     row(random, "dense, kept", 64, 4, Kind::Kept);
     row(random, "dense, kept", 15, 4, Kind::Kept);
     row(random, "dense, kept", 4, 4, Kind::Kept);
+    row(random, "all of degree 1", 5, 1, Kind::Kept);
+    row(random, "10 of degree 2", 10, 2, Kind::Kept);
+    row(random, "all of degree 3", 35, 3, Kind::Kept);
+    let line: Vec<Pair> = (0..INPUTS)
+        .map(|_| Pair::of(factors_at(random, &line(), &line(), Kind::Kept)))
+        .collect();
+    timed("all powers of one variable", 16, 15, &line);
     println!();
+}
+
+/// The powers 0 to 15 of variable 1.
+fn line() -> Vec<u16> {
+    (0..16).map(|exponent| exponent << 12).collect()
 }
 
 fn row(random: &mut Random, name: &str, terms: usize, order: u8, kind: Kind) {
     let pairs: Vec<Pair> = (0..INPUTS)
         .map(|_| Pair::new(random, terms, order, kind))
         .collect();
+    timed(name, terms, order, &pairs);
+}
+
+fn timed(name: &str, terms: usize, order: u8, pairs: &[Pair]) {
     let accepted = pairs.iter().filter(|pair| pair.accepted(order)).count();
     let [ours, flint, second] = best(ROUNDS, INPUTS, |way, input| {
         let pair = &pairs[input];

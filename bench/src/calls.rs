@@ -1,0 +1,127 @@
+//! Single calls other than products, each beside the second implementation's: the whole public call through the
+//! library's C interface. The answers of both are compared.
+
+use crate::inputs::{factors, Kind, VARIABLES};
+use crate::products::stored;
+use crate::timing::best;
+use hechroung::{Answer, Bounds, Model, UNIT};
+use reference::calls::{self, EndsAnswer, ModelAnswer};
+use reference::generate::Random;
+use reference::stored::StoredModel;
+use std::hint::black_box;
+
+const INPUTS: usize = 64;
+const ROUNDS: usize = 40;
+const TERMS: usize = 15;
+const ORDER: u8 = 4;
+/// A point inside the box.
+const POINT: [i64; 4] = [UNIT / 2, -UNIT / 3, UNIT / 5, -UNIT / 7];
+
+/// Two models, as each side takes them; the second one's range lies inside the box.
+struct Operands {
+    f: Model,
+    g: Model,
+    stored_f: StoredModel,
+    stored_g: StoredModel,
+}
+
+impl Operands {
+    fn new(random: &mut Random) -> Operands {
+        let (f, mut g) = factors(random, TERMS, ORDER, Kind::Kept);
+        g.coefficients[0] = random.between(1, UNIT / 2);
+        Operands {
+            stored_f: stored(&f),
+            stored_g: stored(&g),
+            f,
+            g,
+        }
+    }
+}
+
+pub fn print(random: &mut Random) {
+    let all: Vec<Operands> = (0..INPUTS).map(|_| Operands::new(random)).collect();
+    println!("| Call, 4 variables | Terms | Ours, µs | Second, µs | Ours / second |");
+    println!("|---|---|---|---|---|");
+    model_row(
+        "add",
+        &all,
+        |o| hechroung::add(&o.f, &o.g),
+        |o| calls::add(&o.stored_f, &o.stored_g),
+    );
+    model_row(
+        "substitute, order 4",
+        &all,
+        |o| hechroung::substitute(ORDER, VARIABLES, &o.f, &o.g),
+        |o| calls::substitute(&o.stored_f, &o.stored_g, VARIABLES, ORDER),
+    );
+    ends_row(
+        "evaluate",
+        &all,
+        |o| hechroung::evaluate(&o.f, POINT),
+        |o| calls::evaluate(&o.stored_f, &POINT),
+    );
+    ends_row(
+        "range",
+        &all,
+        |o| hechroung::range(&o.f),
+        |o| calls::range(&o.stored_f),
+    );
+    ends_row(
+        "integral",
+        &all,
+        |o| hechroung::integral(&o.f),
+        |o| calls::integral(&o.stored_f),
+    );
+    println!();
+}
+
+fn model_row(
+    name: &str,
+    all: &[Operands],
+    ours: impl Fn(&Operands) -> Answer,
+    second: impl Fn(&Operands) -> ModelAnswer,
+) {
+    for operands in all {
+        let (a, b) = (ours(operands), second(operands));
+        assert_eq!(a.refusal, None, "{name} is accepted");
+        assert_eq!(stored(&a.model), b.model, "{name}: both give one model");
+    }
+    row(name, all, |o| drop(black_box(ours(o))), |o| {
+        drop(black_box(second(o)))
+    });
+}
+
+fn ends_row(
+    name: &str,
+    all: &[Operands],
+    ours: impl Fn(&Operands) -> Bounds,
+    second: impl Fn(&Operands) -> EndsAnswer,
+) {
+    for operands in all {
+        let (a, b) = (ours(operands), second(operands));
+        assert_eq!(a.refusal, None, "{name} is accepted");
+        assert_eq!(
+            [a.ends.low, a.ends.high].map(i128::from),
+            [b.ends.low, b.ends.high],
+            "{name}: both give the same ends"
+        );
+    }
+    row(name, all, |o| drop(black_box(ours(o))), |o| {
+        drop(black_box(second(o)))
+    });
+}
+
+fn row(name: &str, all: &[Operands], ours: impl Fn(&Operands), second: impl Fn(&Operands)) {
+    let [ours, second] = best(ROUNDS, all.len(), |way, input| {
+        let operands = &all[input];
+        if way == 0 {
+            ours(operands)
+        } else {
+            second(operands)
+        }
+    });
+    println!(
+        "| {name} | {TERMS} | {ours:.2} | {second:.2} | {:.3} |",
+        ours / second
+    );
+}
