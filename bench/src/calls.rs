@@ -1,5 +1,5 @@
-//! Single calls other than products, each beside the second implementation's: the whole public call through the
-//! library's C interface. The answers of both are compared.
+//! Single calls other than products and integrals, each beside the second implementation's: the whole public call
+//! through the library's C interface. The answers of both are compared.
 
 use crate::inputs::{factors, Kind, VARIABLES};
 use crate::products::stored;
@@ -65,12 +65,6 @@ pub fn print(random: &mut Random) {
         &all,
         |o| hechroung::range(&o.f),
         |o| calls::range(&o.stored_f),
-    );
-    ends_row(
-        "integral",
-        &all,
-        |o| hechroung::integral(&o.f),
-        |o| calls::integral(&o.stored_f),
     );
     println!();
 }
