@@ -80,9 +80,16 @@ fn model_row(
         assert_eq!(a.refusal, None, "{name} is accepted");
         assert_eq!(stored(&a.model), b.model, "{name}: both give one model");
     }
-    row(name, all, |o| drop(black_box(ours(o))), |o| {
-        drop(black_box(second(o)))
-    });
+    row(
+        name,
+        all,
+        |o| {
+            let _ = black_box(ours(o));
+        },
+        |o| {
+            let _ = black_box(second(o));
+        },
+    );
 }
 
 fn ends_row(
@@ -100,9 +107,16 @@ fn ends_row(
             "{name}: both give the same ends"
         );
     }
-    row(name, all, |o| drop(black_box(ours(o))), |o| {
-        drop(black_box(second(o)))
-    });
+    row(
+        name,
+        all,
+        |o| {
+            let _ = black_box(ours(o));
+        },
+        |o| {
+            let _ = black_box(second(o));
+        },
+    );
 }
 
 fn row(name: &str, all: &[Operands], ours: impl Fn(&Operands), second: impl Fn(&Operands)) {

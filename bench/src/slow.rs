@@ -15,6 +15,7 @@ const CLIMB_STEPS: usize = 200;
 const SUBSTITUTIONS: usize = 1_000;
 const QUOTIENTS: usize = 1_000;
 const TERMS: usize = 64;
+const MODELS: usize = 16;
 /// How often a sheet is run in the search, and how often to be sure of one of the slowest.
 const RUNS: usize = 2;
 const SURE_RUNS: usize = 40;
@@ -39,8 +40,8 @@ pub fn print(random: &mut Random) {
             let around = by_home.iter().cycle().skip(start).take(TERMS);
             around.copied().collect::<Vec<u16>>()
         };
-        let (f, g) = (window(random), window(random));
-        products(random, &f, &g)
+        let windows: Vec<Vec<u16>> = (0..MODELS).map(|_| window(random)).collect();
+        products(random, &windows)
     });
     let mut climb = Climb::new(random);
     let climbs = CLIMBS * CLIMB_STEPS;
@@ -51,7 +52,7 @@ pub fn print(random: &mut Random) {
         }
         step += 1;
         climb.step(random);
-        products(random, &climb.factors[0], &climb.factors[1])
+        products(random, &climb.factors)
     });
     row("substitutions", SUBSTITUTIONS, usual, || substitution(random));
     row("quotients", QUOTIENTS, usual, || quotient(random));
@@ -101,13 +102,19 @@ impl Candidate {
     }
 }
 
-/// As many products as a sheet can have of two models with these keys.
-fn products(random: &mut Random, f: &[u16], g: &[u16]) -> Candidate {
-    let models = [f, g].map(|keys| small(random, keys)).to_vec();
-    let mut steps = vec![Step::one(INPUT, 0), Step::one(INPUT, 1)];
-    steps.resize(STEPS, Step::two(MULTIPLY, 0, 1));
+/// As many products as a sheet can have of models with these keys, one of the first half with one of the second; of
+/// many models the pairs are so many that no branch predictor learns them.
+fn products(random: &mut Random, keys: &[Vec<u16>]) -> Candidate {
+    let models: Vec<DraftModel> = keys.iter().map(|keys| small(random, keys)).collect();
+    let count = models.len() as u8;
+    let mut steps: Vec<Step> = (0..count).map(|number| Step::one(INPUT, number)).collect();
+    while steps.len() < STEPS {
+        let first = random.byte(0, count / 2 - 1);
+        let second = random.byte(count / 2, count - 1);
+        steps.push(Step::two(MULTIPLY, first, second));
+    }
     let draft = Draft::new(VARIABLES, ORDER, models, steps);
-    Candidate::new(STEPS - 2, draft)
+    Candidate::new(STEPS - usize::from(count), draft)
 }
 
 fn small(random: &mut Random, keys: &[u16]) -> DraftModel {
