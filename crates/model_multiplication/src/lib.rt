@@ -1,5 +1,5 @@
-// The product of two models, in a table that is lent or in one of its own: the products of their terms are summed by
-// wide keys, and what the order keeps of them is packed again.
+// The product of two models, in what is lent or in room of its own: the products of their terms are summed in a grid
+// where the monomials are few, else in a table by wide keys, and what the order keeps of them is packed again.
 ghost use mathlib.Core.Path.{_≡_};
 ghost use mathlib.Core.Bool.{true};
 ghost use Prim.Native.Nat.{_*_, _≤_};
