@@ -10,7 +10,7 @@ use Rattle.model_types.specs.Arrays.{padded}
 use Rattle.sheet_book.specs.declared.Step.{Step}
 use Rattle.sheet_book.specs.declared.Book.{Book}
 use Rattle.sheet_book.specs.BookStruct.{no-model, no-step}
-use Rattle.c_models.specs.HandedModels.{handed}
+use Rattle.model_slices.specs.HandedModels.{handed}
 
 -- the values of a function at 0 up to n - 1
 unfoldable pub table : {A : Type 0} → (ℕ → A) → (n : ℕ) → List A

@@ -16,8 +16,8 @@ const FIELDS: usize = 4;
 pub fn step_places(fields: usize, values: usize) -> usize
     ensures { λ r. ⌜ r ≡ step-places fields values ⌝ }
 {
-    let both = c_models::least(fields / FIELDS, values);
-    c_models::least(sheet_book::MOST_STEPS, both)
+    let both = model_slices::least(fields / FIELDS, values);
+    model_slices::least(sheet_book::MOST_STEPS, both)
 }
 
 // The steps that are handed over, and zeros behind them.
@@ -56,12 +56,12 @@ pub fn model_places(
 ) -> usize
     ensures { λ r. ⌜ r ≡ model-places ns counts radii keys coefficients ⌝ }
 {
-    let terms = c_models::least(
+    let terms = model_slices::least(
         keys / model_types::MOST_TERMS,
         coefficients / model_types::MOST_TERMS,
     );
-    let heads = c_models::least(ns, c_models::least(counts, radii));
-    c_models::least(sheet_book::MOST_MODELS, c_models::least(heads, terms))
+    let heads = model_slices::least(ns, model_slices::least(counts, radii));
+    model_slices::least(sheet_book::MOST_MODELS, model_slices::least(heads, terms))
 }
 
 // The model at a place that the slices have.
@@ -83,7 +83,7 @@ pub fn model_at(
     let radius = radii[k];
     let from = model_types::MOST_TERMS * k;
     let to = from + model_types::MOST_TERMS;
-    c_models::handed(n, count, radius, &keys[from..to], &coefficients[from..to])
+    model_slices::handed(n, count, radius, &keys[from..to], &coefficients[from..to])
 }
 
 // The models that are handed over, and zeros behind them.

@@ -15,7 +15,7 @@ use Rattle.model_types.specs.declared.Answer.{Answer}
 use Rattle.model_types.specs.declared.Bounds.{Bounds}
 use Rattle.model_types.specs.declared.Integral.{Integral}
 use Rattle.model_types.specs.ModelStruct.{answer, integral-answer, verdict-number, verdict-place}
-use Rattle.c_models.specs.HandedModels.{lent, misused, over, stored-keys, stored-coefficients, stored-numbers}
+use Rattle.model_slices.specs.HandedModels.{lent, misused, over, stored-keys, stored-coefficients, stored-numbers}
 
 -- ---- the calls by their codes
 -- the call that a code names: 1 to 8 as for a sheet's steps, 9 the antiderivative; constant and variable take the n of

@@ -16,8 +16,8 @@ use Rattle.calculus.specs.Operations.{whole-integral}
 use Rattle.calculus.specs.Calls.{call-range, call-integral, call-evaluate}
 use Rattle.calculus.specs.TestLaws.{and-right}
 use Rattle.model_types.specs.ModelStruct.{bounds, integral-answer}
-use Rattle.c_models.specs.HandedModels.{lent, answer-numbers, model-room}
-use Rattle.c_models.specs.HandedModelsLaws.{room-parts}
+use Rattle.model_slices.specs.HandedModels.{lent, answer-numbers, model-room}
+use Rattle.model_slices.specs.HandedModelsLaws.{room-parts}
 use Rattle.c_calls.specs.CallCodes.{alone, ends-alone, ends-call, call-fits, ends-call-fits}
 
 pub fits-room : (code c₁ k₁ z₁ c₂ k₂ z₂ k z n : ℕ) → call-fits code c₁ k₁ z₁ c₂ k₂ z₂ (model-room k z n) ≡ true

@@ -4,7 +4,7 @@ ghost use Prim.Native.Nat.{_^_, _<_, _≤_};
 ghost use lib.ListN.{length};
 ghost use Rattle.calculus.specs.Model.{«most-terms»};
 ghost use Rattle.model_types.specs.ModelStruct.{view, answer, «integral-answer»};
-ghost use Rattle.c_models.specs.HandedModels.{«answer-numbers»};
+ghost use Rattle.model_slices.specs.HandedModels.{«answer-numbers»};
 ghost use Rattle.c_calls.specs.CallCodes.{«model-call», «ends-call», «call-fits», «ends-call-fits»};
 ghost use Rattle.c_calls.specs.CallCodes.{«called-state», «stored-answer», «ends-alone», «ends-state»};
 ghost use Rattle.c_calls.specs.CallCodes.{«stored-integral»};
@@ -99,9 +99,9 @@ pub fn store_answer(
 {
     let m = a.model;
     let v = a.verdict;
-    c_models::store_terms(m, keys, coefficients);
-    c_models::store_numbers(c_models::verdict_place(v), m, numbers);
-    c_models::verdict_number(v)
+    model_slices::store_terms(m, keys, coefficients);
+    model_slices::store_numbers(model_slices::verdict_place(v), m, numbers);
+    model_slices::verdict_number(v)
 }
 
 // Whether a call that answers with a model is one: its code is known and its slices are long enough.
@@ -123,10 +123,10 @@ pub fn call_fits(
     if ANTIDERIVATIVE < code {
         return false;
     }
-    if !c_models::lent(count1, keys1, coefficients1) {
+    if !model_slices::lent(count1, keys1, coefficients1) {
         return false;
     }
-    if !c_models::lent(count2, keys2, coefficients2) {
+    if !model_slices::lent(count2, keys2, coefficients2) {
         return false;
     }
     room
@@ -142,7 +142,7 @@ pub fn ends_call_fits(code: u8, count: usize, keys: usize, coefficients: usize, 
     if EVALUATE < code {
         return false;
     }
-    if !c_models::lent(count, keys, coefficients) {
+    if !model_slices::lent(count, keys, coefficients) {
         return false;
     }
     ENDS <= ends
@@ -162,5 +162,5 @@ pub fn store_ends(b: Integral, ends: &mut [i64]) -> u8
     ends[2] = quotient;
     ends[3] = remainder;
     let v = b.verdict;
-    c_models::verdict_number(v)
+    model_slices::verdict_number(v)
 }

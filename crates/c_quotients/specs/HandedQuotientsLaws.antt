@@ -5,8 +5,8 @@ use Prim.Native.Nat.{ℕ, _≤_}
 use lib.Dec.{T, leb, leb→le}
 use Rattle.calculus.specs.Model.{most-terms}
 use Rattle.calculus.specs.TestLaws.{and-left, and-right}
-use Rattle.c_models.specs.HandedModels.{answer-numbers, model-room}
-use Rattle.c_models.specs.HandedModelsLaws.{room-parts}
+use Rattle.model_slices.specs.HandedModels.{answer-numbers, model-room}
+use Rattle.model_slices.specs.HandedModelsLaws.{room-parts}
 use Rattle.c_quotients.specs.HandedQuotients.{quotient-models, quotient-fits}
 
 module _ (models k z n : ℕ) (h : quotient-fits models (model-room k z n) ≡ true) where

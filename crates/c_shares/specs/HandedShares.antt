@@ -5,7 +5,7 @@ use Prim.Native.Nat.{ℕ}
 use lib.Dec.{leb}
 use Rattle.model_types.specs.declared.Shares.{Shares}
 use Rattle.sheet_book.specs.declared.Report.{Report}
-use Rattle.c_models.specs.HandedModels.{over, model-room}
+use Rattle.model_slices.specs.HandedModels.{over, model-room}
 
 -- the four numbers of each row, one row behind the other
 unfoldable pub row-numbers : List Shares → List ℕ

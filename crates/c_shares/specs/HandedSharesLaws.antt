@@ -11,8 +11,8 @@ use Rattle.calculus.specs.Model.{most-terms}
 use Rattle.calculus.specs.TestLaws.{and-left, and-right}
 use Rattle.model_types.specs.ArrayLaws.{take-more}
 use Rattle.model_types.specs.declared.Shares.{Shares}
-use Rattle.c_models.specs.HandedModels.{over, answer-numbers, model-room}
-use Rattle.c_models.specs.HandedModelsLaws.{over-more, room-parts}
+use Rattle.model_slices.specs.HandedModels.{over, answer-numbers, model-room}
+use Rattle.model_slices.specs.HandedModelsLaws.{over-more, room-parts}
 use Rattle.c_shares.specs.HandedShares.{row-numbers, report-room}
 
 -- ---- rows

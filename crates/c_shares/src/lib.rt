@@ -38,7 +38,7 @@ pub fn report_room(
 ) -> bool
     ensures { λ r. ⌜ r ≡ report-room keys coefficients numbers ends shares ⌝ }
 {
-    if !c_models::model_room(keys, coefficients, numbers) {
+    if !model_slices::model_room(keys, coefficients, numbers) {
         return false;
     }
     if ends < ENDS {

@@ -4,7 +4,7 @@ use mathlib.Core.List.{List}
 use Prim.Native.Nat.{ℕ}
 use lib.IntN.{ℤ}
 use Rattle.sheet_book.specs.declared.Report.{Report}
-use Rattle.c_models.specs.HandedModels.{misused}
+use Rattle.model_slices.specs.HandedModels.{misused}
 use Rattle.c_shares.specs.HandedShares.{stored-rows}
 use Rattle.exports.specs.SheetCalls.{Run, run-state, stored-summary}
 

@@ -7,7 +7,7 @@ use Rattle.model_types.specs.ModelStruct.{verdict-number, verdict-place}
 use Rattle.sheet_book.specs.declared.Ends.{Ends}
 use Rattle.sheet_book.specs.declared.Exact.{Exact}
 use Rattle.sheet_book.specs.declared.Summary.{Summary}
-use Rattle.c_models.specs.HandedModels.{misused, over, stored-keys, stored-coefficients, stored-numbers}
+use Rattle.model_slices.specs.HandedModels.{misused, over, stored-keys, stored-coefficients, stored-numbers}
 
 -- the ends of the range and of the integral, q and r, over what the slice holds
 unfoldable pub six-ends : (range integral : Ends) → Exact → List ℤ → List ℤ

@@ -7,8 +7,8 @@ use lib.ListN.{length, take, getD, set}
 use lib.Seq.{length-take-le}
 use Rattle.model_types.specs.ModelStructLaws.{take-more}
 use Rattle.text.specs.Text.{laid}
-use Rattle.c_models.specs.HandedModels.{over}
-use Rattle.c_models.specs.HandedModelsLaws.{over-more}
+use Rattle.model_slices.specs.HandedModels.{over}
+use Rattle.model_slices.specs.HandedModelsLaws.{over-more}
 
 -- a turn of the loop that copies
 pub copied-more : (b o : List ℕ) (i : ℕ) → i < length b → i < length o

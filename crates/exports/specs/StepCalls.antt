@@ -8,7 +8,7 @@ use Rattle.sheet_book.specs.declared.Start.{Start}
 use Rattle.sheet_book.specs.declared.Kind.{Kind}
 use Rattle.sheet_book.specs.declared.Kind.the-variants.{Model, Step, End}
 use Rattle.text.specs.Text.{laid}
-use Rattle.c_models.specs.HandedModels.{misused, over}
+use Rattle.model_slices.specs.HandedModels.{misused, over}
 
 -- ---- opening
 -- the number that it returns, and its numbers

@@ -13,7 +13,7 @@ use Rattle.sheet_book.specs.declared.Book.{Book}
 use Rattle.sheet_book.specs.declared.Read.{Read}
 use Rattle.sheet_book.specs.declared.Written.{Written}
 use Rattle.sheet_book.specs.BookStruct.{held-book, write-answer}
-use Rattle.c_models.specs.HandedModels.{misused, over}
+use Rattle.model_slices.specs.HandedModels.{misused, over}
 
 -- whether there are as many models and steps as the counts name, and room for the numbers
 unfoldable pub book-fits : (model-count models step-count steps numbers : ℕ) → Bool

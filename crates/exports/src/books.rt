@@ -26,10 +26,10 @@ pub fn book_fits(
 ) -> bool
     ensures { λ r. ⌜ r ≡ book-fits «model_count» models «step_count» steps numbers ⌝ }
 {
-    if models < c_models::least(model_count, sheet_book::MOST_MODELS) {
+    if models < model_slices::least(model_count, sheet_book::MOST_MODELS) {
         return false;
     }
-    if steps < c_models::least(step_count, sheet_book::MOST_STEPS) {
+    if steps < model_slices::least(step_count, sheet_book::MOST_STEPS) {
         return false;
     }
     NUMBERS <= numbers
@@ -41,9 +41,9 @@ fn store_written(w: Written, numbers: &mut [u64]) -> u8
     ensures { λ r. ⌜ written-state r (now (numbers .exit)) ≡ stored-written w (now (numbers .entry)) ⌝ }
 {
     let v = w.verdict;
-    numbers[0] = c_models::verdict_place(v) as u64;
+    numbers[0] = model_slices::verdict_place(v) as u64;
     numbers[1] = w.length as u64;
-    c_models::verdict_number(v)
+    model_slices::verdict_number(v)
 }
 
 // A book is written as a sheet into the buffer: the refusal's number, 0 without one, or MISUSED. The refusal's place

@@ -3,7 +3,7 @@ ghost use mathlib.Core.Path.{_≡_};
 ghost use mathlib.Core.List.{[], _∷_};
 ghost use lib.ListN.{length};
 ghost use Rattle.model_types.specs.ModelStruct.{view};
-ghost use Rattle.c_models.specs.HandedModels.{handed, «model-room»};
+ghost use Rattle.model_slices.specs.HandedModels.{handed, «model-room»};
 ghost use Rattle.c_calls.specs.CallCodes.{«model-call», «ends-call», «call-fits», «ends-call-fits»};
 ghost use Rattle.c_calls.specs.CallCodes.{«called-state», called, «ends-state», «called-ends»};
 use super::MISUSED;
@@ -40,7 +40,7 @@ pub extern "C" fn hechroung_call(
         (view (handed n2 count2 radius2 (now (keys2 .entry)) (now (coefficients2 .entry)))))
         (now (keys .entry)) (now (coefficients .entry)) (now (numbers .entry)) ⌝ }
 {
-    let room = c_models::model_room(keys.len(), coefficients.len(), numbers.len());
+    let room = model_slices::model_room(keys.len(), coefficients.len(), numbers.len());
     let long1 = keys1.len();
     let long2 = keys2.len();
     if !c_calls::call_fits(
@@ -55,8 +55,8 @@ pub extern "C" fn hechroung_call(
     ) {
         return MISUSED;
     }
-    let f = c_models::taken(n1, count1, radius1, keys1, coefficients1);
-    let g = c_models::taken(n2, count2, radius2, keys2, coefficients2);
+    let f = model_slices::taken(n1, count1, radius1, keys1, coefficients1);
+    let g = model_slices::taken(n2, count2, radius2, keys2, coefficients2);
     let a = c_calls::model_call(code, d, i, value, n1, f, g);
     c_calls::store_answer(a, keys, coefficients, numbers)
 }
@@ -90,7 +90,7 @@ pub extern "C" fn hechroung_ends(
     if !c_calls::ends_call_fits(code, count, long, coefficients.len(), ends.len()) {
         return MISUSED;
     }
-    let f = c_models::taken(n, count, radius, keys, coefficients);
+    let f = model_slices::taken(n, count, radius, keys, coefficients);
     let b = c_calls::ends_call(code, [x1, x2, x3, x4], f);
     c_calls::store_ends(b, ends)
 }

@@ -1,7 +1,7 @@
 // The quotient, a single call of four models.
 ghost use mathlib.Core.Path.{_≡_};
 ghost use lib.ListN.{length};
-ghost use Rattle.c_models.specs.HandedModels.{«model-room»};
+ghost use Rattle.model_slices.specs.HandedModels.{«model-room»};
 ghost use Rattle.c_books.specs.HandedBooks.{«model-places»};
 ghost use Rattle.c_calls.specs.CallCodes.{«called-state», called};
 ghost use Rattle.c_quotients.specs.HandedQuotients.{«quotient-fits», «handed-quotient»};
@@ -39,7 +39,7 @@ pub extern "C" fn hechroung_quotient(
         keys.len(),
         coefficients.len(),
     );
-    let room = c_models::model_room(outkeys.len(), outcoefficients.len(), outnumbers.len());
+    let room = model_slices::model_room(outkeys.len(), outcoefficients.len(), outnumbers.len());
     if !c_quotients::quotient_fits(models, room) {
         return MISUSED;
     }

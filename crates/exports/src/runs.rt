@@ -9,7 +9,7 @@ ghost use Rattle.format.specs.Format.{«run-sheet»};
 ghost use Rattle.sheet_book.specs.BookStruct.{«held-book»};
 ghost use Rattle.sheet_book.specs.SummaryStruct.{«run-answer»};
 ghost use Rattle.sheet.specs.Sheet.{«run-held»};
-ghost use Rattle.c_models.specs.HandedModels.{«answer-numbers», «model-room»};
+ghost use Rattle.model_slices.specs.HandedModels.{«answer-numbers», «model-room»};
 ghost use Rattle.c_books.specs.HandedBooks.{«step-places», «handed-steps», «model-places», «handed-models»};
 ghost use Rattle.c_books.specs.HandedBooks.{«handed-book»};
 ghost use Rattle.exports.specs.WriteCalls.{«book-fits»};
@@ -61,10 +61,10 @@ pub fn store_summary(
     let range = s.range;
     let integral = s.integral;
     let exact = s.exact;
-    c_models::store_terms(m, keys, coefficients);
-    c_models::store_numbers(c_models::verdict_place(v), m, numbers);
+    model_slices::store_terms(m, keys, coefficients);
+    model_slices::store_numbers(model_slices::verdict_place(v), m, numbers);
     store_ends(range, integral, exact, ends);
-    c_models::verdict_number(v)
+    model_slices::verdict_number(v)
 }
 
 // A sheet is run: the refusal's number, 0 without one, or MISUSED. The result's 64 keys and coefficients go into two
@@ -84,7 +84,7 @@ pub extern "C" fn hechroung_run(
         (run-answer (run-sheet (now (sheet .entry))))
         (now (keys .entry)) (now (coefficients .entry)) (now (numbers .entry)) (now (ends .entry)) ⌝ }
 {
-    if !c_models::model_room(keys.len(), coefficients.len(), numbers.len()) {
+    if !model_slices::model_room(keys.len(), coefficients.len(), numbers.len()) {
         return MISUSED;
     }
     if ends.len() < ENDS {
@@ -140,7 +140,7 @@ pub extern "C" fn hechroung_run_book(
     if !book_fits(modelcount, models, stepcount, steps, numbers.len()) {
         return MISUSED;
     }
-    if !c_models::model_room(keys.len(), coefficients.len(), numbers.len()) {
+    if !model_slices::model_room(keys.len(), coefficients.len(), numbers.len()) {
         return MISUSED;
     }
     if ends.len() < ENDS {

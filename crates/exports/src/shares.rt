@@ -9,7 +9,7 @@ ghost use Rattle.sheet_book.specs.BookStruct.{«held-book»};
 ghost use Rattle.sheet_book.specs.SummaryStruct.{«run-answer»};
 ghost use Rattle.sheet_book.specs.ReportStruct.{report};
 ghost use Rattle.sheet.specs.Sheet.{«run-held», «rows-held»};
-ghost use Rattle.c_models.specs.HandedModels.{«answer-numbers»};
+ghost use Rattle.model_slices.specs.HandedModels.{«answer-numbers»};
 ghost use Rattle.c_books.specs.HandedBooks.{«step-places», «handed-steps», «model-places», «handed-models»};
 ghost use Rattle.c_books.specs.HandedBooks.{«handed-book»};
 ghost use Rattle.c_shares.specs.HandedShares.{«report-room»};

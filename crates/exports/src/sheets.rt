@@ -24,7 +24,7 @@ pub extern "C" fn hechroung_print(sheet: &[u8], lines: &mut [u8]) -> usize
 fn copy(bytes: &[u8], out: &mut [u8])
     ensures { λ r. ⌜ now (out .exit) ≡ laid (now (bytes .entry)) (now (out .entry)) ⌝ }
 {
-    let places = c_models::least(bytes.len(), out.len());
+    let places = model_slices::least(bytes.len(), out.len());
     let mut i = 0;
     while i < places {
         out[i] = bytes[i];
@@ -61,9 +61,9 @@ pub extern "C" fn hechroung_open(sheet: &[u8], numbers: &mut [u64]) -> u8
     }
     let start = sheet::opened_at(sheet);
     let v = start.verdict;
-    numbers[0] = c_models::verdict_place(v) as u64;
+    numbers[0] = model_slices::verdict_place(v) as u64;
     numbers[1] = start.at as u64;
-    c_models::verdict_number(v)
+    model_slices::verdict_number(v)
 }
 
 // What a record is, as a number.

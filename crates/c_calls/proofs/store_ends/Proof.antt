@@ -8,7 +8,7 @@ use mir.Val.{toZ, ofZ}
 use borrow.Author.Needs.{needs}
 use Rattle.fixed.specs.MachineLaws.{answered}
 use Rattle.c_calls.specs.CallCodes.{stored-integral}
-use Rattle.c_models.specs.HandedModelsLaws.{over-four}
+use Rattle.model_slices.specs.HandedModelsLaws.{over-four}
 use Rattle.c_calls.proofs.store_ends.Statement.{statement}
 use Rattle.c_calls.proofs.store_ends.Tie as tie
 

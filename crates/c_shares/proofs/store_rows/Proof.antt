@@ -5,7 +5,7 @@ use native.Mathlib.Omega.{arith}
 use borrow.Author.Needs.{needs}
 use lib.ListN.{length, take, length-map, length-set}
 use lib.Seq.{take-all}
-use Rattle.c_models.specs.HandedModels.{over}
+use Rattle.model_slices.specs.HandedModels.{over}
 use Rattle.c_shares.specs.HandedShares.{row-numbers, stored-rows}
 use Rattle.c_shares.specs.HandedSharesLaws.{rows-more}
 use Rattle.c_shares.proofs.store_rows.Statement.{statement}

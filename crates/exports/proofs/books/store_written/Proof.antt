@@ -1,7 +1,7 @@
 -- `store_written` stores two numbers.
 use borrow.Author.Needs.{needs}
 use Rattle.exports.specs.WriteCalls.{stored-written}
-use Rattle.c_models.specs.HandedModelsLaws.{over-two}
+use Rattle.model_slices.specs.HandedModelsLaws.{over-two}
 use Rattle.exports.proofs.books.store_written.Statement.{statement}
 use Rattle.exports.proofs.books.store_written.Tie as tie
 

@@ -6,7 +6,7 @@ use mir.Val.{toZ, ofZ}
 use borrow.Author.Needs.{needs}
 use borrow.Author.Tests.{not-true, not-false}
 use Rattle.model_types.specs.ModelStruct.{view}
-use Rattle.c_models.specs.HandedModels.{handed}
+use Rattle.model_slices.specs.HandedModels.{handed}
 use Rattle.c_calls.specs.CallCodes.{called}
 use Rattle.c_calls.specs.CallCodesLaws.{fits-room}
 use Rattle.exports.proofs.calls.hechroung_call.Statement.{statement}

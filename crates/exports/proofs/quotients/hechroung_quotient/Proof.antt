@@ -3,7 +3,7 @@ use mathlib.Core.Path.{_≡_, sym, _∙_, ap₂}
 use borrow.Author.Needs.{needs}
 use borrow.Author.Tests.{not-true, not-false}
 use lib.ListN.{length}
-use Rattle.c_models.specs.HandedModels.{model-room}
+use Rattle.model_slices.specs.HandedModels.{model-room}
 use Rattle.c_books.specs.HandedBooks.{model-places}
 use Rattle.c_calls.specs.CallCodes.{called}
 use Rattle.c_quotients.specs.HandedQuotients.{quotient-fits}

@@ -2,7 +2,7 @@
 use mathlib.Core.Path.{sym, _∙_}
 use borrow.Author.Needs.{needs}
 use borrow.Author.Tests.{le-leb, lt-leb, not-true, not-false}
-use Rattle.c_models.specs.HandedModelsLaws.{room}
+use Rattle.model_slices.specs.HandedModelsLaws.{room}
 use Rattle.exports.specs.SheetCalls.{called-run}
 use Rattle.exports.specs.RemainderLaws.{held-small}
 use Rattle.exports.proofs.runs.hechroung_run_book.Statement.{statement}

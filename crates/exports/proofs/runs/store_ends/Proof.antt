@@ -9,7 +9,7 @@ use mir.Val.{toZ, ofZ}
 use borrow.Author.Needs.{needs}
 use Rattle.fixed.specs.MachineLaws.{answered}
 use Rattle.exports.specs.SheetCalls.{six-ends}
-use Rattle.c_models.specs.HandedModelsLaws.{over-six}
+use Rattle.model_slices.specs.HandedModelsLaws.{over-six}
 use Rattle.exports.proofs.runs.store_ends.Statement.{statement}
 use Rattle.exports.proofs.runs.store_ends.Tie as tie
 

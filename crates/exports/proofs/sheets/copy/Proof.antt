@@ -4,7 +4,7 @@ use Prim.Native.Nat.{_≤_, _-_, min}
 use native.Mathlib.Omega.{arith}
 use borrow.Author.Needs.{needs}
 use lib.ListN.{length, take, length-set}
-use Rattle.c_models.specs.HandedModels.{over}
+use Rattle.model_slices.specs.HandedModels.{over}
 use Rattle.exports.specs.SheetCallsLaws.{copied-more, copied-end}
 use Rattle.exports.proofs.sheets.copy.Statement.{statement}
 use Rattle.exports.proofs.sheets.copy.Tie as tie

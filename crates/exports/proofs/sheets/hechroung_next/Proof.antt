@@ -1,7 +1,7 @@
 -- `hechroung_next` asks what the record at the place is, copies its bytes, and stores two numbers.
 use borrow.Author.Needs.{needs}
 use borrow.Author.Tests.{le-leb, lt-leb}
-use Rattle.c_models.specs.HandedModelsLaws.{over-two}
+use Rattle.model_slices.specs.HandedModelsLaws.{over-two}
 use Rattle.exports.specs.StepCalls.{called-next}
 use Rattle.exports.proofs.sheets.hechroung_next.Statement.{statement}
 use Rattle.exports.proofs.sheets.hechroung_next.Tie as tie

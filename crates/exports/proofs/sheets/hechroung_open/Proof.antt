@@ -1,7 +1,7 @@
 -- `hechroung_open` opens the sheet and stores two numbers.
 use borrow.Author.Needs.{needs}
 use borrow.Author.Tests.{le-leb, lt-leb}
-use Rattle.c_models.specs.HandedModelsLaws.{over-two}
+use Rattle.model_slices.specs.HandedModelsLaws.{over-two}
 use Rattle.exports.specs.StepCalls.{called-open}
 use Rattle.exports.proofs.sheets.hechroung_open.Statement.{statement}
 use Rattle.exports.proofs.sheets.hechroung_open.Tie as tie

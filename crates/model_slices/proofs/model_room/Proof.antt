@@ -1,9 +1,9 @@
 -- `model_room` compares each length.
 use borrow.Author.Tests.{le-leb, lt-leb}
 use Rattle.calculus.specs.Model.{most-terms}
-use Rattle.c_models.specs.HandedModels.{model-room}
-use Rattle.c_models.proofs.model_room.Statement.{statement}
-use Rattle.c_models.proofs.model_room.Tie as tie
+use Rattle.model_slices.specs.HandedModels.{model-room}
+use Rattle.model_slices.proofs.model_room.Statement.{statement}
+use Rattle.model_slices.proofs.model_room.Tie as tie
 
 returns : tie.Need-returns
 unfolding model-room most-terms

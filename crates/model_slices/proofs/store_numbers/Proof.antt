@@ -2,10 +2,10 @@
 use borrow.Author.Needs.{needs}
 use native.Mathlib.Omega.{arith}
 use lib.ListN.{length-set}
-use Rattle.c_models.specs.HandedModels.{stored-numbers}
-use Rattle.c_models.specs.HandedModelsLaws.{over-four}
-use Rattle.c_models.proofs.store_numbers.Statement.{statement}
-use Rattle.c_models.proofs.store_numbers.Tie as tie
+use Rattle.model_slices.specs.HandedModels.{stored-numbers}
+use Rattle.model_slices.specs.HandedModelsLaws.{over-four}
+use Rattle.model_slices.proofs.store_numbers.Statement.{statement}
+use Rattle.model_slices.proofs.store_numbers.Tie as tie
 
 slice-write-numbers : tie.Need-slice-write-numbers
 slice-write-numbers c = search needs

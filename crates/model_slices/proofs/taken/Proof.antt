@@ -11,10 +11,10 @@ use borrow.Author.Needs.{needs}
 use Rattle.calculus.specs.Model.{most-terms}
 use Rattle.model_types.specs.Arrays.{padded}
 use Rattle.model_types.specs.ModelStruct.{pad}
-use Rattle.c_models.specs.HandedModels.{terms-of}
-use Rattle.c_models.specs.HandedModelsLaws.{handed-more, taken-view}
-use Rattle.c_models.proofs.taken.Statement.{statement}
-use Rattle.c_models.proofs.taken.Tie as tie
+use Rattle.model_slices.specs.HandedModels.{terms-of}
+use Rattle.model_slices.specs.HandedModelsLaws.{handed-more, taken-view}
+use Rattle.model_slices.proofs.taken.Statement.{statement}
+use Rattle.model_slices.proofs.taken.Tie as tie
 
 abbrev Inv-loop : tie.InvT-loop
 Inv-loop n count radius keys coefficients both named places out₀ i₀ out i =

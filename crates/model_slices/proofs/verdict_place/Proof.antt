@@ -1,8 +1,8 @@
 -- `verdict_place` reads the place of a refusal.
 use borrow.Author.Needs.{needs}
 use Rattle.model_types.specs.ModelStruct.{verdict-place}
-use Rattle.c_models.proofs.verdict_place.Statement.{statement}
-use Rattle.c_models.proofs.verdict_place.Tie as tie
+use Rattle.model_slices.proofs.verdict_place.Statement.{statement}
+use Rattle.model_slices.proofs.verdict_place.Tie as tie
 
 enum-told : tie.Need-enum-told
 enum-told c = search needs

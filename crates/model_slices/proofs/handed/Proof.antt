@@ -11,10 +11,10 @@ use borrow.Author.Needs.{needs}
 use Rattle.calculus.specs.Model.{most-terms}
 use Rattle.model_types.specs.Arrays.{padded}
 use Rattle.model_types.specs.ModelStruct.{pad}
-use Rattle.c_models.specs.HandedModels.{terms-of, handed}
-use Rattle.c_models.specs.HandedModelsLaws.{handed-more, terms-end}
-use Rattle.c_models.proofs.handed.Statement.{statement}
-use Rattle.c_models.proofs.handed.Tie as tie
+use Rattle.model_slices.specs.HandedModels.{terms-of, handed}
+use Rattle.model_slices.specs.HandedModelsLaws.{handed-more, terms-end}
+use Rattle.model_slices.proofs.handed.Statement.{statement}
+use Rattle.model_slices.proofs.handed.Tie as tie
 
 abbrev Inv-loop : tie.InvT-loop
 Inv-loop n count radius keys coefficients both places out₀ i₀ out i =

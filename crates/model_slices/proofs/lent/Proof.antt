@@ -3,9 +3,9 @@ use mathlib.Core.Path.{sym}
 use borrow.Author.Needs.{needs}
 use borrow.Author.Tests.{le-leb, lt-leb}
 use Rattle.calculus.specs.Model.{most-terms}
-use Rattle.c_models.specs.HandedModels.{lent}
-use Rattle.c_models.proofs.lent.Statement.{statement}
-use Rattle.c_models.proofs.lent.Tie as tie
+use Rattle.model_slices.specs.HandedModels.{lent}
+use Rattle.model_slices.proofs.lent.Statement.{statement}
+use Rattle.model_slices.proofs.lent.Tie as tie
 
 least-requires : tie.Need-least-requires
 least-requires c κs = search needs

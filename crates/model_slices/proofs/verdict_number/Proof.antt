@@ -1,8 +1,8 @@
 -- `verdict_number` reads the number of a refusal.
 use borrow.Author.Needs.{needs}
 use Rattle.model_types.specs.ModelStruct.{verdict-number}
-use Rattle.c_models.proofs.verdict_number.Statement.{statement}
-use Rattle.c_models.proofs.verdict_number.Tie as tie
+use Rattle.model_slices.proofs.verdict_number.Statement.{statement}
+use Rattle.model_slices.proofs.verdict_number.Tie as tie
 
 enum-told : tie.Need-enum-told
 enum-told c = search needs

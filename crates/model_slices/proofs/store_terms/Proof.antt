@@ -13,10 +13,10 @@ use mir.Val.{toZ, ofZ}
 use Rattle.calculus.specs.Model.{most-terms}
 use Rattle.model_types.specs.declared.Term.{Term}
 use Rattle.model_types.specs.ModelStruct.{zero-term}
-use Rattle.c_models.specs.HandedModels.{over, stored-keys, stored-coefficients}
-use Rattle.c_models.specs.HandedModelsLaws.{stored-more}
-use Rattle.c_models.proofs.store_terms.Statement.{statement}
-use Rattle.c_models.proofs.store_terms.Tie as tie
+use Rattle.model_slices.specs.HandedModels.{over, stored-keys, stored-coefficients}
+use Rattle.model_slices.specs.HandedModelsLaws.{stored-more}
+use Rattle.model_slices.proofs.store_terms.Statement.{statement}
+use Rattle.model_slices.proofs.store_terms.Tie as tie
 
 abbrev Inv-loop : tie.InvT-loop
 Inv-loop keys₀ coefficients₀ m i₀ keys coefficients i =

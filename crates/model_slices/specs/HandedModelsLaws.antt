@@ -15,7 +15,7 @@ use Rattle.model_types.specs.declared.Term.{Term}
 use Rattle.model_types.specs.Arrays.{first-places, padded}
 use Rattle.model_types.specs.ModelStruct.{zero-term, places, pad, view-term, view}
 use Rattle.model_types.specs.ModelStructLaws.{pad-more, take-more}
-use Rattle.c_models.specs.HandedModels.{terms-of, handed, over, answer-numbers, model-room}
+use Rattle.model_slices.specs.HandedModels.{terms-of, handed, over, answer-numbers, model-room}
 
 -- ---- terms of two slices
 terms-more : (i : ℕ) (ks : List ℕ) (cs : List ℤ) → i < length ks → i < length cs
