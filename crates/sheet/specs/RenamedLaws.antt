@@ -1,15 +1,16 @@
 -- What any program that meets the contract of a run answers to a sheet, or to a book in memory, and to the same with
 -- its variables reordered (request 8).
-use mathlib.Core.Path.{_≡_, refl, sym, _∙_, ap}
+use mathlib.Core.Path.{_≡_, refl, sym, _∙_, ap, ap₂}
 use mathlib.Core.List.{List, map}
 use Prim.Native.Nat.{ℕ}
 use native.Mathlib.Omega.{arith}
-use Rattle.calculus.specs.Refusal.{Result, done, stopped}
+use Rattle.calculus.specs.Refusal.{Result, done, stopped, _followed-by_}
 use Rattle.calculus.specs.Book as B
+use Rattle.calculus.specs.Shares.{reported, rows-sound}
 use Rattle.model_types.specs.declared.Refusal.{Refusal}
 use Rattle.model_types.specs.declared.Verdict.the-variants.{Accepted, Refused}
 use Rattle.model_types.specs.SharesStruct.{stored-shares}
-use Rattle.format.specs.HeldBook.{Held-book, Held-passes}
+use Rattle.format.specs.HeldBook.{Held-book, view-book, Held-passes}
 use Rattle.format.specs.HeldBookLaws.{held-tested-passes}
 use Rattle.format.specs.Format.{read, sheet-bytes, run-sheet, sheet-rows}
 use Rattle.format.specs.ReadBackLaws.{read-back}
@@ -20,7 +21,7 @@ use Rattle.sheet_book.specs.declared.Summary.{Summary}
 use Rattle.sheet_book.specs.declared.Report.{Report}
 use Rattle.sheet_book.specs.SummaryStruct.{refused-summary, run-answer, summary-of}
 use Rattle.sheet_book.specs.ReportStruct.{report}
-use Rattle.sheet.specs.Sheet.{run-held, Exact, Exact-book, Reports}
+use Rattle.sheet.specs.Sheet.{run-held, rows-held, Exact, Exact-book, Reports, Reports-book}
 use Rattle.sheet.specs.SheetLaws.{exact-result}
 
 -- s is the answer r with its variables reordered
@@ -85,3 +86,21 @@ pub renamed-book-answers : (h : Held-book) → Held-passes h → (ρ : Reorderin
 renamed-book-answers h p ρ r s er es = renamed-answers (sheet-bytes h) h (read-back h p) ρ r s
     (er ∙ ap run-answer (run-held-sheet h p))
     (es ∙ ap run-answer (run-held-sheet (rename-held ρ h) (held-renamed-passes h p ρ)))
+
+-- and reports the rows of its sheet
+rows-held-sheet : (h : Held-book) → Held-passes h → rows-held h ≡ sheet-rows (sheet-bytes h)
+unfolding rows-held sheet-rows _followed-by_
+rows-held-sheet h p = ap reported (held-tested-passes h _ p)
+    ∙ sym (ap (λ r. reported (r followed-by (λ h. done (rows-sound (view-book h))))) (read-back h p))
+
+-- THEOREM: the reports of both
+pub renamed-book-reports : (h : Held-book) → Held-passes h → (ρ : Reordering (h .n))
+    → (r s : Report) → Reports-book h r → Reports-book (rename-held ρ h) s → Renamed-report ρ r s
+renamed-book-reports h p ρ r s er es = renamed-reports (sheet-bytes h) h (read-back h p) ρ r s
+    (er ∙ as-sheet h p)
+    (es ∙ as-sheet (rename-held ρ h) (held-renamed-passes h p ρ))
+  where
+    as-sheet : (h : Held-book) → Held-passes h
+        → report (run-answer (run-held h)) (rows-held h)
+        ≡ report (run-answer (run-sheet (sheet-bytes h))) (sheet-rows (sheet-bytes h))
+    as-sheet h p = ap₂ report (ap run-answer (run-held-sheet h p)) (rows-held-sheet h p)
