@@ -10,7 +10,7 @@ use Rattle.calculus.specs.Model.{Model}
 use Rattle.calculus.specs.Refusal.{bad-limits, bad-model, bad-step, over-span, too-many-terms, leaves-box}
 use Rattle.calculus.specs.Refusal.{Result, stopped}
 use Rattle.calculus.specs.Book.{Step, input, constant, variable, negate, add, subtract, multiply, substitute}
-use Rattle.calculus.specs.Book.{sweep, antiderivative, Book, Summary, run}
+use Rattle.calculus.specs.Book.{sweep, antiderivative, quotient, Book, Summary, run}
 use Rattle.calculus.specs.Computing.{runs}
 use Rattle.calculus.specs.Forms.{at-key, model, book, ends, minus, mixed, gives, forms}
 
@@ -84,6 +84,8 @@ edges =
     ∷ broken 7 (subtract 1 0) ∷ broken 7 (subtract 0 1)
     ∷ broken 7 (multiply 1 0) ∷ broken 7 (multiply 0 1)
     ∷ broken 7 (substitute 1 0 1) ∷ broken 7 (substitute 0 1 1)
+    ∷ broken 7 (quotient 1 0 0 0) ∷ broken 7 (quotient 0 1 0 0)
+    ∷ broken 7 (quotient 0 0 1 0) ∷ broken 7 (quotient 0 0 0 1)
     -- an input is below the model count, here 0; a variable is 1 to n, here 1
     ∷ broken 8 (input 0)
     ∷ broken 8 (variable 0) ∷ broken 8 (variable 2)
