@@ -5,3 +5,4 @@ pub mod Refuted
 pub mod SheetLaws
 pub mod RefutedLaws
 pub mod RenamedLaws
+pub mod BookRowEdges
