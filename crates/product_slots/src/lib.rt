@@ -28,8 +28,8 @@ fn home_slot(homes: usize, key: u64) -> usize
     (scaled / HALF_WORD) as usize
 }
 
-// The same number in a wider type.
-pub fn widened(x: u16) -> usize
+// The entry that a slot leads to: the same number in a wider type.
+pub fn entry_number(x: u16) -> usize
     ensures { λ r. ⌜ r ≡ x ⌝ }
 {
     x as usize
@@ -45,7 +45,7 @@ pub fn find(slots: &[u16], keys: &[u64], homes: usize, key: u64) -> usize
     let mut h = home_slot(homes, key);
     let mut path = (key / LOWER_BITS + ABOVE_UPPER) as usize;
     loop {
-        let x = widened(slots[h]);
+        let x = entry_number(slots[h]);
         if keys[x] == key {
             return h;
         }
