@@ -6,10 +6,10 @@ use native.Mathlib.Omega.{arith}
 use lib.Dec.{T}
 use lib.ListN.{length}
 use Rattle.calculus.specs.Monomial.{degree}
-use Rattle.calculus.specs.Key.{encode, decode, key-width, key-limit}
+use Rattle.calculus.specs.Key.{encode}
 use Rattle.calculus.specs.Model.{fits}
 use Rattle.calculus.specs.FitsLaws.{fits-length, fits-degree}
-use Rattle.model_keys.specs.Keys.{wide-key, widened}
+use Rattle.model_keys.specs.Keys.{wide-key}
 use Rattle.product_slots.specs.Slots.{upper, digit-sum, Told}
 use Rattle.product_dense.specs.Grid.{first-of, second-of, third-of, fourth-of}
 
@@ -70,20 +70,6 @@ wide-digits n m l k h = go k (omega (arith, fits-length n m k h)) (fits-degree n
     go (a ∷ (b ∷ (c ∷ []))) l g = made a b c 0 _ (omega arith) (omega arith)
     go (a ∷ (b ∷ (c ∷ (d ∷ [])))) l g = made a b c d _ (omega arith) (four-digits a b c d)
     go (a ∷ (b ∷ (c ∷ (d ∷ (e ∷ k))))) l g = absurd (omega arith)
-
-pub widened-digits : (z : ℕ) → z < key-limit → Digits 15 (widened z)
-unfolding widened decode encode degree key-width key-limit
-widened-digits z h = record {
-  a = z / 16 ^ 3;
-  b = z % 16 ^ 3 / 16 ^ 2;
-  c = z % 16 ^ 3 % 16 ^ 2 / 16;
-  d = z % 16 ^ 3 % 16 ^ 2 % 16 / 1;
-  low-a = omega arith;
-  low-b = omega arith;
-  low-c = omega arith;
-  low-d = omega arith;
-  is = four-digits (z / 16 ^ 3) (z % 16 ^ 3 / 16 ^ 2) (z % 16 ^ 3 % 16 ^ 2 / 16) (z % 16 ^ 3 % 16 ^ 2 % 16 / 1);
-}
 
 -- ---- as they are read
 by-upper : (key : ℕ)

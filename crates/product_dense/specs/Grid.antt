@@ -1,12 +1,7 @@
 -- A grid of monomials: how many places a variable's exponents take, and the place of a wide key among all.
-use mathlib.Core.List.{[]}
-use Prim.Native.Nat.{ℕ, _+_, _*_, _/_, _%_, _^_, max, _<_, _≤_}
-use lib.IntN.{pos}
+use mathlib.Core.List.{List}
+use Prim.Native.Nat.{ℕ, zero, suc, _+_, _*_, _/_, _%_, _^_, max, _<_, _≤_}
 use lib.ListN.{getD}
-use Rattle.calculus.specs.Terms.{term}
-use Rattle.model_keys.specs.Keys.{wide-key}
-use Rattle.model_types.specs.declared.Model.{Model}
-use Rattle.model_types.specs.ModelStruct.{view}
 use Rattle.product_slots.specs.Slots.{Told}
 use Rattle.product_dense.specs.declared.Extents.{Extents}
 use Rattle.product_dense.specs.declared.Sides.{Sides}
@@ -52,10 +47,10 @@ pub record Low (e : Extents) : Type 0 where
   pub third : e .third < 2 ^ 4
   pub fourth : e .fourth < 2 ^ 4
 
--- the extents of a model's terms
-pub record Covered (m : Model) (e : Extents) : Type 0 where
-  pub low : Low e
-  pub each : (i : ℕ) → i < m .count → Within e (wide-key (getD (view m .terms) i (term (pos 0) []) .exponents))
+-- the extents of the first keys
+unfoldable pub extents : (count : ℕ) (keys : List ℕ) → Extents
+extents zero keys = record { first = 0; second = 0; third = 0; fourth = 0 }
+extents (suc n) keys = raised-by (extents n keys) (getD keys n 0)
 
 -- ---- the grid
 -- for the products of terms within e and within h: a side for each variable but the first, and the number of places

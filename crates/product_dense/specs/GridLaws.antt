@@ -1,21 +1,16 @@
--- How large a grid is, the extents of more and more terms, and places stored one after the other.
-use mathlib.Core.Path.{_≡_, sym, _∙_, ap}
-use mathlib.Core.List.{List, [], _∷_}
-use Prim.Native.Nat.{ℕ, suc, _+_, _-_, _*_, _^_, max, _<_, _≤_}
+-- How large a grid is, the extents of more and more keys, and places stored one after the other.
+use mathlib.Core.Path.{_≡_, refl, _∙_}
+use mathlib.Core.List.{List}
+use Prim.Native.Nat.{ℕ, zero, suc, _+_, _-_, _*_, _^_, max, _<_, _≤_}
 use native.Mathlib.Nat.{mul-le-mul, le-max-left, le-max-right, max-le}
 use native.Mathlib.Decide.{ℕ-discrete}
 use native.Mathlib.Omega.{arith}
-use lib.IntN.{pos}
-use lib.ListN.{length, getD, set, drop, length-map, length-take}
-use lib.Seq.{getD-set-same, getD-set-other, drop-cons}
-use Rattle.calculus.specs.Key.{monomial-of}
-use Rattle.calculus.specs.Terms.{Terms, term}
-use Rattle.model_types.specs.declared.Model.{Model}
-use Rattle.model_types.specs.ModelStruct.{zero-term, view-term, view}
-use Rattle.model_types.specs.ModelStructLaws.{read, term-at, view-terms, rest-more}
+use native.Mathlib.Numerals.{unary-clauses}
+use lib.ListN.{length, getD, set}
+use lib.Seq.{getD-set-same, getD-set-other}
 use Rattle.product_dense.specs.declared.Extents.{Extents}
-use Rattle.product_dense.specs.Grid.{first-of, second-of, third-of, fourth-of, Within, raised-by, Low, sides-for}
-use Rattle.product_dense.specs.Grid.{Narrow}
+use Rattle.product_dense.specs.Grid.{first-of, second-of, third-of, fourth-of, Within, raised-by, Low, extents}
+use Rattle.product_dense.specs.Grid.{sides-for, Narrow}
 use Rattle.product_dense.specs.DigitLaws.{Digits, read-first, read-second, read-third, read-fourth}
 
 -- ---- how large they are
@@ -69,15 +64,15 @@ placing a b c d x y z ha hb hc hd w =
       whole = omega (arith, digit-fits (2 ^ 25) ((a * x + b) * y + c) z d p (w .short-fourth) hd);
     }
 
--- ---- one more term's exponents
+-- ---- one more key's exponents
 max-lt : {a b k : ℕ} → a < k → b < k → max a b < k
 max-lt {a} {b} {k} h l = let g : max a b ≤ k - 1 = max-le (omega arith) (omega arith) in omega arith
 
-pub low-zero : Low (record { first = 0; second = 0; third = 0; fourth = 0 })
+low-zero : Low (record { first = 0; second = 0; third = 0; fourth = 0 })
 low-zero = record { first = omega arith; second = omega arith; third = omega arith; fourth = omega arith }
 
 module _ (e : Extents) (key : ℕ) where
-  pub low-raised : Low e → Digits 15 key → Low (raised-by e key)
+  low-raised : Low e → Digits 15 key → Low (raised-by e key)
   unfolding raised-by
   low-raised h x = record {
     first = max-lt (h .first) (omega (arith, read-first x (omega arith), x .low-a));
@@ -104,13 +99,24 @@ module _ (e : Extents) (key : ℕ) where
     fourth = omega (arith, h .fourth, le-max-left (e .fourth) (fourth-of key));
   }
 
-  -- of the first i keys, and then of one more
-  pub within-more : (keys : ℕ → ℕ) (i : ℕ) → keys i ≡ key → ((j : ℕ) → j < i → Within e (keys j))
-      → (j : ℕ) → j < i + 1 → Within (raised-by e key) (keys j)
-  within-more keys i g f j l = elim (ℕ-discrete j i) [
-    | yes c ↦ rw (c, g) within-new
-    | no c ↦ within-old (keys j) (f j (omega arith))
-  ]
+-- ---- the extents of the first keys
+pub extents-more : (n : ℕ) (keys : List ℕ) → extents (n + 1) keys ≡ raised-by (extents n keys) (getD keys n 0)
+unfolding extents
+extents-more n keys = simp unary-clauses refl
+
+pub extents-low : (n : ℕ) (keys : List ℕ) → ((i : ℕ) → i < n → Digits 15 (getD keys i 0)) → Low (extents n keys)
+unfolding extents
+extents-low zero keys f = low-zero
+extents-low (suc n) keys f =
+    low-raised (extents n keys) (getD keys n 0) (extents-low n keys (λ i l. f i (omega arith))) (f n (omega arith))
+
+pub extents-within : (n : ℕ) (keys : List ℕ) (i : ℕ) → i < n → Within (extents n keys) (getD keys i 0)
+unfolding extents
+extents-within zero keys i l = absurd (omega arith)
+extents-within (suc n) keys i l = elim (ℕ-discrete i n) [
+  | yes c ↦ rw c (within-new (extents n keys) (getD keys n 0))
+  | no c ↦ within-old (extents n keys) (getD keys n 0) (getD keys i 0) (extents-within n keys i (omega arith))
+]
 
 -- ---- one more number is stored
 pub stored-more : (l : List ℕ) (i x : ℕ) (f : ℕ → ℕ) → i < length l → ((j : ℕ) → j < i → getD l j 0 ≡ f j) → x ≡ f i
@@ -119,15 +125,3 @@ stored-more l i x f h g e j k = elim (ℕ-discrete j i) [
   | yes c ↦ rw c (getD-set-same l i x 0 h ∙ e)
   | no c ↦ getD-set-other l i j x 0 c ∙ g j (omega arith)
 ]
-
--- ---- the monomial at a place of a model
-pub viewed : (m : Model) → m .count ≤ length (m .terms) → (i : ℕ) → i < m .count
-    → getD (view m .terms) i (term (pos 0) []) .exponents ≡ monomial-of (m .n) (getD (m .terms) i zero-term .key)
-unfolding view-term
-viewed m w i h =
-    let p = read (m .n) (m .count) (m .terms) in
-    let long : i < length p = rw (length-map, length-take) (omega (arith, w, h)) in
-    let e : getD p i (term (pos 0) []) ∷ drop (suc i) p ≡ term-at (m .n) i (m .terms) ∷ drop (i + 1) p =
-    sym (drop-cons p i (term (pos 0) []) long) ∙ rest-more (m .n) (m .count) (m .terms) w i h in
-    let f : getD p i (term (pos 0) []) ≡ term-at (m .n) i (m .terms) = cc in
-    ap (λ (q : Terms). getD q i (term (pos 0) []) .exponents) (view-terms m w) ∙ ap (λ t. t .exponents) f

@@ -3,13 +3,9 @@
 ghost use mathlib.Core.Path.{_≡_};
 ghost use Prim.Native.Nat.{ℕ, max, _<_, _≤_};
 ghost use lib.ListN.{length, getD};
-ghost use Rattle.calculus.specs.Key.{«key-width», «key-limit»};
-ghost use Rattle.calculus.specs.Model.{«most-terms»};
-ghost use Rattle.model_keys.specs.Keys.{widened};
 ghost use Rattle.product_dense.specs.Grid.{«first-of», «second-of», «third-of», «fourth-of», Low};
-ghost use Rattle.product_dense.specs.Grid.{«raised-by», Covered};
+ghost use Rattle.product_dense.specs.Grid.{«raised-by», extents};
 ghost use Rattle.product_dense.specs.Grid.{«sides-for», Narrow, «place-by»};
-use model_types::Model;
 
 // ---- the exponents of a wide key: seven bits each, above 36 others
 const FIRST: u64 = 1 << 57;
@@ -70,12 +66,9 @@ fn larger(a: usize, b: usize) -> usize
 }
 
 // The larger of the exponents so far and those of one more key.
-fn raised(e: Extents, narrow: u16) -> Extents
-    ensures exact { λ r. ⌜ r ≡ raised-by e (widened narrow) ⌝ }
-    ensures low { λ r. ⌜ (Low e → Low r) ⌝ }
-    ensures small { λ r. ⌜ narrow < key-limit ⌝ }
+fn raised(e: Extents, key: u64) -> Extents
+    ensures { λ r. ⌜ r ≡ raised-by e key ⌝ }
 {
-    let key = model_keys::wide_key(narrow);
     Extents {
         first: larger(e.first, first_of(key)),
         second: larger(e.second, second_of(key)),
@@ -84,12 +77,11 @@ fn raised(e: Extents, narrow: u16) -> Extents
     }
 }
 
-// The largest exponents of a model's terms.
-pub fn extents_of(m: Model) -> Extents
-    requires { ⌜ (m .count ≤ most-terms) × (m .n ≤ key-width) ⌝ }
-    ensures { λ r. ⌜ Covered m r ⌝ }
+// The largest exponents of the first count keys.
+pub fn extents_of(keys: &[u64], count: usize) -> Extents
+    requires { ⌜ count ≤ length (now keys) ⌝ }
+    ensures { λ r. ⌜ r ≡ extents count (now (keys .entry)) ⌝ }
 {
-    let count = m.count;
     let mut e = Extents {
         first: 0,
         second: 0,
@@ -98,8 +90,7 @@ pub fn extents_of(m: Model) -> Extents
     };
     let mut i = 0;
     while i < count {
-        let t = m.terms[i];
-        e = raised(e, t.key);
+        e = raised(e, keys[i]);
         i += 1;
     }
     e
