@@ -1,0 +1,2 @@
+pub mod ProductTerms
+pub mod ProductTermsLaws

@@ -1,0 +1,112 @@
+-- What the steps of a product of two lists of terms ask: of a table, of a grid, and of room of its own.
+use mathlib.Core.Path.{_≡_, sym, subst}
+use Prim.Native.Nat.{ℕ, _+_, _*_, _≤_, _<_}
+use mathlib.Core.List.{List, []}
+use native.Mathlib.Decide.{decLt}
+use native.Mathlib.Nat as NatL
+use native.Mathlib.Omega.{arith}
+use lib.IntN.{ℤ, pos}
+use lib.ListN.{length, getD, replicate, length-replicate, getD-replicate, List·getD-eq-default}
+use Rattle.calculus.specs.Terms.{Terms}
+use Rattle.calculus.specs.Model.{most-terms, most-degree}
+use Rattle.product_table.specs.Table.{entries, most-entries}
+use Rattle.product_gathering.specs.declared.Gathered.{Gathered}
+use Rattle.product_gathering.specs.GatheringContracts.{Gathering}
+use Rattle.product_collector.specs.Collector.{accumulated-all}
+use Rattle.product_collector.specs.CollectorContracts.{Collected, Held-factors, Empty-table}
+use Rattle.product_collector.specs.FactorArrayLaws.{monomial-at, first-key, first-monomial, second-key, second-monomial}
+use Rattle.product_collector.specs.FactorArrayLaws.{factors-size}
+use Rattle.product_dense.specs.declared.Extents.{Extents}
+use Rattle.product_dense.specs.declared.Sides.{Sides}
+use Rattle.product_dense.specs.Grid.{Low, extents, sides-for, place, Gridded}
+use Rattle.product_dense.specs.DigitLaws.{Digits, wide-digits}
+use Rattle.product_dense.specs.GridLaws.{sides-narrow, extents-low, extents-within}
+use Rattle.product_dense.specs.GridPlaceLaws.{place-plus, product-gridded}
+use Rattle.product_grid.specs.GridContracts.{Grid-ready}
+use Rattle.product_terms.specs.ProductTerms.{Kept-room}
+
+-- ---- what is collected in a table is gathered
+pub collected-gathering : {homes most n d : ℕ} {q : Terms} {slots keys : List ℕ} {sums : List ℤ}
+    {kept : List ℕ} {coefficients : List ℤ} {r : Gathered}
+    → Collected homes [] most q slots keys sums n → Gathering d (entries n keys sums) kept coefficients r
+    → Gathering d (accumulated-all [] q) kept coefficients r
+collected-gathering c g = rw (c .sum) at g
+
+-- ---- a table of zeros
+zeros : (n s : ℕ) → getD {A = ℕ} (replicate n 0) s 0 ≡ 0
+zeros n s = elim (decLt s n) [
+  | yes h ↦ getD-replicate n s 0 0 h
+  | no h ↦ List·getD-eq-default (replicate n 0) 0 {n = s} (rw length-replicate (omega arith))
+]
+
+pub zeros-empty : (products room : ℕ) → products ≤ room → room ≤ most-entries
+    → Empty-table products room (replicate (6 * room + 1) 0) (replicate (room + 1) 0)
+    (replicate (room + 1) (pos 0))
+zeros-empty products room e l = record {
+  enough = e;
+  few = l;
+  empty = zeros (6 * room + 1);
+  slots-room = rw length-replicate (omega arith);
+  keys-room = rw length-replicate (omega arith);
+  sums-room = rw length-replicate (omega arith);
+}
+
+-- ---- two lists of terms
+module _ {ka : List ℕ} {ca : List ℤ} {na : ℕ} {kb : List ℕ} {cb : List ℤ} {nb : ℕ}
+    (h : Held-factors ka ca na kb cb nb) where
+  pub products-few : na * nb ≤ most-entries
+  unfolding most-terms
+  products-few = NatL.mul-le-mul (h .first-few) (h .second-few)
+
+  first-digits : (i : ℕ) → i < na → Digits 15 (getD ka i 0)
+  unfolding most-degree
+  first-digits i l =
+      rw (first-key h i l)
+      (wide-digits (h .vars) 15 (h .vars-few) (monomial-at (h .first .terms) i) (first-monomial h i l))
+
+  second-digits : (i : ℕ) → i < nb → Digits 15 (getD kb i 0)
+  unfolding most-degree
+  second-digits i l =
+      rw (second-key h i l)
+      (wide-digits (h .vars) 15 (h .vars-few) (monomial-at (h .second .terms) i) (second-monomial h i l))
+
+  -- ---- the grid for them
+  pub first-low : Low (extents na ka)
+  first-low = extents-low na ka first-digits
+
+  pub second-low : Low (extents nb kb)
+  second-low = extents-low nb kb second-digits
+
+  module _ (s : Sides) (w : s ≡ sides-for (extents na ka) (extents nb kb)) where
+    gridded : (i j : ℕ) → i < na → j < nb → Gridded s (getD ka i 0 + getD kb j 0)
+    gridded i j l m =
+        rw w
+        (product-gridded (extents na ka) (extents nb kb) first-low second-low (getD ka i 0) (getD kb j 0)
+        (first-digits i l) (second-digits j m) (extents-within na ka i l) (extents-within nb kb j m))
+
+    places : (i j : ℕ) → i < na → j < nb
+        → place s (getD ka i 0) + place s (getD kb j 0) ≡ place s (getD ka i 0 + getD kb j 0)
+    places i j l m =
+        place-plus (extents na ka) (extents nb kb) first-low second-low (getD ka i 0) (getD kb j 0)
+        (first-digits i l) (second-digits j m) (extents-within na ka i l) (extents-within nb kb j m)
+        (s .second) (s .third) (s .fourth)
+
+    pub grid-ready : {keys : List ℕ} {sums : List ℤ} {kept : List ℕ} {coefficients : List ℤ}
+        → s .size ≤ length keys → s .size ≤ length sums → Kept-room kept coefficients
+        → Grid-ready s ka ca na kb cb nb keys sums kept coefficients
+    grid-ready lk ls r = record {
+      narrow = rw w (sides-narrow (extents na ka) (extents nb kb) first-low second-low);
+      first-few = h .first-few;
+      second-few = h .second-few;
+      first-keys = h .first-keys;
+      first-coefficients = h .first-coefficients;
+      second-keys = h .second-keys;
+      second-coefficients = h .second-coefficients;
+      gridded = gridded;
+      places = places;
+      small = factors-size h;
+      keys-room = lk;
+      sums-room = ls;
+      kept-room = r .kept-room;
+      coefficients-room = r .coefficients-room;
+    }
