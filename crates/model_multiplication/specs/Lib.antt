@@ -1,6 +1,1 @@
 pub mod Factors
-pub mod FactorLaws
-pub mod Multiply
-pub mod MultiplyLaws
-pub mod Grids
-pub mod GridFactorLaws

@@ -13,7 +13,7 @@ use Rattle.product_table.specs.Table.{entries, most-entries}
 use Rattle.product_gathering.specs.declared.Gathered.{Gathered}
 use Rattle.product_gathering.specs.GatheringContracts.{Gathering}
 use Rattle.product_collector.specs.Collector.{accumulated-all}
-use Rattle.product_collector.specs.CollectorContracts.{Collected, Held-factors, Empty-table}
+use Rattle.product_collector.specs.CollectorContracts.{Collected, Held-factors, Empty-table, Lent-table}
 use Rattle.product_collector.specs.FactorArrayLaws.{monomial-at, first-key, first-monomial, second-key, second-monomial}
 use Rattle.product_collector.specs.FactorArrayLaws.{factors-size}
 use Rattle.product_dense.specs.declared.Extents.{Extents}
@@ -23,7 +23,7 @@ use Rattle.product_dense.specs.DigitLaws.{Digits, wide-digits}
 use Rattle.product_dense.specs.GridLaws.{sides-narrow, extents-low, extents-within}
 use Rattle.product_dense.specs.GridPlaceLaws.{place-plus, product-gridded}
 use Rattle.product_grid.specs.GridContracts.{Grid-ready}
-use Rattle.product_terms.specs.ProductTerms.{Kept-room}
+use Rattle.product_terms.specs.ProductTerms.{Lent-room, Kept-room}
 
 -- ---- what is collected in a table is gathered
 pub collected-gathering : {homes most n d : ℕ} {q : Terms} {slots keys : List ℕ} {sums : List ℤ}
@@ -57,6 +57,15 @@ module _ {ka : List ℕ} {ca : List ℤ} {na : ℕ} {kb : List ℕ} {cb : List �
   pub products-few : na * nb ≤ most-entries
   unfolding most-terms
   products-few = NatL.mul-le-mul (h .first-few) (h .second-few)
+
+  -- what is lent for any product serves for theirs
+  pub lent-room : {slots keys : List ℕ} {sums : List ℤ} → Lent-table slots keys sums
+      → Lent-room (na * nb) slots keys sums
+  lent-room t = record {
+    slots-room = omega (arith, products-few, t .slots-room);
+    keys-room = omega (arith, products-few, t .keys-room);
+    sums-room = omega (arith, products-few, t .sums-room);
+  }
 
   first-digits : (i : ℕ) → i < na → Digits 15 (getD ka i 0)
   unfolding most-degree

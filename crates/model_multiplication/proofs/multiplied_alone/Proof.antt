@@ -1,65 +1,146 @@
--- `multiplied_alone` chooses between a grid and a table.
-use mathlib.Core.Path.{_≡_}
-use native.Mathlib.Omega.{arith}
+-- `multiplied_alone` unpacks both factors, has what is kept of their products found, and has that answered.
+use Prim.Native.Nat.{_≤_}
 use borrow.Author.Needs.{needs}
+use lib.Dec.{lit≤}
+use lib.ListN.{length}
+use Rattle.calculus.specs.Model.{most-terms}
 use Rattle.model_types.specs.ModelStructLaws.{limits}
-use Rattle.model_multiplication.specs.MultiplyLaws.{products-few}
+use Rattle.product_collector.specs.CollectorContracts.{Held-factors}
+use Rattle.model_types.specs.SharesStructLaws.{accounted-answer}
+use Rattle.product_answer.specs.Factors.{Factors}
+use Rattle.product_answer.specs.FactorLaws.{unpack-ready, factors, factors-answer, end-ready, end-answer}
 use Rattle.model_multiplication.proofs.multiplied_alone.Statement.{statement}
 use Rattle.model_multiplication.proofs.multiplied_alone.Tie as tie
 use Rattle.model_multiplication.proofs.multiplied_alone.Reads as reads
 use Rattle.model_multiplication.proofs.multiplied_alone.Lts as lts
-use Rattle.model_multiplication.proofs.grid_for.Reads as grid-for-reads
-use Rattle.model_multiplication.proofs.in_grid.Reads as in-grid-reads
-use Rattle.model_multiplication.proofs.multiplied_large_grid.Reads as multiplied-large-grid-reads
-use Rattle.model_multiplication.proofs.multiplied_own.Reads as multiplied-own-reads
-use Rattle.model_multiplication.proofs.multiplied_small_grid.Reads as multiplied-small-grid-reads
+use Rattle.product_answer.proofs.answered.Reads as answered-reads
+use Rattle.product_packing.proofs.unpack.Reads as unpack-reads
+use Rattle.product_terms.proofs.kept_alone.Reads as kept-alone-reads
 
-mul-products : tie.Need-mul-products
-mul-products c = let p = products-few _ _ _ (c .before .before .pre) in search needs
+slice-aggregate-unpack : tie.Need-slice-aggregate-unpack
+slice-aggregate-unpack c = search needs
 
-grid-for-requires : tie.Need-grid-for-requires
-grid-for-requires c κs =
-    let h = c .before .before .pre in
-    let f = limits _ _ (h .first) in
-    let g = limits _ _ (h .second) in
-    ((f .few, f .width), (g .few, g .width))
+slice-aggregate-unpack-2 : tie.Need-slice-aggregate-unpack-2
+slice-aggregate-unpack-2 c = search needs
 
-in-grid-requires : tie.Need-in-grid-requires
-in-grid-requires c κs = products-few _ _ _ (c .before .before .before .pre)
+unpack-requires : tie.Need-unpack-requires
+unfolding most-terms
+unpack-requires c κs =
+    let s = c .before .before in
+    unpack-ready _ _ (s .pre .first) _ _ (lit≤ tt) (lit≤ tt)
 
-multiplied-small-grid-requires : tie.Need-multiplied-small-grid-requires
-multiplied-small-grid-requires c κs = search needs
+slice-aggregate-unpack-3 : tie.Need-slice-aggregate-unpack-3
+slice-aggregate-unpack-3 c = search needs
+
+slice-aggregate-unpack-4 : tie.Need-slice-aggregate-unpack-4
+slice-aggregate-unpack-4 c = search needs
+
+unpack-requires-2 : tie.Need-unpack-requires-2
+unfolding most-terms
+unpack-requires-2 c κs =
+    let s = c .before .before .before .before .before .before .before in
+    unpack-ready _ _ (s .pre .second) _ _ (lit≤ tt) (lit≤ tt)
+
+-- ---- where both factors are unpacked
+module _ (c : tie.After-unpack2) where
+  abbrev first : tie.After-unpack
+  first = c .before .before .before .before .before
+
+  abbrev start : tie.Start
+  start = first .before .before .before
+
+  abbrev given : Factors (start .args .d) (start .args .f) (start .args .g)
+  given = start .pre
+
+  ka-long : start .args .f .count ≤ length (first .unpack .last .1 .0)
+  unfolding most-terms
+  ka-long = let few = limits _ _ (given .first) .few in search needs
+
+  ca-long : start .args .f .count ≤ length (first .unpack .last .1 .1 .0)
+  unfolding most-terms
+  ca-long = let few = limits _ _ (given .first) .few in search needs
+
+  kb-long : start .args .g .count ≤ length (c .unpack2 .last .1 .0)
+  unfolding most-terms
+  kb-long = let few = limits _ _ (given .second) .few in search needs
+
+  cb-long : start .args .g .count ≤ length (c .unpack2 .last .1 .1 .0)
+  unfolding most-terms
+  cb-long = let few = limits _ _ (given .second) .few in search needs
+
+  held : Held-factors (first .unpack .last .1 .0) (first .unpack .last .1 .1 .0) (start .args .f .count)
+      (c .unpack2 .last .1 .0) (c .unpack2 .last .1 .1 .0) (start .args .g .count)
+  held = factors _ _ _ given (first .unpack .ensures) (c .unpack2 .ensures) ka-long ca-long kb-long cb-long
+
+slice-aggregate-kept-alone : tie.Need-slice-aggregate-kept-alone
+slice-aggregate-kept-alone c = search needs
+
+slice-aggregate-kept-alone-2 : tie.Need-slice-aggregate-kept-alone-2
+slice-aggregate-kept-alone-2 c = search needs
+
+slice-aggregate-kept-alone-3 : tie.Need-slice-aggregate-kept-alone-3
+slice-aggregate-kept-alone-3 c = search needs
+
+slice-aggregate-kept-alone-4 : tie.Need-slice-aggregate-kept-alone-4
+slice-aggregate-kept-alone-4 c = search needs
+
+slice-aggregate-kept-alone-5 : tie.Need-slice-aggregate-kept-alone-5
+slice-aggregate-kept-alone-5 c = search needs
+
+slice-aggregate-kept-alone-6 : tie.Need-slice-aggregate-kept-alone-6
+slice-aggregate-kept-alone-6 c = search needs
+
+kept-alone-requires : tie.Need-kept-alone-requires
+unfolding most-terms
+kept-alone-requires c κs =
+    let u = c .before .before .before .before .before .before .before .before in
+    (held u, record { kept-room = lit≤ tt; coefficients-room = lit≤ tt })
+
+slice-aggregate-answered : tie.Need-slice-aggregate-answered
+slice-aggregate-answered c = search needs
+
+slice-aggregate-answered-2 : tie.Need-slice-aggregate-answered-2
+slice-aggregate-answered-2 c = search needs
+
+answered-requires : tie.Need-answered-requires
+unfolding most-terms
+answered-requires c κs =
+    let u = c .before .before .before .before .before .before .before .before .before .before .before .before .before in
+    end-ready _ _ _ (given u) (first u .unpack .ensures) (u .unpack2 .ensures)
+    (ka-long u) (ca-long u) (kb-long u) (cb-long u)
+    (factors-answer _ _ _ (given u) (first u .unpack .ensures) (u .unpack2 .ensures)
+    (ka-long u) (ca-long u) (kb-long u) (cb-long u) (c .before .before .before .before .kept-alone .ensures))
+    (search needs) (search needs)
 
 returns : tie.Need-returns
-returns c = search needs
-
-multiplied-large-grid-requires : tie.Need-multiplied-large-grid-requires
-multiplied-large-grid-requires c κs =
-    let t = c .before .before in
-    let i = t .before in
-    let k = i .before in
-    let s = k .before .before .before in
-    (s .pre, (k .grid-for .ensures, i .in-grid .ensures (t .if1 .taken)))
-
-returns-2 : tie.Need-returns-2
-returns-2 c = search needs
-
-multiplied-own-requires : tie.Need-multiplied-own-requires
-multiplied-own-requires c κs = search needs
-
-returns-3 : tie.Need-returns-3
-returns-3 c = search needs
+unfolding most-terms
+returns c =
+    let u = c .before .before .before .before .before .before .before .before .before .before .before .before .before .before .before in
+    accounted-answer _ _
+    (end-answer _ _ _ (given u) (first u .unpack .ensures) (u .unpack2 .ensures)
+    (ka-long u) (ca-long u) (kb-long u) (cb-long u)
+    (factors-answer _ _ _ (given u) (first u .unpack .ensures) (u .unpack2 .ensures)
+    (ka-long u) (ca-long u) (kb-long u) (cb-long u) (c .before .before .before .before .before .before .kept-alone .ensures))
+    (search needs) (search needs) (c .before .answered .ensures))
 
 pub multiplied-alone-spec : {M : Type 1} → statement M
 multiplied-alone-spec =
     tie.close
     (tie.spec
-    mul-products
-    grid-for-requires
-    in-grid-requires
-    multiplied-small-grid-requires
-    returns
-    multiplied-large-grid-requires
-    returns-2
-    multiplied-own-requires
-    returns-3)
+    slice-aggregate-unpack
+    slice-aggregate-unpack-2
+    unpack-requires
+    slice-aggregate-unpack-3
+    slice-aggregate-unpack-4
+    unpack-requires-2
+    slice-aggregate-kept-alone
+    slice-aggregate-kept-alone-2
+    slice-aggregate-kept-alone-3
+    slice-aggregate-kept-alone-4
+    slice-aggregate-kept-alone-5
+    slice-aggregate-kept-alone-6
+    kept-alone-requires
+    slice-aggregate-answered
+    slice-aggregate-answered-2
+    answered-requires
+    returns)

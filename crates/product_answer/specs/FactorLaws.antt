@@ -23,14 +23,15 @@ use Rattle.model_types.specs.declared.Accounted.{Accounted}
 use Rattle.model_types.specs.ModelStruct.{view}
 use Rattle.model_types.specs.SharesStruct.{accounted}
 use Rattle.model_types.specs.ModelStructLaws.{limits}
-use Rattle.product_table.specs.Table.{terms, entries}
+use Rattle.product_table.specs.Table.{terms}
 use Rattle.product_gathering.specs.declared.Gathered.{Gathered}
 use Rattle.product_gathering.specs.GatheringContracts.{Gathering}
+use Rattle.product_collector.specs.Collector.{accumulated-all}
 use Rattle.product_collector.specs.CollectorContracts as Contracts
-use Rattle.product_collector.specs.FactorArrayLaws.{product-answer}
+use Rattle.product_collector.specs.FactorArrayLaws.{sums-answer}
 use Rattle.product_packing.specs.Transfer.{Unpack-ready, Unpacked}
 use Rattle.product_answer.specs.CollectedProduct.{Product}
-use Rattle.model_multiplication.specs.Factors.{Factors}
+use Rattle.product_answer.specs.Factors.{Factors}
 
 -- ---- one factor
 module _ (d : ℕ) (m : Model) (h : T (sound d (view m))) where
@@ -57,8 +58,8 @@ module _ (d : ℕ) (f g : Model) (h : Factors d f g) where
 
   -- ---- the factors by their wide keys
   module _ {ka kb : List ℕ} {ca cb : List ℤ} {a b : ℕ} (uf : Unpacked f ka ca a) (ug : Unpacked g kb cb b)
-      (lka : most-terms ≤ length ka) (lca : most-terms ≤ length ca)
-      (lkb : most-terms ≤ length kb) (lcb : most-terms ≤ length cb) where
+      (lka : f .count ≤ length ka) (lca : f .count ≤ length ca)
+      (lkb : g .count ≤ length kb) (lcb : g .count ≤ length cb) where
     unfoldable pub factors : Contracts.Held-factors ka ca (f .count) kb cb (g .count)
     unfolding span key-width
     factors =
@@ -77,22 +78,20 @@ module _ (d : ℕ) (f g : Model) (h : Factors d f g) where
           second-held = ug .held;
           first-few = lf .few;
           second-few = lg .few;
-          first-keys = omega (arith, lf .few);
-          first-coefficients = omega (arith, lf .few);
-          second-keys = omega (arith, lg .few);
-          second-coefficients = omega (arith, lg .few);
+          first-keys = lka;
+          first-coefficients = lca;
+          second-keys = lkb;
+          second-coefficients = lcb;
           small = omega (arith, NatL.mul-le-mul sf sg, span-square-fits);
         }
 
     -- what is gathered of their products
-    pub factors-answer : {homes n : ℕ} {slots keys : List ℕ} {sums : List ℤ} {kept : List ℕ} {coefficients : List ℤ}
-        {r : Gathered}
-        → Contracts.Collected homes [] (f .count * g .count)
-        (product ℤR (terms (f .count) ka ca) (terms (g .count) kb cb)) slots keys sums n
-        → Gathering d (entries n keys sums) kept coefficients r
+    pub factors-answer : {kept : List ℕ} {coefficients : List ℤ} {r : Gathered}
+        → Gathering d (accumulated-all [] (product ℤR (terms (f .count) ka ca) (terms (g .count) kb cb)))
+        kept coefficients r
         → Contracts.Answered d (view f) (view g) kept coefficients r
     unfolding factors
-    factors-answer c w = product-answer factors c w
+    factors-answer w = sums-answer factors w
 
     -- where the product ends
     module _ {keys : List ℕ} {coefficients : List ℤ} {r : Gathered}
