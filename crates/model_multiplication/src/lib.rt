@@ -7,10 +7,11 @@ ghost use Rattle.calculus.specs.Shares.{«product-shares»};
 ghost use Rattle.model_types.specs.ModelStruct.{view, answer};
 ghost use Rattle.model_types.specs.SharesStruct.{accounted};
 ghost use Rattle.product_collector.specs.CollectorContracts.{«Lent-table», «Free-table»};
-ghost use Rattle.product_answer.specs.Factors.{Factors};
+ghost use Rattle.product_answer.specs.ProductFactors.{Factors};
 use model_types::Accounted;
 use model_types::Answer;
 use model_types::Model;
+use product_gathering::Gathered;
 
 // ---- in what is lent
 // f times g at order d with the shares of its radius, in a grid where the monomials are few, or else in a table. What
@@ -37,7 +38,7 @@ pub fn multiplied_accounted(
     let mut coefficients = [0i64; model_types::MOST_TERMS + 1];
     let a = product_packing::unpack(f, &mut ka, &mut ca);
     let b = product_packing::unpack(g, &mut kb, &mut cb);
-    let r = product_terms::kept_lent(
+    let r: Gathered = product_terms::kept_lent(
         d as u64,
         &ka,
         &ca,
@@ -87,7 +88,7 @@ pub fn multiplied_alone(d: u8, f: Model, g: Model) -> Answer
     let mut coefficients = [0i64; model_types::MOST_TERMS + 1];
     let a = product_packing::unpack(f, &mut ka, &mut ca);
     let b = product_packing::unpack(g, &mut kb, &mut cb);
-    let r = product_terms::kept_alone(
+    let r: Gathered = product_terms::kept_alone(
         d as u64,
         &ka,
         &ca,

@@ -31,7 +31,7 @@ use Rattle.product_collector.specs.CollectorContracts as Contracts
 use Rattle.product_collector.specs.FactorArrayLaws.{sums-answer}
 use Rattle.product_packing.specs.Transfer.{Unpack-ready, Unpacked}
 use Rattle.product_answer.specs.CollectedProduct.{Product}
-use Rattle.product_answer.specs.Factors.{Factors}
+use Rattle.product_answer.specs.ProductFactors.{Factors}
 
 -- ---- one factor
 module _ (d : ℕ) (m : Model) (h : T (sound d (view m))) where

@@ -2,5 +2,5 @@ pub mod CollectedProduct
 pub mod ErrorShares
 pub mod ErrorLaws
 pub mod CollectedProductLaws
-pub mod Factors
+pub mod ProductFactors
 pub mod FactorLaws

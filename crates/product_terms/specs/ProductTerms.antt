@@ -5,11 +5,11 @@ use lib.IntN.{ℤ}
 use lib.ListN.{length}
 use Rattle.calculus.specs.Model.{most-terms}
 
--- for how many products a table serves in any case, and the smaller table has room
+-- for how many products the smaller table has room
 abbrev pub few-products : ℕ
 few-products = 256
 
--- for how many the smallest has
+-- and for how many the smallest
 abbrev pub fewest-products : ℕ
 fewest-products = 32
 

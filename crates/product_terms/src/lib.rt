@@ -17,10 +17,12 @@ ghost use Rattle.product_terms.specs.ProductTerms.{«Lent-room», «Kept
 use product_dense::Sides;
 use product_gathering::Gathered;
 
-// For so many products a table is as fast as a grid, and the room of its own has a size between.
+// Up to so many products a table is as fast as a grid, whose size has to be found first.
+const GRID_FROM: usize = 256;
+
+// For how many products the smaller table of its own has room, and for how many the smallest.
 const FEW_PRODUCTS: usize = 256;
 
-// For so few products the room of its own is the smallest.
 const FEWEST_PRODUCTS: usize = 32;
 
 // How many places the smaller grid of its own has: two models with all monomials of degree up to 3 in four variables
@@ -156,7 +158,7 @@ pub fn kept_lent(
         (now (slots .exit)) (now (keys .exit)) (now (sums .exit)) ⌝ }
 {
     let products = na * nb;
-    if products <= FEW_PRODUCTS {
+    if products <= GRID_FROM {
         return in_lent_table(
             d,
             ka,

@@ -7,7 +7,7 @@ use Rattle.calculus.specs.Model.{most-terms}
 use Rattle.model_types.specs.ModelStructLaws.{limits}
 use Rattle.product_collector.specs.CollectorContracts.{Held-factors}
 use Rattle.product_terms.specs.ProductTermsLaws.{lent-room}
-use Rattle.product_answer.specs.Factors.{Factors}
+use Rattle.product_answer.specs.ProductFactors.{Factors}
 use Rattle.product_answer.specs.FactorLaws.{unpack-ready, factors, factors-answer, end-ready, end-answer}
 use Rattle.model_multiplication.proofs.multiplied_accounted.Statement.{statement}
 use Rattle.model_multiplication.proofs.multiplied_accounted.Tie as tie
@@ -105,11 +105,12 @@ slice-aggregate-answered-2 c = search needs
 answered-requires : tie.Need-answered-requires
 unfolding most-terms
 answered-requires c κs =
-    let u = c .before .before .before .before .before .before .before .before .before .before .before .before .before .before .before .before .before .before .before .before .before in
+    let w = c .before .before .before .before .before .before .before .before .before in
+    let u = w .before .before .before .before .before .before .before .before .before .before .before .before in
     end-ready _ _ _ (given u) (first u .unpack .ensures) (u .unpack2 .ensures)
     (ka-long u) (ca-long u) (kb-long u) (cb-long u)
     (factors-answer _ _ _ (given u) (first u .unpack .ensures) (u .unpack2 .ensures)
-    (ka-long u) (ca-long u) (kb-long u) (cb-long u) (c .before .before .before .before .before .before .before .before .before .kept-lent .ensures .0))
+    (ka-long u) (ca-long u) (kb-long u) (cb-long u) (w .kept-lent .ensures .0))
     (search needs) (search needs)
 
 same-length : tie.Need-same-length
@@ -124,11 +125,12 @@ same-length-3 c = search needs
 returns : tie.Need-returns
 unfolding most-terms
 returns c =
-    let u = c .before .before .before .before .before .before .before .before .before .before .before .before .before .before .before .before .before .before .before .before .before .before in (
+    let w = c .before .before .before .before .before .before .before .before .before .before in
+    let u = w .before .before .before .before .before .before .before .before .before .before .before .before in (
       end-answer _ _ _ (given u) (first u .unpack .ensures) (u .unpack2 .ensures)
           (ka-long u) (ca-long u) (kb-long u) (cb-long u)
           (factors-answer _ _ _ (given u) (first u .unpack .ensures) (u .unpack2 .ensures)
-          (ka-long u) (ca-long u) (kb-long u) (cb-long u) (c .before .before .before .before .before .before .before .before .before .before .kept-lent .ensures .0))
+          (ka-long u) (ca-long u) (kb-long u) (cb-long u) (w .kept-lent .ensures .0))
           (search needs) (search needs) (c .answered .ensures),
       record { slots-length = search needs; keys-length = search needs; sums-length = search needs },
     )

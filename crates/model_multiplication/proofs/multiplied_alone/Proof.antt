@@ -7,7 +7,7 @@ use Rattle.calculus.specs.Model.{most-terms}
 use Rattle.model_types.specs.ModelStructLaws.{limits}
 use Rattle.product_collector.specs.CollectorContracts.{Held-factors}
 use Rattle.model_types.specs.SharesStructLaws.{accounted-answer}
-use Rattle.product_answer.specs.Factors.{Factors}
+use Rattle.product_answer.specs.ProductFactors.{Factors}
 use Rattle.product_answer.specs.FactorLaws.{unpack-ready, factors, factors-answer, end-ready, end-answer}
 use Rattle.model_multiplication.proofs.multiplied_alone.Statement.{statement}
 use Rattle.model_multiplication.proofs.multiplied_alone.Tie as tie
@@ -105,22 +105,24 @@ slice-aggregate-answered-2 c = search needs
 answered-requires : tie.Need-answered-requires
 unfolding most-terms
 answered-requires c κs =
-    let u = c .before .before .before .before .before .before .before .before .before .before .before .before .before in
+    let w = c .before .before .before .before in
+    let u = w .before .before .before .before .before .before .before .before .before in
     end-ready _ _ _ (given u) (first u .unpack .ensures) (u .unpack2 .ensures)
     (ka-long u) (ca-long u) (kb-long u) (cb-long u)
     (factors-answer _ _ _ (given u) (first u .unpack .ensures) (u .unpack2 .ensures)
-    (ka-long u) (ca-long u) (kb-long u) (cb-long u) (c .before .before .before .before .kept-alone .ensures))
+    (ka-long u) (ca-long u) (kb-long u) (cb-long u) (w .kept-alone .ensures))
     (search needs) (search needs)
 
 returns : tie.Need-returns
 unfolding most-terms
 returns c =
-    let u = c .before .before .before .before .before .before .before .before .before .before .before .before .before .before .before in
+    let w = c .before .before .before .before .before .before in
+    let u = w .before .before .before .before .before .before .before .before .before in
     accounted-answer _ _
     (end-answer _ _ _ (given u) (first u .unpack .ensures) (u .unpack2 .ensures)
     (ka-long u) (ca-long u) (kb-long u) (cb-long u)
     (factors-answer _ _ _ (given u) (first u .unpack .ensures) (u .unpack2 .ensures)
-    (ka-long u) (ca-long u) (kb-long u) (cb-long u) (c .before .before .before .before .before .before .kept-alone .ensures))
+    (ka-long u) (ca-long u) (kb-long u) (cb-long u) (w .kept-alone .ensures))
     (search needs) (search needs) (c .before .answered .ensures))
 
 pub multiplied-alone-spec : {M : Type 1} → statement M

@@ -46,11 +46,11 @@ in-table-requires c κs =
       (
         record {
           enough = omega arith;
-          few = products-few (s .pre .0);
+          few = omega (arith, products-few (s .pre .0));
           empty = l .clear .ensures;
           slots-room = omega (arith, l .clear .kept .0, part-long s);
-          keys-room = s .pre .1 .0 .keys-room;
-          sums-room = s .pre .1 .0 .sums-room;
+          keys-room = omega (arith, s .pre .1 .0 .keys-room);
+          sums-room = omega (arith, s .pre .1 .0 .sums-room);
         },
         s .pre .1 .1,
       ),

@@ -18,7 +18,10 @@ mul-products : tie.Need-mul-products
 mul-products c = let p = products-few (c .before .before .before .pre .0) in search needs
 
 in-smallest-table-requires : tie.Need-in-smallest-table-requires
-in-smallest-table-requires c κs = search needs
+in-smallest-table-requires c κs =
+    let t = c .before .before in
+    let s = t .before .before .before .before in
+    (s .pre .0, (omega (arith, t .if1 .taken), s .pre .1))
 
 same-length : tie.Need-same-length
 same-length c = search needs
@@ -30,7 +33,10 @@ returns : tie.Need-returns
 returns c = search needs
 
 in-small-table-requires : tie.Need-in-small-table-requires
-in-small-table-requires c κs = search needs
+in-small-table-requires c κs =
+    let t = c .before .before in
+    let s = t .before .before .before .before .before in
+    (s .pre .0, (omega (arith, t .if2 .taken), s .pre .1))
 
 same-length-3 : tie.Need-same-length-3
 same-length-3 c = search needs
@@ -68,7 +74,7 @@ in-large-grid-requires c κs =
     let s = c .before .before .before .before .before .before .before .before .before .before .before .before in
     let t = c .before .before .before .before in
     let fits = t .before .in-grid .ensures (t .if3 .taken) in
-    (s .pre .0, (k .grid-for .ensures, (fits .0, s .pre .1)))
+    (s .pre .0, (k .grid-for .ensures, (omega (arith, fits .0), s .pre .1)))
 
 same-length-7 : tie.Need-same-length-7
 same-length-7 c = search needs

@@ -1,4 +1,5 @@
 -- `kept_lent` chooses between a grid and a table.
+use native.Mathlib.Omega.{arith}
 use borrow.Author.Needs.{needs}
 use Rattle.product_terms.specs.ProductTermsLaws.{products-few, grid-ready}
 use Rattle.product_terms.proofs.kept_lent.Statement.{statement}
@@ -49,7 +50,7 @@ gathered-requires c κs =
     let s = c .before .before .before .before .before .before .before .before .before .before .before .before .before in
     let t = c .before .before .before .before in
     let fits = t .before .in-grid .ensures (t .if2 .taken) in
-    grid-ready (s .pre .0) _ (k .grid-for .ensures) (fits .0) (fits .1) (s .pre .1 .1)
+    grid-ready (s .pre .0) _ (k .grid-for .ensures) (omega (arith, fits .0)) (omega (arith, fits .1)) (s .pre .1 .1)
 
 same-length-6 : tie.Need-same-length-6
 same-length-6 c = search needs
