@@ -415,12 +415,8 @@ pub fn kept_alone(
         return in_small_table(d, ka, ca, na, kb, cb, nb, kept, coefficients);
     }
     let s = grid_for(ka, ca, na, kb, cb, nb);
-    if in_grid(
-        s.size,
-        products,
-        product_table::PLACES,
-        product_table::PLACES,
-    ) {
+    let places = product_table::PLACES;
+    if in_grid(s.size, products, places, places) {
         if s.size <= FEW_PLACES {
             return in_small_grid(s, d, ka, ca, na, kb, cb, nb, kept, coefficients);
         }
