@@ -17,7 +17,7 @@ use product_gathering::Gathered;
 
 // ---- the error E
 // Its share of the factors' radii e1 and e2, where the sums of |c| are a and b.
-fn carried(a: u64, e1: u64, b: u64, e2: u64) -> u64
+pub fn carried(a: u64, e1: u64, b: u64, e2: u64) -> u64
     requires { ⌜ a * e2 + b * e1 + e1 * e2 < 2 ^ 63 ⌝ }
     ensures { λ r. ⌜ r ≡ a * e2 + b * e1 + e1 * e2 ⌝ }
 {
@@ -25,7 +25,7 @@ fn carried(a: u64, e1: u64, b: u64, e2: u64) -> u64
 }
 
 // E / U rounded up. E is at most the product of the factors' spans, so that no sum wraps.
-fn radius(carried: u64, rounding: u64, swept: u64) -> u64
+pub fn radius(carried: u64, rounding: u64, swept: u64) -> u64
     requires { ⌜ carried + rounding + swept < 2 ^ 63 ⌝ }
     ensures { λ r. ⌜ r ≡ round-up (carried + rounding + swept) ⌝ }
 {
@@ -33,7 +33,7 @@ fn radius(carried: u64, rounding: u64, swept: u64) -> u64
 }
 
 // The shares of E, and what rounding up added to it.
-fn shares(carried: u64, rounding: u64, swept: u64) -> Shares
+pub fn shares(carried: u64, rounding: u64, swept: u64) -> Shares
     requires { ⌜ carried + rounding + swept < 2 ^ 63 ⌝ }
     ensures { λ r. ⌜ r ≡ stored-shares (error-shares carried rounding swept) ⌝ }
 {

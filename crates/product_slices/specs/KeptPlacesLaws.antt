@@ -1,0 +1,161 @@
+-- The places of a model in slices: one turn of each loop that stores, and all of them.
+use mathlib.Core.Path.{_≡_, refl, sym, _∙_, ap}
+use mathlib.Core.List.{List, [], _∷_, _++_, map, append-assoc, append-nil, map-append}
+use Prim.Native.Nat.{ℕ, zero, suc, _+_, _-_, _≤_, _<_}
+use native.Mathlib.Omega.{arith}
+use lib.IntN.{ℤ, pos}
+use lib.ListN.{length, getD, set, take, drop, replicate, length-append, length-map, length-replicate}
+use lib.ListN.{take-append-drop}
+use lib.Seq.{length-take-le, take-at, drop-append-add, drop-drop}
+use Rattle.polynomial.specs.Polynomial.{exponent}
+use Rattle.calculus.specs.Model.{most-terms, zero-model}
+use Rattle.model_keys.specs.Keys.{narrowed}
+use Rattle.model_types.specs.declared.Term.{Term}
+use Rattle.model_types.specs.declared.Verdict.{Verdict}
+use Rattle.model_types.specs.declared.Verdict.the-variants.{Accepted, Refused}
+use Rattle.model_types.specs.Arrays.{padded}
+use Rattle.model_types.specs.ModelStruct.{zero-term, pad, pack}
+use Rattle.model_slices.specs.HandedModels.{over, stored-keys, stored-coefficients}
+use Rattle.model_slices.specs.HandedModelsLaws.{over-more}
+use Rattle.product_table.specs.Table.{at-key, terms}
+use Rattle.product_table.specs.TermArrayLaws.{terms-length}
+use Rattle.product_packing.specs.Transfer.{Pack-ready, narrowed-term, packed}
+use Rattle.product_slices.specs.declared.Kept.{Kept}
+use Rattle.product_slices.specs.KeptProduct.{model-unless, kept-model, kept-count, Kept-ready}
+use Rattle.product_slices.specs.KeptProductLaws.{terms-more}
+use Rattle.product_slices.specs.KeptPlaces.{narrow-keys, narrow-coefficients, zeroed}
+
+-- ---- what is kept: one term more is stored
+module _ (kept : List ℕ) (cs : List ℤ) where
+  module _ {A : Type 0} (f : Term → A) where
+    images : ℕ → List A
+    images i = map f (map narrowed-term (terms i kept cs))
+
+    long : (i : ℕ) → i ≤ length kept → i ≤ length cs → length (images i) ≡ i
+    unfolding images
+    long i h l =
+        length-map (map narrowed-term (terms i kept cs)) f ∙ length-map (terms i kept cs) narrowed-term
+        ∙ terms-length i kept cs h l
+
+    image-more : (d : A) (i : ℕ) (k : List A) → i < length kept → i < length cs → i < length k
+        → set (over (images i) k) i (f (narrowed-term (at-key (getD kept i 0) (getD cs i (pos 0)))))
+        ≡ over (images (i + 1)) k
+    unfolding images
+    image-more d i k h l m =
+        over-more d (images i) k i _ (long i (omega arith) (omega arith)) m
+        ∙ ap (λ r. over r k)
+        (sym (ap (λ p. map f (map narrowed-term p)) (terms-more kept cs i h l)
+        ∙ ap (map f) (map-append narrowed-term (terms i kept cs) _)
+        ∙ map-append f (map narrowed-term (terms i kept cs)) _))
+
+  pub keys-more : (i : ℕ) (k : List ℕ) → i < length kept → i < length cs → i < length k
+      → set (over (narrow-keys (terms i kept cs)) k) i (narrowed (getD kept i 0))
+      ≡ over (narrow-keys (terms (i + 1) kept cs)) k
+  unfolding narrow-keys images narrowed-term exponent
+  keys-more = image-more (λ t. t .key) 0
+
+  pub coefficients-more : (i : ℕ) (k : List ℤ) → i < length kept → i < length cs → i < length k
+      → set (over (narrow-coefficients (terms i kept cs)) k) i (getD cs i (pos 0))
+      ≡ over (narrow-coefficients (terms (i + 1) kept cs)) k
+  unfolding narrow-coefficients images narrowed-term
+  coefficients-more = image-more (λ t. t .coefficient) (pos 0)
+
+-- ---- zeros: one more is stored
+module _ {A : Type 0} (z : A) where
+  one-more : (n : ℕ) → replicate n z ++ (z ∷ []) ≡ replicate (suc n) z
+  one-more zero = refl
+  one-more (suc n) = ap (λ l. z ∷ l) (one-more n)
+
+  module _ (from : ℕ) (k : List A) (h : from ≤ length k) where
+    pub zeroed-none : k ≡ zeroed z from from k
+    unfolding zeroed over
+    zeroed-none =
+        let none : from - from ≡ 0 = omega arith in
+        rw (none, append-nil, length-take-le from k h, take-append-drop)
+
+    pub zeroed-more : (i : ℕ) → from ≤ i → i < length k → set (zeroed z from i k) i z ≡ zeroed z from (i + 1) k
+    unfolding zeroed
+    zeroed-more i l m =
+        let n : suc (i - from) ≡ i + 1 - from = omega arith in
+        over-more z (take from k ++ replicate (i - from) z) k i z
+        (length-append (take from k) (replicate (i - from) z)
+        ∙ omega (arith, length-take-le from k h, length-replicate (i - from) z)) m
+        ∙ ap (λ r. over r k)
+        (append-assoc (take from k) (replicate (i - from) z) (z ∷ [])
+        ∙ ap (λ r. take from k ++ r) (one-more (i - from) ∙ ap (λ j. replicate j z) n))
+
+  -- zeros behind what was stored
+  pub zeroed-behind : (from before : ℕ) (l k : List A) → length l ≡ from → from ≤ before
+      → zeroed z from before (over l k) ≡ over (padded z before l) k
+  unfolding zeroed over padded
+  zeroed-behind from before l k e h =
+      let m = l ++ replicate (before - from) z in
+      let long : length m ≡ before = length-append l (replicate (before - from) z)
+      ∙ omega (arith, length-replicate (before - from) z) in
+      let sum : from + (before - from) ≡ before = omega arith in
+      let rest : drop before (l ++ drop from k) ≡ drop before k =
+      ap (λ j. drop j (l ++ drop from k)) (sym sum ∙ ap (λ j. j + (before - from)) (sym e))
+      ∙ drop-append-add l (drop from k) (before - from)
+      ∙ drop-drop (before - from) from k ∙ ap (λ j. drop j k) sum in
+      rw (e, take-at l (drop from k) from e, long, rest)
+
+-- ---- all places of an answer's model
+map-zeros : {A : Type 0} (f : Term → A) (n : ℕ) → map f (replicate n zero-term) ≡ replicate n (f zero-term)
+map-zeros f zero = refl
+map-zeros f (suc n) = ap (λ l. f zero-term ∷ l) (map-zeros f n)
+
+map-padded : {A : Type 0} (f : Term → A) (n : ℕ) (l : List Term)
+    → map f (padded zero-term n l) ≡ padded (f zero-term) n (map f l)
+unfolding padded
+map-padded f n l =
+    map-append f l (replicate (n - length l) zero-term)
+    ∙ ap (λ r. map f l ++ r)
+    (map-zeros f (n - length l) ∙ ap (λ c. replicate (n - c) (f zero-term)) (sym (length-map l f)))
+
+places-are : (v : Verdict) (n e count : ℕ) (kept : List ℕ) (cs : List ℤ)
+    → model-unless v (packed n e (terms count kept cs)) .terms
+    ≡ pad (map narrowed-term (terms (kept-count v count) kept cs))
+unfolding model-unless kept-count packed pack zero-model terms
+places-are Accepted n e count kept cs = refl
+places-are (Refused r i) n e count kept cs = refl
+
+module _ (k : Kept) (kept : List ℕ) (cs : List ℤ) (w : Kept-ready k kept cs) where
+  -- how many terms are stored
+  abbrev stored : ℕ
+  stored = kept-count (k .verdict) (k .count)
+
+  pub stored-ready : Pack-ready stored kept cs
+  stored-ready = go (k .verdict) (w .ready)
+    where
+      go : (v : Verdict) → (v ≡ Accepted → Pack-ready (k .count) kept cs)
+          → Pack-ready (kept-count v (k .count)) kept cs
+      go Accepted h = unfold kept-count in h refl
+      go (Refused r i) h = unfold kept-count in record {
+        few = omega arith;
+        keys-long = omega arith;
+        coefficients-long = omega arith;
+        small = λ i l. absurd (omega arith);
+      }
+
+  module _ {A : Type 0} (f : Term → A) (n : ℕ) (to : List A) where
+    all-stored : zeroed (f zero-term) stored most-terms (over (images kept cs f stored) to)
+        ≡ over (map f (kept-model n k kept cs .terms)) to
+    unfolding kept-model images
+    all-stored =
+        zeroed-behind (f zero-term) stored most-terms (images kept cs f stored) to
+        (long kept cs f stored (stored-ready .keys-long) (stored-ready .coefficients-long)) (stored-ready .few)
+        ∙ ap (λ l. over l to)
+        (sym (ap (map f) (places-are (k .verdict) n (k .radius) (k .count) kept cs)
+        ∙ map-padded f most-terms (map narrowed-term (terms stored kept cs))))
+
+  pub keys-stored : (n : ℕ) (to : List ℕ)
+      → zeroed 0 stored most-terms (over (narrow-keys (terms stored kept cs)) to)
+      ≡ stored-keys (kept-model n k kept cs) to
+  unfolding narrow-keys images stored-keys
+  keys-stored n to = all-stored (λ t. t .key) n to
+
+  pub coefficients-stored : (n : ℕ) (to : List ℤ)
+      → zeroed (pos 0) stored most-terms (over (narrow-coefficients (terms stored kept cs)) to)
+      ≡ stored-coefficients (kept-model n k kept cs) to
+  unfolding narrow-coefficients images stored-coefficients
+  coefficients-stored n to = all-stored (λ t. t .coefficient) n to

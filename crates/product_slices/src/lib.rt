@@ -1,0 +1,301 @@
+// The product of two models that lie in slices, without a struct of either: their terms are unpacked by wide keys, and
+// what is kept of the products stays in two arrays until it is stored.
+ghost use mathlib.Core.Path.{_≡_};
+ghost use mathlib.Core.List.{List};
+ghost use Prim.Native.Nat.{ℕ, _+_, _*_, _≤_};
+ghost use lib.Dec.{leb};
+ghost use lib.IntN.{pos};
+ghost use lib.ListN.{length};
+ghost use Rattle.fixed.specs.Fixed.{«span-limit»};
+ghost use Rattle.calculus.specs.Terms.{size};
+ghost use Rattle.calculus.specs.Model.{«most-terms»};
+ghost use Rattle.calculus.specs.Operations.{multiply};
+ghost use Rattle.calculus.specs.Shares.{«product-shares»};
+ghost use Rattle.model_types.specs.ModelStruct.{view};
+ghost use Rattle.model_types.specs.SharesStruct.{accounted};
+ghost use Rattle.product_table.specs.Table.{terms};
+ghost use Rattle.model_slices.specs.HandedModels.{handed, over, «stored-keys», «stored-coefficients»};
+ghost use Rattle.product_collector.specs.CollectorContracts.{«Free-table»};
+ghost use Rattle.product_terms.specs.ProductTerms.{«Lent-room», «Kept-room»};
+ghost use Rattle.product_packing.specs.Transfer.{Unpacked, «Pack-ready»};
+ghost use Rattle.product_answer.specs.CollectedProduct.{Product};
+ghost use Rattle.product_answer.specs.ProductFactors.{Factors};
+ghost use Rattle.product_slices.specs.HandedTerms.{Handed};
+ghost use Rattle.product_slices.specs.KeptProduct.{«kept-model», «kept-accounted», «Kept-ready»};
+ghost use Rattle.product_slices.specs.KeptProduct.{«kept-refused», «kept-count»};
+ghost use Rattle.product_slices.specs.KeptPlaces.{«narrow-keys», «narrow-coefficients», zeroed};
+use model_types::Refusal;
+use model_types::Shares;
+use model_types::Verdict;
+use product_gathering::Gathered;
+
+// The answer of a product. Its terms, unless it is refused, are the first `count` of two arrays, by wide keys.
+pub struct Kept {
+    pub count: usize,
+    pub radius: u64,
+    pub shares: Shares,
+    pub verdict: Verdict,
+}
+
+// ---- the factors
+// The terms of a model go into an array by their wide keys; the sum of their |c|. The coefficients stay where they are.
+fn unpack(count: usize, keys: &[u16], coefficients: &[i64], wide: &mut [u64]) -> u64
+    requires { ⌜ Handed count (now keys) (now coefficients) ⌝ }
+    requires { ⌜ count ≤ length (now wide) ⌝ }
+    ensures { λ r. ⌜ ((w : Handed count (now (keys .entry)) (now (coefficients .entry)))
+        → Unpacked (handed (w .vars) count (w .radius) (now (keys .entry)) (now (coefficients .entry)))
+        (now (wide .exit)) (now (coefficients .entry)) r) ⌝ }
+{
+    let mut total = 0;
+    let mut i = 0;
+    while i < count {
+        let c = coefficients[i];
+        wide[i] = model_keys::wide_key(keys[i]);
+        total += fixed::magnitude(c);
+        i += 1;
+    }
+    total
+}
+
+// ---- the answer
+// Whether the span of the first count terms with such a radius is within the limit, whichever keys they have. It is
+// summed without wrapping.
+fn within(radius: u64, count: usize, coefficients: &[i64]) -> bool
+    requires { ⌜ count ≤ length (now coefficients) ⌝ }
+    ensures { λ r. ⌜ ((keys : List ℕ) → count ≤ length keys
+        → r ≡ leb (size (terms count keys (now (coefficients .entry))) + radius) span-limit) ⌝ }
+{
+    let mut span = radius;
+    let mut i = 0;
+    while i < count {
+        span = fixed::capped_sum(span, fixed::magnitude(coefficients[i]));
+        i += 1;
+    }
+    fixed::within_span(span)
+}
+
+// The answer of a refused product: no terms, and no shares.
+fn refused(refusal: Refusal) -> Kept
+    ensures { λ k. ⌜ k ≡ kept-refused refusal ⌝ }
+{
+    Kept {
+        count: 0,
+        radius: 0,
+        shares: Shares::ZERO,
+        verdict: Verdict::Refused(refusal, 0),
+    }
+}
+
+// From what is gathered of the products, for factors in n variables with the sums of |c| a and b and the radii e1 and
+// e2. It answers for whichever two models were multiplied.
+fn kept_answer(
+    n: u8,
+    a: u64,
+    e1: u64,
+    b: u64,
+    e2: u64,
+    r: Gathered,
+    keys: &[u64],
+    coefficients: &[i64],
+) -> Kept
+    requires { ⌜ Product n a e1 b e2 r (now keys) (now coefficients) ⌝ }
+    ensures exact { λ k. ⌜ ((w : Product n a e1 b e2 r (now (keys .entry)) (now (coefficients .entry)))
+        → kept-accounted n k (now (keys .entry)) (now (coefficients .entry))
+        ≡ accounted (multiply (w .order) (w .first) (w .second))
+        (λ m. product-shares (w .order) (w .first) (w .second))) ⌝ }
+    ensures ready { λ k. ⌜ Kept-ready k (now (keys .entry)) (now (coefficients .entry)) ⌝ }
+{
+    if model_types::MOST_TERMS < r.count {
+        return refused(Refusal::TooManyTerms);
+    }
+    let old = product_answer::carried(a, e1, b, e2);
+    let e = product_answer::radius(old, r.rounding, r.swept);
+    if !within(e, r.count, coefficients) {
+        return refused(Refusal::OverSpan);
+    }
+    let all = product_answer::shares(old, r.rounding, r.swept);
+    Kept {
+        count: r.count,
+        radius: e,
+        shares: all,
+        verdict: Verdict::Accepted,
+    }
+}
+
+// ---- the product
+// The product of two sound models in n variables at order d, each in slices that may be longer than its count. What is
+// lent serves as a grid or as a table, whatever is in it, and the terms that are kept go into the last two arrays.
+pub fn multiplied_slices(
+    d: u8,
+    n: u8,
+    count1: usize,
+    radius1: u64,
+    keys1: &[u16],
+    coefficients1: &[i64],
+    count2: usize,
+    radius2: u64,
+    keys2: &[u16],
+    coefficients2: &[i64],
+    slots: &mut [u16],
+    keys: &mut [u64],
+    sums: &mut [i64],
+    kept: &mut [u64],
+    coefficients: &mut [i64],
+) -> Kept
+    requires { ⌜ Factors d (handed n count1 radius1 (now keys1) (now coefficients1))
+        (handed n count2 radius2 (now keys2) (now coefficients2)) ⌝ }
+    requires { ⌜ (count1 ≤ length (now keys1)) × (count1 ≤ length (now coefficients1)) ⌝ }
+    requires { ⌜ (count2 ≤ length (now keys2)) × (count2 ≤ length (now coefficients2)) ⌝ }
+    requires { ⌜ Lent-room (count1 * count2) (now slots) (now keys) (now sums) ⌝ }
+    requires { ⌜ Kept-room (now kept) (now coefficients) ⌝ }
+    ensures exact { λ k. ⌜ kept-accounted n k (now (kept .exit)) (now (coefficients .exit))
+        ≡ accounted (multiply d
+        (view (handed n count1 radius1 (now (keys1 .entry)) (now (coefficients1 .entry))))
+        (view (handed n count2 radius2 (now (keys2 .entry)) (now (coefficients2 .entry)))))
+        (λ m. product-shares d
+        (view (handed n count1 radius1 (now (keys1 .entry)) (now (coefficients1 .entry))))
+        (view (handed n count2 radius2 (now (keys2 .entry)) (now (coefficients2 .entry))))) ⌝ }
+    ensures ready { λ k. ⌜ Kept-ready k (now (kept .exit)) (now (coefficients .exit)) ⌝ }
+    ensures table { λ k. ⌜ Free-table (now (slots .entry)) (now (keys .entry)) (now (sums .entry))
+        (now (slots .exit)) (now (keys .exit)) (now (sums .exit)) ⌝ }
+{
+    let mut ka = [0u64; model_types::MOST_TERMS];
+    let mut kb = [0u64; model_types::MOST_TERMS];
+    let a = unpack(count1, keys1, coefficients1, &mut ka);
+    let b = unpack(count2, keys2, coefficients2, &mut kb);
+    let r = product_terms::kept_lent(
+        d as u64,
+        &ka,
+        coefficients1,
+        count1,
+        &kb,
+        coefficients2,
+        count2,
+        slots,
+        keys,
+        sums,
+        kept,
+        coefficients,
+    );
+    kept_answer(n, a, radius1, b, radius2, r, kept, coefficients)
+}
+
+// The same without anything lent for the products.
+pub fn multiplied_slices_alone(
+    d: u8,
+    n: u8,
+    count1: usize,
+    radius1: u64,
+    keys1: &[u16],
+    coefficients1: &[i64],
+    count2: usize,
+    radius2: u64,
+    keys2: &[u16],
+    coefficients2: &[i64],
+    kept: &mut [u64],
+    coefficients: &mut [i64],
+) -> Kept
+    requires { ⌜ Factors d (handed n count1 radius1 (now keys1) (now coefficients1))
+        (handed n count2 radius2 (now keys2) (now coefficients2)) ⌝ }
+    requires { ⌜ (count1 ≤ length (now keys1)) × (count1 ≤ length (now coefficients1)) ⌝ }
+    requires { ⌜ (count2 ≤ length (now keys2)) × (count2 ≤ length (now coefficients2)) ⌝ }
+    requires { ⌜ Kept-room (now kept) (now coefficients) ⌝ }
+    ensures exact { λ k. ⌜ kept-accounted n k (now (kept .exit)) (now (coefficients .exit))
+        ≡ accounted (multiply d
+        (view (handed n count1 radius1 (now (keys1 .entry)) (now (coefficients1 .entry))))
+        (view (handed n count2 radius2 (now (keys2 .entry)) (now (coefficients2 .entry)))))
+        (λ m. product-shares d
+        (view (handed n count1 radius1 (now (keys1 .entry)) (now (coefficients1 .entry))))
+        (view (handed n count2 radius2 (now (keys2 .entry)) (now (coefficients2 .entry))))) ⌝ }
+    ensures ready { λ k. ⌜ Kept-ready k (now (kept .exit)) (now (coefficients .exit)) ⌝ }
+{
+    let mut ka = [0u64; model_types::MOST_TERMS];
+    let mut kb = [0u64; model_types::MOST_TERMS];
+    let a = unpack(count1, keys1, coefficients1, &mut ka);
+    let b = unpack(count2, keys2, coefficients2, &mut kb);
+    let r = product_terms::kept_alone(
+        d as u64,
+        &ka,
+        coefficients1,
+        count1,
+        &kb,
+        coefficients2,
+        count2,
+        kept,
+        coefficients,
+    );
+    kept_answer(n, a, radius1, b, radius2, r, kept, coefficients)
+}
+
+// ---- stored
+// How many terms of an answer are stored: none beside a refusal.
+fn kept_count(v: Verdict, count: usize) -> usize
+    ensures { λ r. ⌜ r ≡ kept-count v count ⌝ }
+{
+    let Verdict::Accepted = v else {
+        return 0;
+    };
+    count
+}
+
+// The first count terms go into two slices, by keys.
+fn store_first(
+    count: usize,
+    kept: &[u64],
+    rounded: &[i64],
+    keys: &mut [u16],
+    coefficients: &mut [i64],
+)
+    requires { ⌜ Pack-ready count (now kept) (now rounded) ⌝ }
+    requires { ⌜ (count ≤ length (now keys)) × (count ≤ length (now coefficients)) ⌝ }
+    ensures { λ r. ⌜ (now (keys .exit)
+        ≡ over (narrow-keys (terms count (now (kept .entry)) (now (rounded .entry)))) (now (keys .entry)))
+        × (now (coefficients .exit)
+        ≡ over (narrow-coefficients (terms count (now (kept .entry)) (now (rounded .entry))))
+        (now (coefficients .entry))) ⌝ }
+{
+    let mut i = 0;
+    while i < count {
+        let c = rounded[i];
+        keys[i] = model_keys::narrow_key(kept[i]);
+        coefficients[i] = c;
+        i += 1;
+    }
+}
+
+// Zeros go into the other places of a model.
+fn store_zeros(from: usize, keys: &mut [u16], coefficients: &mut [i64])
+    requires { ⌜ from ≤ most-terms ⌝ }
+    requires { ⌜ (most-terms ≤ length (now keys)) × (most-terms ≤ length (now coefficients)) ⌝ }
+    ensures { λ r. ⌜ (now (keys .exit) ≡ zeroed 0 from most-terms (now (keys .entry)))
+        × (now (coefficients .exit) ≡ zeroed (pos 0) from most-terms (now (coefficients .entry))) ⌝ }
+{
+    let mut i = from;
+    while i < model_types::MOST_TERMS {
+        keys[i] = 0;
+        coefficients[i] = 0;
+        i += 1;
+    }
+}
+
+// All 64 places of an answer's model go into two slices: zeros stand behind its terms, and beside a refusal.
+pub fn store_kept(
+    k: Kept,
+    kept: &[u64],
+    rounded: &[i64],
+    keys: &mut [u16],
+    coefficients: &mut [i64],
+)
+    requires { ⌜ Kept-ready k (now kept) (now rounded) ⌝ }
+    requires { ⌜ (most-terms ≤ length (now keys)) × (most-terms ≤ length (now coefficients)) ⌝ }
+    ensures { λ r. ⌜ ((n : ℕ) → (now (keys .exit)
+        ≡ stored-keys (kept-model n k (now (kept .entry)) (now (rounded .entry))) (now (keys .entry)))
+        × (now (coefficients .exit)
+        ≡ stored-coefficients (kept-model n k (now (kept .entry)) (now (rounded .entry)))
+        (now (coefficients .entry)))) ⌝ }
+{
+    let v = k.verdict;
+    let count = kept_count(v, k.count);
+    store_first(count, kept, rounded, keys, coefficients);
+    store_zeros(count, keys, coefficients);
+}
