@@ -234,6 +234,9 @@ pub use model_multiplication::multiplied_accounted;
 pub use product_slices::Kept;
 pub use product_slices::multiplied_slices;
 
+// The same as a struct.
+pub use product_slices::multiplied_slices_accounted;
+
 // The same without a table that is lent.
 pub use product_slices::multiplied_slices_alone;
 

@@ -25,6 +25,7 @@ use Rattle.model_types.specs.declared.Refusal.{Refusal}
 use Rattle.model_types.specs.declared.Refusal.the-variants.{OverSpan, TooManyTerms}
 use Rattle.model_types.specs.declared.Verdict.{Verdict}
 use Rattle.model_types.specs.declared.Verdict.the-variants.{Accepted, Refused}
+use Rattle.model_types.specs.declared.Answer.{Answer}
 use Rattle.model_types.specs.declared.Shares.{Shares}
 use Rattle.model_types.specs.ArrayLaws.{first-padded}
 use Rattle.model_types.specs.ModelStruct.{zero-term, view-term, view, pad, pack, places, answer, cause}
@@ -150,3 +151,19 @@ told-apart (Refused r i) = 1
 pub refused-ready : (q : Refusal) (keys : List ℕ) (cs : List ℤ) → Kept-ready (kept-refused q) keys cs
 unfolding kept-refused told-apart
 refused-ready q keys cs = record { ready = λ h. absurd (omega (arith, ap told-apart h)) }
+
+-- ---- as a struct
+-- the terms of an accepted answer are packed
+pub answer-accepted : (n : ℕ) (k : Kept) (keys : List ℕ) (coefficients : List ℤ) → k .verdict ≡ Accepted → {m : Model}
+    → m ≡ packed n (k .radius) (terms (k .count) keys coefficients)
+    → record { model = m; verdict = Accepted } ≡ kept-accounted n k keys coefficients .answer
+unfolding kept-accounted kept-model model-unless
+answer-accepted n k keys coefficients e q = rw (e, q) refl
+
+-- the answer of a refused call
+pub answer-refused : (n : ℕ) (k : Kept) (keys : List ℕ) (coefficients : List ℤ) (r : Refusal) (i : ℕ)
+    → k .verdict ≡ Refused r i → {a : Answer} → a ≡ answer (stopped (cause r) i)
+    → a ≡ kept-accounted n k keys coefficients .answer
+unfolding kept-accounted kept-model model-unless answer
+answer-refused n k keys coefficients r i e q =
+    q ∙ ap (λ x. record { model = pack (zero-model 1); verdict = Refused x i }) (refusal-cause r) ∙ rw e refl

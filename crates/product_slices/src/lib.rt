@@ -24,6 +24,8 @@ ghost use Rattle.product_slices.specs.HandedTerms.{Handed};
 ghost use Rattle.product_slices.specs.KeptProduct.{«kept-model», «kept-accounted», «Kept-ready»};
 ghost use Rattle.product_slices.specs.KeptProduct.{«kept-refused», «kept-count»};
 ghost use Rattle.product_slices.specs.KeptPlaces.{«narrow-keys», «narrow-coefficients», zeroed};
+use model_types::Accounted;
+use model_types::Answer;
 use model_types::Refusal;
 use model_types::Shares;
 use model_types::Verdict;
@@ -225,6 +227,89 @@ pub fn multiplied_slices_alone(
         coefficients,
     );
     kept_answer(n, a, radius1, b, radius2, r, kept, coefficients)
+}
+
+// ---- as a struct
+// The answer's model beside its verdict: its terms packed, or the zero model beside a refusal.
+fn packed_answer(n: u8, k: Kept, keys: &[u64], coefficients: &[i64]) -> Answer
+    requires { ⌜ Kept-ready k (now keys) (now coefficients) ⌝ }
+    ensures { λ r. ⌜ r ≡ kept-accounted n k (now (keys .entry)) (now (coefficients .entry)) .answer ⌝ }
+{
+    let v = k.verdict;
+    match v {
+        Verdict::Accepted => Answer {
+            model: product_packing::pack(n, k.radius, k.count, keys, coefficients),
+            verdict: Verdict::Accepted,
+        },
+        Verdict::Refused(refusal, place) => model_types::refuse(refusal, place),
+    }
+}
+
+// The same with the shares of its radius. (Only one place builds it: with a second one, for a refusal, the compiler
+// copies it field by field.)
+pub fn packed_kept(n: u8, k: Kept, keys: &[u64], coefficients: &[i64]) -> Accounted
+    requires { ⌜ Kept-ready k (now keys) (now coefficients) ⌝ }
+    ensures { λ r. ⌜ r ≡ kept-accounted n k (now (keys .entry)) (now (coefficients .entry)) ⌝ }
+{
+    let answer = packed_answer(n, k, keys, coefficients);
+    let shares = k.shares;
+    Accounted {
+        answer: answer,
+        shares: shares,
+    }
+}
+
+// The product of two sound models in slices as a struct, with the shares of its radius. What is lent serves as a grid or
+// as a table, whatever is in it.
+pub fn multiplied_slices_accounted(
+    d: u8,
+    n: u8,
+    count1: usize,
+    radius1: u64,
+    keys1: &[u16],
+    coefficients1: &[i64],
+    count2: usize,
+    radius2: u64,
+    keys2: &[u16],
+    coefficients2: &[i64],
+    slots: &mut [u16],
+    keys: &mut [u64],
+    sums: &mut [i64],
+) -> Accounted
+    requires { ⌜ Factors d (handed n count1 radius1 (now keys1) (now coefficients1))
+        (handed n count2 radius2 (now keys2) (now coefficients2)) ⌝ }
+    requires { ⌜ (count1 ≤ length (now keys1)) × (count1 ≤ length (now coefficients1)) ⌝ }
+    requires { ⌜ (count2 ≤ length (now keys2)) × (count2 ≤ length (now coefficients2)) ⌝ }
+    requires { ⌜ Lent-room (count1 * count2) (now slots) (now keys) (now sums) ⌝ }
+    ensures exact { λ r. ⌜ r ≡ accounted (multiply d
+        (view (handed n count1 radius1 (now (keys1 .entry)) (now (coefficients1 .entry))))
+        (view (handed n count2 radius2 (now (keys2 .entry)) (now (coefficients2 .entry)))))
+        (λ m. product-shares d
+        (view (handed n count1 radius1 (now (keys1 .entry)) (now (coefficients1 .entry))))
+        (view (handed n count2 radius2 (now (keys2 .entry)) (now (coefficients2 .entry))))) ⌝ }
+    ensures table { λ r. ⌜ Free-table (now (slots .entry)) (now (keys .entry)) (now (sums .entry))
+        (now (slots .exit)) (now (keys .exit)) (now (sums .exit)) ⌝ }
+{
+    let mut kept = [0u64; model_types::MOST_TERMS + 1];
+    let mut coefficients = [0i64; model_types::MOST_TERMS + 1];
+    let k = multiplied_slices(
+        d,
+        n,
+        count1,
+        radius1,
+        keys1,
+        coefficients1,
+        count2,
+        radius2,
+        keys2,
+        coefficients2,
+        slots,
+        keys,
+        sums,
+        &mut kept,
+        &mut coefficients,
+    );
+    packed_kept(n, k, &kept, &coefficients)
 }
 
 // ---- stored
