@@ -8,6 +8,9 @@ ghost use Rattle.c_calls.specs.CallCodes.{«model-call», «ends-call», «call
 ghost use Rattle.c_calls.specs.CallCodes.{«called-state», called, «ends-state», «called-ends»};
 use super::MISUSED;
 
+// The code of a product, which is made from the slices.
+const MULTIPLY: u8 = 6;
+
 // A call that answers with a model: the refusal's number, 0 without one, or MISUSED. The answer's 64 keys and
 // coefficients go into two slices, the refusal's place, n, the count and the radius into the third.
 #[no_mangle]
@@ -54,6 +57,24 @@ pub extern "C" fn hechroung_call(
         room,
     ) {
         return MISUSED;
+    }
+    if code == MULTIPLY {
+        return c_products::multiply(
+            d,
+            n1,
+            count1,
+            radius1,
+            keys1,
+            coefficients1,
+            n2,
+            count2,
+            radius2,
+            keys2,
+            coefficients2,
+            keys,
+            coefficients,
+            numbers,
+        );
     }
     let f = model_slices::taken(n1, count1, radius1, keys1, coefficients1);
     let g = model_slices::taken(n2, count2, radius2, keys2, coefficients2);

@@ -9,12 +9,13 @@ use Rattle.calculus.specs.Refusal.{done, at-place, require-at, _followed-by_}
 use Rattle.calculus.specs.Operations as Op
 use Rattle.calculus.specs.Tests.{order-sound}
 use Rattle.calculus.specs.Calls.{require-two, call-negate, call-sweep, call-range, call-integral, call-evaluate}
-use Rattle.calculus.specs.Calls.{call-antiderivative, call-add, call-subtract, call-multiply, call-substitute}
+use Rattle.calculus.specs.Calls.{call-antiderivative, call-add, call-subtract, call-substitute}
 use Rattle.calculus.specs.Calls.{call-quotient}
 use Rattle.model_call_tests.specs.Admission.{single-model, sweeping, at-point, integrating, two-models}
-use Rattle.model_call_tests.specs.Admission.{ordered, substituting, dividing}
+use Rattle.model_call_tests.specs.Admission.{substituting, dividing}
 use Rattle.calculus.specs.RefusalLaws.{at-followed}
 use Rattle.model_call_tests.specs.AdmissionLaws.{two-followed, four-followed}
+pub use Rattle.product_calls.specs.MultiplyCallLaws.{multiply-is}
 
 -- ---- of one model
 module _ (f : Model) where
@@ -56,11 +57,6 @@ module _ (f g : Model) where
   pub subtract-is : call-subtract f g ≡ (two-models most-degree f g followed-by (λ u. at-place 0 (Op.subtract f g)))
   unfolding call-subtract two-models _followed-by_
   subtract-is = sym (two-followed most-degree f g _ _)
-
-  pub multiply-is : (d : ℕ)
-      → call-multiply d f g ≡ (ordered d f g followed-by (λ u. at-place 0 (Op.multiply d f g)))
-  unfolding call-multiply ordered _followed-by_
-  multiply-is d = sym (at-followed 0 _ _ _ _ ∙ ap (require-at 0 (order-sound d) _) (two-followed d f g _ _))
 
   pub substitute-is : (d i : ℕ)
       → call-substitute d i f g ≡ (substituting d i f g followed-by (λ u. at-place 0 (Op.substitute d i f g)))

@@ -229,6 +229,10 @@ pub use model_multiplication::multiplied;
 // The same with the shares of its radius.
 pub use model_multiplication::multiplied_accounted;
 
+// `multiply` for two models that lie in slices with all the places which their counts name: the terms that are kept go
+// into two arrays, by wide keys.
+pub use product_calls::multiply_slices;
+
 // The answer of `multiply` with the shares of its radius, for two sound models that lie in slices: the terms that are
 // kept go into two arrays, by wide keys. The table is lent.
 pub use product_slices::Kept;

@@ -8,8 +8,17 @@ ghost use Rattle.model_types.specs.ModelStruct.{view, «verdict-number», «ver
 ghost use Rattle.model_slices.specs.HandedModels.{handed, lent, «answer-numbers», «model-room»};
 ghost use Rattle.model_slices.specs.HandedModels.{«stored-keys», «stored-coefficients», «stored-numbers»};
 use model_types::Model;
+use model_types::Shares;
 use model_types::Term;
 use model_types::Verdict;
+
+// The answer of a product. Its terms, unless it is refused, are the first `count` of two arrays, by wide keys.
+pub struct Kept {
+    pub count: usize,
+    pub radius: u64,
+    pub shares: Shares,
+    pub verdict: Verdict,
+}
 
 // The numbers of a model's answer: the refusal's place, n, the count, the radius.
 const NUMBERS: usize = 4;

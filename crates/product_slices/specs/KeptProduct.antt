@@ -14,7 +14,7 @@ use Rattle.model_types.specs.ModelStruct.{pack}
 use Rattle.model_types.specs.SharesStruct.{stored-shares}
 use Rattle.product_table.specs.Table.{terms}
 use Rattle.product_packing.specs.Transfer.{Pack-ready, packed}
-use Rattle.product_slices.specs.declared.Kept.{Kept}
+use Rattle.model_slices.specs.declared.Kept.{Kept}
 
 -- a model, or the zero model in one variable beside a refusal
 unfoldable pub model-unless : Verdict → Model → Model

@@ -40,7 +40,7 @@ use Rattle.product_answer.specs.CollectedProduct.{Product}
 use Rattle.product_answer.specs.CollectedProductLaws.{too-many, struct-packed, struct-answer}
 use Rattle.product_answer.specs.CollectedProductLaws.{product-accounted}
 use Rattle.product_answer.specs.ErrorShares.{error-shares}
-use Rattle.product_slices.specs.declared.Kept.{Kept}
+use Rattle.model_slices.specs.declared.Kept.{Kept}
 use Rattle.product_slices.specs.KeptProduct.{model-unless, kept-model, kept-accounted, Kept-ready, kept-refused}
 
 -- ---- the span as it is summed: known as far as the cap

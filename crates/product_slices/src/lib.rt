@@ -24,20 +24,13 @@ ghost use Rattle.product_slices.specs.HandedTerms.{Handed};
 ghost use Rattle.product_slices.specs.KeptProduct.{«kept-model», «kept-accounted», «Kept-ready»};
 ghost use Rattle.product_slices.specs.KeptProduct.{«kept-refused», «kept-count»};
 ghost use Rattle.product_slices.specs.KeptPlaces.{«narrow-keys», «narrow-coefficients», zeroed};
+pub use model_slices::Kept;
 use model_types::Accounted;
 use model_types::Answer;
 use model_types::Refusal;
 use model_types::Shares;
 use model_types::Verdict;
 use product_gathering::Gathered;
-
-// The answer of a product. Its terms, unless it is refused, are the first `count` of two arrays, by wide keys.
-pub struct Kept {
-    pub count: usize,
-    pub radius: u64,
-    pub shares: Shares,
-    pub verdict: Verdict,
-}
 
 // ---- the factors
 // The terms of a model go into an array by their wide keys; the sum of their |c|. The coefficients stay where they are.

@@ -1,0 +1,2 @@
+pub mod ProductCallLaws
+pub mod StoredLaws

@@ -1,0 +1,30 @@
+-- The code of a product: its call, and what a call that fits has of its models.
+use mathlib.Core.Path.{_≡_, refl, sym, ap, subst}
+use mathlib.Core.Bool.{Bool, true, false, _&&_}
+use Prim.Native.Nat.{ℕ}
+use lib.Dec.{T, leb}
+use lib.IntN.{ℤ}
+use Rattle.calculus.specs.Model.{Model}
+use Rattle.calculus.specs.Calls.{call-multiply}
+use Rattle.model_slices.specs.HandedModels.{lent}
+use Rattle.c_calls.specs.CallCodes.{model-call, call-fits}
+
+-- code 6 names the product
+pub product-code : (code d i : ℕ) (v : ℤ) (f g : Model) → code ≡ 6
+    → model-call code d i v f g ≡ call-multiply d f g
+unfolding model-call
+product-code code d i v f g e = ap (λ c. model-call c d i v f g) e
+
+-- slices that fit have all places that the counts name
+pub fits-lent : (code c₁ k₁ z₁ c₂ k₂ z₂ : ℕ) (room : Bool) → call-fits code c₁ k₁ z₁ c₂ k₂ z₂ room ≡ true
+    → (lent c₁ k₁ z₁ ≡ true) × (lent c₂ k₂ z₂ ≡ true)
+unfolding call-fits
+fits-lent code c₁ k₁ z₁ c₂ k₂ z₂ room h =
+    parts (leb 1 code) (leb code 9) (lent c₁ k₁ z₁) (lent c₂ k₂ z₂) room (subst T (sym h) tt)
+  where
+    parts : (a b c d e : Bool) → T (a && b && c && d && e) → (c ≡ true) × (d ≡ true)
+    parts true true true true e t = (refl, refl)
+    parts true true true false e t = absurd t
+    parts true true false d e t = absurd t
+    parts true false c d e t = absurd t
+    parts false b c d e t = absurd t

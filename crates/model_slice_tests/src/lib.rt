@@ -1,0 +1,73 @@
+// The tests of models that lie in slices, without a struct on the way: the rules of one model, and those of a product.
+ghost use mathlib.Core.Bool.{true};
+ghost use mathlib.Core.Path.{_≡_};
+ghost use lib.ListN.{length};
+ghost use Rattle.calculus.specs.Model.{sound};
+ghost use Rattle.model_types.specs.ModelStruct.{view, verdict};
+ghost use Rattle.model_slices.specs.HandedModels.{handed, lent};
+ghost use Rattle.model_call_tests.specs.Admission.{ordered};
+use model_types::MOST_TERMS;
+use model_types::Refusal;
+use model_types::Verdict;
+
+// Whether slices hold a model by the rules, with degrees up to d. The span is summed without wrapping.
+pub fn sound(n: u8, count: usize, radius: u64, keys: &[u16], coefficients: &[i64], d: u8) -> bool
+    requires { ⌜ lent count (length (now keys)) (length (now coefficients)) ≡ true ⌝ }
+    ensures { λ r. ⌜ r ≡ sound d (view (handed n count radius (now (keys .entry)) (now (coefficients .entry)))) ⌝ }
+{
+    if !model_types::vars_sound(n) {
+        return false;
+    }
+    if MOST_TERMS < count {
+        return false;
+    }
+    let mut span = radius;
+    let mut least: u32 = 0;
+    let mut i = 0;
+    while i < count {
+        let k = keys[i];
+        let c = coefficients[i];
+        if !model_soundness::term_sound(n, d, least, k, c) {
+            return false;
+        }
+        span = fixed::capped_sum(span, fixed::magnitude(c));
+        least = k as u32 + 1;
+        i += 1;
+    }
+    fixed::within_span(span)
+}
+
+// The tests of a product with order d. 3, 5 at place 0 or 1, 10.
+pub fn ordered(
+    d: u8,
+    n1: u8,
+    count1: usize,
+    radius1: u64,
+    keys1: &[u16],
+    coefficients1: &[i64],
+    n2: u8,
+    count2: usize,
+    radius2: u64,
+    keys2: &[u16],
+    coefficients2: &[i64],
+) -> Verdict
+    requires { ⌜ lent count1 (length (now keys1)) (length (now coefficients1)) ≡ true ⌝ }
+    requires { ⌜ lent count2 (length (now keys2)) (length (now coefficients2)) ≡ true ⌝ }
+    ensures { λ r. ⌜ r ≡ verdict
+        (ordered d (view (handed n1 count1 radius1 (now (keys1 .entry)) (now (coefficients1 .entry))))
+        (view (handed n2 count2 radius2 (now (keys2 .entry)) (now (coefficients2 .entry))))) ⌝ }
+{
+    if !model_types::order_sound(d) {
+        return Verdict::Refused(Refusal::BadLimits, 0);
+    }
+    if !sound(n1, count1, radius1, keys1, coefficients1, d) {
+        return Verdict::Refused(Refusal::BadModel, 0);
+    }
+    if !sound(n2, count2, radius2, keys2, coefficients2, d) {
+        return Verdict::Refused(Refusal::BadModel, 1);
+    }
+    if n1 != n2 {
+        return Verdict::Refused(Refusal::VariablesDiffer, 0);
+    }
+    Verdict::Accepted
+}

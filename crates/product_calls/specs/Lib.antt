@@ -1,0 +1,4 @@
+pub mod MultiplyCallLaws
+pub mod KeptModelLaws
+pub mod SliceCallLaws
+pub mod SliceRooms
