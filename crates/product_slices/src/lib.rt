@@ -252,8 +252,8 @@ pub fn packed_kept(n: u8, k: Kept, keys: &[u64], coefficients: &[i64]) -> Accoun
     }
 }
 
-// The product of two sound models in slices as a struct, with the shares of its radius. What is lent serves as a grid or
-// as a table, whatever is in it.
+// The product of two sound models in slices as a struct, with the shares of its radius. What is lent serves as a grid
+// or as a table, whatever is in it.
 pub fn multiplied_slices_accounted(
     d: u8,
     n: u8,
