@@ -53,17 +53,19 @@ extents zero keys = record { first = 0; second = 0; third = 0; fourth = 0 }
 extents (suc n) keys = raised-by (extents n keys) (getD keys n 0)
 
 -- ---- the grid
--- for the products of terms within e and within h: a side for each variable but the first, and the number of places
+-- for the products of terms within e and within h: a side for each variable, and the number of places
 unfoldable pub sides-for : (e h : Extents) → Sides
 sides-for e h =
+    let first = e .first + h .first + 1 in
     let second = e .second + h .second + 1 in
     let third = e .third + h .third + 1 in
     let fourth = e .fourth + h .fourth + 1 in
     record {
+      first = first;
       second = second;
       third = third;
       fourth = fourth;
-      size = (e .first + h .first + 1) * second * third * fourth;
+      size = first * second * third * fourth;
     }
 
 -- no side too long
@@ -84,6 +86,7 @@ place s = place-by (s .second) (s .third) (s .fourth)
 -- a key in the grid
 pub record Gridded (s : Sides) (key : ℕ) : Type 0 where
   pub told : Told key
+  pub first : first-of key < s .first
   pub second : second-of key < s .second
   pub third : third-of key < s .third
   pub fourth : fourth-of key < s .fourth

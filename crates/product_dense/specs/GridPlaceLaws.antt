@@ -32,7 +32,7 @@ digits-same q d p e r h l b = elim (ℕ-discrete q p) [
   ]
 ]
 
-digits-below : (q d p r : ℕ) → q < p → d < r → q * r + d < p * r
+pub digits-below : (q d p r : ℕ) → q < p → d < r → q * r + d < p * r
 digits-below q d p r h l =
     let m : (q + 1) * r ≤ p * r = mul-le-mul-right r (omega arith) in omega (arith, add-mul q 1 r)
 
@@ -166,6 +166,7 @@ module _ (e h : Extents) (low-e : Low e) (low-h : Low h) (k l : ℕ) (x : Digits
       omega (arith, plus-fourth, in-e .fourth, in-h .fourth) in
       record {
         told = digits-told z (omega arith);
+        first = first;
         second = second;
         third = third;
         fourth = fourth;

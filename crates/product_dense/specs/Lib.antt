@@ -1,4 +1,7 @@
 pub mod Grid
+pub mod Degrees
 pub mod DigitLaws
 pub mod GridLaws
 pub mod GridPlaceLaws
+pub mod DegreeLaws
+pub mod GridDigitLaws

@@ -6,6 +6,7 @@ ghost use lib.ListN.{length, getD};
 ghost use Rattle.product_dense.specs.Grid.{«first-of», «second-of», «third-of», «fourth-of», Low};
 ghost use Rattle.product_dense.specs.Grid.{«raised-by», extents};
 ghost use Rattle.product_dense.specs.Grid.{«sides-for», Narrow, «place-by»};
+ghost use Rattle.product_dense.specs.Degrees.{«Top-degree»};
 
 // ---- the exponents of a wide key: seven bits each, above 36 others
 const FIRST: u64 = 1 << 57;
@@ -51,8 +52,9 @@ pub struct Extents {
     pub fourth: usize,
 }
 
-// How many exponents of each variable but the first there can be in a product, and how many monomials.
+// How many exponents of each variable there can be in a product, and how many monomials.
 pub struct Sides {
+    pub first: usize,
     pub second: usize,
     pub third: usize,
     pub fourth: usize,
@@ -109,6 +111,7 @@ pub fn sides_of(e: Extents, h: Extents) -> Sides
     let plane = first * second;
     let cube = plane * third;
     Sides {
+        first: first,
         second: second,
         third: third,
         fourth: fourth,
@@ -149,4 +152,20 @@ pub fn place_all(
         places[i] = place_of(keys[i], second, third, fourth);
         i += 1;
     }
+}
+
+// ---- degrees
+// The largest degree of the first count keys, 0 if there is none.
+pub fn degree_of(keys: &[u64], count: usize) -> usize
+    requires { ⌜ count ≤ length (now keys) ⌝ }
+    ensures { λ r. ⌜ Top-degree (now (keys .entry)) count r ⌝ }
+{
+    let mut most = 0;
+    let mut i = 0;
+    while i < count {
+        let degree = model_keys::wide_degree(keys[i]);
+        most = larger(most, degree as usize);
+        i += 1;
+    }
+    most
 }

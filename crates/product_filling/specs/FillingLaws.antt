@@ -9,7 +9,7 @@ use native.Mathlib.Omega.{arith}
 use lib.Dec.{T, not-T}
 use lib.IntN.{ℤ, pos, natAbs, _+ℤ_, _*ℤ_, +ℤ-assoc, +ℤ-comm, +ℤ-idl, +ℤ-idr}
 use lib.ListN.{length, getD, set, take, drop, take-append-drop}
-use lib.Seq.{getD-set-same, getD-set-other}
+use lib.Seq.{getD-set-same, getD-set-other, take-suc}
 use Rattle.algebra.specs.Integer.{natAbs-add}
 use Rattle.algebra.specs.IntegerRing.{ℤR}
 use Rattle.algebra.specs.Lexicographic.{same}
@@ -21,11 +21,12 @@ use Rattle.calculus.specs.CanonicalLaws.{coefficient-at, coefficient-nil, coeff
 use Rattle.calculus.specs.CanonicalLaws.{share-here, share-elsewhere}
 use Rattle.calculus.specs.LoopLaws.{times-snoc, product-snoc}
 use Rattle.product_collector.specs.ProductsLaws.{size-times, size-product}
-use Rattle.product_table.specs.Table.{at-key, terms}
+use Rattle.product_table.specs.Table.{at-key, none, terms}
+use Rattle.product_table.specs.TermArrayLaws.{terms-length, terms-at}
 use Rattle.product_dense.specs.declared.Sides.{Sides}
 use Rattle.product_dense.specs.Grid.{place, Gridded}
 use Rattle.product_dense.specs.GridPlaceLaws.{place-apart}
-use Rattle.product_filling.specs.Filling.{Label, empty, full, Labels, Filled, Summed-up}
+use Rattle.product_filling.specs.Filling.{Filled, Row-fits, All-fit, Summed-up}
 
 -- ---- sizes
 pub size-append : (p q : Terms) → size (p ++ q) ≡ size p + size q
@@ -65,22 +66,18 @@ zeros-more l i h f j g = elim (ℕ-discrete j i) [
 ]
 
 -- nothing is added yet
-pub filled-none : (s : Sides) (keys : List ℕ) (sums : List ℤ) → Labels s keys sums → Filled s sums [] keys sums
-filled-none s keys sums l = record {
-  labels = l;
+pub filled-none : (s : Sides) (sums : List ℤ) → Filled s sums [] sums
+filled-none s sums = record {
   added = λ k g. rw (coefficient-nil (k ∷ [])) (sym (+ℤ-idr (getD sums (place s k) (pos 0))));
   grown = λ i h. omega arith;
 }
 
 -- one more term
-module _ (s : Sides) (before : List ℤ) (q : Terms) (keys : List ℕ) (sums : List ℤ) (f : Filled s before q keys sums)
-    (keys-room : s .size ≤ length keys) (sums-room : s .size ≤ length sums)
+module _ (s : Sides) (before : List ℤ) (q : Terms) (sums : List ℤ) (f : Filled s before q sums)
+    (sums-room : s .size ≤ length sums)
     (key : ℕ) (z v : ℤ) (g : Gridded s key) (p : ℕ) (at : p ≡ place s key) (e : v ≡ z +ℤ getD sums p (pos 0)) where
   abbrev t : Term ℤ
   t = at-key key z
-
-  abbrev new-keys : List ℕ
-  new-keys = set keys p key
 
   abbrev new-sums : List ℤ
   new-sums = set sums p v
@@ -88,23 +85,8 @@ module _ (s : Sides) (before : List ℤ) (q : Terms) (keys : List ℕ) (sums : L
   inside : p < s .size
   inside = rw at (g .below)
 
-  key-there : getD new-keys p 0 ≡ key
-  key-there = getD-set-same keys p key 0 (omega (arith, inside))
-
   sum-there : getD new-sums p (pos 0) ≡ v
   sum-there = getD-set-same sums p v (pos 0) (omega (arith, inside))
-
-  label-more : (i : ℕ) → i < s .size → Label s new-keys new-sums i
-  label-more i h = elim (ℕ-discrete i p) [
-    | yes c ↦ rw c (full (rw key-there g) (rw key-there (sym at)))
-    | no c ↦ other c (f .labels i h)
-  ]
-    where
-      other : (i ≡ p → ⊥) → Label s keys sums i → Label s new-keys new-sums i
-      other c (empty x) = empty (getD-set-other sums p i v (pos 0) c ∙ x)
-      other c (full x y) =
-          let k : getD new-keys i 0 ≡ getD keys i 0 = getD-set-other keys p i key 0 c in
-          full (rw k x) (rw k y)
 
   coefficient-more : (k : List ℕ) → coefficient-at (q ++ (t ∷ [])) k ≡ coefficient-at q k +ℤ share k t
   coefficient-more k =
@@ -136,14 +118,13 @@ module _ (s : Sides) (before : List ℤ) (q : Terms) (keys : List ℕ) (sums : L
         | no c ↦ rw (getD-set-other sums p i v (pos 0) c) (omega (arith, n, f .grown i h))
       ]
 
-  pub filled-more : Filled s before (q ++ (t ∷ [])) new-keys new-sums
-  filled-more = record { labels = label-more; added = added-more; grown = grown-more }
+  pub filled-more : Filled s before (q ++ (t ∷ [])) new-sums
+  filled-more = record { added = added-more; grown = grown-more }
 
 -- terms after others
-pub filled-after : (s : Sides) (before mid : List ℤ) (q r : Terms) (mid-keys keys : List ℕ) (sums : List ℤ)
-    → Filled s before q mid-keys mid → Filled s mid r keys sums → Filled s before (q ++ r) keys sums
-filled-after s before mid q r mid-keys keys sums f g = record {
-  labels = g .labels;
+pub filled-after : (s : Sides) (before mid : List ℤ) (q r : Terms) (sums : List ℤ)
+    → Filled s before q mid → Filled s mid r sums → Filled s before (q ++ r) sums
+filled-after s before mid q r sums f g = record {
   added = λ k x.
       g .added k x
       ∙ ap (λ y. y +ℤ coefficient-at r (k ∷ [])) (f .added k x)
@@ -173,18 +154,15 @@ module _ (t : Term ℤ) (bs : Terms) (j : ℕ) (b : Term ℤ) (e : take (suc j) 
 
 -- ---- all products, row by row
 -- sums that are all 0: nothing is added to none
-pub filled-first : (s : Sides) (keys : List ℕ) (sums : List ℤ) → ((i : ℕ) → i < s .size → getD sums i (pos 0) ≡ pos 0)
-    → Filled s [] [] keys sums
-filled-first s keys sums z = record {
-  labels = λ i h. empty (z i h);
+pub filled-first : (s : Sides) (sums : List ℤ) → ((i : ℕ) → i < s .size → getD sums i (pos 0) ≡ pos 0)
+    → Filled s [] [] sums
+filled-first s sums z = record {
   added = λ k g. z (place s k) (g .below) ∙ rw (coefficient-nil (k ∷ [])) refl;
   grown = λ i h. rw (z i h) (omega arith);
 }
 
-pub filled-last : (s : Sides) (p : Terms) (keys : List ℕ) (sums : List ℤ) → Filled s [] p keys sums
-    → Summed-up s p keys sums
-filled-last s p keys sums f =
-    record { labels = f .labels; sum = λ k g. f .added k g ∙ +ℤ-idl (coefficient-at p (k ∷ [])) }
+pub filled-last : (s : Sides) (p : Terms) (sums : List ℤ) → Filled s [] p sums → Summed-up s p sums
+filled-last s p sums f = record { sum = λ k g. f .added k g ∙ +ℤ-idl (coefficient-at p (k ∷ [])) }
 
 module _ (firsts seconds : Terms) (i : ℕ) (t : Term ℤ) (e : take (suc i) firsts ≡ take i firsts ++ (t ∷ [])) where
   pub products-more : product ℤR (take (suc i) firsts) seconds
@@ -198,3 +176,36 @@ module _ (firsts seconds : Terms) (i : ℕ) (t : Term ℤ) (e : take (suc i) fir
       let m : size (take (suc i) firsts) * size seconds ≤ size firsts * size seconds =
       mul-le-mul-right (size seconds) (size-take firsts (suc i)) in
       omega (arith, n, m, size-product (take (suc i) firsts) seconds, size-product firsts seconds)
+
+-- the row of term i: what it asks, once the rows before it are added
+module _ {zeros ca : List ℤ} {ia : List ℕ} {na : ℕ} {cb : List ℤ} {ib : List ℕ} {nb : ℕ}
+    (w : All-fit zeros ca ia na cb ib nb) (i : ℕ) (turn : i < na) (sums : List ℤ) where
+  abbrev firsts : Terms
+  firsts = terms na (w .ka) ca
+
+  abbrev seconds : Terms
+  seconds = terms nb (w .kb) cb
+
+  abbrev here : Term ℤ
+  here = at-key (getD (w .ka) i 0) (getD ca i (pos 0))
+
+  pub next-first : take (suc i) (terms na (w .ka) ca) ≡ take i (terms na (w .ka) ca) ++ (here ∷ [])
+  next-first =
+      let long = terms-length na (w .ka) ca (w .first-keys) (w .first-coefficients) in
+      take-suc firsts i none (omega (arith, turn))
+      ∙ ap (λ t. take i firsts ++ (t ∷ [])) (terms-at na (w .ka) ca i turn (w .first-keys) (w .first-coefficients))
+
+  unfoldable pub row-fits : Filled (w .sides) [] (product ℤR (take i (terms na (w .ka) ca)) (terms nb (w .kb) cb)) sums
+      → length sums ≡ length zeros → Row-fits sums (getD ia i 0) (getD ca i (pos 0)) cb ib nb
+  row-fits f long = record {
+    sides = w .sides;
+    key = getD (w .ka) i 0;
+    kb = w .kb;
+    sums-room = omega (arith, w .sums-room, long);
+    keys-long = w .second-keys;
+    coefficients-long = w .second-coefficients;
+    places-long = w .second-places;
+    gridded = λ j h. w .gridded i j turn h;
+    places = λ j h. w .places i j turn h;
+    small = λ j h. omega (arith, f .grown j h, products-most firsts seconds i here next-first, w .small);
+  }

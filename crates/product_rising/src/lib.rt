@@ -1,29 +1,36 @@
-// What an order keeps of sums by wide key whose keys rise: rounded, without zeros, each behind those before it, and
-// what it loses.
+// What an order keeps of the sums in a grid: rounded, without zeros, in the order of their keys, and what it loses. A
+// place tells its key, so only the sums are read; and no place is looked at whose degree no product has.
+ghost use Prim.Native.Nat.{_<_, _≤_};
 ghost use mathlib.Core.List.{[], _∷_};
-ghost use Prim.Native.Nat.{_<_};
+ghost use mathlib.Core.Path.{_≡_};
 ghost use lib.ListN.{length};
-ghost use Rattle.calculus.specs.Terms.{«drop-zeros»};
-ghost use Rattle.product_table.specs.Table.{«at-key», terms};
-ghost use Rattle.product_rising.specs.Rising.{Pushed, «Scan-ready», Scanned};
+ghost use Rattle.calculus.specs.Model.{«most-terms»};
+ghost use Rattle.product_table.specs.Table.{«at-key»};
+ghost use Rattle.product_rising.specs.Rising.{«steps-within», «row-terms», «line-terms», «plane-terms»};
+ghost use Rattle.product_rising.specs.Rising.{Room, Part, «Row-ready», «Line-ready», «Plane-ready», «Scan-ready»};
+ghost use Rattle.product_rising.specs.Rising.{«grid-terms», Scanned};
 use product_gathering::Gathered;
 
 // The count that says that a product has more terms than a model can hold.
 const TOO_MANY: usize = model_types::MOST_TERMS + 1;
 
-// The sum z of one monomial: rounded and put behind the n that are kept, or swept; nothing where it is 0.
+// ---- what one more exponent of each variable adds to a wide key: that, and one to the degree
+const FIRST: u64 = (1 << 57) + 1;
+
+const SECOND: u64 = (1 << 50) + 1;
+
+const THIRD: u64 = (1 << 43) + 1;
+
+const FOURTH: u64 = (1 << 36) + 1;
+
+// ---- one sum
+// The sum z of one monomial: rounded and put behind the n that are kept, or swept. A sum of 0 is rounded to 0 and
+// leaves nothing, so nobody asks for it. Once there are too many, no more is put anywhere.
 fn push(keys: &mut [u64], coefficients: &mut [i64], n: usize, key: u64, z: i64, d: u64) -> Gathered
-    requires { ⌜ (n < length (now keys)) × (n < length (now coefficients)) ⌝ }
-    ensures { λ r. ⌜ Pushed d (drop-zeros (at-key key z ∷ []))
-        (terms n (now (keys .entry)) (now (coefficients .entry))) n (now (keys .exit)) (now (coefficients .exit)) r ⌝ }
+    requires { ⌜ Room n (now keys) (now coefficients) ⌝ }
+    ensures { λ r. ⌜ Part d (at-key key z ∷ []) n (now (keys .entry)) (now (coefficients .entry))
+        (now (keys .exit)) (now (coefficients .exit)) r ⌝ }
 {
-    if z == 0 {
-        return Gathered {
-            count: n,
-            rounding: 0,
-            swept: 0,
-        };
-    }
     if d < model_keys::wide_degree(key) {
         return Gathered {
             count: n,
@@ -41,6 +48,13 @@ fn push(keys: &mut [u64], coefficients: &mut [i64], n: usize, key: u64, z: i64, 
             swept: 0,
         };
     }
+    if model_types::MOST_TERMS < n {
+        return Gathered {
+            count: n,
+            rounding: residual,
+            swept: 0,
+        };
+    }
     keys[n] = key;
     coefficients[n] = c;
     Gathered {
@@ -50,38 +64,195 @@ fn push(keys: &mut [u64], coefficients: &mut [i64], n: usize, key: u64, z: i64, 
     }
 }
 
-// The terms that order d keeps of the first n sums, in their order, with the two shares of what it loses.
-pub fn scan(
-    keys: &[u64],
+// ---- the places of a grid, variable by variable
+// How many exponents of a variable there are on such a side that leave the degree at most that much.
+fn steps(side: usize, left: usize) -> usize
+    ensures { λ r. ⌜ r ≡ steps-within side left ⌝ }
+{
+    if left < side { left + 1 } else { side }
+}
+
+// The sums of n exponents of variable 4, from a place and its key on.
+fn row(
     sums: &[i64],
+    at: usize,
     n: usize,
+    key: u64,
+    d: u64,
+    kept: &mut [u64],
+    coefficients: &mut [i64],
+    from: usize,
+) -> Gathered
+    requires { ⌜ Row-ready (now sums) at n key ⌝ }
+    requires { ⌜ Room from (now kept) (now coefficients) ⌝ }
+    ensures { λ r. ⌜ Part d (row-terms (now (sums .entry)) at n key) from
+        (now (kept .entry)) (now (coefficients .entry)) (now (kept .exit)) (now (coefficients .exit)) r ⌝ }
+{
+    let mut count = from;
+    let mut rounding = 0;
+    let mut swept = 0;
+    let mut i = 0;
+    while i < n {
+        let place = at + i;
+        let z = sums[place];
+        let more = FOURTH * i as u64;
+        let p = push(kept, coefficients, count, key + more, z, d);
+        count = p.count;
+        rounding += p.rounding;
+        swept += p.swept;
+        i += 1;
+    }
+    Gathered {
+        count: count,
+        rounding: rounding,
+        swept: swept,
+    }
+}
+
+// The rows of n exponents of variable 3.
+fn line(
+    sums: &[i64],
+    fourth: usize,
+    at: usize,
+    n: usize,
+    key: u64,
+    left: usize,
+    d: u64,
+    kept: &mut [u64],
+    coefficients: &mut [i64],
+    from: usize,
+) -> Gathered
+    requires { ⌜ Line-ready (now sums) fourth at n key left ⌝ }
+    requires { ⌜ Room from (now kept) (now coefficients) ⌝ }
+    ensures { λ r. ⌜ Part d (line-terms (now (sums .entry)) fourth at n key left) from
+        (now (kept .entry)) (now (coefficients .entry)) (now (kept .exit)) (now (coefficients .exit)) r ⌝ }
+{
+    let mut count = from;
+    let mut rounding = 0;
+    let mut swept = 0;
+    let mut i = 0;
+    while i < n {
+        let rest = left - i;
+        let m = steps(fourth, rest);
+        let place = (at + i) * fourth;
+        let more = THIRD * i as u64;
+        let p = row(sums, place, m, key + more, d, kept, coefficients, count);
+        count = p.count;
+        rounding += p.rounding;
+        swept += p.swept;
+        i += 1;
+    }
+    Gathered {
+        count: count,
+        rounding: rounding,
+        swept: swept,
+    }
+}
+
+// The lines of n exponents of variable 2.
+fn plane(
+    sums: &[i64],
+    third: usize,
+    fourth: usize,
+    at: usize,
+    n: usize,
+    key: u64,
+    left: usize,
+    d: u64,
+    kept: &mut [u64],
+    coefficients: &mut [i64],
+    from: usize,
+) -> Gathered
+    requires { ⌜ Plane-ready (now sums) third fourth at n key left ⌝ }
+    requires { ⌜ Room from (now kept) (now coefficients) ⌝ }
+    ensures { λ r. ⌜ Part d (plane-terms (now (sums .entry)) third fourth at n key left) from
+        (now (kept .entry)) (now (coefficients .entry)) (now (kept .exit)) (now (coefficients .exit)) r ⌝ }
+{
+    let mut count = from;
+    let mut rounding = 0;
+    let mut swept = 0;
+    let mut i = 0;
+    while i < n {
+        let rest = left - i;
+        let m = steps(third, rest);
+        let place = (at + i) * third;
+        let more = SECOND * i as u64;
+        let p = line(
+            sums,
+            fourth,
+            place,
+            m,
+            key + more,
+            rest,
+            d,
+            kept,
+            coefficients,
+            count,
+        );
+        count = p.count;
+        rounding += p.rounding;
+        swept += p.swept;
+        i += 1;
+    }
+    Gathered {
+        count: count,
+        rounding: rounding,
+        swept: swept,
+    }
+}
+
+// The terms that order d keeps of the sums in a grid whose monomials have at most a degree, rising, with the two shares
+// of what it loses.
+pub fn scan(
+    sums: &[i64],
+    first: usize,
+    second: usize,
+    third: usize,
+    fourth: usize,
+    most: usize,
     d: u64,
     kept: &mut [u64],
     coefficients: &mut [i64],
 ) -> Gathered
-    requires { ⌜ Scan-ready (now keys) (now sums) n (now kept) (now coefficients) ⌝ }
-    ensures { λ r. ⌜ Scanned d (drop-zeros (terms n (now (keys .entry)) (now (sums .entry))))
+    requires { ⌜ Scan-ready (now sums) first second third fourth most ⌝ }
+    requires { ⌜ Room 0 (now kept) (now coefficients) ⌝ }
+    ensures { λ r. ⌜ Scanned d (grid-terms (now (sums .entry)) first second third fourth most)
         (now (kept .exit)) (now (coefficients .exit)) r ⌝ }
 {
+    let n = steps(first, most);
     let mut count = 0;
     let mut rounding = 0;
     let mut swept = 0;
     let mut i = 0;
     while i < n {
-        let k = keys[i];
-        let z = sums[i];
-        let p = push(kept, coefficients, count, k, z, d);
+        let rest = most - i;
+        let m = steps(second, rest);
+        let place = i * second;
+        let key = FIRST * i as u64;
+        let p = plane(
+            sums,
+            third,
+            fourth,
+            place,
+            m,
+            key,
+            rest,
+            d,
+            kept,
+            coefficients,
+            count,
+        );
         count = p.count;
-        if model_types::MOST_TERMS < count {
-            return Gathered {
-                count: TOO_MANY,
-                rounding: 0,
-                swept: 0,
-            };
-        }
         rounding += p.rounding;
         swept += p.swept;
         i += 1;
+    }
+    if model_types::MOST_TERMS < count {
+        return Gathered {
+            count: TOO_MANY,
+            rounding: 0,
+            swept: 0,
+        };
     }
     Gathered {
         count: count,

@@ -22,7 +22,8 @@ use Rattle.product_dense.specs.Grid.{Low, extents, sides-for, place, Gridded}
 use Rattle.product_dense.specs.DigitLaws.{Digits, wide-digits}
 use Rattle.product_dense.specs.GridLaws.{sides-narrow, extents-low, extents-within}
 use Rattle.product_dense.specs.GridPlaceLaws.{place-plus, product-gridded}
-use Rattle.product_grid.specs.GridContracts.{Grid-ready}
+use Rattle.product_dense.specs.GridDigitLaws.{sides-whole}
+use Rattle.product_grid.specs.GridContracts.{Grid-ready, Zeros}
 use Rattle.product_terms.specs.ProductTerms.{Lent-room, Kept-room}
 
 -- ---- what is collected in a table is gathered
@@ -50,6 +51,13 @@ zeros-empty products room e l = record {
   keys-room = rw length-replicate (omega arith);
   sums-room = rw length-replicate (omega arith);
 }
+
+-- a grid of zeros
+pub zeros-grid : (n size : ℕ) → Zeros size (replicate n (pos 0))
+zeros-grid n size i l = elim (decLt i n) [
+  | yes h ↦ getD-replicate n i (pos 0) (pos 0) h
+  | no h ↦ List·getD-eq-default (replicate n (pos 0)) (pos 0) {n = i} (rw length-replicate (omega arith))
+]
 
 -- ---- two lists of terms
 module _ {ka : List ℕ} {ca : List ℤ} {na : ℕ} {kb : List ℕ} {cb : List ℤ} {nb : ℕ}
@@ -100,10 +108,11 @@ module _ {ka : List ℕ} {ca : List ℤ} {na : ℕ} {kb : List ℕ} {cb : List �
         (first-digits i l) (second-digits j m) (extents-within na ka i l) (extents-within nb kb j m)
         (s .second) (s .third) (s .fourth)
 
-    pub grid-ready : {keys : List ℕ} {sums : List ℤ} {kept : List ℕ} {coefficients : List ℤ}
-        → s .size ≤ length keys → s .size ≤ length sums → Kept-room kept coefficients
-        → Grid-ready s ka ca na kb cb nb keys sums kept coefficients
-    grid-ready lk ls r = record {
+    pub grid-ready : {sums : List ℤ} {kept : List ℕ} {coefficients : List ℤ}
+        → s .size ≤ length sums → Kept-room kept coefficients
+        → Grid-ready s ka ca na kb cb nb sums kept coefficients
+    grid-ready ls r = record {
+      whole = rw w (sides-whole (extents na ka) (extents nb kb));
       narrow = rw w (sides-narrow (extents na ka) (extents nb kb) first-low second-low);
       first-few = h .first-few;
       second-few = h .second-few;
@@ -111,10 +120,11 @@ module _ {ka : List ℕ} {ca : List ℤ} {na : ℕ} {kb : List ℕ} {cb : List �
       first-coefficients = h .first-coefficients;
       second-keys = h .second-keys;
       second-coefficients = h .second-coefficients;
+      first-digits = first-digits;
+      second-digits = second-digits;
       gridded = gridded;
       places = places;
       small = factors-size h;
-      keys-room = lk;
       sums-room = ls;
       kept-room = r .kept-room;
       coefficients-room = r .coefficients-room;

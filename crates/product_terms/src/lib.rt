@@ -44,15 +44,11 @@ fn grid_for(ka: &[u64], ca: &[i64], na: usize, kb: &[u64], cb: &[i64], nb: usize
     product_dense::sides_of(e, h)
 }
 
-// Whether a grid of so many places is to be used for so many products, where there are so many places for keys and for
-// sums.
-fn in_grid(size: usize, products: usize, keys: usize, sums: usize) -> bool
+// Whether a grid of so many places is to be used for so many products, where there are so many places for sums.
+fn in_grid(size: usize, products: usize, sums: usize) -> bool
     requires { ⌜ products ≤ most-entries ⌝ }
-    ensures { λ r. ⌜ (r ≡ true → (size ≤ keys) × (size ≤ sums)) ⌝ }
+    ensures { λ r. ⌜ (r ≡ true → size ≤ sums) ⌝ }
 {
-    if keys < size {
-        return false;
-    }
     if sums < size {
         return false;
     }
@@ -175,8 +171,8 @@ pub fn kept_lent(
         );
     }
     let s = grid_for(ka, ca, na, kb, cb, nb);
-    if in_grid(s.size, products, keys.len(), sums.len()) {
-        return product_grid::gathered(s, d, ka, ca, na, kb, cb, nb, keys, sums, kept, coefficients);
+    if in_grid(s.size, products, sums.len()) {
+        return product_grid::gathered(s, d, ka, ca, na, kb, cb, nb, sums, kept, coefficients);
     }
     in_lent_table(
         d,
@@ -332,22 +328,8 @@ fn in_small_grid(
         (product ℤR (terms na (now (ka .entry)) (now (ca .entry))) (terms nb (now (kb .entry)) (now (cb .entry)))))
         (now (kept .exit)) (now (coefficients .exit)) r ⌝ }
 {
-    let mut keys = [0u64; FEW_PLACES];
     let mut sums = [0i64; FEW_PLACES];
-    product_grid::gathered(
-        s,
-        d,
-        ka,
-        ca,
-        na,
-        kb,
-        cb,
-        nb,
-        &mut keys,
-        &mut sums,
-        kept,
-        coefficients,
-    )
+    product_grid::gathered_empty(s, d, ka, ca, na, kb, cb, nb, &mut sums, kept, coefficients)
 }
 
 // In one as large as any.
@@ -371,22 +353,8 @@ fn in_large_grid(
         (product ℤR (terms na (now (ka .entry)) (now (ca .entry))) (terms nb (now (kb .entry)) (now (cb .entry)))))
         (now (kept .exit)) (now (coefficients .exit)) r ⌝ }
 {
-    let mut keys = [0u64; product_table::PLACES];
     let mut sums = [0i64; product_table::PLACES];
-    product_grid::gathered(
-        s,
-        d,
-        ka,
-        ca,
-        na,
-        kb,
-        cb,
-        nb,
-        &mut keys,
-        &mut sums,
-        kept,
-        coefficients,
-    )
+    product_grid::gathered_empty(s, d, ka, ca, na, kb, cb, nb, &mut sums, kept, coefficients)
 }
 
 // The same terms and shares, without anything lent.
@@ -416,7 +384,7 @@ pub fn kept_alone(
     }
     let s = grid_for(ka, ca, na, kb, cb, nb);
     let places = product_table::PLACES;
-    if in_grid(s.size, products, places, places) {
+    if in_grid(s.size, products, places) {
         if s.size <= FEW_PLACES {
             return in_small_grid(s, d, ka, ca, na, kb, cb, nb, kept, coefficients);
         }

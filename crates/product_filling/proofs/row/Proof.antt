@@ -30,40 +30,32 @@ use Rattle.fixed.proofs.product.Reads as product-reads
 use Rattle.fixed.proofs.sum.Reads as sum-reads
 
 -- the first j products are added, in whatever grid they fit
-record Held (keys₀ : List ℕ) (sums₀ : List ℤ) (at key : ℕ) (c : ℤ) (kb : List ℕ) (cb : List ℤ) (ib : List ℕ) (count : ℕ)
-    (keys : List ℕ) (sums : List ℤ) (j : ℕ) : Type 0 where
+record Held (sums₀ : List ℤ) (at : ℕ) (c : ℤ) (cb : List ℤ) (ib : List ℕ) (count : ℕ) (sums : List ℤ) (j : ℕ)
+    : Type 0 where
   on : j ≤ count
-  keys-long : length keys ≡ length keys₀
   sums-long : length sums ≡ length sums₀
-  filled : (s : Sides) → Row-fits s keys₀ sums₀ at key c kb cb ib count
-      → Filled s sums₀ (times ℤR (at-key key c) (take j (terms count kb cb))) keys sums
+  filled : (w : Row-fits sums₀ at c cb ib count)
+      → Filled (w .sides) sums₀ (times ℤR (at-key (w .key) c) (take j (terms count (w .kb) cb))) sums
 
 abbrev Inv-loop : tie.InvT-loop
-Inv-loop keys₀ sums₀ at key c kb cb ib count j₀ keys sums j =
-    Held keys₀ sums₀ at key (toZ w64 c) kb cb ib count keys sums j
+Inv-loop sums₀ at c cb ib count j₀ sums j = Held sums₀ at (toZ w64 c) cb ib count sums j
 
 abbrev μ-loop : tie.MeasureT-loop
-μ-loop keys₀ sums₀ at key c kb cb ib count j₀ keys sums j = count - j
+μ-loop sums₀ at c cb ib count j₀ sums j = count - j
 
 -- in a turn: the next term, its place, and room for its product
 module _ (d : tie.After-y Inv-loop μ-loop) where
   abbrev l : tie.At-loop Inv-loop μ-loop
-  l = d .before .before .before
+  l = d .before .before
 
   abbrev s : tie.Start Inv-loop μ-loop
-  s = l .before .before .before .before
-
-  abbrev bs : Terms
-  bs = terms (s .args .count) (s .args .kb .now) (s .args .cb .now)
+  s = l .before .before
 
   abbrev c : ℤ
   c = s .args .c
 
   abbrev j : ℕ
   j = l .loop .j
-
-  abbrev k : ℕ
-  k = getD (s .args .kb .now) j 0
 
   abbrev y : ℤ
   y = getD (s .args .cb .now) j (pos 0)
@@ -74,8 +66,11 @@ module _ (d : tie.After-y Inv-loop μ-loop) where
   abbrev old : ℤ
   old = getD (l .loop .sums) p (pos 0)
 
+  abbrev Fits : Type 0
+  Fits = Row-fits (s .args .sums .now) (s .args .at) c (s .args .cb .now) (s .args .ib .now) (s .args .count)
+
   turn : j < s .args .count
-  turn = d .before .before .loop-test .taken
+  turn = d .before .loop-test .taken
 
   fits-y : SFits w64 y
   fits-y = record { sfits = d .y .given }
@@ -83,43 +78,48 @@ module _ (d : tie.After-y Inv-loop μ-loop) where
   fits-c : toZ w64 (ofZ w64 c) ≡ c
   fits-c = toZ-ofZ (s .fits .c)
 
-  abbrev before : Terms
-  before = times ℤR (at-key (s .args .key) c) (take j bs)
+  -- for any grid and keys
+  module _ (w : Fits) where
+    abbrev bs : Terms
+    bs = terms (s .args .count) (w .kb) (s .args .cb .now)
 
-  filled : (g : Sides)
-      → Row-fits g (s .args .keys .now) (s .args .sums .now) (s .args .at) (s .args .key) c (s .args .kb .now)
-      (s .args .cb .now) (s .args .ib .now) (s .args .count)
-      → Filled g (s .args .sums .now) before (l .loop .keys) (l .loop .sums)
+    abbrev k : ℕ
+    k = getD (w .kb) j 0
+
+    abbrev before : Terms
+    before = times ℤR (at-key (w .key) c) (take j bs)
+
+    next : take (suc j) bs ≡ take j bs ++ (at-key k y ∷ [])
+    next =
+        let a = s .args in
+        let long = terms-length (a .count) (w .kb) (a .cb .now) (w .keys-long) (w .coefficients-long) in
+        take-suc bs j none (omega (arith, turn))
+        ∙ ap (λ t. take j bs ++ (t ∷ []))
+        (terms-at (a .count) (w .kb) (a .cb .now) j turn (w .keys-long) (w .coefficients-long))
+
+  filled : (w : Fits) → Filled (w .sides) (s .args .sums .now) (before w) (l .loop .sums)
   filled = rw (fits-c) at (l .loop .inv .filled)
 
-  next : take (suc j) bs ≡ take j bs ++ (at-key k y ∷ [])
-  next =
-      let a = s .args in
-      let long = terms-length (a .count) (a .kb .now) (a .cb .now) (s .pre .keys-long) (s .pre .coefficients-long) in
-      take-suc bs j none (omega (arith, turn))
-      ∙ ap (λ t. take j bs ++ (t ∷ []))
-      (terms-at (a .count) (a .kb .now) (a .cb .now) j turn (s .pre .keys-long) (s .pre .coefficients-long))
-
   -- where it goes
-  there : p ≡ place (s .args .s) (s .args .key + k)
-  there = s .pre .places j turn
+  abbrev w : Fits
+  w = s .pre
 
-  inside : p < s .args .s .size
-  inside = rw there (s .pre .gridded j turn .below)
+  there : p ≡ place (w .sides) (w .key + k w)
+  there = w .places j turn
 
-  within-keys : p < length (l .loop .keys)
-  within-keys = omega (arith, inside, s .pre .keys-room, l .loop .inv .keys-long)
+  inside : p < w .sides .size
+  inside = rw there (w .gridded j turn .below)
 
   within-sums : p < length (l .loop .sums)
-  within-sums = omega (arith, inside, s .pre .sums-room, l .loop .inv .sums-long)
+  within-sums = omega (arith, inside, w .sums-room, l .loop .inv .sums-long)
 
   room : natAbs (c *ℤ y) + natAbs old < 2 ^ 63
   room =
       omega (
         arith,
-        times-most (at-key (s .args .key) c) bs j (at-key k y) next,
-        filled (s .args .s) (s .pre) .grown p inside,
-        s .pre .small p inside,
+        times-most (at-key (w .key) c) (bs w) j (at-key (k w) y) (next w),
+        filled w .grown p inside,
+        w .small p inside,
       )
 
   fits-z : SFits w64 (c *ℤ y)
@@ -133,16 +133,9 @@ unfolding times
 loop-holds e =
     record {
       on = omega arith;
-      keys-long = refl;
       sums-long = refl;
-      filled = λ g h. filled-none g _ _ (h .labels);
+      filled = λ w. filled-none (w .sides) _;
     }
-
-mul-k : tie.Need-mul-k Inv-loop μ-loop
-mul-k c = search needs
-
-shared-slice-read-k : tie.Need-shared-slice-read-k Inv-loop μ-loop
-shared-slice-read-k c = search needs
 
 mul-y : tie.Need-mul-y Inv-loop μ-loop
 mul-y c = search needs
@@ -157,7 +150,7 @@ shared-slice-read-place : tie.Need-shared-slice-read-place Inv-loop μ-loop
 shared-slice-read-place c = search needs
 
 add-place : tie.Need-add-place Inv-loop μ-loop
-add-place c = let h = within-keys (c .before) in search needs
+add-place c = let h = within-sums (c .before) in search needs
 
 product-requires : tie.Need-product-requires Inv-loop μ-loop
 product-requires e κs =
@@ -167,17 +160,6 @@ product-requires e κs =
 product-is : (e : tie.After-product Inv-loop μ-loop)
     → e .product .result ≡ c (e .before .before) *ℤ y (e .before .before)
 product-is e = let d = e .before .before in rw (fits-c d, toZ-ofZ (fits-y d)) at (e .product .ensures)
-
-add-keys : tie.Need-add-keys Inv-loop μ-loop
-add-keys e =
-    let d = e .before .before in
-    record { fits = omega (arith, s d .pre .gridded (j d) (turn d) .told .small) }
-
-mul-keys : tie.Need-mul-keys Inv-loop μ-loop
-mul-keys e = let h = within-keys (e .before .before) in search needs
-
-slice-write-keys : tie.Need-slice-write-keys Inv-loop μ-loop
-slice-write-keys e = within-keys (e .before .before)
 
 mul-old : tie.Need-mul-old Inv-loop μ-loop
 mul-old e = let h = within-sums (e .before .before) in search needs
@@ -218,33 +200,27 @@ loop-again e =
     ∙ toZ-ofZ (fits-sum d) in
     record {
       on = omega (arith, turn d);
-      keys-long = length-set (l d .loop .keys) (p d) _ ∙ l d .loop .inv .keys-long;
       sums-long = length-set (l d .loop .sums) (p d) _ ∙ l d .loop .inv .sums-long;
-      filled = λ g h.
-          let w : Row-fits g (s d .args .keys .now) (s d .args .sums .now) (s d .args .at) (s d .args .key) (c d)
-          (s d .args .kb .now) (s d .args .cb .now) (s d .args .ib .now) (s d .args .count) = rw (fits-c d) at h in
-          rw (fits-c d, add-one, times-more (at-key (s d .args .key) (c d)) (bs d) (j d) (at-key (k d) (y d)) (next d))
-          (filled-more g (s d .args .sums .now) (before d) (l d .loop .keys) (l d .loop .sums) (filled d g w)
-          (omega (arith, w .keys-room, l d .loop .inv .keys-long))
-          (omega (arith, w .sums-room, l d .loop .inv .sums-long)) (s d .args .key + k d) z _
-          (w .gridded (j d) (turn d)) (p d) (w .places (j d) (turn d)) v);
+      filled = rw (fits-c d, add-one) (λ w.
+          rw (times-more (at-key (w .key) (c d)) (bs d w) (j d) (at-key (k d w) (y d)) (next d w))
+          (filled-more (w .sides) (s d .args .sums .now) (before d w) (l d .loop .sums) (filled d w)
+          (omega (arith, w .sums-room, l d .loop .inv .sums-long)) (w .key + k d w) z _
+          (w .gridded (j d) (turn d)) (p d) (w .places (j d) (turn d)) v));
     }
 
 same-length : tie.Need-same-length Inv-loop μ-loop
-same-length e = e .before .loop .inv .keys-long
-
-same-length-2 : tie.Need-same-length-2 Inv-loop μ-loop
-same-length-2 e = e .before .loop .inv .sums-long
+same-length e = e .before .loop .inv .sums-long
 
 returns : tie.Need-returns Inv-loop μ-loop
 returns e =
     let l = e .before in
-    let s = l .before .before .before .before in
+    let s = l .before .before in
     let a = s .args in
-    let bs = terms (a .count) (a .kb .now) (a .cb .now) in
-    let long = terms-length (a .count) (a .kb .now) (a .cb .now) (s .pre .keys-long) (s .pre .coefficients-long) in
+    λ w.
+    let bs = terms (a .count) (w .kb) (a .cb .now) in
+    let long = terms-length (a .count) (w .kb) (a .cb .now) (w .keys-long) (w .coefficients-long) in
     let all : take (l .loop .j) bs ≡ bs = take-all (l .loop .j) bs (omega (arith, long, e .loop-test .left)) in
-    rw (toZ-ofZ (s .fits .c), all) at (l .loop .inv .filled) (a .s) (s .pre)
+    rw all at (rw (toZ-ofZ (s .fits .c)) at (l .loop .inv .filled) w)
 
 pub row-spec : {M : Type 1} → statement M
 row-spec =
@@ -253,17 +229,12 @@ row-spec =
     Inv-loop
     μ-loop
     loop-holds
-    mul-k
-    shared-slice-read-k
     mul-y
     shared-slice-copy-out-y
     mul-place
     shared-slice-read-place
     add-place
     product-requires
-    add-keys
-    mul-keys
-    slice-write-keys
     mul-old
     slice-copy-out-old
     sum-requires
@@ -273,5 +244,4 @@ row-spec =
     loop-less
     loop-again
     same-length
-    same-length-2
     returns)

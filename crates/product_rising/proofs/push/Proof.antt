@@ -1,8 +1,7 @@
--- `push` keeps, sweeps or passes over one sum.
-use mathlib.Core.Path.{_≡_, refl, sym, _∙_, ap}
-use mathlib.Core.List.{append-nil}
+-- `push` keeps or sweeps one sum.
+use mathlib.Core.Path.{_≡_, sym, _∙_, ap}
+use mathlib.Core.List.{[], _∷_}
 use Prim.Native.Nat.{_<_, _≤_}
-use native.Mathlib.Numerals.{add-one}
 use native.Mathlib.Omega.{arith}
 use lib.IntN.{pos}
 use mir.Facts.{toZ-ofZ}
@@ -10,12 +9,12 @@ use mir.Syntax.{w64}
 use mir.Val.{SFits, toZ, ofZ}
 use Rattle.fixed.specs.declared.Rounded.{Rounded}
 use Rattle.fixed.specs.Fixed.{round, residual, rounded}
+use Rattle.calculus.specs.Model.{most-terms}
 use Rattle.model_keys.specs.Keys.{wide-degree}
-use Rattle.product_table.specs.TermArrayLaws.{terms-push}
+use Rattle.product_table.specs.Table.{at-key}
 use Rattle.product_gathering.specs.KeptTermLaws.{low-rounding, low-swept, low-zero, low-nonzero}
 use Rattle.product_gathering.specs.KeptTermLaws.{high-rounding, high-swept, high-kept}
-use Rattle.product_gathering.specs.GatherLaws.{kept-none, rounding-none, swept-none}
-use Rattle.product_rising.specs.RisingLaws.{zero-dropped, nonzero-stays}
+use Rattle.product_rising.specs.RisingLaws.{part-nothing, part-late, part-put}
 use borrow.Author.Needs.{needs}
 use Rattle.product_rising.proofs.push.Statement.{statement}
 use Rattle.product_rising.proofs.push.Tie as tie
@@ -25,27 +24,10 @@ use Rattle.fixed.proofs.magnitude.Reads as magnitude-reads
 use Rattle.fixed.proofs.round.Reads as round-reads
 use Rattle.model_keys.proofs.wide_degree.Reads as wide-degree-reads
 
--- once the sum is not 0
-nonzero : (c : tie.Else1) → c .before .before .args .z ≡ pos 0 → ⊥
-nonzero c e = c .if1 .left (ap (ofZ w64) e)
-
-returns : tie.Need-returns
-returns c =
-    let s = c .before .before in
-    let a = s .args in
-    let zero : a .z ≡ pos 0 = sym (toZ-ofZ (s .fits .z)) ∙ ap (toZ w64) (c .if1 .taken) in
-    rw (zero, zero-dropped (a .key))
-    record {
-      kept = rw (kept-none (a .d)) (sym (append-nil _));
-      one = omega arith;
-      rounding = sym (rounding-none (a .d));
-      swept = sym (swept-none (a .d));
-    }
-
 -- once it is rounded: the coefficient and what is left, as the definitions have them
 module _ (r : tie.After-round) where
   abbrev s : tie.Start
-  s = r .before .before .before .before .before
+  s = r .before .before .before .before
 
   rounded-is : r .round .result ≡ rounded (s .args .z)
   rounded-is = rw (toZ-ofZ (s .fits .z)) at (r .round .ensures)
@@ -57,7 +39,7 @@ module _ (r : tie.After-round) where
   residual-is = ap (λ (q : Rounded). q .residual) rounded-is
 
   low : wide-degree (s .args .key) ≤ s .args .d
-  low = omega (arith, r .before .before .wide-degree .ensures, r .before .if2 .left)
+  low = omega (arith, r .before .before .wide-degree .ensures, r .before .if1 .left)
 
 fits-c : (t : tie.After-struct-told) → SFits w64 (t .before .round .result .coefficient)
 fits-c t = record { sfits = t .struct-told .given .0 .1 }
@@ -68,50 +50,55 @@ wide-degree-requires c κs = search needs
 magnitude-requires : tie.Need-magnitude-requires
 magnitude-requires c κs = search needs
 
-returns-2 : tie.Need-returns-2
-returns-2 c =
-    let e = c .before .before .before in
-    let s = e .before .before in
+returns : tie.Need-returns
+unfolding most-terms
+returns c =
+    let s = c .before .before .before .before in
     let a = s .args in
     let high : a .d < wide-degree (a .key) =
-    omega (arith, c .before .before .wide-degree .ensures, c .before .if2 .taken) in
-    rw (nonzero-stays (a .key) (a .z) (nonzero e))
-    record {
-      kept = rw (high-kept (a .d) (a .key) (a .z) high) (sym (append-nil _));
-      one = omega arith;
-      rounding = high-rounding (a .d) (a .key) (a .z) high;
-      swept = rw (toZ-ofZ (s .fits .z)) at (c .magnitude .ensures) ∙ high-swept (a .d) (a .key) (a .z) high;
-    }
+    omega (arith, c .before .before .wide-degree .ensures, c .before .if1 .taken) in
+    part-nothing (a .d) _ (a .n) _ _ (s .pre) _ _ (high-rounding (a .d) (a .key) (a .z) high)
+    (rw (toZ-ofZ (s .fits .z)) at (c .magnitude .ensures) ∙ high-swept (a .d) (a .key) (a .z) high)
+    (high-kept (a .d) (a .key) (a .z) high)
 
 round-requires : tie.Need-round-requires
 round-requires c κs = search needs
 
-returns-3 : tie.Need-returns-3
-returns-3 c =
+returns-2 : tie.Need-returns-2
+returns-2 c =
     let t = c .before in
     let r = t .before in
     let a = s r .args in
     let zero : round (a .z) ≡ pos 0 =
-    sym (coefficient-is r) ∙ sym (toZ-ofZ (fits-c t)) ∙ ap (toZ w64) (c .if3 .taken) in
-    rw (nonzero-stays (a .key) (a .z) (nonzero (r .before .before .before)))
-    record {
-      kept = rw (low-zero (a .d) (a .key) (a .z) (low r) zero) (sym (append-nil _));
-      one = omega arith;
-      rounding = residual-is r ∙ low-rounding (a .d) (a .key) (a .z) (low r);
-      swept = low-swept (a .d) (a .key) (a .z) (low r);
-    }
+    sym (coefficient-is r) ∙ sym (toZ-ofZ (fits-c t)) ∙ ap (toZ w64) (c .if2 .taken) in
+    part-nothing (a .d) _ (a .n) _ _ (s r .pre) _ _ (residual-is r ∙ low-rounding (a .d) (a .key) (a .z) (low r))
+    (low-swept (a .d) (a .key) (a .z) (low r)) (low-zero (a .d) (a .key) (a .z) (low r) zero)
+
+returns-3 : tie.Need-returns-3
+unfolding most-terms
+returns-3 c =
+    let r = c .before .before .before in
+    let a = s r .args in
+    part-late (a .d) _ (a .n) _ _ (s r .pre) _ _ (residual-is r ∙ low-rounding (a .d) (a .key) (a .z) (low r))
+    (low-swept (a .d) (a .key) (a .z) (low r)) (c .if3 .taken)
 
 mul-keys : tie.Need-mul-keys
 mul-keys c = search needs
 
 slice-write-keys : tie.Need-slice-write-keys
-slice-write-keys c = search needs
+unfolding most-terms
+slice-write-keys c =
+    let s = c .before .before .before .before .before .before .before in
+    omega (arith, c .if3 .left, s .pre .kept-room)
 
 mul-c : tie.Need-mul-c
 mul-c c = search needs
 
 slice-set-from-c : tie.Need-slice-set-from-c
-slice-set-from-c c = search needs
+unfolding most-terms
+slice-set-from-c c =
+    let s = c .before .before .before .before .before .before .before in
+    omega (arith, c .if3 .left, s .pre .coefficients-room)
 
 add-t13 : tie.Need-add-t13
 add-t13 c = search needs
@@ -123,30 +110,27 @@ same-length-2 : tie.Need-same-length-2
 same-length-2 c = search needs
 
 returns-4 : tie.Need-returns-4
+unfolding most-terms
 returns-4 c =
-    let t = c .before in
+    let t = c .before .before in
     let r = t .before in
     let a = s r .args in
-    let stays : round (a .z) ≡ pos 0 → ⊥ = λ e. c .if3 .left (ap (ofZ w64) (coefficient-is r ∙ e)) in
-    rw (nonzero-stays (a .key) (a .z) (nonzero (r .before .before .before)))
-    record {
-      kept =
-          rw (low-nonzero (a .d) (a .key) (a .z) (low r) stays, ← coefficient-is r, add-one, toZ-ofZ (fits-c t))
-          (terms-push (a .n) _ _ (a .key) (r .round .result .coefficient) (s r .pre .0) (s r .pre .1));
-      one = omega arith;
-      rounding = residual-is r ∙ low-rounding (a .d) (a .key) (a .z) (low r);
-      swept = low-swept (a .d) (a .key) (a .z) (low r);
-    }
+    let stays : round (a .z) ≡ pos 0 → ⊥ = λ e. c .before .if2 .left (ap (ofZ w64) (coefficient-is r ∙ e)) in
+    rw (toZ-ofZ (fits-c t))
+    (part-put (a .d) _ (a .n) _ _ (s r .pre) _ _ (residual-is r ∙ low-rounding (a .d) (a .key) (a .z) (low r))
+    (low-swept (a .d) (a .key) (a .z) (low r)) (a .key) _ (omega (arith, c .if3 .left))
+    (low-nonzero (a .d) (a .key) (a .z) (low r) stays
+    ∙ ap (λ x. at-key (a .key) x ∷ []) (sym (coefficient-is r))))
 
 pub push-spec : {M : Type 1} → statement M
 push-spec =
     tie.close
     (tie.spec
-    returns
     wide-degree-requires
     magnitude-requires
-    returns-2
+    returns
     round-requires
+    returns-2
     returns-3
     mul-keys
     slice-write-keys

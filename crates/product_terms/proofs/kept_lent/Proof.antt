@@ -46,11 +46,11 @@ in-grid-requires c κs = products-few (c .before .before .before .before .before
 
 gathered-requires : tie.Need-gathered-requires
 gathered-requires c κs =
-    let k = c .before .before .before .before .before .before in
-    let s = c .before .before .before .before .before .before .before .before .before .before .before .before .before in
-    let t = c .before .before .before .before in
+    let k = c .before .before .before .before .before in
+    let s = c .before .before .before .before .before .before .before .before .before .before .before .before in
+    let t = c .before .before .before in
     let fits = t .before .in-grid .ensures (t .if2 .taken) in
-    grid-ready (s .pre .0) _ (k .grid-for .ensures) (omega (arith, fits .0)) (omega (arith, fits .1)) (s .pre .1 .1)
+    grid-ready (s .pre .0) _ (k .grid-for .ensures) (omega (arith, fits)) (s .pre .1 .1)
 
 same-length-6 : tie.Need-same-length-6
 same-length-6 c = search needs
@@ -66,7 +66,7 @@ same-length-9 c = search needs
 
 returns-2 : tie.Need-returns-2
 returns-2 c = (
-  c .before .before .before .before .before .before .gathered .ensures,
+  c .before .before .before .before .gathered .ensures,
   record { slots-length = search needs; keys-length = search needs; sums-length = search needs },
 )
 
@@ -84,9 +84,6 @@ same-length-12 c = search needs
 
 same-length-13 : tie.Need-same-length-13
 same-length-13 c = search needs
-
-same-length-14 : tie.Need-same-length-14
-same-length-14 c = search needs
 
 returns-3 : tie.Need-returns-3
 returns-3 c = (
@@ -112,12 +109,11 @@ kept-lent-spec =
     same-length-6
     same-length-7
     same-length-8
-    same-length-9
     returns-2
     in-lent-table-requires-2
+    same-length-9
     same-length-10
     same-length-11
     same-length-12
     same-length-13
-    same-length-14
     returns-3)

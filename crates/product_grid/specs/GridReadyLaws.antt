@@ -1,0 +1,130 @@
+-- What the steps of a product in a grid ask, and what they come to.
+use mathlib.Core.Path.{_≡_, _∙_, ap₂}
+use mathlib.Core.List.{List, []}
+use Prim.Native.Nat.{ℕ, _+_, _*_, _^_, _<_, _≤_}
+use native.Mathlib.Decide.{decLt}
+use native.Mathlib.Omega.{arith}
+use lib.IntN.{ℤ, pos}
+use lib.ListN.{length, getD, replicate, length-replicate, getD-replicate, List·getD-eq-default}
+use Rattle.algebra.specs.IntegerRing.{ℤR}
+use Rattle.polynomial.specs.Polynomial.{product}
+use Rattle.calculus.specs.Terms.{Terms, size}
+use Rattle.product_table.specs.Table.{terms}
+use Rattle.product_gathering.specs.declared.Gathered.{Gathered}
+use Rattle.product_gathering.specs.GatheringContracts.{Gathering}
+use Rattle.product_collector.specs.Collector.{accumulated-all}
+use Rattle.product_collector.specs.ProductsLaws.{size-product}
+use Rattle.product_dense.specs.declared.Sides.{Sides}
+use Rattle.product_dense.specs.Grid.{place}
+use Rattle.product_dense.specs.Degrees.{Top-degree}
+use Rattle.product_dense.specs.DigitLaws.{digits-sum}
+use Rattle.product_dense.specs.DegreeLaws.{degree-most, degree-plus}
+use Rattle.product_filling.specs.Filling.{All-fit, Summed-up}
+use Rattle.product_rising.specs.Rising.{Scan-ready, Scanned, grid-terms}
+use Rattle.product_grid.specs.GridContracts.{Grid-ready, Zeros}
+use Rattle.product_grid.specs.SameSumsLaws.{scanned-gathering}
+use Rattle.product_grid.specs.GridWalkLaws.{Keyed}
+use Rattle.product_grid.specs.GridSumsLaws.{Reached, keyed-products, sums-rising, first-distinct, same-sums}
+use Rattle.product_grid.specs.GridSumsLaws.{sums-small}
+
+-- an array of zeros
+pub fresh-zeros : (n size : ℕ) → Zeros size (replicate n (pos 0))
+fresh-zeros n size i h = elim (decLt i n) [
+  | yes l ↦ getD-replicate n i (pos 0) (pos 0) l
+  | no l ↦ List·getD-eq-default (replicate n (pos 0)) (pos 0) {n = i} (rw length-replicate (omega arith))
+]
+
+module _ {s : Sides} {ka : List ℕ} {ca : List ℤ} {na : ℕ} {kb : List ℕ} {cb : List ℤ} {nb : ℕ} {sums : List ℤ}
+    {kept : List ℕ} {coefficients : List ℤ} (q : Grid-ready s ka ca na kb cb nb sums kept coefficients) where
+  abbrev p : Terms
+  p = product ℤR (terms na ka ca) (terms nb kb cb)
+
+  pub small : size (product ℤR (terms na ka ca) (terms nb kb cb)) < 2 ^ 63
+  small = omega (arith, size-product (terms na ka ca) (terms nb kb cb), q .small)
+
+  -- other sums at as many places
+  pub ready-again : (others : List ℤ) → length others ≡ length sums
+      → Grid-ready s ka ca na kb cb nb others kept coefficients
+  ready-again others long = record {
+    whole = q .whole;
+    narrow = q .narrow;
+    first-few = q .first-few;
+    second-few = q .second-few;
+    first-keys = q .first-keys;
+    first-coefficients = q .first-coefficients;
+    second-keys = q .second-keys;
+    second-coefficients = q .second-coefficients;
+    first-digits = q .first-digits;
+    second-digits = q .second-digits;
+    gridded = q .gridded;
+    places = q .places;
+    small = q .small;
+    sums-room = omega (arith, q .sums-room, long);
+    kept-room = q .kept-room;
+    coefficients-room = q .coefficients-room;
+  }
+
+  -- to fill the grid
+  unfoldable pub all-fit : Zeros (s .size) sums → (ia ib : List ℕ) → na ≤ length ia → nb ≤ length ib
+      → ((i : ℕ) → i < na → getD ia i 0 ≡ place s (getD ka i 0))
+      → ((j : ℕ) → j < nb → getD ib j 0 ≡ place s (getD kb j 0))
+      → All-fit sums ca ia na cb ib nb
+  all-fit z ia ib la lb pa pb = record {
+    sides = s;
+    ka = ka;
+    kb = kb;
+    zeros = z;
+    sums-room = q .sums-room;
+    first-keys = q .first-keys;
+    first-coefficients = q .first-coefficients;
+    first-places = la;
+    second-keys = q .second-keys;
+    second-coefficients = q .second-coefficients;
+    second-places = lb;
+    gridded = q .gridded;
+    places = λ i j h l. ap₂ _+_ (pa i h) (pb j l) ∙ q .places i j h l;
+    small = small;
+  }
+
+  -- no degree is above the sum of the two largest
+  module _ {a b : ℕ} (ta : Top-degree ka na a) (tb : Top-degree kb nb b) where
+    pub most-low : a + b < 127
+    most-low =
+        omega (
+          arith,
+          ta .least 60 (λ i h. degree-most (q .first-digits i h)),
+          tb .least 60 (λ j h. degree-most (q .second-digits j h)),
+        )
+
+    reached : Keyed (λ x z. Reached s (a + b) x) p
+    reached =
+        keyed-products (λ x z. Reached s (a + b) x) na nb ka ca kb cb
+        (λ i j z h l.
+        let x = q .first-digits i h in
+        let y = q .second-digits j l in
+        record {
+          gridded = q .gridded i j h l;
+          digits = digits-sum x y;
+          low = omega (arith, degree-plus x y, ta .each i h, tb .each j l);
+        })
+
+    -- once it is filled
+    module _ (filled : List ℤ) (f : Summed-up s p filled) (long : length filled ≡ length sums) where
+      pub scan-ready : Scan-ready filled (s .first) (s .second) (s .third) (s .fourth) (a + b)
+      scan-ready = record {
+        places = omega (arith, q .whole, q .sums-room, long);
+        short-second = omega (arith, q .narrow .short-second);
+        short-third = omega (arith, q .narrow .short-third);
+        low = most-low;
+        small = omega (arith, sums-small s p filled f (q .whole) (a + b) most-low reached, small);
+      }
+
+      pub scanned : (d : ℕ) {kept-after : List ℕ} {coefficients-after : List ℤ} {r : Gathered}
+          → Scanned d (grid-terms filled (s .first) (s .second) (s .third) (s .fourth) (a + b))
+          kept-after coefficients-after r
+          → Gathering d (accumulated-all [] (product ℤR (terms na ka ca) (terms nb kb cb)))
+          kept-after coefficients-after r
+      scanned d w =
+          scanned-gathering d _ _ (sums-rising s p filled f (q .whole) (a + b) most-low reached)
+          (first-distinct s p filled f (q .whole) (a + b) most-low reached)
+          (same-sums s p filled f (q .whole) (a + b) most-low reached) w
