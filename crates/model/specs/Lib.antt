@@ -1,3 +1,4 @@
 pub mod CallLaws
 pub mod OperationContracts
 pub mod OperationLaws
+pub mod TableSizes

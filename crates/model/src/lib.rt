@@ -3,11 +3,16 @@
 // call's comment are its refusals, in the order of the tests. The constructors `Model::constant` and `Model::variable`
 // stand with the type.
 ghost use mathlib.Core.Path.{_≡_};
+ghost use Prim.Native.Nat.{_≤_};
 ghost use Rattle.calculus.specs.Model.{«zero-model», «one-model»};
+ghost use Rattle.calculus.specs.Refusal.{«at-place»};
+ghost use Rattle.calculus.specs.Operations as Op;
 ghost use Rattle.calculus.specs.Calls.{call-negate, call-add, call-subtract, call-multiply, call-substitute};
 ghost use Rattle.calculus.specs.Calls.{call-sweep, call-range, call-integral, call-evaluate, call-antiderivative};
 ghost use Rattle.calculus.specs.Calls.{call-quotient};
 ghost use Rattle.model_types.specs.ModelStruct.{view, pack, answer, bounds, «integral-answer»};
+ghost use Rattle.model_substitution.specs.Substitute.{Substitution};
+ghost use Rattle.model.specs.TableSizes.{«few-terms», «some-terms»};
 pub use model_types::Answer;
 pub use model_types::Bounds;
 pub use model_types::Integral;
@@ -35,6 +40,66 @@ pub fn one_model() -> Model
     ensures { λ r. ⌜ r ≡ pack (one-model 1) ⌝ }
 {
     Model::ONE
+}
+
+// ---- the tables of a substitution
+// A table is filled with zeros where it is made, which takes longer than a short substitution. So its size goes by the
+// terms of g: each product has one factor g, and one of at most 64 terms.
+const FEW_TERMS: usize = 4;
+
+const SOME_TERMS: usize = 16;
+
+const FEW_PRODUCTS: usize = model_types::MOST_TERMS * FEW_TERMS;
+
+const SOME_PRODUCTS: usize = model_types::MOST_TERMS * SOME_TERMS;
+
+// g of few terms in the place of variable i of f, with order d.
+fn substituted_few(d: u8, i: u8, f: Model, g: Model) -> Answer
+    requires { ⌜ Substitution d i f g ⌝ }
+    requires { ⌜ g .count ≤ few-terms ⌝ }
+    ensures { λ r. ⌜ r ≡ answer (at-place 0 (Op.substitute d i (view f) (view g))) ⌝ }
+{
+    let mut slots = [0u16; product_table::SLOTS_EACH * FEW_PRODUCTS + 1];
+    let mut keys = [0u64; FEW_PRODUCTS + 1];
+    let mut sums = [0i64; FEW_PRODUCTS + 1];
+    model_substitution::substituted(d, i, f, g, &mut slots, &mut keys, &mut sums)
+}
+
+// g of some terms.
+fn substituted_some(d: u8, i: u8, f: Model, g: Model) -> Answer
+    requires { ⌜ Substitution d i f g ⌝ }
+    requires { ⌜ g .count ≤ some-terms ⌝ }
+    ensures { λ r. ⌜ r ≡ answer (at-place 0 (Op.substitute d i (view f) (view g))) ⌝ }
+{
+    let mut slots = [0u16; product_table::SLOTS_EACH * SOME_PRODUCTS + 1];
+    let mut keys = [0u64; SOME_PRODUCTS + 1];
+    let mut sums = [0i64; SOME_PRODUCTS + 1];
+    model_substitution::substituted(d, i, f, g, &mut slots, &mut keys, &mut sums)
+}
+
+// g of any number of terms.
+fn substituted_any(d: u8, i: u8, f: Model, g: Model) -> Answer
+    requires { ⌜ Substitution d i f g ⌝ }
+    ensures { λ r. ⌜ r ≡ answer (at-place 0 (Op.substitute d i (view f) (view g))) ⌝ }
+{
+    let mut slots = [0u16; product_table::SLOTS];
+    let mut keys = [0u64; product_table::PLACES];
+    let mut sums = [0i64; product_table::PLACES];
+    model_substitution::substituted(d, i, f, g, &mut slots, &mut keys, &mut sums)
+}
+
+// g in the place of variable i of f, with order d, in a table of its own.
+fn substituted_alone(d: u8, i: u8, f: Model, g: Model) -> Answer
+    requires { ⌜ Substitution d i f g ⌝ }
+    ensures { λ r. ⌜ r ≡ answer (at-place 0 (Op.substitute d i (view f) (view g))) ⌝ }
+{
+    if g.count <= FEW_TERMS {
+        return substituted_few(d, i, f, g);
+    }
+    if g.count <= SOME_TERMS {
+        return substituted_some(d, i, f, g);
+    }
+    substituted_any(d, i, f, g)
 }
 
 // ---- the calls
@@ -144,12 +209,7 @@ pub fn substitute(d: u8, i: u8, f: Model, g: Model) -> Answer
 {
     let v = model_call_tests::substituting(d, i, f, g);
     match v {
-        Verdict::Accepted => {
-            let mut slots = [0u16; product_table::SLOTS];
-            let mut keys = [0u64; product_table::PLACES];
-            let mut sums = [0i64; product_table::PLACES];
-            model_substitution::substituted(d, i, f, g, &mut slots, &mut keys, &mut sums)
-        }
+        Verdict::Accepted => substituted_alone(d, i, f, g),
         Verdict::Refused(refusal, place) => model_types::refuse(refusal, place),
     }
 }
@@ -162,9 +222,9 @@ pub fn evaluate(m: Model, xs: [i64; model_types::MOST_VARS as usize]) -> Bounds
     let v = model_call_tests::at_point(m, xs);
     match v {
         Verdict::Accepted => {
-            let mut slots = [0u16; product_table::SLOTS];
-            let mut keys = [0u64; product_table::PLACES];
-            let mut sums = [0i64; product_table::PLACES];
+            let mut slots = [0u16; product_table::SLOTS_EACH * model_types::MOST_TERMS + 1];
+            let mut keys = [0u64; model_types::MOST_TERMS + 1];
+            let mut sums = [0i64; model_types::MOST_TERMS + 1];
             model_evaluation::evaluated(m, xs, &mut slots, &mut keys, &mut sums)
         }
         Verdict::Refused(refusal, place) => model_types::refuse_bounds(refusal, place),

@@ -2,7 +2,7 @@
 use mathlib.Core.Path.{_≡_, refl, sym, _∙_, ap, ap₂, subst}
 use mathlib.Core.Bool.{true}
 use mathlib.Core.List.{List, [], _∷_}
-use Prim.Native.Nat.{ℕ, zero, suc, _+_, _-_, _≤_, _<_}
+use Prim.Native.Nat.{ℕ, zero, suc, _+_, _-_, _*_, _≤_, _<_}
 use native.Mathlib.Numerals.{add-one}
 use native.Mathlib.Omega.{arith}
 use lib.Dec.{T, leb, leb→le}
@@ -11,9 +11,12 @@ use lib.ListN.{length, take, drop, getD, drop-of-length-le}
 use lib.Seq.{drop-cons, getD-take, length-take-le}
 use Rattle.fixed.specs.Fixed.{U, span-limit}
 use Rattle.fixed.specs.FixedLaws.{U-within}
+use Rattle.calculus.specs.Monomial.{zeros}
+use Rattle.calculus.specs.Terms.{term, is-nonzero, drop-zeros}
 use Rattle.calculus.specs.TestLaws.{and-left, and-right}
+use Rattle.calculus.specs.TermsLaws.{length-select}
 use Rattle.calculus.specs.Model as C
-use Rattle.calculus.specs.Model.{most-degree, sound}
+use Rattle.calculus.specs.Model.{most-terms, most-degree, sound}
 use Rattle.calculus.specs.Refusal as R
 use Rattle.calculus.specs.Refusal.{accepted, done, _then_, at-place}
 use Rattle.calculus.specs.Operations.{Ends, constant, range, substitute, put-constants, evaluate}
@@ -26,6 +29,8 @@ use Rattle.model_types.specs.declared.Answer.{Answer}
 use Rattle.model_types.specs.declared.Bounds.{Bounds}
 use Rattle.model_types.specs.ModelStruct.{view, pack, answer, bounds}
 use Rattle.model_types.specs.ModelStructLaws.{sound-vars}
+use Rattle.product_terms.specs.ProductTerms.{Lent-room}
+use Rattle.product_terms.specs.ProductTermsLaws.{fewer-room}
 use Rattle.model_substitution.specs.Substitute.{Substitution}
 use Rattle.model_types.specs.ResultLaws.{Holds, held-view, held-sound, held-vars, Got, got, then-is}
 use Rattle.model_types.specs.ResultLaws.{refused-then, refused-ends}
@@ -108,6 +113,16 @@ module _ {m : Model} {xs : List ℤ} (s : Evaluation m xs) (l : m .n ≤ length 
         first = r .first;
         last = omega (arith, r .vars);
       }
+
+      -- a constant has one term at the most
+      coordinate-count : c .count ≤ 1
+      unfolding pack constant drop-zeros
+      coordinate-count = omega (arith, ap (λ (c : Model). c .count) t, length-select (λ k c. is-nonzero c) (term X (zeros (m .n)) ∷ []))
+
+      pub coordinate-room : {slots keys : List ℕ} {sums : List ℤ} → Lent-room most-terms slots keys sums
+          → Lent-room (most-terms * c .count) slots keys sums
+      unfolding most-terms
+      coordinate-room l = fewer-room l (omega (arith, coordinate-count))
 
       module _ {a : Answer} (e : a ≡ answer (at-place 0 (substitute most-degree i (view h) (view c)))) where
         abbrev put : R.Answer C.Model

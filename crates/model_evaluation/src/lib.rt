@@ -1,16 +1,19 @@
 // The value of a model at a point: its coordinates put in for the variables, then the range of what is left.
 ghost use mathlib.Core.Path.{_≡_};
 ghost use lib.ListN.{take};
+ghost use Rattle.calculus.specs.Model.{«most-terms»};
 ghost use Rattle.calculus.specs.Refusal.{«at-place»};
 ghost use Rattle.calculus.specs.Operations.{evaluate};
 ghost use Rattle.model_types.specs.ModelStruct.{view, bounds};
-ghost use Rattle.product_collector.specs.CollectorContracts.{«Lent-table», «Free-table»};
+ghost use Rattle.product_collector.specs.CollectorContracts.{«Free-table»};
+ghost use Rattle.product_terms.specs.ProductTerms.{«Lent-room»};
 ghost use Rattle.model_evaluation.specs.Evaluate.{Evaluation};
 use model_types::Bounds;
 use model_types::Model;
 use model_types::Verdict;
 
-// The range of what is left of m after the coordinates are put in for its variables, one after the other.
+// The range of what is left of m after the coordinates are put in for its variables, one after the other. A coordinate
+// is a constant, of one term at the most: the table is lent for the products of one term with those of a model.
 pub fn evaluated(
     m: Model,
     xs: [i64; model_types::MOST_VARS as usize],
@@ -19,7 +22,7 @@ pub fn evaluated(
     sums: &mut [i64],
 ) -> Bounds
     requires { ⌜ Evaluation m xs ⌝ }
-    requires { ⌜ Lent-table (now slots) (now keys) (now sums) ⌝ }
+    requires { ⌜ Lent-room most-terms (now slots) (now keys) (now sums) ⌝ }
     ensures exact { λ r. ⌜ r ≡ bounds (at-place 0 (evaluate (take (m .n) xs) (view m))) ⌝ }
     ensures table { λ r. ⌜ Free-table (now (slots .entry)) (now (keys .entry)) (now (sums .entry))
         (now (slots .exit)) (now (keys .exit)) (now (sums .exit)) ⌝ }

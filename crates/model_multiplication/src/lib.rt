@@ -1,12 +1,14 @@
 // The product of two models, in what is lent or in room of its own: both are unpacked into wide keys, what the order
 // keeps of the products of their terms is found there, and that is packed again.
 ghost use mathlib.Core.Path.{_≡_};
+ghost use Prim.Native.Nat.{_*_};
 ghost use Rattle.calculus.specs.Refusal.{«at-place»};
 ghost use Rattle.calculus.specs.Operations.{multiply};
 ghost use Rattle.calculus.specs.Shares.{«product-shares»};
 ghost use Rattle.model_types.specs.ModelStruct.{view, answer};
 ghost use Rattle.model_types.specs.SharesStruct.{accounted};
-ghost use Rattle.product_collector.specs.CollectorContracts.{«Lent-table», «Free-table»};
+ghost use Rattle.product_collector.specs.CollectorContracts.{«Free-table»};
+ghost use Rattle.product_terms.specs.ProductTerms.{«Lent-room»};
 ghost use Rattle.product_answer.specs.ProductFactors.{Factors};
 use model_types::Accounted;
 use model_types::Answer;
@@ -15,7 +17,7 @@ use product_gathering::Gathered;
 
 // ---- in what is lent
 // f times g at order d with the shares of its radius, in a grid where the monomials are few, or else in a table. What
-// is lent serves for both, whatever is in it.
+// is lent serves for both, whatever is in it, and need not be larger than a table for the products of their terms.
 pub fn multiplied_accounted(
     d: u8,
     f: Model,
@@ -25,7 +27,7 @@ pub fn multiplied_accounted(
     sums: &mut [i64],
 ) -> Accounted
     requires { ⌜ Factors d f g ⌝ }
-    requires { ⌜ Lent-table (now slots) (now keys) (now sums) ⌝ }
+    requires { ⌜ Lent-room (f .count * g .count) (now slots) (now keys) (now sums) ⌝ }
     ensures exact { λ r. ⌜ r ≡ accounted (multiply d (view f) (view g)) (λ m. product-shares d (view f) (view g)) ⌝ }
     ensures table { λ r. ⌜ Free-table (now (slots .entry)) (now (keys .entry)) (now (sums .entry))
         (now (slots .exit)) (now (keys .exit)) (now (sums .exit)) ⌝ }
@@ -65,7 +67,7 @@ pub fn multiplied(
     sums: &mut [i64],
 ) -> Answer
     requires { ⌜ Factors d f g ⌝ }
-    requires { ⌜ Lent-table (now slots) (now keys) (now sums) ⌝ }
+    requires { ⌜ Lent-room (f .count * g .count) (now slots) (now keys) (now sums) ⌝ }
     ensures exact { λ r. ⌜ r ≡ answer (at-place 0 (multiply d (view f) (view g))) ⌝ }
     ensures table { λ r. ⌜ Free-table (now (slots .entry)) (now (keys .entry)) (now (sums .entry))
         (now (slots .exit)) (now (keys .exit)) (now (sums .exit)) ⌝ }

@@ -1,3 +1,4 @@
 pub mod Substitute
 pub mod TurnLaws
 pub mod HornerLaws
+pub mod SubstitutionRoomLaws

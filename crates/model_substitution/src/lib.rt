@@ -1,14 +1,16 @@
 // Substitution by Horner's rule.
 ghost use mathlib.Core.Path.{_≡_};
-ghost use Prim.Native.Nat.{_^_, _≤_, _<_};
+ghost use Prim.Native.Nat.{_*_, _^_, _≤_, _<_};
 ghost use Rattle.fixed.specs.Fixed.{«span-limit»};
+ghost use Rattle.calculus.specs.Model.{«most-terms»};
 ghost use Rattle.calculus.specs.Refusal.{«at-place»};
 ghost use Rattle.calculus.specs.Operations.{substitute};
 ghost use Rattle.calculus.specs.Shares as S;
 ghost use Rattle.calculus.specs.Shares.{«product-shares», carrying, «substitute-shares»};
 ghost use Rattle.model_types.specs.ModelStruct.{view, answer};
 ghost use Rattle.model_types.specs.SharesStruct.{«stored-shares», accounted};
-ghost use Rattle.product_collector.specs.CollectorContracts.{«Lent-table», «Free-table»};
+ghost use Rattle.product_collector.specs.CollectorContracts.{«Free-table»};
+ghost use Rattle.product_terms.specs.ProductTerms.{«Lent-room»};
 ghost use Rattle.model_substitution.specs.Substitute.{«horner-turn», Turn, Substitution};
 use model_types::Accounted;
 use model_types::Answer;
@@ -44,7 +46,7 @@ fn horner_turn(
     sums: &mut [i64],
 ) -> Accounted
     requires { ⌜ Turn d h g q ⌝ }
-    requires { ⌜ Lent-table (now slots) (now keys) (now sums) ⌝ }
+    requires { ⌜ Lent-room (most-terms * g .count) (now slots) (now keys) (now sums) ⌝ }
     ensures exact { λ r. ⌜ r ≡ accounted (horner-turn d (view h) (view g) (view q))
         (λ m. product-shares d (view h) (view g)) ⌝ }
     ensures table { λ r. ⌜ Free-table (now (slots .entry)) (now (keys .entry)) (now (sums .entry))
@@ -66,7 +68,8 @@ fn horner_turn(
 }
 
 // g in the place of variable i of f, with order d: Horner's rule from the highest power down, with the shares of its
-// last product and the radius of f. The table is lent for all products.
+// last product and the radius of f. The table is lent for all products, in each of which g is multiplied by a model of
+// no more terms than any has.
 pub fn substituted_accounted(
     d: u8,
     i: u8,
@@ -77,7 +80,7 @@ pub fn substituted_accounted(
     sums: &mut [i64],
 ) -> Accounted
     requires { ⌜ Substitution d i f g ⌝ }
-    requires { ⌜ Lent-table (now slots) (now keys) (now sums) ⌝ }
+    requires { ⌜ Lent-room (most-terms * g .count) (now slots) (now keys) (now sums) ⌝ }
     ensures exact { λ r. ⌜ r ≡ accounted (substitute d i (view f) (view g))
         (λ m. substitute-shares d i (view f) (view g)) ⌝ }
     ensures table { λ r. ⌜ Free-table (now (slots .entry)) (now (keys .entry)) (now (sums .entry))
@@ -125,7 +128,7 @@ pub fn substituted(
     sums: &mut [i64],
 ) -> Answer
     requires { ⌜ Substitution d i f g ⌝ }
-    requires { ⌜ Lent-table (now slots) (now keys) (now sums) ⌝ }
+    requires { ⌜ Lent-room (most-terms * g .count) (now slots) (now keys) (now sums) ⌝ }
     ensures exact { λ r. ⌜ r ≡ answer (at-place 0 (substitute d i (view f) (view g))) ⌝ }
     ensures table { λ r. ⌜ Free-table (now (slots .entry)) (now (keys .entry)) (now (sums .entry))
         (now (slots .exit)) (now (keys .exit)) (now (sums .exit)) ⌝ }

@@ -1,4 +1,3 @@
 pub mod MultiplyCallLaws
 pub mod KeptModelLaws
 pub mod SliceCallLaws
-pub mod SliceRooms

@@ -13,7 +13,7 @@ use Rattle.product_table.specs.Table.{entries, most-entries}
 use Rattle.product_gathering.specs.declared.Gathered.{Gathered}
 use Rattle.product_gathering.specs.GatheringContracts.{Gathering}
 use Rattle.product_collector.specs.Collector.{accumulated-all}
-use Rattle.product_collector.specs.CollectorContracts.{Collected, Held-factors, Empty-table, Lent-table}
+use Rattle.product_collector.specs.CollectorContracts.{Collected, Held-factors, Empty-table, Lent-table, Free-table}
 use Rattle.product_collector.specs.FactorArrayLaws.{monomial-at, first-key, first-monomial, second-key, second-monomial}
 use Rattle.product_collector.specs.FactorArrayLaws.{factors-size}
 use Rattle.product_dense.specs.declared.Extents.{Extents}
@@ -59,21 +59,41 @@ zeros-grid n size i l = elim (decLt i n) [
   | no h ↦ List·getD-eq-default (replicate n (pos 0)) (pos 0) {n = i} (rw length-replicate (omega arith))
 ]
 
+-- ---- what is lent
+module _ {slots keys : List ℕ} {sums : List ℤ} where
+  -- for any product, serves for so many products of two terms
+  pub lent-room : {products : ℕ} → Lent-table slots keys sums → products ≤ most-entries
+      → Lent-room products slots keys sums
+  lent-room t l = record {
+    slots-room = omega (arith, l, t .slots-room);
+    keys-room = omega (arith, l, t .keys-room);
+    sums-room = omega (arith, l, t .sums-room);
+  }
+
+  module _ {products : ℕ} (t : Lent-room products slots keys sums) where
+    -- for so many products, serves for fewer
+    pub fewer-room : {fewer : ℕ} → fewer ≤ products → Lent-room fewer slots keys sums
+    fewer-room l = record {
+      slots-room = omega (arith, l, t .slots-room);
+      keys-room = omega (arith, l, t .keys-room);
+      sums-room = omega (arith, l, t .sums-room);
+    }
+
+    -- and still does when it comes back
+    pub free-room : {slots′ keys′ : List ℕ} {sums′ : List ℤ} → Free-table slots keys sums slots′ keys′ sums′
+        → Lent-room products slots′ keys′ sums′
+    free-room f = record {
+      slots-room = omega (arith, f .slots-length, t .slots-room);
+      keys-room = omega (arith, f .keys-length, t .keys-room);
+      sums-room = omega (arith, f .sums-length, t .sums-room);
+    }
+
 -- ---- two lists of terms
 module _ {ka : List ℕ} {ca : List ℤ} {na : ℕ} {kb : List ℕ} {cb : List ℤ} {nb : ℕ}
     (h : Held-factors ka ca na kb cb nb) where
   pub products-few : na * nb ≤ most-entries
   unfolding most-terms
   products-few = NatL.mul-le-mul (h .first-few) (h .second-few)
-
-  -- what is lent for any product serves for theirs
-  pub lent-room : {slots keys : List ℕ} {sums : List ℤ} → Lent-table slots keys sums
-      → Lent-room (na * nb) slots keys sums
-  lent-room t = record {
-    slots-room = omega (arith, products-few, t .slots-room);
-    keys-room = omega (arith, products-few, t .keys-room);
-    sums-room = omega (arith, products-few, t .sums-room);
-  }
 
   first-digits : (i : ℕ) → i < na → Digits 15 (getD ka i 0)
   unfolding most-degree

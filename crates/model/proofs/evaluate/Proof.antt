@@ -1,6 +1,8 @@
 -- `evaluate` makes the tests of the model and the coordinates, then evaluates.
 use mathlib.Core.Path.{_≡_, sym, _∙_, ap}
 use borrow.Author.Needs.{needs}
+use lib.Dec.{lit≤}
+use Rattle.calculus.specs.Model.{most-terms}
 use Rattle.model_types.specs.ModelStruct.{view, verdict, bounds}
 use Rattle.model_types.specs.declared.Verdict.the-variants.{Accepted}
 use Rattle.model_call_tests.specs.Admission.{at-point}
@@ -33,11 +35,11 @@ slice-aggregate-evaluated-3 : tie.Need-slice-aggregate-evaluated-3
 slice-aggregate-evaluated-3 c = search needs
 
 evaluated-requires : tie.Need-evaluated-requires
-unfolding view
+unfolding view most-terms
 evaluated-requires c κs =
     let p = point-passed _ _ (passed (c .before .before .before)) in (
       record { model = p .model; coordinates = p .coordinates },
-      record { slots-room = search needs; keys-room = search needs; sums-room = search needs },
+      record { slots-room = lit≤ tt; keys-room = lit≤ tt; sums-room = lit≤ tt },
     )
 
 enum-known-v : tie.Need-enum-known-v

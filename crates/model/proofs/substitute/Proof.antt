@@ -24,29 +24,18 @@ substituting-requires c κs = search needs
 enum-told : tie.Need-enum-told
 enum-told c = search needs
 
-slice-aggregate-substituted : tie.Need-slice-aggregate-substituted
-slice-aggregate-substituted c = search needs
-
-slice-aggregate-substituted-2 : tie.Need-slice-aggregate-substituted-2
-slice-aggregate-substituted-2 c = search needs
-
-slice-aggregate-substituted-3 : tie.Need-slice-aggregate-substituted-3
-slice-aggregate-substituted-3 c = search needs
-
-substituted-requires : tie.Need-substituted-requires
+substituted-alone-requires : tie.Need-substituted-alone-requires
 unfolding view
-substituted-requires c κs =
-    let p = substituting-passed _ _ _ _ (passed (c .before .before .before)) in (
-      record {
-        order = p .order;
-        model = p .model;
-        inner = p .inner;
-        vars = p .vars;
-        first = p .least;
-        last = p .most;
-      },
-      record { slots-room = search needs; keys-room = search needs; sums-room = search needs },
-    )
+substituted-alone-requires c κs =
+    let p = substituting-passed _ _ _ _ (passed c) in
+    record {
+      order = p .order;
+      model = p .model;
+      inner = p .inner;
+      vars = p .vars;
+      first = p .least;
+      last = p .most;
+    }
 
 enum-known-v : tie.Need-enum-known-v
 enum-known-v c = search needs
@@ -56,9 +45,7 @@ refuse-requires c κs = search needs
 
 returns : tie.Need-returns
 returns c =
-    let g = c .before .before .before in
-    g .substituted .ensures .0
-    ∙ ap answer (sym (substitute-is _ _ _ _ ∙ goes-on _ _ (passed (g .before .before .before .before))))
+    c .substituted-alone .ensures ∙ ap answer (sym (substitute-is _ _ _ _ ∙ goes-on _ _ (passed (c .before))))
 
 returns-2 : tie.Need-returns-2
 returns-2 c =
@@ -72,10 +59,7 @@ substitute-spec =
     (tie.spec
     substituting-requires
     enum-told
-    slice-aggregate-substituted
-    slice-aggregate-substituted-2
-    slice-aggregate-substituted-3
-    substituted-requires
+    substituted-alone-requires
     enum-known-v
     refuse-requires
     returns

@@ -13,8 +13,9 @@ use Rattle.calculus.specs.Model.{most-degree}
 use Rattle.calculus.specs.Operations.{constant}
 use Rattle.model_types.specs.ModelStruct.{pack}
 use Rattle.model_types.specs.ModelStructLaws.{limits}
+use Rattle.product_terms.specs.ProductTermsLaws.{free-room}
 use Rattle.model_evaluation.specs.EvaluationLaws.{Remaining, remaining-first, coordinate-substitution}
-use Rattle.model_evaluation.specs.EvaluationLaws.{put-refused}
+use Rattle.model_evaluation.specs.EvaluationLaws.{coordinate-room, put-refused}
 use Rattle.model_evaluation.specs.EvaluationLaws.{put-accepted, remaining-end}
 use Rattle.model_evaluation.proofs.evaluated.Statement.{statement}
 use Rattle.model_evaluation.proofs.evaluated.Tie as tie
@@ -90,15 +91,11 @@ substituted-requires : tie.Need-substituted-requires Inv-loop μ-loop
 unfolding most-degree
 substituted-requires c κs =
     let k = c .before .before .before in
-    let l = turn k in
-    let s = start k in
-    let t = s .pre .1 in (
+    let i = turn k .loop .inv in
+    let s = start k in (
       coordinate-substitution (s .pre .0) (long s) (left k) (inside k) (constant-is k),
-      record {
-        slots-room = omega (arith, l .loop .inv .1, t .slots-room);
-        keys-room = omega (arith, l .loop .inv .2, t .keys-room);
-        sums-room = omega (arith, l .loop .inv .3, t .sums-room);
-      },
+      coordinate-room (s .pre .0) (long s) (left k) (inside k) (constant-is k)
+          (free-room (s .pre .1) (record { slots-length = i .1; keys-length = i .2; sums-length = i .3 })),
     )
 
 module _ (c : tie.After-substituted Inv-loop μ-loop) where

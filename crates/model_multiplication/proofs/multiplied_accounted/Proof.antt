@@ -6,7 +6,6 @@ use lib.ListN.{length}
 use Rattle.calculus.specs.Model.{most-terms}
 use Rattle.model_types.specs.ModelStructLaws.{limits}
 use Rattle.product_collector.specs.CollectorContracts.{Held-factors}
-use Rattle.product_terms.specs.ProductTermsLaws.{lent-room}
 use Rattle.product_answer.specs.ProductFactors.{Factors}
 use Rattle.product_answer.specs.FactorLaws.{unpack-ready, factors, factors-answer, end-ready, end-answer}
 use Rattle.model_multiplication.proofs.multiplied_accounted.Statement.{statement}
@@ -94,7 +93,7 @@ kept-lent-requires : tie.Need-kept-lent-requires
 unfolding most-terms
 kept-lent-requires c κs =
     let u = c .before .before .before .before .before .before .before .before .before .before .before in
-    (held u, (lent-room (held u) (start u .pre .1), record { kept-room = lit≤ tt; coefficients-room = lit≤ tt }))
+    (held u, (start u .pre .1, record { kept-room = lit≤ tt; coefficients-room = lit≤ tt }))
 
 slice-aggregate-answered : tie.Need-slice-aggregate-answered
 slice-aggregate-answered c = search needs

@@ -4,6 +4,7 @@ use native.Mathlib.Omega.{arith}
 use borrow.Author.Needs.{needs}
 use lib.ListN.{length}
 use Rattle.model_types.specs.declared.Verdict.the-variants.{Accepted}
+use Rattle.model_multiplication.specs.FactorRoomLaws.{factors-room}
 use Rattle.model_proposal.specs.FormLaws.{gap-asked, defect-refused, defect-factors, defect-answer}
 use Rattle.model_proposal.proofs.defect.Statement.{statement}
 use Rattle.model_proposal.proofs.defect.Tie as tie
@@ -54,13 +55,14 @@ multiplied-requires : tie.Need-multiplied-requires
 multiplied-requires c κs =
     let b = c .before .before .before in
     let m = made b in
-    let t = start m .pre .1 in (
-      defect-factors (start m .pre .0) (m .gap .ensures .0) (taken b) _ (b .bare .ensures),
-      record {
+    let t = start m .pre .1 in
+    let f = defect-factors (start m .pre .0) (m .gap .ensures .0) (taken b) _ (b .bare .ensures) in (
+      f,
+      factors-room f (record {
         slots-room = omega (arith, m .gap .kept .1 .1 .1 .1 .0, t .slots-room);
         keys-room = omega (arith, m .gap .kept .1 .1 .1 .1 .1 .0, t .keys-room);
         sums-room = omega (arith, m .gap .kept .1 .1 .1 .1 .1 .1 .0, t .sums-room);
-      },
+      }),
     )
 
 same-length-4 : tie.Need-same-length-4

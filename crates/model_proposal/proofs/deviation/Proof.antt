@@ -3,6 +3,7 @@ use mathlib.Core.Path.{_≡_}
 use borrow.Author.Needs.{needs}
 use Rattle.model_types.specs.ModelStructLaws.{limits}
 use Rattle.model_types.specs.declared.Verdict.the-variants.{Accepted}
+use Rattle.model_multiplication.specs.FactorRoomLaws.{factors-room}
 use Rattle.model_proposal.specs.FormLaws.{deviation-factors, deviation-refused, deviation-operands}
 use Rattle.model_proposal.specs.FormLaws.{deviation-answer}
 use Rattle.model_proposal.proofs.deviation.Statement.{statement}
@@ -18,7 +19,8 @@ multiplied-requires : tie.Need-multiplied-requires
 multiplied-requires c κs =
     let b = c .before .before .before in
     let s = b .before .before .before .before in
-    (deviation-factors (s .pre .0) _ (b .bare .ensures), s .pre .1)
+    let f = deviation-factors (s .pre .0) _ (b .bare .ensures) in
+    (f, factors-room f (s .pre .1))
 
 enum-told : tie.Need-enum-told
 enum-told c = search needs

@@ -2,6 +2,7 @@
 use mathlib.Core.Path.{_≡_}
 use borrow.Author.Needs.{needs}
 use Rattle.model_types.specs.declared.Verdict.the-variants.{Accepted}
+use Rattle.model_multiplication.specs.FactorRoomLaws.{factors-room}
 use Rattle.model_proposal.specs.FormLaws.{gap-factors, gap-refused, gap-operands, gap-answer}
 use Rattle.model_proposal.proofs.gap.Statement.{statement}
 use Rattle.model_proposal.proofs.gap.Tie as tie
@@ -13,7 +14,8 @@ multiplied-requires : tie.Need-multiplied-requires
 multiplied-requires c κs =
     let b = c .before .before .before in
     let s = b .before .before .before in
-    (gap-factors (s .pre .0) _ (b .bare .ensures), s .pre .1)
+    let f = gap-factors (s .pre .0) _ (b .bare .ensures) in
+    (f, factors-room f (s .pre .1))
 
 enum-told : tie.Need-enum-told
 enum-told c = search needs

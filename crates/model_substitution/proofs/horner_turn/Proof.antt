@@ -3,13 +3,14 @@ use mathlib.Core.Path.{_≡_}
 use borrow.Author.Needs.{needs}
 use Rattle.model_types.specs.declared.Verdict.the-variants.{Accepted}
 use Rattle.model_substitution.specs.TurnLaws.{product-refused, product-operands, sum-accounted}
+use Rattle.model_substitution.specs.SubstitutionRoomLaws.{turn-room}
 use Rattle.model_substitution.proofs.horner_turn.Statement.{statement}
 use Rattle.model_substitution.proofs.horner_turn.Tie as tie
 
 multiplied-accounted-requires : tie.Need-multiplied-accounted-requires
 multiplied-accounted-requires c κs =
     let s = c .before .before .before .before .before in
-    (s .pre .0 .factors, s .pre .1)
+    (s .pre .0 .factors, turn-room (s .pre .0) (s .pre .1))
 
 enum-told : tie.Need-enum-told
 enum-told c = search needs

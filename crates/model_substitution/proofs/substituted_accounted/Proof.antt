@@ -6,6 +6,7 @@ use borrow.Author.Needs.{needs}
 use borrow.Author.Tests.{not-true, not-false}
 use lib.ListN.{length}
 use Rattle.model_types.specs.ModelStruct.{view, cause}
+use Rattle.product_terms.specs.ProductTermsLaws.{free-room}
 use Rattle.model_powers.specs.Powers.{In-variable}
 use Rattle.model_types.specs.ResultLaws.{sound-order}
 use Rattle.model_substitution.specs.HornerLaws.{Left, outside, left-first, left-turn, turn-refused, turn-accepted}
@@ -80,13 +81,9 @@ horner-turn-requires : tie.Need-horner-turn-requires Inv-loop μ-loop
 horner-turn-requires c κs =
     let p = c .before .before .before in
     let l = p .before .before in
-    let t = start l .pre .1 in (
-      left-turn (start l .pre .0) (l .loop .inv .0) (p .part2 .ensures),
-      record {
-        slots-room = omega (arith, l .loop .inv .1, t .slots-room);
-        keys-room = omega (arith, l .loop .inv .2, t .keys-room);
-        sums-room = omega (arith, l .loop .inv .3, t .sums-room);
-      },
+    let i = l .loop .inv in (
+      left-turn (start l .pre .0) (i .0) (p .part2 .ensures),
+      free-room (start l .pre .1) (record { slots-length = i .1; keys-length = i .2; sums-length = i .3 }),
     )
 
 module _ (c : tie.After-horner-turn Inv-loop μ-loop) where

@@ -1,0 +1,24 @@
+-- What is lent for a substitution has room for each turn of Horner's rule, whose factor has at most 64 terms; and what is
+-- lent for any product has room for a substitution.
+use Prim.Native.Nat.{ℕ, _*_, _≤_}
+use native.Mathlib.Nat as NatL
+use native.Mathlib.Omega.{arith}
+use mathlib.Core.List.{List}
+use lib.IntN.{ℤ}
+use Rattle.calculus.specs.Model.{most-terms}
+use Rattle.model_types.specs.declared.Model.{Model}
+use Rattle.model_types.specs.ModelStructLaws.{limits}
+use Rattle.product_collector.specs.CollectorContracts.{Lent-table}
+use Rattle.product_terms.specs.ProductTerms.{Lent-room}
+use Rattle.product_terms.specs.ProductTermsLaws.{lent-room, fewer-room}
+use Rattle.model_substitution.specs.Substitute.{Turn, Substitution}
+
+module _ {slots keys : List ℕ} {sums : List ℤ} where
+  pub turn-room : {d : ℕ} {h g q : Model} → Turn d h g q → Lent-room (most-terms * g .count) slots keys sums
+      → Lent-room (h .count * g .count) slots keys sums
+  turn-room s t = fewer-room t (NatL.mul-le-mul (limits _ _ (s .factors .first) .few) (omega arith))
+
+  pub substitution-room : {d i : ℕ} {f g : Model} → Substitution d i f g → Lent-table slots keys sums
+      → Lent-room (most-terms * g .count) slots keys sums
+  unfolding most-terms
+  substitution-room s t = let few = limits _ _ (s .inner) .few in lent-room t (omega (arith, few))
