@@ -1,10 +1,9 @@
 -- `extents_of` raises the extents by one key after the other.
 use mathlib.Core.Path.{_≡_, refl, sym, _∙_, ap}
-use Prim.Native.Nat.{ℕ, _+_, _-_, _≤_}
+use Prim.Native.Nat.{_-_, _≤_}
 use native.Mathlib.Omega.{arith}
 use borrow.Author.Needs.{needs}
 use lib.ListN.{getD}
-use Rattle.product_dense.specs.declared.Extents.{Extents}
 use Rattle.product_dense.specs.Grid.{raised-by, extents}
 use Rattle.product_dense.specs.GridLaws.{extents-more}
 use Rattle.product_dense.proofs.extents_of.Statement.{statement}

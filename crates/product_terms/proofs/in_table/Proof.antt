@@ -1,6 +1,4 @@
 -- `in_table` has the products collected, and then gathered.
-use mathlib.Core.Path.{subst}
-use mathlib.Core.List.{[]}
 use borrow.Author.Needs.{needs}
 use Rattle.product_collector.specs.FactorArrayLaws.{collect-ready, gather-ready}
 use Rattle.product_terms.specs.ProductTermsLaws.{collected-gathering}
