@@ -41,7 +41,8 @@ returns c =
     let t = e .before .before .before .before .before in
     let s = start t in
     let p = t .store-kept .ensures (s .args .n) in
-    stored-accepted _ _ _ _ _ _ _ _ _ _ (p .0) (p .1) (s .pre .0) (e .enum-told .given .1) (n .store-numbers .ensures)
+    stored-accepted _ _ _ _ _ _ _ _ (s .args .numbers .now) _ (p .0) (p .1) (s .pre .0) (e .enum-told .given .1)
+    (n .store-numbers .ensures)
 
 same-length-4 : tie.Need-same-length-4
 same-length-4 c = search needs
@@ -59,7 +60,7 @@ returns-2 c =
     let t = v .before .before .before .before .before in
     let s = start t in
     let p = t .store-kept .ensures (s .args .n) in
-    stored-refused _ _ _ _ _ _ _ _ _ _ (p .0) (p .1) _ _ _ (v .v .given .1) (c .number .ensures)
+    stored-refused _ _ _ _ _ _ _ _ (s .args .numbers .now) _ (p .0) (p .1) _ _ _ (v .v .given .1) (c .number .ensures)
     (n .store-numbers2 .ensures)
 
 pub store-spec : {M : Type 1} → statement M
