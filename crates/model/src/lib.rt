@@ -43,15 +43,22 @@ pub fn one_model() -> Model
 }
 
 // ---- the tables of a substitution
-// A table is filled with zeros where it is made, which takes longer than a short substitution. So its size goes by the
-// terms of g: each product has one factor g, and one of at most 64 terms.
+// A table is filled with zeros where it is declared, and the full one for longer than a short substitution takes. So its
+// size goes by the terms of g: one factor of each product is g, and the other has at most 64 terms.
 const FEW_TERMS: usize = 4;
 
+// Where g has more, up to so many, there is one between.
 const SOME_TERMS: usize = 16;
 
+// The products that the smallest table has room for.
 const FEW_PRODUCTS: usize = model_types::MOST_TERMS * FEW_TERMS;
 
+// Those that the next one has room for.
 const SOME_PRODUCTS: usize = model_types::MOST_TERMS * SOME_TERMS;
+
+// Places for a grid: two models with all monomials of degree up to 3 in four variables multiply in one of
+// 7 × 7 × 7 × 7.
+const GRID_PLACES: usize = 2401;
 
 // g of few terms in the place of variable i of f, with order d.
 fn substituted_few(d: u8, i: u8, f: Model, g: Model) -> Answer
@@ -65,7 +72,7 @@ fn substituted_few(d: u8, i: u8, f: Model, g: Model) -> Answer
     model_substitution::substituted(d, i, f, g, &mut slots, &mut keys, &mut sums)
 }
 
-// g of some terms.
+// g of some terms, where f has no more.
 fn substituted_some(d: u8, i: u8, f: Model, g: Model) -> Answer
     requires { ⌜ Substitution d i f g ⌝ }
     requires { ⌜ g .count ≤ some-terms ⌝ }
@@ -74,6 +81,18 @@ fn substituted_some(d: u8, i: u8, f: Model, g: Model) -> Answer
     let mut slots = [0u16; product_table::SLOTS_EACH * SOME_PRODUCTS + 1];
     let mut keys = [0u64; SOME_PRODUCTS + 1];
     let mut sums = [0i64; SOME_PRODUCTS + 1];
+    model_substitution::substituted(d, i, f, g, &mut slots, &mut keys, &mut sums)
+}
+
+// g of some terms, where f has more: its products may be faster in a grid.
+fn substituted_many(d: u8, i: u8, f: Model, g: Model) -> Answer
+    requires { ⌜ Substitution d i f g ⌝ }
+    requires { ⌜ g .count ≤ some-terms ⌝ }
+    ensures { λ r. ⌜ r ≡ answer (at-place 0 (Op.substitute d i (view f) (view g))) ⌝ }
+{
+    let mut slots = [0u16; product_table::SLOTS_EACH * SOME_PRODUCTS + 1];
+    let mut keys = [0u64; GRID_PLACES];
+    let mut sums = [0i64; GRID_PLACES];
     model_substitution::substituted(d, i, f, g, &mut slots, &mut keys, &mut sums)
 }
 
@@ -86,20 +105,6 @@ fn substituted_any(d: u8, i: u8, f: Model, g: Model) -> Answer
     let mut keys = [0u64; product_table::PLACES];
     let mut sums = [0i64; product_table::PLACES];
     model_substitution::substituted(d, i, f, g, &mut slots, &mut keys, &mut sums)
-}
-
-// g in the place of variable i of f, with order d, in a table of its own.
-fn substituted_alone(d: u8, i: u8, f: Model, g: Model) -> Answer
-    requires { ⌜ Substitution d i f g ⌝ }
-    ensures { λ r. ⌜ r ≡ answer (at-place 0 (Op.substitute d i (view f) (view g))) ⌝ }
-{
-    if g.count <= FEW_TERMS {
-        return substituted_few(d, i, f, g);
-    }
-    if g.count <= SOME_TERMS {
-        return substituted_some(d, i, f, g);
-    }
-    substituted_any(d, i, f, g)
 }
 
 // ---- the calls
@@ -209,7 +214,18 @@ pub fn substitute(d: u8, i: u8, f: Model, g: Model) -> Answer
 {
     let v = model_call_tests::substituting(d, i, f, g);
     match v {
-        Verdict::Accepted => substituted_alone(d, i, f, g),
+        Verdict::Accepted => {
+            if g.count <= FEW_TERMS {
+                return substituted_few(d, i, f, g);
+            }
+            if g.count <= SOME_TERMS {
+                if f.count <= SOME_TERMS {
+                    return substituted_some(d, i, f, g);
+                }
+                return substituted_many(d, i, f, g);
+            }
+            substituted_any(d, i, f, g)
+        }
         Verdict::Refused(refusal, place) => model_types::refuse(refusal, place),
     }
 }

@@ -117,7 +117,9 @@ module _ {m : Model} {xs : List ℤ} (s : Evaluation m xs) (l : m .n ≤ length 
       -- a constant has one term at the most
       coordinate-count : c .count ≤ 1
       unfolding pack constant drop-zeros
-      coordinate-count = omega (arith, ap (λ (c : Model). c .count) t, length-select (λ k c. is-nonzero c) (term X (zeros (m .n)) ∷ []))
+      coordinate-count =
+          let few = length-select (λ k c. is-nonzero c) (term X (zeros (m .n)) ∷ []) in
+          omega (arith, ap (λ (c : Model). c .count) t, few)
 
       pub coordinate-room : {slots keys : List ℕ} {sums : List ℤ} → Lent-room most-terms slots keys sums
           → Lent-room (most-terms * c .count) slots keys sums

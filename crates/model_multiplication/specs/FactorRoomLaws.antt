@@ -1,5 +1,5 @@
 -- What is lent for any product has room for that of two factors.
-use Prim.Native.Nat.{ℕ, _*_, _≤_}
+use Prim.Native.Nat.{ℕ, _*_}
 use native.Mathlib.Nat as NatL
 use mathlib.Core.List.{List}
 use lib.IntN.{ℤ}

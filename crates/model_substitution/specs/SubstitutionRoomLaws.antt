@@ -1,6 +1,6 @@
--- What is lent for a substitution has room for each turn of Horner's rule, whose factor has at most 64 terms; and what is
--- lent for any product has room for a substitution.
-use Prim.Native.Nat.{ℕ, _*_, _≤_}
+-- What is lent for a substitution has room for each turn of Horner's rule, where g is multiplied by a model of at most
+-- 64 terms; and what is lent for any product has room for a substitution.
+use Prim.Native.Nat.{ℕ, _*_}
 use native.Mathlib.Nat as NatL
 use native.Mathlib.Omega.{arith}
 use mathlib.Core.List.{List}

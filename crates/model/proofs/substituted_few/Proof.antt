@@ -23,7 +23,8 @@ unfolding most-terms
 substituted-requires c κs =
     let s = c .before .before .before in (
       s .pre .0,
-      fewer-room {products = most-terms * few-terms} (record { slots-room = lit≤ tt; keys-room = lit≤ tt; sums-room = lit≤ tt })
+      fewer-room {products = most-terms * few-terms}
+          (record { slots-room = lit≤ tt; keys-room = lit≤ tt; sums-room = lit≤ tt })
           (omega (arith, s .pre .1)),
     )
 

@@ -15,6 +15,7 @@ use Rattle.calculus.specs.Shares.{Shares, sweep-shares}
 use Rattle.model_types.specs.declared.Accounted.{Accounted}
 use Rattle.model_types.specs.ModelStruct.{view}
 use Rattle.model_types.specs.SharesStruct.{accounted}
+use Rattle.model.specs.OperationLaws.{factors-room, substitution-room}
 use Rattle.sheet_book.specs.BookStruct.{held-step}
 use Rattle.sheet_steps.specs.Steps.{code-answer, code-shares, step-answer, step-row, Direct-ready}
 use Rattle.sheet_steps.specs.StepLaws.{factors, substitution, swept-sound, integrand, direct-ready, codes}
@@ -30,13 +31,14 @@ start c = c .before .before
 multiplied-accounted-requires : tie.Need-multiplied-accounted-requires
 multiplied-accounted-requires c κs =
     let p = start (c .before .before .before .before) .pre in
-    (factors (p .0), p .1)
+    (factors (p .0), factors-room (factors (p .0)) (p .1))
 
 substituted-accounted-requires : tie.Need-substituted-accounted-requires
 unfolding held-step
 substituted-accounted-requires c κs =
     let p = start (c .before .before .before .before) .pre in
-    (substitution (p .0) (c .before .before .before .match .keys2), p .1)
+    let s = substitution (p .0) (c .before .before .before .match .keys2) in
+    (s, substitution-room s (p .1))
 
 magnitude-requires : tie.Need-magnitude-requires
 magnitude-requires c κs = search needs
