@@ -8,5 +8,5 @@ pub use Rattle.model_proposal.specs.Proposal.{Proposal}
 pub use Rattle.product_collector.specs.CollectorContracts.{Lent-table, Free-table}
 pub use Rattle.product_terms.specs.ProductTerms.{Lent-room, Kept-room}
 -- the answer of a product in arrays is one that callers look into
-unfoldable pub use Rattle.product_slices.specs.KeptProduct.{kept-model, kept-accounted}
-pub use Rattle.product_slices.specs.KeptProduct.{Kept-ready}
+unfoldable pub use Rattle.product_answer.specs.KeptProduct.{kept-model, kept-accounted}
+pub use Rattle.product_answer.specs.KeptProduct.{Kept-ready}

@@ -54,7 +54,8 @@ pub fn multiplied_accounted(
         &mut kept,
         &mut coefficients,
     );
-    product_answer::answered(f.n, a, f.radius, b, g.radius, r, &kept, &coefficients)
+    let k = product_answer::kept_answer(f.n, a, f.radius, b, g.radius, r, &kept, &coefficients);
+    product_answer::packed_kept(f.n, k, &kept, &coefficients)
 }
 
 // f times g at order d, in a grid or a table that is lent.
@@ -101,6 +102,7 @@ pub fn multiplied_alone(d: u8, f: Model, g: Model) -> Answer
         &mut kept,
         &mut coefficients,
     );
-    let product = product_answer::answered(f.n, a, f.radius, b, g.radius, r, &kept, &coefficients);
+    let k = product_answer::kept_answer(f.n, a, f.radius, b, g.radius, r, &kept, &coefficients);
+    let product = product_answer::packed_kept(f.n, k, &kept, &coefficients);
     product.answer
 }

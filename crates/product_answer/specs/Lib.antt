@@ -4,3 +4,5 @@ pub mod ErrorLaws
 pub mod CollectedProductLaws
 pub mod ProductFactors
 pub mod FactorLaws
+pub mod KeptProduct
+pub mod KeptProductLaws

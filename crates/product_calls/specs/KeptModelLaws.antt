@@ -12,7 +12,7 @@ use Rattle.product_table.specs.Table.{terms}
 use Rattle.product_table.specs.TermArrayLaws.{terms-length}
 use Rattle.product_packing.specs.Transfer.{packed}
 use Rattle.model_slices.specs.declared.Kept.{Kept}
-use Rattle.product_slices.specs.KeptProduct.{model-unless, kept-model, Kept-ready}
+use Rattle.product_answer.specs.KeptProduct.{model-unless, kept-model, Kept-ready}
 
 module _ (n : ℕ) (k : Kept) (keys : List ℕ) (coefficients : List ℤ) where
   abbrev held : Model

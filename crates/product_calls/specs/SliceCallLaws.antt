@@ -29,7 +29,7 @@ use Rattle.model_slice_tests.specs.SliceTestLaws.{slices-places}
 use Rattle.product_answer.specs.ProductFactors.{Factors}
 use Rattle.product_calls.specs.MultiplyCallLaws.{multiply-is}
 use Rattle.model_slices.specs.declared.Kept.{Kept}
-use Rattle.product_slices.specs.KeptProduct.{model-unless, kept-model, kept-accounted, Kept-ready}
+use Rattle.product_answer.specs.KeptProduct.{model-unless, kept-model, kept-accounted, Kept-ready}
 
 -- the answer of a refused call: no terms
 abbrev refused-kept : Shares → Refusal → ℕ → Kept

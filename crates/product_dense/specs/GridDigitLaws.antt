@@ -1,6 +1,6 @@
 -- A key's digits as its exponents in a grid.
-use mathlib.Core.Path.{_≡_, refl, _∙_, ap₂}
-use Prim.Native.Nat.{ℕ, _+_, _*_, _^_, _<_, _≤_}
+use mathlib.Core.Path.{_≡_, ap₂}
+use Prim.Native.Nat.{ℕ, _+_, _*_, _<_, _≤_}
 use native.Mathlib.Omega.{arith}
 use Rattle.product_dense.specs.declared.Extents.{Extents}
 use Rattle.product_dense.specs.declared.Sides.{Sides}

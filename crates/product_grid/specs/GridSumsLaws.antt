@@ -1,17 +1,17 @@
 -- The sums in a grid, in the order of their keys, are the sums of all terms that were added.
-use mathlib.Core.Path.{_≡_, refl, sym, _∙_, ap, ap₂}
+use mathlib.Core.Path.{_≡_, sym, _∙_, ap, ap₂}
 use mathlib.Core.Logic.{_⊎_, inl, inr}
 use mathlib.Core.Bool.{Bool, true, false, not}
-use mathlib.Core.List.{List, [], _∷_, _++_}
+use mathlib.Core.List.{List, [], _∷_}
 use Prim.Native.Nat.{ℕ, zero, suc, _+_, _-_, _*_, _^_, _<_, _≤_}
 use native.Mathlib.Omega.{arith}
 use lib.Dec.{T}
-use lib.IntN.{ℤ, pos, natAbs, _+ℤ_, _*ℤ_, +ℤ-idl, +ℤ-idr}
-use lib.ListN.{length, getD}
+use lib.IntN.{ℤ, pos, _+ℤ_, _*ℤ_, +ℤ-idl, +ℤ-idr}
+use lib.ListN.{getD}
 use Rattle.algebra.specs.Lexicographic.{same}
-use Rattle.algebra.specs.LexicographicLaws.{same-ok, same-refl}
+use Rattle.algebra.specs.LexicographicLaws.{same-ok}
 use Rattle.algebra.specs.IntegerRing.{ℤR}
-use Rattle.polynomial.specs.Polynomial.{Term, add-exponents, times, product}
+use Rattle.polynomial.specs.Polynomial.{add-exponents, times, product}
 use Rattle.calculus.specs.Terms.{Terms, size, rising, absent, distinct}
 use Rattle.calculus.specs.TestLaws.{and-left, and-right}
 use Rattle.calculus.specs.TermsLaws.{every-nil, every-cons}
@@ -28,9 +28,9 @@ use Rattle.product_dense.specs.Grid.{place, Gridded}
 use Rattle.product_dense.specs.DigitLaws.{Digits, read-first, read-second, read-third, read-fourth}
 use Rattle.product_dense.specs.GridDigitLaws.{digits-place, digits-gridded}
 use Rattle.product_filling.specs.Filling.{Summed-up}
-use Rattle.product_rising.specs.Rising.{first-step, second-step, third-step, fourth-step, steps-within, grid-terms}
+use Rattle.product_rising.specs.Rising.{grid-terms}
 use Rattle.product_rising.specs.RisingLaws.{steps-side, steps-left, steps-more}
-use Rattle.product_grid.specs.GridWalkLaws.{Keyed, none, more, keyed-append, Among, among-absent, Seen, key-of}
+use Rattle.product_grid.specs.GridWalkLaws.{Keyed, none, more, keyed-append, among-absent, Seen, key-of}
 use Rattle.product_grid.specs.GridWalkLaws.{grid-rises, grid-keyed, grid-among}
 
 -- ---- a list in which each monomial stands once, with the coefficient that a rule gives it

@@ -1,8 +1,8 @@
 -- The sums in a grid in the order in which they are looked at: their keys rise, and each is at its place.
-use mathlib.Core.Path.{_≡_, refl, sym, _∙_, ap}
-use mathlib.Core.Bool.{Bool, true, false, not, _&&_}
+use mathlib.Core.Path.{_≡_, ap}
+use mathlib.Core.Bool.{Bool, true, false, not}
 use mathlib.Core.List.{List, [], _∷_, _++_}
-use Prim.Native.Nat.{ℕ, zero, suc, _+_, _-_, _*_, _^_, _<_, _≤_}
+use Prim.Native.Nat.{ℕ, zero, suc, _+_, _-_, _*_, _<_, _≤_}
 use native.Mathlib.Decide.{ℕ-discrete}
 use native.Mathlib.Omega.{arith}
 use lib.Dec.{T, lt→ltb}
@@ -11,7 +11,7 @@ use lib.ListN.{getD}
 use Rattle.algebra.specs.Lexicographic.{same, less}
 use Rattle.algebra.specs.LexicographicLaws.{same-refl}
 use Rattle.polynomial.specs.Polynomial.{Term}
-use Rattle.calculus.specs.Terms.{Terms, rising-from, rising, absent, every}
+use Rattle.calculus.specs.Terms.{Terms, rising-from, rising, absent}
 use Rattle.calculus.specs.TestLaws.{both}
 use Rattle.calculus.specs.TermsLaws.{every-head, every-tail}
 use Rattle.product_table.specs.Table.{at-key}

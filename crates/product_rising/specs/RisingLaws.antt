@@ -2,17 +2,16 @@
 use mathlib.Core.Path.{_≡_, refl, sym, _∙_, ap}
 use mathlib.Core.Bool.{Bool, not}
 use mathlib.Core.List.{List, [], _∷_, _++_, append-nil, append-assoc}
-use Prim.Native.Nat.{ℕ, zero, suc, _+_, _-_, _*_, _^_, min, _<_, _≤_}
+use Prim.Native.Nat.{ℕ, zero, suc, _+_, _-_, _*_, _^_, _<_, _≤_}
 use native.Mathlib.Nat.{mul-le-mul, mul-le-mul-right, add-mul, min-le-left, min-le-right, min-eq-left, min-eq-right}
 use native.Mathlib.Decide.{decLt}
 use native.Mathlib.Numerals.{add-one}
 use native.Mathlib.Omega.{arith}
-use lib.Dec.{T, leb}
-use lib.IntN.{ℤ, pos, natAbs}
+use lib.Dec.{leb}
+use lib.IntN.{ℤ, natAbs}
 use lib.ListN.{length, set, length-append}
 use Rattle.polynomial.specs.Polynomial.{Term}
-use Rattle.fixed.specs.Fixed.{residual}
-use Rattle.calculus.specs.Terms.{Terms, select, size, sum-over}
+use Rattle.calculus.specs.Terms.{Terms, select, size}
 use Rattle.calculus.specs.Model.{most-terms}
 use Rattle.calculus.specs.SumLaws.{ℕ-addition, sum-++}
 use Rattle.product_table.specs.Table.{at-key, terms}

@@ -1,10 +1,8 @@
 // What an order keeps of the sums in a grid: rounded, without zeros, in the order of their keys, and what it loses. A
 // place tells its key, so only the sums are read; and no place is looked at whose degree no product has.
-ghost use Prim.Native.Nat.{_<_, _≤_};
+ghost use Prim.Native.Nat.{_<_};
 ghost use mathlib.Core.List.{[], _∷_};
 ghost use mathlib.Core.Path.{_≡_};
-ghost use lib.ListN.{length};
-ghost use Rattle.calculus.specs.Model.{«most-terms»};
 ghost use Rattle.product_table.specs.Table.{«at-key»};
 ghost use Rattle.product_rising.specs.Rising.{«steps-within», «row-terms», «line-terms», «plane-terms»};
 ghost use Rattle.product_rising.specs.Rising.{Room, Part, «Row-ready», «Line-ready», «Plane-ready», «Scan-ready»};
@@ -64,7 +62,8 @@ fn push(keys: &mut [u64], coefficients: &mut [i64], n: usize, key: u64, z: i64, 
     }
 }
 
-// ---- the places of a grid, variable by variable
+// ---- the places of a grid, variable by variable: each walk begins with the key of the exponents so far, and with how
+// many rows, lines or places stand before it; left is how much of the largest degree these exponents leave
 // How many exponents of a variable there are on such a side that leave the degree at most that much.
 fn steps(side: usize, left: usize) -> usize
     ensures { λ r. ⌜ r ≡ steps-within side left ⌝ }
@@ -72,7 +71,7 @@ fn steps(side: usize, left: usize) -> usize
     if left < side { left + 1 } else { side }
 }
 
-// The sums of n exponents of variable 4, from a place and its key on.
+// The sums of n exponents of variable 4.
 fn row(
     sums: &[i64],
     at: usize,

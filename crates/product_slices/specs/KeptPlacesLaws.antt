@@ -21,8 +21,8 @@ use Rattle.product_table.specs.Table.{at-key, terms}
 use Rattle.product_table.specs.TermArrayLaws.{terms-length}
 use Rattle.product_packing.specs.Transfer.{Pack-ready, narrowed-term, packed}
 use Rattle.model_slices.specs.declared.Kept.{Kept}
-use Rattle.product_slices.specs.KeptProduct.{model-unless, kept-model, kept-count, Kept-ready}
-use Rattle.product_slices.specs.KeptProductLaws.{terms-more}
+use Rattle.product_answer.specs.KeptProduct.{model-unless, kept-model, kept-count, Kept-ready}
+use Rattle.product_answer.specs.KeptProductLaws.{terms-more}
 use Rattle.product_slices.specs.KeptPlaces.{narrow-keys, narrow-coefficients, zeroed}
 
 -- ---- what is kept: one term more is stored

@@ -1,13 +1,9 @@
 // The product of two models that lie in slices, without a struct of either: their terms are unpacked by wide keys, and
 // what is kept of the products stays in two arrays until it is stored.
 ghost use mathlib.Core.Path.{_≡_};
-ghost use mathlib.Core.List.{List};
-ghost use Prim.Native.Nat.{ℕ, _+_, _*_, _≤_};
-ghost use lib.Dec.{leb};
+ghost use Prim.Native.Nat.{ℕ, _*_, _≤_};
 ghost use lib.IntN.{pos};
 ghost use lib.ListN.{length};
-ghost use Rattle.fixed.specs.Fixed.{«span-limit»};
-ghost use Rattle.calculus.specs.Terms.{size};
 ghost use Rattle.calculus.specs.Model.{«most-terms»};
 ghost use Rattle.calculus.specs.Operations.{multiply};
 ghost use Rattle.calculus.specs.Shares.{«product-shares»};
@@ -18,19 +14,14 @@ ghost use Rattle.model_slices.specs.HandedModels.{handed, over, «stored-keys»
 ghost use Rattle.product_collector.specs.CollectorContracts.{«Free-table»};
 ghost use Rattle.product_terms.specs.ProductTerms.{«Lent-room», «Kept-room»};
 ghost use Rattle.product_packing.specs.Transfer.{Unpacked, «Pack-ready»};
-ghost use Rattle.product_answer.specs.CollectedProduct.{Product};
 ghost use Rattle.product_answer.specs.ProductFactors.{Factors};
 ghost use Rattle.product_slices.specs.HandedTerms.{Handed};
-ghost use Rattle.product_slices.specs.KeptProduct.{«kept-model», «kept-accounted», «Kept-ready»};
-ghost use Rattle.product_slices.specs.KeptProduct.{«kept-refused», «kept-count»};
+ghost use Rattle.product_answer.specs.KeptProduct.{«kept-model», «kept-accounted», «Kept-ready»};
+ghost use Rattle.product_answer.specs.KeptProduct.{«kept-count»};
 ghost use Rattle.product_slices.specs.KeptPlaces.{«narrow-keys», «narrow-coefficients», zeroed};
 pub use model_slices::Kept;
 use model_types::Accounted;
-use model_types::Answer;
-use model_types::Refusal;
-use model_types::Shares;
 use model_types::Verdict;
-use product_gathering::Gathered;
 
 // ---- the factors
 // The terms of a model go into an array by their wide keys; the sum of their |c|. The coefficients stay where they are.
@@ -50,71 +41,6 @@ fn unpack(count: usize, keys: &[u16], coefficients: &[i64], wide: &mut [u64]) ->
         i += 1;
     }
     total
-}
-
-// ---- the answer
-// Whether the span of the first count terms with such a radius is within the limit, whichever keys they have. It is
-// summed without wrapping.
-fn within(radius: u64, count: usize, coefficients: &[i64]) -> bool
-    requires { ⌜ count ≤ length (now coefficients) ⌝ }
-    ensures { λ r. ⌜ ((keys : List ℕ) → count ≤ length keys
-        → r ≡ leb (size (terms count keys (now (coefficients .entry))) + radius) span-limit) ⌝ }
-{
-    let mut span = radius;
-    let mut i = 0;
-    while i < count {
-        span = fixed::capped_sum(span, fixed::magnitude(coefficients[i]));
-        i += 1;
-    }
-    fixed::within_span(span)
-}
-
-// The answer of a refused product: no terms, and no shares.
-fn refused(refusal: Refusal) -> Kept
-    ensures { λ k. ⌜ k ≡ kept-refused refusal ⌝ }
-{
-    Kept {
-        count: 0,
-        radius: 0,
-        shares: Shares::ZERO,
-        verdict: Verdict::Refused(refusal, 0),
-    }
-}
-
-// From what is gathered of the products, for factors in n variables with the sums of |c| a and b and the radii e1 and
-// e2. It answers for whichever two models were multiplied.
-fn kept_answer(
-    n: u8,
-    a: u64,
-    e1: u64,
-    b: u64,
-    e2: u64,
-    r: Gathered,
-    keys: &[u64],
-    coefficients: &[i64],
-) -> Kept
-    requires { ⌜ Product n a e1 b e2 r (now keys) (now coefficients) ⌝ }
-    ensures exact { λ k. ⌜ ((w : Product n a e1 b e2 r (now (keys .entry)) (now (coefficients .entry)))
-        → kept-accounted n k (now (keys .entry)) (now (coefficients .entry))
-        ≡ accounted (multiply (w .order) (w .first) (w .second))
-        (λ m. product-shares (w .order) (w .first) (w .second))) ⌝ }
-    ensures ready { λ k. ⌜ Kept-ready k (now (keys .entry)) (now (coefficients .entry)) ⌝ }
-{
-    if model_types::MOST_TERMS < r.count {
-        return refused(Refusal::TooManyTerms);
-    }
-    let old = product_answer::carried(a, e1, b, e2);
-    let e = product_answer::radius(old, r.rounding, r.swept);
-    if !within(e, r.count, coefficients) {
-        return refused(Refusal::OverSpan);
-    }
-    let all = product_answer::shares(old, r.rounding, r.swept);
-    Kept {
-        count: r.count,
-        radius: e,
-        shares: all,
-        verdict: Verdict::Accepted,
-    }
 }
 
 // ---- the product
@@ -172,7 +98,7 @@ pub fn multiplied_slices(
         kept,
         coefficients,
     );
-    kept_answer(n, a, radius1, b, radius2, r, kept, coefficients)
+    product_answer::kept_answer(n, a, radius1, b, radius2, r, kept, coefficients)
 }
 
 // The same without anything lent for the products.
@@ -219,37 +145,7 @@ pub fn multiplied_slices_alone(
         kept,
         coefficients,
     );
-    kept_answer(n, a, radius1, b, radius2, r, kept, coefficients)
-}
-
-// ---- as a struct
-// The answer's model beside its verdict: its terms packed, or the zero model beside a refusal.
-fn packed_answer(n: u8, k: Kept, keys: &[u64], coefficients: &[i64]) -> Answer
-    requires { ⌜ Kept-ready k (now keys) (now coefficients) ⌝ }
-    ensures { λ r. ⌜ r ≡ kept-accounted n k (now (keys .entry)) (now (coefficients .entry)) .answer ⌝ }
-{
-    let v = k.verdict;
-    match v {
-        Verdict::Accepted => Answer {
-            model: product_packing::pack(n, k.radius, k.count, keys, coefficients),
-            verdict: Verdict::Accepted,
-        },
-        Verdict::Refused(refusal, place) => model_types::refuse(refusal, place),
-    }
-}
-
-// The same with the shares of its radius. (Only one place builds it: with a second one, for a refusal, the compiler
-// copies it field by field.)
-pub fn packed_kept(n: u8, k: Kept, keys: &[u64], coefficients: &[i64]) -> Accounted
-    requires { ⌜ Kept-ready k (now keys) (now coefficients) ⌝ }
-    ensures { λ r. ⌜ r ≡ kept-accounted n k (now (keys .entry)) (now (coefficients .entry)) ⌝ }
-{
-    let answer = packed_answer(n, k, keys, coefficients);
-    let shares = k.shares;
-    Accounted {
-        answer: answer,
-        shares: shares,
-    }
+    product_answer::kept_answer(n, a, radius1, b, radius2, r, kept, coefficients)
 }
 
 // The product of two sound models in slices as a struct, with the shares of its radius. What is lent serves as a grid
@@ -302,7 +198,7 @@ pub fn multiplied_slices_accounted(
         &mut kept,
         &mut coefficients,
     );
-    packed_kept(n, k, &kept, &coefficients)
+    product_answer::packed_kept(n, k, &kept, &coefficients)
 }
 
 // ---- stored

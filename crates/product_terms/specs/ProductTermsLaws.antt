@@ -23,7 +23,7 @@ use Rattle.product_dense.specs.DigitLaws.{Digits, wide-digits}
 use Rattle.product_dense.specs.GridLaws.{sides-narrow, extents-low, extents-within}
 use Rattle.product_dense.specs.GridPlaceLaws.{place-plus, product-gridded}
 use Rattle.product_dense.specs.GridDigitLaws.{sides-whole}
-use Rattle.product_grid.specs.GridContracts.{Grid-ready, Zeros}
+use Rattle.product_grid.specs.GridContracts.{Grid-ready}
 use Rattle.product_terms.specs.ProductTerms.{Lent-room, Kept-room}
 
 -- ---- what is collected in a table is gathered
@@ -51,13 +51,6 @@ zeros-empty products room e l = record {
   keys-room = rw length-replicate (omega arith);
   sums-room = rw length-replicate (omega arith);
 }
-
--- a grid of zeros
-pub zeros-grid : (n size : ℕ) → Zeros size (replicate n (pos 0))
-zeros-grid n size i l = elim (decLt i n) [
-  | yes h ↦ getD-replicate n i (pos 0) (pos 0) h
-  | no h ↦ List·getD-eq-default (replicate n (pos 0)) (pos 0) {n = i} (rw length-replicate (omega arith))
-]
 
 -- ---- what is lent
 module _ {slots keys : List ℕ} {sums : List ℤ} where

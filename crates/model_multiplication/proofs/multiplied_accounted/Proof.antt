@@ -1,4 +1,5 @@
 -- `multiplied_accounted` unpacks both factors, has what is kept of their products found, and has that answered.
+use mathlib.Core.Path.{_∙_}
 use Prim.Native.Nat.{_≤_}
 use borrow.Author.Needs.{needs}
 use lib.Dec.{lit≤}
@@ -12,7 +13,6 @@ use Rattle.model_multiplication.proofs.multiplied_accounted.Statement.{
 use Rattle.model_multiplication.proofs.multiplied_accounted.Tie as tie
 use Rattle.model_multiplication.proofs.multiplied_accounted.Reads as reads
 use Rattle.model_multiplication.proofs.multiplied_accounted.Lts as lts
-use Rattle.product_answer.proofs.answered.Reads as answered-reads
 use Rattle.product_packing.proofs.unpack.Reads as unpack-reads
 use Rattle.product_terms.proofs.kept_lent.Reads as kept-lent-reads
 
@@ -95,15 +95,15 @@ kept-lent-requires c κs =
     let u = c .before .before .before .before .before .before .before .before .before .before .before in
     (held u, (start u .pre .1, record { kept-room = lit≤ tt; coefficients-room = lit≤ tt }))
 
-slice-aggregate-answered : tie.Need-slice-aggregate-answered
-slice-aggregate-answered c = search needs
+slice-aggregate-kept-answer : tie.Need-slice-aggregate-kept-answer
+slice-aggregate-kept-answer c = search needs
 
-slice-aggregate-answered-2 : tie.Need-slice-aggregate-answered-2
-slice-aggregate-answered-2 c = search needs
+slice-aggregate-kept-answer-2 : tie.Need-slice-aggregate-kept-answer-2
+slice-aggregate-kept-answer-2 c = search needs
 
-answered-requires : tie.Need-answered-requires
+kept-answer-requires : tie.Need-kept-answer-requires
 unfolding most-terms
-answered-requires c κs =
+kept-answer-requires c κs =
     let w = c .before .before .before .before .before .before .before .before .before in
     let u = w .before .before .before .before .before .before .before .before .before .before .before .before in
     end-ready _ _ _ (given u) (first u .unpack .ensures) (u .unpack2 .ensures)
@@ -111,6 +111,15 @@ answered-requires c κs =
     (factors-answer _ _ _ (given u) (first u .unpack .ensures) (u .unpack2 .ensures)
     (ka-long u) (ca-long u) (kb-long u) (cb-long u) (w .kept-lent .ensures .0))
     (search needs) (search needs)
+
+slice-aggregate-packed-kept : tie.Need-slice-aggregate-packed-kept
+slice-aggregate-packed-kept c = search needs
+
+slice-aggregate-packed-kept-2 : tie.Need-slice-aggregate-packed-kept-2
+slice-aggregate-packed-kept-2 c = search needs
+
+packed-kept-requires : tie.Need-packed-kept-requires
+packed-kept-requires c κs = search needs
 
 same-length : tie.Need-same-length
 same-length c = search needs
@@ -124,13 +133,15 @@ same-length-3 c = search needs
 returns : tie.Need-returns
 unfolding most-terms
 returns c =
-    let w = c .before .before .before .before .before .before .before .before .before .before in
+    let k = c .before .before .before in
+    let w = k .before .before .before .before .before .before .before .before .before .before in
     let u = w .before .before .before .before .before .before .before .before .before .before .before .before in (
-      end-answer _ _ _ (given u) (first u .unpack .ensures) (u .unpack2 .ensures)
+      c .packed-kept .ensures
+          ∙ end-answer _ _ _ (given u) (first u .unpack .ensures) (u .unpack2 .ensures)
           (ka-long u) (ca-long u) (kb-long u) (cb-long u)
           (factors-answer _ _ _ (given u) (first u .unpack .ensures) (u .unpack2 .ensures)
           (ka-long u) (ca-long u) (kb-long u) (cb-long u) (w .kept-lent .ensures .0))
-          (search needs) (search needs) (c .answered .ensures),
+          (search needs) (search needs) (k .kept-answer .ensures .0),
       record { slots-length = search needs; keys-length = search needs; sums-length = search needs },
     )
 
@@ -151,9 +162,12 @@ multiplied-accounted-spec =
     slice-aggregate-kept-lent-5
     slice-aggregate-kept-lent-6
     kept-lent-requires
-    slice-aggregate-answered
-    slice-aggregate-answered-2
-    answered-requires
+    slice-aggregate-kept-answer
+    slice-aggregate-kept-answer-2
+    kept-answer-requires
+    slice-aggregate-packed-kept
+    slice-aggregate-packed-kept-2
+    packed-kept-requires
     same-length
     same-length-2
     same-length-3

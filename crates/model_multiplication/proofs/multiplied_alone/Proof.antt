@@ -1,4 +1,5 @@
 -- `multiplied_alone` unpacks both factors, has what is kept of their products found, and has that answered.
+use mathlib.Core.Path.{_∙_}
 use Prim.Native.Nat.{_≤_}
 use borrow.Author.Needs.{needs}
 use lib.Dec.{lit≤}
@@ -13,7 +14,6 @@ use Rattle.model_multiplication.proofs.multiplied_alone.Statement.{stat
 use Rattle.model_multiplication.proofs.multiplied_alone.Tie as tie
 use Rattle.model_multiplication.proofs.multiplied_alone.Reads as reads
 use Rattle.model_multiplication.proofs.multiplied_alone.Lts as lts
-use Rattle.product_answer.proofs.answered.Reads as answered-reads
 use Rattle.product_packing.proofs.unpack.Reads as unpack-reads
 use Rattle.product_terms.proofs.kept_alone.Reads as kept-alone-reads
 
@@ -96,15 +96,15 @@ kept-alone-requires c κs =
     let u = c .before .before .before .before .before .before .before .before in
     (held u, record { kept-room = lit≤ tt; coefficients-room = lit≤ tt })
 
-slice-aggregate-answered : tie.Need-slice-aggregate-answered
-slice-aggregate-answered c = search needs
+slice-aggregate-kept-answer : tie.Need-slice-aggregate-kept-answer
+slice-aggregate-kept-answer c = search needs
 
-slice-aggregate-answered-2 : tie.Need-slice-aggregate-answered-2
-slice-aggregate-answered-2 c = search needs
+slice-aggregate-kept-answer-2 : tie.Need-slice-aggregate-kept-answer-2
+slice-aggregate-kept-answer-2 c = search needs
 
-answered-requires : tie.Need-answered-requires
+kept-answer-requires : tie.Need-kept-answer-requires
 unfolding most-terms
-answered-requires c κs =
+kept-answer-requires c κs =
     let w = c .before .before .before .before in
     let u = w .before .before .before .before .before .before .before .before .before in
     end-ready _ _ _ (given u) (first u .unpack .ensures) (u .unpack2 .ensures)
@@ -113,17 +113,28 @@ answered-requires c κs =
     (ka-long u) (ca-long u) (kb-long u) (cb-long u) (w .kept-alone .ensures))
     (search needs) (search needs)
 
+slice-aggregate-packed-kept : tie.Need-slice-aggregate-packed-kept
+slice-aggregate-packed-kept c = search needs
+
+slice-aggregate-packed-kept-2 : tie.Need-slice-aggregate-packed-kept-2
+slice-aggregate-packed-kept-2 c = search needs
+
+packed-kept-requires : tie.Need-packed-kept-requires
+packed-kept-requires c κs = search needs
+
 returns : tie.Need-returns
 unfolding most-terms
 returns c =
-    let w = c .before .before .before .before .before .before in
+    let k = c .before .before .before .before in
+    let w = k .before .before .before .before .before in
     let u = w .before .before .before .before .before .before .before .before .before in
     accounted-answer _ _
-    (end-answer _ _ _ (given u) (first u .unpack .ensures) (u .unpack2 .ensures)
+    (c .before .packed-kept .ensures
+    ∙ end-answer _ _ _ (given u) (first u .unpack .ensures) (u .unpack2 .ensures)
     (ka-long u) (ca-long u) (kb-long u) (cb-long u)
     (factors-answer _ _ _ (given u) (first u .unpack .ensures) (u .unpack2 .ensures)
     (ka-long u) (ca-long u) (kb-long u) (cb-long u) (w .kept-alone .ensures))
-    (search needs) (search needs) (c .before .answered .ensures))
+    (search needs) (search needs) (k .kept-answer .ensures .0))
 
 pub multiplied-alone-spec : {M : Type 1} → statement M
 multiplied-alone-spec =
@@ -142,7 +153,10 @@ multiplied-alone-spec =
     slice-aggregate-kept-alone-5
     slice-aggregate-kept-alone-6
     kept-alone-requires
-    slice-aggregate-answered
-    slice-aggregate-answered-2
-    answered-requires
+    slice-aggregate-kept-answer
+    slice-aggregate-kept-answer-2
+    kept-answer-requires
+    slice-aggregate-packed-kept
+    slice-aggregate-packed-kept-2
+    packed-kept-requires
     returns)

@@ -12,7 +12,7 @@ use mir.Facts.{toZ-ofZ}
 use mir.Syntax.{w64}
 use mir.Val.{toZ, ofZ}
 use Rattle.algebra.specs.IntegerRing.{ℤR}
-use Rattle.polynomial.specs.Polynomial.{times, product}
+use Rattle.polynomial.specs.Polynomial.{product}
 use Rattle.product_table.specs.Table.{at-key, terms}
 use Rattle.product_table.specs.TermArrayLaws.{terms-length}
 use Rattle.product_filling.specs.Filling.{Filled, All-fit}

@@ -1,12 +1,12 @@
 -- `row` adds the products of one term with each of a list.
-use mathlib.Core.Path.{_≡_, refl, sym, _∙_, ap}
+use mathlib.Core.Path.{_≡_, refl, _∙_, ap}
 use mathlib.Core.List.{List, [], _∷_, _++_}
 use Prim.Native.Nat.{ℕ, suc, _+_, _-_, _*_, _^_, _≤_, _<_}
 use native.Mathlib.Numerals.{add-one}
 use native.Mathlib.Omega.{arith}
 use borrow.Author.Needs.{needs}
 use lib.IntN.{ℤ, pos, natAbs, _+ℤ_, _*ℤ_}
-use lib.ListN.{length, getD, set, take, length-set}
+use lib.ListN.{length, getD, take, length-set}
 use lib.Seq.{take-suc, take-all}
 use mir.Facts.{toZ-ofZ}
 use mir.Syntax.{w64}
@@ -18,7 +18,6 @@ use Rattle.fixed.specs.MachineLaws.{fits-size}
 use Rattle.calculus.specs.Terms.{Terms, size}
 use Rattle.product_table.specs.Table.{at-key, none, terms}
 use Rattle.product_table.specs.TermArrayLaws.{terms-length, terms-at}
-use Rattle.product_dense.specs.declared.Sides.{Sides}
 use Rattle.product_dense.specs.Grid.{place}
 use Rattle.product_filling.specs.Filling.{Row-fits, Filled}
 use Rattle.product_filling.specs.FillingLaws.{filled-none, filled-more, times-more, times-most}

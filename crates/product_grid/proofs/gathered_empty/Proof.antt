@@ -1,7 +1,5 @@
 -- `gathered_empty` finds the places, adds all products, and keeps what order d keeps of their sums.
-use Prim.Native.Nat.{_≤_}
 use native.Mathlib.Omega.{arith}
-use lib.ListN.{length}
 use Rattle.algebra.specs.IntegerRing.{ℤR}
 use Rattle.polynomial.specs.Polynomial.{product}
 use Rattle.calculus.specs.Model.{most-terms}

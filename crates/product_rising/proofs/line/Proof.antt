@@ -1,10 +1,8 @@
 -- `line` keeps what order d keeps of the rows of a line, one after the other.
 use mathlib.Core.Path.{_≡_}
-use Prim.Native.Nat.{ℕ, _+_, _-_, _*_, _^_, _≤_, _<_}
-use native.Mathlib.Nat.{mul-le-mul-right}
+use Prim.Native.Nat.{ℕ, _+_, _-_, _*_, _<_}
 use native.Mathlib.Omega.{arith}
 use borrow.Author.Needs.{needs}
-use lib.ListN.{length}
 use Rattle.calculus.specs.Terms.{Terms}
 use Rattle.product_rising.specs.Rising.{steps-within, third-step, row-terms, Row-ready, Part}
 use Rattle.product_rising.specs.RisingLaws.{row-ready, Held, held-none, held-more, held-room}

@@ -1,18 +1,15 @@
 -- `row` keeps what order d keeps of the sums in a row, one after the other.
-use mathlib.Core.Path.{_≡_, refl, _∙_, ap}
-use mathlib.Core.List.{List, [], _∷_}
-use Prim.Native.Nat.{ℕ, suc, _+_, _-_, _*_, _^_, _≤_, _<_}
-use native.Mathlib.Numerals.{add-one}
+use mathlib.Core.Path.{_≡_}
+use mathlib.Core.List.{[], _∷_}
+use Prim.Native.Nat.{ℕ, _+_, _-_, _*_, _<_}
 use native.Mathlib.Omega.{arith}
 use borrow.Author.Needs.{needs}
-use lib.IntN.{ℤ, pos}
-use lib.ListN.{length, getD}
+use lib.IntN.{pos}
+use lib.ListN.{getD}
 use mir.Facts.{toZ-ofZ}
-use mir.Syntax.{w64}
-use mir.Val.{toZ, ofZ}
-use Rattle.calculus.specs.Terms.{Terms, size}
+use Rattle.calculus.specs.Terms.{Terms}
 use Rattle.product_table.specs.Table.{at-key}
-use Rattle.product_rising.specs.Rising.{in-turn, fourth-step, row-terms, Part}
+use Rattle.product_rising.specs.Rising.{fourth-step, Part}
 use Rattle.product_rising.specs.RisingLaws.{Held, held-none, held-more, held-room, held-rounding, held-swept}
 use Rattle.product_rising.proofs.row.Statement.{statement}
 use Rattle.product_rising.proofs.row.Tie as tie

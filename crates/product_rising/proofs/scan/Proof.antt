@@ -1,9 +1,8 @@
 -- `scan` keeps what order d keeps of the planes of a grid, one after the other, or says that it is too much.
 use mathlib.Core.Path.{_≡_, ap}
-use Prim.Native.Nat.{ℕ, _+_, _-_, _*_, _^_, _≤_, _<_}
+use Prim.Native.Nat.{ℕ, _-_, _*_, _^_, _≤_, _<_}
 use native.Mathlib.Omega.{arith}
 use borrow.Author.Needs.{needs}
-use lib.ListN.{length}
 use Rattle.calculus.specs.Terms.{Terms, size}
 use Rattle.calculus.specs.Model.{most-terms}
 use Rattle.product_rising.specs.Rising.{in-turn, steps-within, first-step, plane-terms, grid-terms}

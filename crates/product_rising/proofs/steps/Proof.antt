@@ -1,6 +1,5 @@
 -- `steps` takes the smaller of the side and one more than what is left.
 use native.Mathlib.Omega.{arith}
-use Rattle.product_rising.specs.Rising.{steps-within}
 use Rattle.product_rising.specs.RisingLaws.{steps-short, steps-whole}
 use borrow.Author.Needs.{needs}
 use Rattle.product_rising.proofs.steps.Statement.{statement}

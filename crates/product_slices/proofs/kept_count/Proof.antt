@@ -1,6 +1,6 @@
 -- `kept_count` answers 0 beside a refusal.
 use borrow.Author.Needs.{needs}
-use Rattle.product_slices.specs.KeptProduct.{kept-count}
+use Rattle.product_answer.specs.KeptProduct.{kept-count}
 use Rattle.product_slices.proofs.kept_count.Statement.{statement}
 use Rattle.product_slices.proofs.kept_count.Tie as tie
 

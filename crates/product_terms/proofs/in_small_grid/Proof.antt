@@ -1,8 +1,13 @@
 -- `in_small_grid` makes a grid of zeros.
 use borrow.Author.Needs.{needs}
-use Rattle.product_terms.specs.ProductTermsLaws.{grid-ready, zeros-grid}
+use Rattle.product_grid.specs.GridReadyLaws.{fresh-zeros}
+use Rattle.product_terms.specs.ProductTerms.{few-places}
+use Rattle.product_terms.specs.ProductTermsLaws.{grid-ready}
 use Rattle.product_terms.proofs.in_small_grid.Statement.{statement}
 use Rattle.product_terms.proofs.in_small_grid.Tie as tie
+use Rattle.product_terms.proofs.in_small_grid.Reads as reads
+use Rattle.product_terms.proofs.in_small_grid.Lts as lts
+use Rattle.product_grid.proofs.gathered_empty.Reads as gathered-empty-reads
 
 slice-aggregate-gathered-empty : tie.Need-slice-aggregate-gathered-empty
 slice-aggregate-gathered-empty c = search needs
@@ -10,7 +15,7 @@ slice-aggregate-gathered-empty c = search needs
 gathered-empty-requires : tie.Need-gathered-empty-requires
 gathered-empty-requires c κs =
     let s = c .before .before .before .before .before .before in
-    (grid-ready (s .pre .0) _ (s .pre .1 .0) (s .pre .1 .1 .0) (s .pre .1 .1 .1), zeros-grid 2401 _)
+    (grid-ready (s .pre .0) _ (s .pre .1 .0) (s .pre .1 .1 .0) (s .pre .1 .1 .1), fresh-zeros few-places _)
 
 same-length : tie.Need-same-length
 same-length c = search needs

@@ -61,9 +61,6 @@ same-length-7 c = search needs
 same-length-8 : tie.Need-same-length-8
 same-length-8 c = search needs
 
-same-length-9 : tie.Need-same-length-9
-same-length-9 c = search needs
-
 returns-2 : tie.Need-returns-2
 returns-2 c = (
   c .before .before .before .before .gathered .ensures,
@@ -72,6 +69,9 @@ returns-2 c = (
 
 in-lent-table-requires-2 : tie.Need-in-lent-table-requires-2
 in-lent-table-requires-2 c κs = search needs
+
+same-length-9 : tie.Need-same-length-9
+same-length-9 c = search needs
 
 same-length-10 : tie.Need-same-length-10
 same-length-10 c = search needs

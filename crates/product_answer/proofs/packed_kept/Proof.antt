@@ -1,9 +1,9 @@
 -- `packed_kept` puts the shares beside the answer.
 use mathlib.Core.Path.{ap}
 use borrow.Author.Needs.{needs}
-use Rattle.product_slices.specs.KeptProduct.{kept-accounted}
-use Rattle.product_slices.proofs.packed_kept.Statement.{statement}
-use Rattle.product_slices.proofs.packed_kept.Tie as tie
+use Rattle.product_answer.specs.KeptProduct.{kept-accounted}
+use Rattle.product_answer.proofs.packed_kept.Statement.{statement}
+use Rattle.product_answer.proofs.packed_kept.Tie as tie
 
 packed-answer-requires : tie.Need-packed-answer-requires
 packed-answer-requires c κs = search needs

@@ -9,10 +9,10 @@ use Rattle.fixed.specs.Fixed.{span-limit}
 use Rattle.calculus.specs.Terms.{size}
 use Rattle.calculus.specs.Model.{most-terms}
 use Rattle.product_table.specs.Table.{terms}
 use Rattle.product_answer.specs.CollectedProductLaws.{kept-ready, carried-fits, E-fits}
-use Rattle.product_slices.specs.KeptProductLaws.{kept-many, kept-over, kept-within, refused-ready}
-use Rattle.product_slices.proofs.kept_answer.Statement.{statement}
-use Rattle.product_slices.proofs.kept_answer.Tie as tie
+use Rattle.product_answer.specs.KeptProductLaws.{kept-many, kept-over, kept-within, refused-ready}
+use Rattle.product_answer.proofs.kept_answer.Statement.{statement}
+use Rattle.product_answer.proofs.kept_answer.Tie as tie
 
 refused-requires : tie.Need-refused-requires
 refused-requires c κs = search needs

@@ -36,12 +36,12 @@ use Rattle.product_table.specs.Table.{at-key, terms}
 use Rattle.product_table.specs.TermArrayLaws.{terms-push}
 use Rattle.product_gathering.specs.declared.Gathered.{Gathered}
 use Rattle.product_packing.specs.Transfer.{narrowed-term, packed}
 use Rattle.product_answer.specs.CollectedProduct.{Product}
 use Rattle.product_answer.specs.CollectedProductLaws.{too-many, struct-packed, struct-answer}
 use Rattle.product_answer.specs.CollectedProductLaws.{product-accounted}
 use Rattle.product_answer.specs.ErrorShares.{error-shares}
 use Rattle.model_slices.specs.declared.Kept.{Kept}
-use Rattle.product_slices.specs.KeptProduct.{model-unless, kept-model, kept-accounted, Kept-ready, kept-refused}
+use Rattle.product_answer.specs.KeptProduct.{model-unless, kept-model, kept-accounted, Kept-ready, kept-refused}
 
 -- ---- the span as it is summed: known as far as the cap
 module _ (keys : List ℕ) (cs : List ℤ) where

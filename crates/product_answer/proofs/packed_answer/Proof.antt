@@ -1,8 +1,8 @@
 -- `packed_answer` packs the terms, or refuses.
 use borrow.Author.Needs.{needs}
-use Rattle.product_slices.specs.KeptProductLaws.{answer-accepted, answer-refused}
-use Rattle.product_slices.proofs.packed_answer.Statement.{statement}
-use Rattle.product_slices.proofs.packed_answer.Tie as tie
+use Rattle.product_answer.specs.KeptProductLaws.{answer-accepted, answer-refused}
+use Rattle.product_answer.proofs.packed_answer.Statement.{statement}
+use Rattle.product_answer.proofs.packed_answer.Tie as tie
 
 enum-told : tie.Need-enum-told
 enum-told c = search needs

@@ -12,9 +12,9 @@ use mir.Val.{toZ, ofZ}
 use Rattle.fixed.specs.Fixed.{capped}
 use Rattle.calculus.specs.Terms.{size}
 use Rattle.product_table.specs.Table.{terms}
-use Rattle.product_slices.specs.KeptProductLaws.{spanned-first, spanned-turn, spanned-end}
-use Rattle.product_slices.proofs.within.Statement.{statement}
-use Rattle.product_slices.proofs.within.Tie as tie
+use Rattle.product_answer.specs.KeptProductLaws.{spanned-first, spanned-turn, spanned-end}
+use Rattle.product_answer.proofs.within.Statement.{statement}
+use Rattle.product_answer.proofs.within.Tie as tie
 
 abbrev Inv-loop : tie.InvT-loop
 Inv-loop radius count coefficients span₀ i₀ span i =
