@@ -43,8 +43,8 @@ pub fn one_model() -> Model
 }
 
 // ---- the tables of a substitution
-// A table is filled with zeros where it is declared, and the full one for longer than a short substitution takes. So its
-// size goes by the terms of g: one factor of each product is g, and the other has at most 64 terms.
+// A table is filled with zeros where it is declared, which takes longer for the full one than a short substitution. So
+// its size goes by the terms of g: one factor of each product is g, and the other has at most 64 terms.
 const FEW_TERMS: usize = 4;
 
 // Where g has more, up to so many, there is one between.
