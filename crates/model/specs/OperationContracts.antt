@@ -6,7 +6,6 @@ pub use Rattle.model_multiplication.specs.Factors.{Factors}
 pub use Rattle.model_substitution.specs.Substitute.{Substitution}
 pub use Rattle.model_proposal.specs.Proposal.{Proposal}
 pub use Rattle.product_collector.specs.CollectorContracts.{Lent-table, Free-table}
-pub use Rattle.product_terms.specs.ProductTerms.{Lent-room, Kept-room}
+pub use Rattle.product_calls.specs.SliceContracts.{Lent-room, Kept-room, Kept-ready}
 -- the answer of a product in arrays is one that callers look into
-unfoldable pub use Rattle.product_answer.specs.KeptProduct.{kept-model, kept-accounted}
-pub use Rattle.product_answer.specs.KeptProduct.{Kept-ready}
+unfoldable pub use Rattle.product_calls.specs.SliceContracts.{kept-model, kept-accounted}

@@ -5,7 +5,7 @@ pub use Rattle.model_keys.specs.KeyExponentLaws.{monomial-place}
 pub use Rattle.model_range.specs.RangeSizeLaws.{below-within, above-within}
 pub use Rattle.model_integral.specs.IntegralPartsLaws.{volume-le, quotient-within, one-at-most}
 pub use Rattle.model_call_tests.specs.CallStructLaws.{vars-view}
-pub use Rattle.product_terms.specs.ProductTermsLaws.{lent-room, fewer-room, free-room}
+pub use Rattle.product_calls.specs.SliceContracts.{lent-room, fewer-room, free-room}
 pub use Rattle.model_multiplication.specs.FactorRoomLaws.{factors-room}
 pub use Rattle.model_substitution.specs.SubstitutionRoomLaws.{substitution-room}
 pub use Rattle.product_calls.specs.KeptModelLaws.{kept-vars, kept-counted, kept-radius, refused-vars, refused-count}

@@ -309,19 +309,11 @@ pub use model_multiplication::multiplied_accounted;
 // into two arrays, by wide keys.
 pub use product_calls::multiply_slices;
 
-// The answer of `multiply` with the shares of its radius, for two sound models that lie in slices: the terms that are
-// kept go into two arrays, by wide keys. The table is lent.
-pub use product_slices::Kept;
-pub use product_slices::multiplied_slices;
+// The same for two sound models that lie in slices.
+pub use product_calls::multiplied_slices_accounted;
 
-// The same as a struct.
-pub use product_slices::multiplied_slices_accounted;
-
-// The same without a table that is lent.
-pub use product_slices::multiplied_slices_alone;
-
-// All places of such an answer's model go into two slices.
-pub use product_slices::store_kept;
+// All places of an answer's model go into two slices, where its terms are by wide keys in two arrays.
+pub use product_calls::store_kept;
 
 // The answer of `substitute`, for two sound models in the same variables and one of these. The table is lent.
 pub use model_substitution::substituted;

@@ -10,6 +10,7 @@ ghost use Rattle.model_types.specs.SharesStruct.{accounted};
 ghost use Rattle.product_collector.specs.CollectorContracts.{«Free-table»};
 ghost use Rattle.product_terms.specs.ProductTerms.{«Lent-room»};
 ghost use Rattle.product_answer.specs.ProductFactors.{Factors};
+use model_slices::Kept;
 use model_types::Accounted;
 use model_types::Answer;
 use model_types::Model;
@@ -54,7 +55,16 @@ pub fn multiplied_accounted(
         &mut kept,
         &mut coefficients,
     );
-    let k = product_answer::kept_answer(f.n, a, f.radius, b, g.radius, r, &kept, &coefficients);
+    let k: Kept = product_answer::kept_answer(
+        f.n,
+        a,
+        f.radius,
+        b,
+        g.radius,
+        r,
+        &kept,
+        &coefficients,
+    );
     product_answer::packed_kept(f.n, k, &kept, &coefficients)
 }
 
@@ -102,7 +112,16 @@ pub fn multiplied_alone(d: u8, f: Model, g: Model) -> Answer
         &mut kept,
         &mut coefficients,
     );
-    let k = product_answer::kept_answer(f.n, a, f.radius, b, g.radius, r, &kept, &coefficients);
+    let k: Kept = product_answer::kept_answer(
+        f.n,
+        a,
+        f.radius,
+        b,
+        g.radius,
+        r,
+        &kept,
+        &coefficients,
+    );
     let product = product_answer::packed_kept(f.n, k, &kept, &coefficients);
     product.answer
 }

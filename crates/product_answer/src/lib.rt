@@ -1,4 +1,5 @@
-// The answer of a product of models: its radius, and the terms that are kept, within the limits, in two arrays or packed.
+// The answer of a product of models: its radius, and the terms that are kept, within the limits, in two arrays or as a
+// struct.
 ghost use mathlib.Core.Path.{_≡_};
 ghost use mathlib.Core.List.{List};
 ghost use Prim.Native.Nat.{ℕ, _+_, _*_, _^_, _<_, _≤_};

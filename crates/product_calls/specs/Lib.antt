@@ -1,3 +1,4 @@
 pub mod MultiplyCallLaws
 pub mod KeptModelLaws
 pub mod SliceCallLaws
+pub mod SliceContracts

@@ -12,6 +12,12 @@ use model_slices::Kept;
 use model_types::Shares;
 use model_types::Verdict;
 
+// ---- handed on
+pub use product_slices::multiplied_slices_accounted;
+pub use product_slices::store_kept;
+
+// ---- the call
+
 // The product of two models, with terms above degree d swept into the radius: its terms, by wide keys, are in the two
 // arrays. 3, 5 at place 0 or 1, 10, 8, 7.
 pub fn multiply_slices(

@@ -4,7 +4,7 @@ use native.Mathlib.Omega.{arith}
 use borrow.Author.Needs.{needs}
 use lib.Dec.{lit≤}
 use Rattle.calculus.specs.Model.{most-terms}
-use Rattle.product_terms.specs.ProductTermsLaws.{fewer-room}
+use Rattle.product_calls.specs.SliceContracts.{fewer-room}
 use Rattle.model.specs.TableSizes.{few-terms}
 use Rattle.model.proofs.substituted_few.Statement.{statement}
 use Rattle.model.proofs.substituted_few.Tie as tie
