@@ -1,23 +1,25 @@
--- The run of a book that passed the tests: one turn of its loop, with each way out.
+-- The run of a book that passed the tests: one turn of its loop, with each way out, and its end.
 use mathlib.Core.Path.{_≡_, refl, sym, _∙_, ap, ap₂, subst}
 use mathlib.Core.Bool.{Bool, true, false, cond, _&&_, _||_}
-use mathlib.Core.List.{List, [], _∷_, _++_, map, map-append, append-assoc, append-nil}
+use mathlib.Core.List.{List, [], _∷_, _++_, map, append-assoc, append-nil}
 use mathlib.Core.Option.{some}
-use Prim.Native.Nat.{ℕ, zero, suc, _+_, _-_, _<_, _≤_}
+use Prim.Native.Nat.{ℕ, zero, suc, _+_, _*_, _-_, _<_, _≤_}
+use native.Mathlib.Decide.{ℕ-discrete}
+use native.Mathlib.Nat.{mul-le-mul}
 use native.Mathlib.Numerals.{add-one}
 use native.Mathlib.Omega.{arith}
-use lib.Dec.{T, eqb, leb, ltb, ltb→lt, leb→le}
+use lib.Dec.{T, eqb, leb, ltb, ltb→lt, leb→le, le→leb, eqb→eq, eqb-refl}
 use lib.IntN.{natAbs}
 use lib.Signed.{nonNeg}
 use lib.ListN.{length, drop, getD, set, replicate, length-map, length-replicate, getD-replicate, drop-of-length-le}
-use lib.ListN.{List·getD-map, length-append}
-use lib.Seq.{drop-cons}
+use lib.ListN.{List·getD-map, List·getD-append, length-append}
+use lib.Seq.{drop-cons, ext-getD, getD-at}
 use Rattle.fixed.specs.Fixed.{span-limit}
 use Rattle.calculus.specs.Model as C
-use Rattle.calculus.specs.Model.{most-degree, zero-model, sound}
+use Rattle.calculus.specs.Model.{most-degree, most-terms, zero-model, sound}
 use Rattle.calculus.specs.Refusal as R
 use Rattle.calculus.specs.Refusal.{accepted, refused, done, stopped, at-place, _followed-by_}
-use Rattle.calculus.specs.Operations.{quotient}
+use Rattle.calculus.specs.Operations.{multiply, quotient}
 use Rattle.calculus.specs.Tests.{vars-sound, variable-sound}
 use Rattle.calculus.specs.TestLaws.{and-right}
 use Rattle.calculus.specs.Refusal.{all-from}
@@ -27,46 +29,46 @@ use Rattle.calculus.specs.Book.{Step, input, last-code, Book, most-steps, model
 use Rattle.calculus.specs.Book.{model-of, result-of, run-step, run-steps, last}
 use Rattle.calculus.specs.RefusalLaws.{weaken}
 use Rattle.calculus.specs.Shares as S
-use Rattle.calculus.specs.Shares.{no-shares, shares-of, all-carried, step-shares, rows-of, run-shares, all-rows}
-use Rattle.calculus.specs.Shares.{rows-sound}
+use Rattle.calculus.specs.Shares.{no-shares, shares-of, all-carried, product-shares, step-shares, rows-of, run-shares}
+use Rattle.calculus.specs.Shares.{all-rows, rows-sound}
 use Rattle.calculus.specs.BookLaws.{Passes, model-passes, all-from-at, next-number}
 use Rattle.calculus.specs.BookSoundLaws.{step-good}
-use Rattle.model_types.specs.Arrays.{padded}
-use Rattle.model_types.specs.ArrayLaws.{padded-more}
+use Rattle.model_types.specs.ArrayLaws.{length-padded}
 use Rattle.model_types.specs.declared.Model.{Model}
+use Rattle.model_types.specs.declared.Term.{Term}
 use Rattle.model_types.specs.declared.Refusal.{Refusal}
+use Rattle.model_types.specs.declared.Verdict.{Verdict}
 use Rattle.model_types.specs.declared.Verdict.the-variants.{Accepted, Refused}
 use Rattle.model_types.specs.declared.Answer.{Answer}
 use Rattle.model_types.specs.declared.Shares.{Shares}
 use Rattle.model_types.specs.declared.Accounted.{Accounted}
-use Rattle.model_types.specs.ModelStruct.{view, pack, refusal, cause, answer}
+use Rattle.model_types.specs.ModelStruct.{zero-term, pack-term, view, pack, refusal, cause, answer}
 use Rattle.model_types.specs.SharesStruct.{stored-shares, accounted}
+use Rattle.model_types.specs.ResultLaws.{sound-in}
 use Rattle.model_types.specs.ModelStructLaws.{cause-refusal, vars-within}
-use Rattle.model.specs.OperationContracts.{Proposal}
-use Rattle.model.specs.OperationLaws.{Holds, held-vars, held-view, held-sound, Got, got}
+use Rattle.model_slices.specs.HandedModels.{handed}
+use Rattle.model.specs.OperationContracts.{Factors, Proposal}
+use Rattle.model.specs.OperationLaws.{sound-order, Holds, held-vars, held-view, held-sound, Got, got}
 use Rattle.format.specs.SmallLaws.{under-cond}
 use Rattle.format.specs.HeldBook.{Held-step, Held-book, view-model, view-step, view-book, outline, outline-of}
 use Rattle.format.specs.HeldBook.{held-step-sound, Held-passes}
 use Rattle.format.specs.HeldBookLaws.{In-limits, in-limits, steps-pass, view-at, view-passes}
 use Rattle.format.specs.Fields.{limit-a, limit-b, names-variable, v-sound, earlier, value-sound}
 use Rattle.format.specs.StepFieldLaws.{Fields, fields-of}
-use Rattle.sheet_steps.specs.Steps.{step-answer, step-row, Step-ready}
-use Rattle.sheet_steps.specs.StepLaws.{radius-small, radius-bounded, step-is, row-is, quotient-is, quotient-row}
+use Rattle.sheet_results.specs.Results.{Results, Roomy, result, row-at, with-result, with-row, first-rows}
+use Rattle.sheet_results.specs.Results.{settled-results, settled-rows}
+use Rattle.sheet_results.specs.ResultsLaws.{result-here, result-before, roomy-still}
+use Rattle.sheet_results.specs.ResultsLaws.{settled-put, settled-row, settled-kept, settled-row-kept}
+use Rattle.sheet_results.specs.RowsLaws.{length-row, row-here, row-other, length-rows, rows-at}
+use Rattle.sheet_steps.specs.Steps.{step-answer, step-row, names-second, Step-ready}
+use Rattle.sheet_steps.specs.StepLaws.{radius-small, radius-bounded, only-named, row-named, step-is, row-is}
+use Rattle.sheet_steps.specs.StepLaws.{input-is, input-row, product-is, product-row, quotient-is, quotient-row}
 use Rattle.sheet_step_answers.specs.Answers.{accepted-answer}
+use Rattle.sheet_running.specs.declared.Ran.{Ran}
 use Rattle.sheet_running.specs.Running.{last-result, ran}
+use Rattle.sheet_running.specs.Run.{Rows-stored, Good, Running, Ended, Step-at, Turned}
 
 -- ---- any list
--- places of a padded array: those in use, then zeros
-getD-padded : {A : Type 0} (zeros : A) (size : ℕ) (l : List A) (i : ℕ) (x : A) → i < size
-    → getD (padded zeros size l) i x ≡ getD l i zeros
-unfolding padded
-getD-padded zeros size l i x h = go l (size - length l) i (omega arith)
-  where
-    go : (l : List _) (k i : ℕ) → i < length l + k → getD (l ++ replicate k zeros) i x ≡ getD l i zeros
-    go [] k i h = getD-replicate k i zeros x (omega arith)
-    go (y ∷ l) k zero h = refl
-    go (y ∷ l) k (suc i) h = go l k i (omega arith)
-
 -- the last of a list stands at its last place
 last-at : {A : Type 0} (x y : A) (l : List A) → last y l ≡ getD (y ∷ l) (length l) x
 unfolding last
@@ -85,66 +87,99 @@ taken-test : (t x y : Bool) → T t → T (cond t x y) → T x
 taken-test true x y p q = q
 taken-test false x y p q = absurd p
 
--- rows in memory: zeros behind those that there are
-stored-rows : (l : List S.Shares)
-    → padded (stored-shares no-shares) most-steps (map stored-shares l) ≡ map stored-shares (all-rows l)
-unfolding padded all-rows
-stored-rows l = ap₂ (λ k n. map stored-shares l ++ replicate (most-steps - n) k) refl (length-map l stored-shares)
-    ∙ ap (λ k. map stored-shares l ++ k) (sym (zeros (most-steps - length l)))
-    ∙ sym (map-append stored-shares l (replicate (most-steps - length l) no-shares))
+-- a limit of two that is chosen
+first-limit : (t u : Bool) (x y z a : ℕ) → (T t → ⊥) → T u → a < cond t x (cond u y z) → a < y
+first-limit true u x y z a p q h = absurd (p tt)
+first-limit false true x y z a p q h = h
+first-limit false false x y z a p q h = absurd q
+
+-- a list that one was added to, at the places that were there and at the last
+getD-before : {A : Type 0} (l : List A) (y x : A) (j : ℕ) → j < length l → getD (l ++ (y ∷ [])) j x ≡ getD l j x
+getD-before l y x j h = List·getD-append l (y ∷ []) x j h
+
+getD-last : {A : Type 0} (l : List A) (y x : A) (j : ℕ) → length l ≡ j → getD (l ++ (y ∷ [])) j x ≡ y
+getD-last l y x j e = getD-at l y [] x j e
+
+-- zeros behind what is there are zeros
+getD-zeros : {A : Type 0} (z : A) (l : List A) (k i : ℕ) → getD (l ++ replicate k z) i z ≡ getD l i z
+getD-zeros z [] zero i = refl
+getD-zeros z [] (suc k) zero = refl
+getD-zeros z [] (suc k) (suc i) = getD-zeros z [] k i
+getD-zeros z (y ∷ l) k zero = refl
+getD-zeros z (y ∷ l) k (suc i) = getD-zeros z l k i
+
+-- ---- rows
+-- all of them, as they are stored
+rows-are : (rows : List S.Shares) {flat : List ℕ} → length rows ≤ 64 → Rows-stored rows flat
+    → first-rows flat 64 ≡ map stored-shares (all-rows rows)
+unfolding all-rows most-steps
+rows-are rows {flat} h r = ext-getD (stored-shares no-shares) (first-rows flat 64)
+    (map stored-shares (rows ++ replicate (64 - length rows) no-shares))
+    (length-rows flat 64 ∙ sym whole)
+    (λ j l.
+    let k : j < 64 = omega (arith, l, length-rows flat 64) in
+    rows-at flat 64 j (stored-shares no-shares) k
+    ∙ r .each j k
+    ∙ ap stored-shares (sym (getD-zeros no-shares rows (64 - length rows) j))
+    ∙ sym (List·getD-map stored-shares (rows ++ replicate (64 - length rows) no-shares) j no-shares))
   where
-    zeros : (n : ℕ) → map stored-shares (replicate n no-shares) ≡ replicate n (stored-shares no-shares)
-    zeros zero = refl
-    zeros (suc n) = ap (λ k. stored-shares no-shares ∷ k) (zeros n)
+    whole : length (map stored-shares (rows ++ replicate (64 - length rows) no-shares)) ≡ 64
+    whole =
+        let p = length-map (rows ++ replicate (64 - length rows) no-shares) stored-shares in
+        let q = length-append rows (replicate (64 - length rows) no-shares) in
+        let s = length-replicate (64 - length rows) no-shares in
+        omega (arith, p, q, s, h)
 
--- the answer of the steps and all their rows
-ran-is : (book : Book) {a : Answer} {shares : List Shares} → a ≡ answer (last-result book) → (rows : List S.Shares)
-    → shares ≡ padded (stored-shares no-shares) most-steps (map stored-shares rows) → rows ≡ rows-sound book
-    → record { answer = a; shares = shares } ≡ ran book
+-- no row yet
+pub no-rows : Rows-stored [] (replicate 256 0)
+unfolding row-at stored-shares no-shares
+no-rows = record { room = refl; each = λ j h. λ t. record {
+  carried = getD-replicate 256 (4 * j) 0 0 (omega (arith, h)) t;
+  rounding = getD-replicate 256 (4 * j + 1) 0 0 (omega (arith, h)) t;
+  swept = getD-replicate 256 (4 * j + 2) 0 0 (omega (arith, h)) t;
+  slack = getD-replicate 256 (4 * j + 3) 0 0 (omega (arith, h)) t;
+} }
+
+-- one more
+row-more : {rows : List S.Shares} {flat : List ℕ} {i : ℕ} (k : S.Shares) {s : Shares} → Rows-stored rows flat
+    → length rows ≡ i → i < 64 → s ≡ stored-shares k → Rows-stored (rows ++ (k ∷ [])) (with-row s i flat)
+row-more {rows} {flat} {i} k {s} r e l q = record {
+  room = length-row s i flat ∙ r .room;
+  each = λ j h. elim (ℕ-discrete j i) [
+    | yes o ↦ ap (row-at (with-row s i flat)) o ∙ row-here s i flat (omega (arith, r .room)) ∙ q
+        ∙ ap stored-shares (sym (getD-last rows k no-shares j (e ∙ sym o)))
+    | no o ↦ row-other s i flat j o ∙ r .each j h ∙ ap stored-shares (behind j o)
+  ];
+}
+  where
+    behind : (j : ℕ) → (j ≡ i → ⊥) → getD rows j no-shares ≡ getD (rows ++ (k ∷ [])) j no-shares
+    behind j o = go rows i j e o
+      where
+        go : (l : List S.Shares) (i j : ℕ) → length l ≡ i → (j ≡ i → ⊥)
+            → getD l j no-shares ≡ getD (l ++ (k ∷ [])) j no-shares
+        go [] i zero e o = absurd (o e)
+        go [] i (suc j) e o = refl
+        go (y ∷ l) i zero e o = refl
+        go (y ∷ l) i (suc j) e o = go l (length l) j refl (λ p. o (omega (arith, p, e)))
+
+-- ---- what a run that has ended leads to
+pub ended-ran : {h : Held-book} {r : R.Result C.Model} {flat : List ℕ} {a : Answer} {shares : List Shares}
+    → Ended h r flat → a ≡ answer r → shares ≡ first-rows flat 64
+    → _≡_ {A = Ran} (record { answer = a; shares = shares }) (ran (view-book h))
 unfolding ran
-ran-is book e rows p q = ap₂ (λ a s. record { answer = a; shares = s }) e
-    (p ∙ stored-rows rows ∙ ap (λ l. map stored-shares (all-rows l)) q)
+ended-ran e p q = ap₂ (λ a s. record { answer = a; shares = s }) (p ∙ ap answer (e .is))
+    (q ∙ rows-are (e .rows) (e .rows-few) (e .rows-stored) ∙ ap (λ l. map stored-shares (all-rows l)) (e .rows-all))
 
--- what is read past the end of an array of models
-abbrev pub empty-place : Model
-empty-place = record { n = 0; count = 0; radius = 0; terms = [] }
+-- ---- structs of sound models
+-- all places of a packed model
+packed-long : {n d : ℕ} {k : C.Model} → Sound n d k → length (pack k .terms) ≡ 64
+unfolding pack most-terms
+packed-long {k = k} s = length-padded zero-term 64 (map pack-term (k .terms))
+    (omega (arith, length-map (k .terms) pack-term, s .1 .count))
 
--- ---- a held book
-module _ (h : Held-book) where
-  -- sound, of the book's variables and order
-  abbrev pub Good : C.Model → Type 0
-  Good = Sound (h .n) (h .d)
-
-  -- the results of the first i steps stand in an array, their rows in another, and the steps that are left lead to the
-  -- answer and to the rows behind these
-  pub record Running (i : ℕ) (results : List Model) (shares : List Shares) : Type 0 where
-    pub models : List C.Model
-    pub count : length models ≡ i
-    pub good : All Good models
-    pub stored : results ≡ padded (pack (zero-model (h .n))) most-steps (map pack models)
-    pub rest : run-steps (view-book h) models (drop i (view-book h .steps))
-        ≡ run-steps (view-book h) [] (view-book h .steps)
-    pub rows : List S.Shares
-    pub rows-count : length rows ≡ i
-    pub rows-stored : shares ≡ padded (stored-shares no-shares) most-steps (map stored-shares rows)
-    pub rows-rest : rows ++ run-shares (view-book h) models (drop i (view-book h .steps)) ≡ rows-sound (view-book h)
-
-  -- what the fields of a step name: a model, if it is an input, and two results
-  pub record Named (s : Held-step) (results : List Model) (m f g : Model) : Type 0 where
-    pub is-model : s .code ≡ 0 → view m ≡ model-of (view-book h) (s .a)
-    pub is-first : f ≡ getD results (s .a) empty-place
-    pub is-second : g ≡ getD results (s .b) empty-place
-
-  -- and what a quotient names besides: two results more
-  pub record Proposed (s : Held-step) (results : List Model) (k w : Model) : Type 0 where
-    pub code : s .code ≡ 9
-    pub is-third : k ≡ getD results (s .v) empty-place
-    pub is-fourth : w ≡ getD results (natAbs (s .value)) empty-place
-
-  -- s is step i
-  pub record Step-at (i : ℕ) (s : Held-step) : Type 0 where
-    pub within : i < length (h .steps)
-    pub is-step : getD (h .steps) i s ≡ s
+packed-few : {n d : ℕ} {k : C.Model} → Sound n d k → pack k .count ≤ 64
+unfolding pack most-terms
+packed-few s = s .1 .count
 
 -- ---- a held book that passes its tests
 module _ {h : Held-book} (p : Held-passes h) where
@@ -166,18 +201,19 @@ module _ {h : Held-book} (p : Held-passes h) where
   vars : vars-sound (h .n) ≡ true
   vars = vars-within (h .n) (in-limits-of .n-low) (in-limits-of .n-high)
 
-  pub running-first : {x : Model} → x ≡ pack (zero-model (h .n))
-      → Running h 0 (replicate most-steps x) (replicate most-steps (stored-shares no-shares))
-  unfolding padded most-steps rows-sound
-  running-first e = record {
+  -- no step is done
+  pub running-first : {m : Results} {flat : List ℕ} → Roomy m → Rows-stored [] flat → Running h 0 m flat
+  unfolding rows-sound
+  running-first r s = record {
     models = [];
     count = refl;
     good = nil;
-    stored = ap (replicate most-steps) e;
+    room = r;
+    stored = λ j l. absurd (omega (arith, l));
     rest = refl;
     rows = [];
     rows-count = refl;
-    rows-stored = refl;
+    rows-stored = s;
     rows-rest = refl;
   }
 
@@ -233,24 +269,42 @@ module _ {h : Held-book} (p : Held-passes h) where
     )
 
     -- so are the two others of a quotient
-    pub third-place : s .code ≡ 9 → s .v < 64
+    pub third-earlier : s .code ≡ 9 → s .v < i
     unfolding names-variable v-sound
-    third-place e = omega (
-      arith,
-      ltb→lt (s .v) i (subst (λ c. T (v-sound (outline-of h .vars) i c (s .v))) e (fields .in-v)),
-      at .within,
-      in-limits-of .steps-high,
-    )
+    third-earlier e = ltb→lt (s .v) i (subst (λ c. T (v-sound (outline-of h .vars) i c (s .v))) e (fields .in-v))
 
-    pub fourth-place : s .code ≡ 9 → natAbs (s .value) < 64
+    pub fourth-earlier : s .code ≡ 9 → natAbs (s .value) < i
     unfolding value-sound earlier
-    fourth-place e = omega (
-      arith,
-      ltb→lt (natAbs (s .value)) i
-          (and-right (nonNeg (s .value)) _ (subst (λ c. T (value-sound i c (s .value))) e (fields .in-value))),
-      at .within,
-      in-limits-of .steps-high,
-    )
+    fourth-earlier e = ltb→lt (natAbs (s .value)) i
+        (and-right (nonNeg (s .value)) _ (subst (λ c. T (value-sound i c (s .value))) e (fields .in-value)))
+
+    -- and what a and b name are results of earlier steps
+    pub first-earlier : T (leb 3 (s .code)) → s .a < i
+    unfolding limit-a
+    first-earlier t = first-limit (eqb (s .code) 0) (leb 3 (s .code)) _ i 1 (s .a)
+        (λ z. omega (arith, eqb→eq (s .code) 0 z, leb→le 3 (s .code) t)) t (ltb→lt (s .a) _ (fields .in-a))
+
+    pub second-earlier : T (names-second (s .code)) → s .b < i
+    unfolding limit-b names-second
+    second-earlier t = chosen (leb 4 (s .code) && leb (s .code) 7) (eqb (s .code) 9) t (ltb→lt (s .b) _ (fields .in-b))
+      where
+        chosen : (x y : Bool) → T x → s .b < cond (x || y) i 1 → s .b < i
+        chosen true y q l = l
+        chosen false y q l = absurd q
+
+    -- of a code that is known
+    by-first : (c : ℕ) → s .code ≡ c → T (leb 3 c) → s .a < i
+    by-first c e t = first-earlier (subst (λ c. T (leb 3 c)) (sym e) t)
+
+    by-second : (c : ℕ) → s .code ≡ c → T (names-second c) → s .b < i
+    by-second c e t = second-earlier (subst (λ c. T (names-second c)) (sym e) t)
+
+    divisor-earlier : s .code ≡ 9 → s .b < i
+    unfolding limit-b
+    divisor-earlier e = ltb→lt (s .b) i (subst (λ c. T (ltb (s .b) (limit-b i c))) e (fields .in-b))
+
+    pub here-small : i < 64
+    here-small = omega (arith, at .within, in-limits-of .steps-high)
 
     -- that of an input is a model
     pub model-place : s .code ≡ 0 → s .a < length (h .models)
@@ -262,95 +316,196 @@ module _ {h : Held-book} (p : Held-passes h) where
           (subst (λ c. T (ltb (s .a) (limit-a (length (outline-of h .models)) i c))) e (fields .in-a)),
     )
 
-    -- ---- what it asks, after the results rs
-    module _ {results : List Model} {shares : List Shares} (l : Running h i results shares) {m f g : Model}
-        (o : Named h s results m f g) where
+    -- ---- after the results so far
+    module _ {m : Results} {flat : List ℕ} (l : Running h i m flat) where
       -- a result as the book's steps see it
-      abbrev result : ℕ → C.Model
-      result = result-of book (l .models)
+      abbrev so-far : ℕ → C.Model
+      so-far = result-of book (l .models)
 
-      result-good : (a : ℕ) → Good h (result a)
+      so-far-good : (a : ℕ) → Good h (so-far a)
       unfolding result-of view-book
-      result-good a = each-at (λ m k. Good h k) (zero-model (h .n)) (zero-model (h .n)) (zero-sound (h .n) (h .d))
+      so-far-good a = each-at (λ m k. Good h k) (zero-model (h .n)) (zero-model (h .n)) (zero-sound (h .n) (h .d))
           (l .good) a
 
-      -- and as the array holds it
-      held-result : {k : Model} (a : ℕ) → a < 64 → k ≡ getD results a empty-place → Holds (h .n) (h .d) k (result a)
-      unfolding result-of view-book most-steps
-      held-result a s e = record {
-        packed = e ∙ ap (λ r. getD r a empty-place) (l .stored)
-            ∙ getD-padded (pack (zero-model (h .n))) 64 (map pack (l .models)) a empty-place s
-            ∙ List·getD-map pack (l .models) a (zero-model (h .n));
-        sound = result-good a;
-      }
+      -- and as the slices hold it
+      held : (a : ℕ) → a < i → Holds (h .n) (h .d) (result (h .n) m a) (so-far a)
+      unfolding result-of view-book
+      held a s = record { packed = l .stored a s; sound = so-far-good a }
 
-      first-held : Holds (h .n) (h .d) f (result (s .a))
-      first-held = held-result (s .a) first-place (o .is-first)
+      seen : (a : ℕ) → a < i → view (result (h .n) m a) ≡ so-far a
+      seen a s = held-view vars order (held a s)
 
-      second-held : Holds (h .n) (h .d) g (result (s .b))
-      second-held = held-result (s .b) second-place (o .is-second)
+      -- the answer of the book's step
+      abbrev pub given : R.Answer C.Model
+      given = run-step book so-far step-at
 
-      third-held : {k w : Model} (q : Proposed h s results k w) → Holds (h .n) (h .d) k (result (s .v))
-      third-held q = held-result (s .v) (third-place (q .code)) (q .is-third)
+      -- and its shares
+      abbrev pub row : C.Model → S.Shares
+      row = step-shares book so-far step-at
 
-      fourth-held : {k w : Model} (q : Proposed h s results k w) → Holds (h .n) (h .d) w (result (natAbs (s .value)))
-      fourth-held q = held-result (natAbs (s .value)) (fourth-place (q .code)) (q .is-fourth)
+      -- ---- a struct that is seen as a sound model
+      module _ (k : Model) {x : C.Model} (e : view k ≡ x) (o : Good h x) where
+        seen-sound : T (sound (h .d) (view k))
+        seen-sound = sound-in (h .n) (h .d) (view k) vars (subst (Good h) (sym e) o)
 
-      input-passes : s .code ≡ 0 → T (sound (h .d) (view m))
-      unfolding model-sound view-book
-      input-passes e = subst (λ m. T (sound (h .d) m)) (sym (o .is-model e))
-          (and-right (eqb (model-of book (s .a) .vars) (h .n)) _
-          (model-passes book passes (s .a) (omega (arith, model-place e, length-map (h .models) view-model))))
+        seen-vars : k .n ≡ h .n
+        unfolding view
+        seen-vars = ap (λ m. m .vars) e ∙ o .0 .vars
+
+      -- ---- a step that names at most two results
+      -- one that is named, or the zero model
+      operand-good : (t : Bool) (k : Model) (a : ℕ)
+          → view k ≡ cond t (view (result (h .n) m a)) (zero-model (h .n)) → (T t → a < i) → Good h (view k)
+      operand-good true k a e q = subst (Good h) (sym (e ∙ seen a (q tt))) (so-far-good a)
+      operand-good false k a e q = subst (Good h) (sym e) (zero-sound (h .n) (h .d))
+
+      operand-is : (t : Bool) (k : Model) (a : ℕ)
+          → view k ≡ cond t (view (result (h .n) m a)) (zero-model (h .n)) → (T t → a < i) → T t
+          → view k ≡ so-far a
+      operand-is true k a e q u = e ∙ seen a (q tt)
+      operand-is false k a e q u = absurd u
 
       in-variable : T (names-variable (s .code)) → T (variable-sound (h .n) (s .v))
       unfolding outline-of outline v-sound
       in-variable t = taken-test (names-variable (s .code)) _ _ t (fields .in-v)
 
-      pub step-ready : (s .code ≡ 9 → ⊥) → Step-ready (h .n) (h .d) s m f g
-      step-ready other = record {
-        vars = vars;
-        order = order;
-        code = leb→le (s .code) last-code (fields .in-code);
-        no-quotient = other;
-        variable = in-variable;
-        input = input-passes;
-        first = held-sound vars order first-held;
-        first-vars = held-vars first-held;
-        second = held-sound vars order second-held;
-        second-vars = held-vars second-held;
-      }
+      code-small : s .code ≤ last-code
+      code-small = leb→le (s .code) last-code (fields .in-code)
 
-      -- and a quotient
-      pub proposal : {k w : Model} → Proposed h s results k w → Proposal (h .d) f g k w
-      proposal q = record {
-        order = order;
-        dividend = held-sound vars order first-held;
-        divisor = held-sound vars order second-held;
-        proposed = held-sound vars order (third-held q);
-        inverse = held-sound vars order (fourth-held q);
-        divisor-vars = held-vars second-held ∙ sym (held-vars first-held);
-        proposed-vars = held-vars (third-held q) ∙ sym (held-vars first-held);
-        inverse-vars = held-vars (fourth-held q) ∙ sym (held-vars first-held);
-      }
+      module _ (f g : Model)
+          (is-first : view f ≡ cond (leb 3 (s .code)) (view (result (h .n) m (s .a))) (zero-model (h .n)))
+          (is-second : view g ≡ cond (names-second (s .code)) (view (result (h .n) m (s .b))) (zero-model (h .n))) where
+        first-good : Good h (view f)
+        first-good = operand-good (leb 3 (s .code)) f (s .a) is-first first-earlier
 
-      -- ---- what it answers
-      -- what its code gives
-      abbrev coded : R.Answer C.Model
-      coded = step-answer (h .n) (h .d) s (view m) (view f) (view g)
+        second-good : Good h (view g)
+        second-good = operand-good (names-second (s .code)) g (s .b) is-second second-earlier
 
-      -- and its shares
-      abbrev coded-row : C.Model → S.Shares
-      coded-row = step-row (h .n) (h .d) s (view m) (view f) (view g)
+        pub step-ready : (s .code ≡ 0 → ⊥) → (s .code ≡ 6 → ⊥) → (s .code ≡ 9 → ⊥)
+            → Step-ready (h .n) (h .d) s f g
+        step-ready z w o = record {
+          vars = vars;
+          order = order;
+          code = code-small;
+          no-input = z;
+          no-product = w;
+          no-quotient = o;
+          variable = in-variable;
+          first = seen-sound f refl first-good;
+          first-vars = seen-vars f refl first-good;
+          second = seen-sound g refl second-good;
+          second-vars = seen-vars g refl second-good;
+        }
 
-      -- the answer of the book's step
-      abbrev pub given : R.Answer C.Model
-      given = run-step book result step-at
+        -- what its code gives is the answer of the book's step
+        pub by-code : {r : Accounted} → (s .code ≡ 0 → ⊥) → (s .code ≡ 6 → ⊥) → (s .code ≡ 9 → ⊥)
+            → ((k : C.Model) → r ≡ accounted (step-answer (h .n) (h .d) s k (view f) (view g))
+            (step-row (h .n) (h .d) s k (view f) (view g)))
+            → r ≡ accounted given row
+        unfolding view-book
+        by-code z w o e =
+            let k = model-of book (s .a) in
+            let q = operand-is (leb 3 (s .code)) f (s .a) is-first first-earlier in
+            let t = operand-is (names-second (s .code)) g (s .b) is-second second-earlier in
+            e k
+            ∙ ap₂ accounted
+            (only-named (h .n) (h .d) s k k (view f) (so-far (s .a)) (view g) (so-far (s .b)) code-small z w o q t
+            ∙ step-is book so-far s step-at k stands o (λ e. refl))
+            (row-named (h .n) (h .d) s k k (view f) (so-far (s .a)) (view g) (so-far (s .b)) code-small z w o q t
+            ∙ row-is book so-far s step-at k stands o)
 
-      -- and its shares
-      abbrev pub row : C.Model → S.Shares
-      row = step-shares book result step-at
+      -- ---- an input
+      module _ (k : Model) (e : s .code ≡ 0) (is-model : view k ≡ model-of book (s .a)) where
+        pub input-sound : T (sound most-degree (view k))
+        unfolding model-sound view-book
+        input-sound = sound-order (h .d) (view k) order (subst (λ m. T (sound (h .d) m)) (sym is-model)
+            (and-right (eqb (model-of book (s .a) .vars) (h .n)) _
+            (model-passes book passes (s .a) (omega (arith, model-place e, length-map (h .models) view-model)))))
 
-      -- the steps that are left, after its result
+        pub by-input : {r : Accounted} → r ≡ accounted (accepted (view k)) all-carried → r ≡ accounted given row
+        by-input q = q ∙ ap₂ accounted (ap accepted is-model ∙ input-is book so-far s step-at stands e)
+            (input-row book so-far s step-at stands e)
+
+      -- ---- a product
+      module _ (e : s .code ≡ 6) where
+        first-factor : s .a < i
+        first-factor = by-first 6 e tt
+
+        second-factor : s .b < i
+        unfolding names-second
+        second-factor = by-second 6 e tt
+
+        pub factors : Factors (h .d) (result (h .n) m (s .a)) (result (h .n) m (s .b))
+        unfolding result handed
+        factors = record {
+          order = order;
+          first = held-sound vars order (held (s .a) first-factor);
+          second = held-sound vars order (held (s .b) second-factor);
+          vars = refl;
+        }
+
+        pub by-product : {r : Accounted}
+            → r ≡ accounted (multiply (h .d) (view (result (h .n) m (s .a))) (view (result (h .n) m (s .b))))
+            (λ k. product-shares (h .d) (view (result (h .n) m (s .a))) (view (result (h .n) m (s .b))))
+            → r ≡ accounted given row
+        unfolding view-book
+        by-product q = q
+            ∙ ap₂ (λ x y. accounted (multiply (h .d) x y) (λ k. product-shares (h .d) x y))
+            (seen (s .a) first-factor) (seen (s .b) second-factor)
+            ∙ ap₂ accounted (product-is book so-far s step-at stands e) (product-row book so-far s step-at stands e)
+
+      -- ---- a quotient
+      module _ (f g k w : Model) (e : s .code ≡ 9) (is-first : view f ≡ view (result (h .n) m (s .a)))
+          (is-second : view g ≡ view (result (h .n) m (s .b))) (is-third : view k ≡ view (result (h .n) m (s .v)))
+          (is-fourth : view w ≡ view (result (h .n) m (natAbs (s .value)))) where
+        dividend : view f ≡ so-far (s .a)
+        dividend = is-first ∙ seen (s .a) (by-first 9 e tt)
+
+        divisor : view g ≡ so-far (s .b)
+        divisor = is-second ∙ seen (s .b) (divisor-earlier e)
+
+        proposed : view k ≡ so-far (s .v)
+        proposed = is-third ∙ seen (s .v) (third-earlier e)
+
+        inverse : view w ≡ so-far (natAbs (s .value))
+        inverse = is-fourth ∙ seen (natAbs (s .value)) (fourth-earlier e)
+
+        -- each in as many variables as the first
+        same-as : (x : Model) (a : ℕ) → view x ≡ so-far a → x .n ≡ f .n
+        same-as x a q = seen-vars x q (so-far-good a) ∙ sym (seen-vars f dividend (so-far-good (s .a)))
+
+        pub proposal : Proposal (h .d) f g k w
+        proposal = record {
+          order = order;
+          dividend = seen-sound f dividend (so-far-good (s .a));
+          divisor = seen-sound g divisor (so-far-good (s .b));
+          proposed = seen-sound k proposed (so-far-good (s .v));
+          inverse = seen-sound w inverse (so-far-good (natAbs (s .value)));
+          divisor-vars = same-as g (s .b) divisor;
+          proposed-vars = same-as k (s .v) proposed;
+          inverse-vars = same-as w (natAbs (s .value)) inverse;
+        }
+
+        pub by-quotient : {r : Answer} → r ≡ answer (at-place 0 (quotient (h .d) (view f) (view g) (view k) (view w)))
+            → r ≡ answer (at-place 0 given)
+        unfolding view-book
+        by-quotient q = q ∙ ap (λ a. answer (at-place 0 a))
+            (ap₂ (λ x y. quotient (h .d) x y (view k) (view w)) dividend divisor
+            ∙ ap₂ (quotient (h .d) (so-far (s .a)) (so-far (s .b))) proposed inverse
+            ∙ quotient-is book so-far s step-at stands e)
+
+      -- whose radius is all carried
+      pub quotient-bounded : {r : Answer} → r ≡ answer (at-place 0 given) → r .model .radius ≤ span-limit
+      unfolding view-book
+      quotient-bounded e =
+          radius-bounded (weaken radius-small (step-good book passes i step-at step-passes (l .good))) e
+
+      pub quotient-carried : {r : Answer} {x : Accounted} → s .code ≡ 9 → r ≡ answer (at-place 0 given)
+          → ((a : R.Answer C.Model) → r ≡ answer (at-place 0 a) → x ≡ accounted a all-carried)
+          → x ≡ accounted given row
+      quotient-carried e q k = k given q ∙ ap (accounted given) (quotient-row book so-far s step-at stands e)
+
+      -- ---- the steps that are left, after its result
       abbrev after : C.Model → R.Result (List C.Model)
       after k = run-steps book (l .models ++ (k ∷ [])) (drop (i + 1) (book .steps))
 
@@ -367,38 +522,6 @@ module _ {h : Held-book} (p : Held-passes h) where
       unfolding run-shares
       rows-turn = sym (ap (λ k. l .rows ++ run-shares book (l .models) k) next) ∙ l .rows-rest
 
-      -- that of any step but a quotient is the answer of the book's step,
-      pub by-code : {r : Accounted} → (s .code ≡ 9 → ⊥) → r ≡ accounted coded coded-row → r ≡ accounted given row
-      unfolding view-book
-      by-code other e = e
-          ∙ ap₂ (λ x y. accounted (step-answer (h .n) (h .d) s (view m) x y) (step-row (h .n) (h .d) s (view m) x y))
-          (held-view vars order first-held) (held-view vars order second-held)
-          ∙ ap₂ accounted (step-is book result s step-at (view m) stands other (o .is-model))
-          (row-is book result s step-at (view m) stands other)
-
-      -- and so is that of a quotient,
-      pub by-quotient : {r : Answer} {k w : Model} → Proposed h s results k w
-          → r ≡ answer (at-place 0 (quotient (h .d) (view f) (view g) (view k) (view w)))
-          → r ≡ answer (at-place 0 given)
-      unfolding view-book
-      by-quotient {k = k} {w = w} q e = e ∙ ap (λ a. answer (at-place 0 a))
-          (ap₂ (λ x y. quotient (h .d) x y (view k) (view w)) (held-view vars order first-held)
-          (held-view vars order second-held)
-          ∙ ap₂ (quotient (h .d) (result (s .a)) (result (s .b))) (held-view vars order (third-held q))
-          (held-view vars order (fourth-held q))
-          ∙ quotient-is book result s step-at stands (q .code))
-
-      -- whose radius is all carried
-      pub quotient-bounded : {r : Answer} → r ≡ answer (at-place 0 given) → r .model .radius ≤ span-limit
-      unfolding view-book
-      quotient-bounded e =
-          radius-bounded (weaken radius-small (step-good book passes i step-at step-passes (l .good))) e
-
-      pub quotient-carried : {r : Answer} {x : Accounted} → s .code ≡ 9 → r ≡ answer (at-place 0 given)
-          → ((a : R.Answer C.Model) → r ≡ answer (at-place 0 a) → x ≡ accounted a all-carried)
-          → x ≡ accounted given row
-      quotient-carried e q k = k given q ∙ ap (accounted given) (quotient-row book result s step-at stands e)
-
       module _ {r : Accounted} (is-given : r ≡ accounted given row) where
         -- the answer without its shares
         answered : r .answer ≡ answer (at-place 0 given)
@@ -406,45 +529,50 @@ module _ {h : Held-book} (p : Held-passes h) where
         answered = ap (λ r. r .answer) is-given
 
         -- it is refused, and with it the run, at the number of the step; there are no rows from it on
-        pub step-refused : {x : Refusal} {y : ℕ} → r .answer .verdict ≡ Refused x y
-            → record { answer = answer (stopped (cause x) i); shares = shares } ≡ ran book
+        step-refused : {x : Refusal} {y : ℕ} → r .answer .verdict ≡ Refused x y → Ended h (stopped (cause x) i) flat
         unfolding last-result answer at-place _followed-by_ rows-of
         step-refused {x = x} v = stop given answered turn rows-turn
           where
             stop : (a : R.Answer C.Model) → r .answer ≡ answer (at-place 0 a)
                 → run-steps book [] (book .steps) ≡ (at-place i a followed-by after)
                 → l .rows ++ rows-of a rows-after ≡ rows-sound book
-                → record { answer = answer (stopped (cause x) i); shares = shares } ≡ ran book
+                → Ended h (stopped (cause x) i) flat
             stop (accepted k) q t w = let z : _≡_ {A = ℕ} 0 1 = cc in absurd (omega arith)
             stop (refused k) q t w =
                 let same : refusal k ≡ x = cc in
-                ran-is book
-                (ap (λ k. answer (stopped k i)) (sym (ap cause same) ∙ cause-refusal k)
-                ∙ sym (ap (λ s. answer (s followed-by (λ results. done (last (zero-model (book .vars)) results)))) t))
-                (l .rows) (l .rows-stored) (sym (append-nil (l .rows)) ∙ w)
+                record {
+                  is = ap (λ k. stopped k i) (sym (ap cause same) ∙ cause-refusal k)
+                      ∙ sym (ap (λ s. s followed-by (λ results. done (last (zero-model (book .vars)) results))) t);
+                  rows = l .rows;
+                  rows-few = omega (arith, l .rows-count, here-small);
+                  rows-stored = l .rows-stored;
+                  rows-all = sym (append-nil (l .rows)) ∙ w;
+                }
 
-        -- it is accepted, and stored behind the others, as its row is
-        pub step-accepted : r .answer .verdict ≡ Accepted
-            → Running h (i + 1) (set results i (r .answer .model)) (set shares i (r .shares))
-        unfolding at-place _followed-by_ most-steps accounted shares-of rows-of
+        -- it is accepted, and put behind the others, as its row is
+        step-accepted : r .answer .verdict ≡ Accepted
+            → Running h (i + 1) (with-result (r .answer .model) i m) (with-row (r .shares) i flat)
+        unfolding at-place _followed-by_ accounted shares-of rows-of
         step-accepted v = record {
           models = l .models ++ (q .model ∷ []);
           count = omega (arith, next-number (l .models) (q .model), l .count);
           good = each-snoc (λ m k. Good h k) (l .good) (q .holds .sound);
-          stored = ap₂ (λ r m. set r i m) (l .stored) (q .holds .packed)
-              ∙ padded-more (pack (zero-model (h .n))) 64 (map pack (l .models)) i (pack (q .model))
-              (length-map (l .models) pack ∙ l .count) inside
-              ∙ ap (padded (pack (zero-model (h .n))) 64) (sym (map-append pack (l .models) (q .model ∷ [])));
+          room = roomy-still (h .n) k i (l .room) here-small few long;
+          stored = λ j t. elim (ℕ-discrete j i) [
+            | yes o ↦ ap (result (h .n) (with-result k i m)) o
+                ∙ result-here (h .n) k i (l .room) here-small (held-vars (q .holds)) long
+                ∙ q .holds .packed
+                ∙ ap pack (sym (getD-last (l .models) (q .model) (zero-model (h .n)) j (l .count ∙ sym o)))
+            | no o ↦ result-before (h .n) k i (l .room) here-small j (omega (arith, t, o))
+                ∙ l .stored j (omega (arith, t, o))
+                ∙ ap pack (sym (getD-before (l .models) (q .model) (zero-model (h .n)) j
+                (omega (arith, t, o, l .count))))
+          ];
           rest = sym (turn ∙ ap (λ a. at-place i a followed-by after) (q .is));
           rows = l .rows ++ (row (q .model) ∷ []);
           rows-count = omega (arith, length-append (l .rows) (row (q .model) ∷ []), l .rows-count);
-          rows-stored = ap₂ (λ r m. set r i m) (l .rows-stored)
-              (ap (λ r. r .shares) is-given ∙ ap (λ a. stored-shares (shares-of a row)) (q .is))
-              ∙ padded-more (stored-shares no-shares) 64 (map stored-shares (l .rows)) i
-              (stored-shares (row (q .model)))
-              (length-map (l .rows) stored-shares ∙ l .rows-count) inside
-              ∙ ap (padded (stored-shares no-shares) 64)
-              (sym (map-append stored-shares (l .rows) (row (q .model) ∷ [])));
+          rows-stored = row-more (row (q .model)) (l .rows-stored) (l .rows-count) here-small
+              (ap (λ r. r .shares) is-given ∙ ap (λ a. stored-shares (shares-of a row)) (q .is));
           rows-rest = append-assoc (l .rows) (row (q .model) ∷ []) _
               ∙ sym (ap (λ a. l .rows ++ rows-of a rows-after) (q .is)) ∙ rows-turn;
         }
@@ -452,12 +580,33 @@ module _ {h : Held-book} (p : Held-passes h) where
             q : Got (h .n) (h .d) given (r .answer .model)
             q = unfold view-book in got answered v (step-good book passes i step-at step-passes (l .good))
 
-            inside : i < 64
-            inside = omega (arith, at .within, in-limits-of .steps-high)
+            k : Model
+            k = r .answer .model
+
+            long : length (r .answer .model .terms) ≡ 64
+            long = ap (λ (k : Model). length (k .terms)) (q .holds .packed) ∙ packed-long (q .holds .sound)
+
+            few : r .answer .model .count ≤ 64
+            few = let e = ap (λ (k : Model). k .count) (q .holds .packed) in
+                omega (arith, e, packed-few (q .holds .sound))
+
+        -- what the slices hold once it is put down unless it is refused
+        pub step-turned : {v : Verdict} {m' : Results} {flat' : List ℕ} → v ≡ r .answer .verdict
+            → m' ≡ settled-results r i m → flat' ≡ settled-rows r i flat → Turned h i v m' flat'
+        step-turned {flat' = f} e x y = record {
+          going = λ a.
+              let c = sym e ∙ a in
+              subst (λ n. Running h (i + 1) n f) (sym (x ∙ settled-put r i m flat c))
+              (subst (Running h (i + 1) (with-result (r .answer .model) i m)) (sym (y ∙ settled-row r i m flat c))
+              (step-accepted c));
+          ended = λ u w a.
+              let c = sym e ∙ a in
+              subst (Ended h (stopped (cause u) i)) (sym (y ∙ settled-row-kept r i m flat c)) (step-refused c);
+        }
 
   -- ---- after the last step
-  module _ {results : List Model} {shares : List Shares} (l : Running h (length (h .steps)) results shares) {m : Model}
-      (is-last : m ≡ getD results (length (h .steps) - 1) empty-place) where
+  module _ {m : Results} {flat : List ℕ} (l : Running h (length (h .steps)) m flat) (k : Model)
+      (is-last : view k ≡ view (result (h .n) m (length (h .steps) - 1))) where
     -- the last result
     abbrev final : C.Model
     final = last (zero-model (h .n)) (l .models)
@@ -470,17 +619,23 @@ module _ {h : Held-book} (p : Held-passes h) where
         let e : length k ≡ suc (length k) - 1 = omega arith in
         last-at (zero-model (h .n)) y k ∙ ap (λ j. getD (y ∷ k) j (zero-model (h .n))) e
 
-    final-held : Holds (h .n) (h .d) m final
-    unfolding most-steps
+    final-good : Good h final
+    final-good = each-last (λ m k. Good h k) (zero-model (h .n)) (zero-model (h .n)) (zero-sound (h .n) (h .d)) (l .good)
+
+    final-held : Holds (h .n) (h .d) (result (h .n) m (length (h .steps) - 1)) final
     final-held = record {
-      packed = is-last ∙ ap (λ r. getD r (length (h .steps) - 1) empty-place) (l .stored)
-          ∙ getD-padded (pack (zero-model (h .n))) 64 (map pack (l .models)) (length (h .steps) - 1) empty-place
-          (omega (arith, in-limits-of .steps-low, in-limits-of .steps-high))
-          ∙ List·getD-map pack (l .models) (length (h .steps) - 1) (zero-model (h .n))
+      packed = l .stored (length (h .steps) - 1) (omega (arith, in-limits-of .steps-low))
           ∙ ap (λ j. pack (getD (l .models) (j - 1) (zero-model (h .n)))) (sym (l .count))
           ∙ ap pack (sym (final-at (l .models) (omega (arith, l .count, in-limits-of .steps-low))));
-      sound = each-last (λ m k. Good h k) (zero-model (h .n)) (zero-model (h .n)) (zero-sound (h .n) (h .d)) (l .good);
+      sound = final-good;
     }
+
+    final-seen : view k ≡ final
+    final-seen = is-last ∙ held-view vars order final-held
+
+    pub final-sound : T (sound most-degree (view k))
+    final-sound = sound-order (h .d) (view k) order
+        (subst (λ m. T (sound (h .d) m)) (sym final-seen) (sound-in (h .n) (h .d) final vars final-good))
 
     none-left : drop (length (h .steps)) (book .steps) ≡ []
     none-left = drop-of-length-le (book .steps) {i = length (h .steps)} (omega (arith, counted))
@@ -494,8 +649,13 @@ module _ {h : Held-book} (p : Held-passes h) where
     all-there = sym (append-nil (l .rows)) ∙ ap (λ k. l .rows ++ run-shares book (l .models) k) (sym none-left)
         ∙ l .rows-rest
 
-    pub last-answer : record { answer = accepted-answer m; shares = shares } ≡ ran book
-    unfolding last-result answer _followed-by_ view-book
-    last-answer = ran-is book (ap accepted-answer (final-held .packed)
-        ∙ ap (λ s. answer (s followed-by (λ results. done (last (zero-model (h .n)) results)))) ended)
-        (l .rows) (l .rows-stored) all-there
+    pub last-ended : Ended h (done (view k)) flat
+    unfolding last-result _followed-by_ view-book
+    last-ended = record {
+      is = ap done final-seen
+          ∙ ap (λ s. s followed-by (λ results. done (last (zero-model (h .n)) results))) ended;
+      rows = l .rows;
+      rows-few = omega (arith, l .rows-count, in-limits-of .steps-high);
+      rows-stored = l .rows-stored;
+      rows-all = all-there;
+    }

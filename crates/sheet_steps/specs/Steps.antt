@@ -1,10 +1,10 @@
 -- What one step gives, the shares of it, and what it asks.
 use mathlib.Core.Path.{_≡_}
-use mathlib.Core.Bool.{true}
+use mathlib.Core.Bool.{Bool, true, _&&_}
 use mathlib.Core.List.{[], _∷_}
 use mathlib.Core.Option.{Option, some, none}
 use Prim.Native.Nat.{ℕ, _≤_}
-use lib.Dec.{T}
+use lib.Dec.{T, leb}
 use lib.ListN.{getD, getElem?}
 use Rattle.calculus.specs.Key.{key-width}
 use Rattle.calculus.specs.Model as C
@@ -63,30 +63,35 @@ unfoldable pub step-row : (n d : ℕ) → Held-step → (m f g : C.Model) → (k
 step-row n d s m f g = code-shares n d s m f g (s .code)
 
 -- ---- what it asks
--- any step but a quotient, which names two more results: the results are sound in n variables for order d, and so is
--- the model of an input; v is a variable where the code names one
-pub record Step-ready (n d : ℕ) (s : Held-step) (m f g : Model) : Type 0 where
+-- whether a code names a second result, of those that name at most two
+unfoldable pub names-second : (code : ℕ) → Bool
+names-second c = leb 4 c && leb c 7
+
+-- any step but an input, a product and a quotient: two results, whether it names them or not, that are sound in n
+-- variables for order d; v is a variable where the code names one
+pub record Step-ready (n d : ℕ) (s : Held-step) (f g : Model) : Type 0 where
   pub vars : vars-sound n ≡ true
   pub order : d ≤ most-degree
   pub code : s .code ≤ last-code
+  pub no-input : s .code ≡ 0 → ⊥
+  pub no-product : s .code ≡ 6 → ⊥
   pub no-quotient : s .code ≡ 9 → ⊥
   pub variable : T (names-variable (s .code)) → T (variable-sound n (s .v))
-  pub input : s .code ≡ 0 → T (sound d (view m))
   pub first : T (sound d (view f))
   pub first-vars : f .n ≡ n
   pub second : T (sound d (view g))
   pub second-vars : g .n ≡ n
 
--- one whose result is all carried: no product, no substitution, no sweep and no antiderivative either; a model that is
--- sound, if it is an input, a variable among n, if it is one, and two sound results
-pub record Direct-ready (n : ℕ) (s : Held-step) (m f g : Model) : Type 0 where
+-- one whose result is all carried: no substitution, no sweep and no antiderivative either; a variable among n, if it is
+-- one, and two sound results
+pub record Direct-ready (n : ℕ) (s : Held-step) (f g : Model) : Type 0 where
   pub width : n ≤ key-width
   pub code : s .code ≤ last-code
+  pub no-input : s .code ≡ 0 → ⊥
   pub no-product : s .code ≡ 6 → ⊥
   pub no-substitution : s .code ≡ 7 → ⊥
   pub no-sweep : s .code ≡ 8 → ⊥
   pub no-quotient : s .code ≡ 9 → ⊥
   pub no-antiderivative : s .code ≡ 10 → ⊥
-  pub input : s .code ≡ 0 → T (sound most-degree (view m))
   pub variable : s .code ≡ 2 → (1 ≤ s .v) × (s .v ≤ n)
   pub operands : Operands f g

@@ -1,8 +1,12 @@
-// One step of a book, a quotient apart: the operation that its code names, on the model or the results that its fields
-// name.
+// One step of a book, a product and a quotient apart: the operation that its code names, on the model or the results that
+// its fields name.
 ghost use mathlib.Core.Path.{_≡_};
 ghost use Prim.Native.Nat.{ℕ, _-_, min};
-ghost use Rattle.calculus.specs.Refusal.{«at-place»};
+ghost use lib.Dec.{T};
+ghost use Rattle.calculus.specs.Model as C;
+ghost use Rattle.calculus.specs.Model.{«most-degree», sound};
+ghost use Rattle.calculus.specs.Refusal.{accepted, «at-place»};
+ghost use Rattle.calculus.specs.Shares.{«all-carried»};
 ghost use Rattle.calculus.specs.Book.{«most-models»};
 ghost use Rattle.model_types.specs.ModelStruct.{view, answer};
 ghost use Rattle.model_types.specs.SharesStruct.{accounted};
@@ -26,17 +30,23 @@ pub fn model_place(a: u8) -> usize
     }
 }
 
-// What a step gives whose radius is all carried, which is each but a product, a substitution, a sweep and an
-// antiderivative, a quotient apart, with the model that its field a names and the results that a and b name: the same
-// for every order.
-fn direct_answer(n: u8, s: Step, input: Model, f: Model, g: Model) -> Answer
-    requires { ⌜ Direct-ready n (held-step s) input f g ⌝ }
-    ensures { λ r. ⌜ ((d : ℕ)
-        → r ≡ answer (at-place 0 (step-answer n d (held-step s) (view input) (view f) (view g)))) ⌝ }
+// What an input gives: the model that its field a names, with zeros beyond its count, all of its radius carried.
+pub fn input_answer(input: Model) -> Accounted
+    requires { ⌜ T (sound most-degree (view input)) ⌝ }
+    ensures { λ r. ⌜ r ≡ accounted (accepted (view input)) all-carried ⌝ }
+{
+    model::all_carried(sheet_step_answers::accepted(sheet_step_answers::cleared(input)))
+}
+
+// What a step gives whose radius is all carried, with the results that a and b name: a constant, a variable, a negation,
+// a sum or a difference. The same for every order, and whatever the book's models are.
+fn direct_answer(n: u8, s: Step, f: Model, g: Model) -> Answer
+    requires { ⌜ Direct-ready n (held-step s) f g ⌝ }
+    ensures { λ r. ⌜ ((d : ℕ) (m : C.Model)
+        → r ≡ answer (at-place 0 (step-answer n d (held-step s) m (view f) (view g)))) ⌝ }
 {
     let code = s.code;
     match code {
-        0 => sheet_step_answers::accepted(sheet_step_answers::cleared(input)),
         1 => sheet_step_answers::accepted(model_types::constant_of(n, s.value)),
         2 => sheet_step_answers::accepted(model_types::variable_of(n, s.v)),
         3 => sheet_step_answers::accepted(model::negated(f)),
@@ -45,33 +55,31 @@ fn direct_answer(n: u8, s: Step, input: Model, f: Model, g: Model) -> Answer
     }
 }
 
-// What a step gives that names at most two results, which is each but a quotient, with the model that its field a names
-// and the results that a and b name, and where its radius came from. A product and a substitution use the table that is
-// lent.
+// What a step gives that names no model and at most two results, a product apart, with the results that a and b name,
+// and where its radius came from. A result that the code does not name may be any sound one. A substitution uses the
+// table that is lent.
 pub fn step_answer(
     n: u8,
     d: u8,
     s: Step,
-    input: Model,
     f: Model,
     g: Model,
     slots: &mut [u16],
     keys: &mut [u64],
     sums: &mut [i64],
 ) -> Accounted
-    requires { ⌜ Step-ready n d (held-step s) input f g ⌝ }
-    requires { ⌜ Lent-table (now slots) (now keys) (now sums) ⌝ }
-    ensures exact { λ r. ⌜ r ≡ accounted (step-answer n d (held-step s) (view input) (view f) (view g))
-        (step-row n d (held-step s) (view input) (view f) (view g)) ⌝ }
+    requires { ⌜ Step-ready n d (held-step s) f g ⌝ }
+    requires { ⌜ (held-step s .code ≡ 7 → Lent-table (now slots) (now keys) (now sums)) ⌝ }
+    ensures exact { λ r. ⌜ ((m : C.Model) → r ≡ accounted (step-answer n d (held-step s) m (view f) (view g))
+        (step-row n d (held-step s) m (view f) (view g))) ⌝ }
     ensures table { λ r. ⌜ Free-table (now (slots .entry)) (now (keys .entry)) (now (sums .entry))
         (now (slots .exit)) (now (keys .exit)) (now (sums .exit)) ⌝ }
 {
     let code = s.code;
     match code {
-        6 => model::multiplied_accounted(d, f, g, slots, keys, sums),
         7 => model::substituted_accounted(d, s.v, f, g, slots, keys, sums),
         8 => model::swept_accounted(f, fixed::magnitude(s.value)),
         10 => model::integrated_accounted(d, s.v, f),
-        _ => model::all_carried(direct_answer(n, s, input, f, g)),
+        _ => model::all_carried(direct_answer(n, s, f, g)),
     }
 }

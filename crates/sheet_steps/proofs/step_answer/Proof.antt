@@ -15,10 +15,10 @@ use Rattle.calculus.specs.Shares.{Shares, sweep-shares}
 use Rattle.model_types.specs.declared.Accounted.{Accounted}
 use Rattle.model_types.specs.ModelStruct.{view}
 use Rattle.model_types.specs.SharesStruct.{accounted}
-use Rattle.model.specs.OperationLaws.{factors-room, substitution-room}
+use Rattle.model.specs.OperationLaws.{substitution-room}
 use Rattle.sheet_book.specs.BookStruct.{held-step}
 use Rattle.sheet_steps.specs.Steps.{code-answer, code-shares, step-answer, step-row, Direct-ready}
-use Rattle.sheet_steps.specs.StepLaws.{factors, substitution, swept-sound, integrand, direct-ready, codes}
+use Rattle.sheet_steps.specs.StepLaws.{substitution, swept-sound, integrand, direct-ready, codes}
 use Rattle.sheet_steps.specs.StepLaws.{accounted-is, direct-bounded, carried-is}
 use Rattle.sheet_steps.proofs.step_answer.Statement.{statement}
 use Rattle.sheet_steps.proofs.step_answer.Tie as tie
@@ -28,17 +28,13 @@ abbrev start : tie.After-slice-known2 → tie.Start
 start c = c .before .before
 
 -- ---- what the operations ask
-multiplied-accounted-requires : tie.Need-multiplied-accounted-requires
-multiplied-accounted-requires c κs =
-    let p = start (c .before .before .before .before) .pre in
-    (factors (p .0), factors-room (factors (p .0)) (p .1))
-
 substituted-accounted-requires : tie.Need-substituted-accounted-requires
 unfolding held-step
 substituted-accounted-requires c κs =
     let p = start (c .before .before .before .before) .pre in
-    let s = substitution (p .0) (c .before .before .before .match .keys2) in
-    (s, substitution-room s (p .1))
+    let e = c .before .before .before .match .keys1 in
+    let s = substitution (p .0) e in
+    (s, substitution-room s (p .1 e))
 
 magnitude-requires : tie.Need-magnitude-requires
 magnitude-requires c κs = search needs
@@ -48,15 +44,15 @@ swept-accounted-requires c κs = swept-sound (start (c .before .before .before) 
 
 integrated-accounted-requires : tie.Need-integrated-accounted-requires
 unfolding held-step
-integrated-accounted-requires c κs = integrand (start (c .before) .pre .0) (c .match .keys4)
+integrated-accounted-requires c κs = integrand (start (c .before) .pre .0) (c .match .keys3)
 
 -- no code is left that has shares of its own
 direct : (c : tie.At-match-rest) → Direct-ready (start (c .before) .args .n) (held-step (start (c .before) .args .s))
-    (start (c .before) .args .input) (start (c .before) .args .f) (start (c .before) .args .g)
+    (start (c .before) .args .f) (start (c .before) .args .g)
 unfolding held-step
 direct c =
     let r = c .match .rest in
-    direct-ready (start (c .before) .pre .0) (r .0 .0 .0 .1) (r .0 .0 .1) (r .0 .1) (r .1)
+    direct-ready (start (c .before) .pre .0) (r .0 .0 .1) (r .0 .1) (r .1)
 
 direct-answer-requires : tie.Need-direct-answer-requires
 direct-answer-requires c κs = direct c
@@ -64,105 +60,86 @@ direct-answer-requires c κs = direct c
 all-carried-requires : tie.Need-all-carried-requires
 all-carried-requires c κs =
     let s = start (c .before .before) in
-    direct-bounded (s .pre .0) (direct (c .before)) (c .direct-answer .ensures (s .args .d))
+    direct-bounded (s .pre .0) (view (s .args .f)) (direct (c .before))
+    (c .direct-answer .ensures (s .args .d) (view (s .args .f)))
 
 -- ---- what they answer
-module _ (c : tie.Start) where
+module _ (c : tie.Start) (m : C.Model) where
   -- what a code gives
   abbrev given : ℕ → R.Answer C.Model
-  given = code-answer (c .args .n) (c .args .d) (held-step (c .args .s)) (view (c .args .input)) (view (c .args .f))
+  given = code-answer (c .args .n) (c .args .d) (held-step (c .args .s)) m (view (c .args .f))
       (view (c .args .g))
 
   -- and its shares
   abbrev shared : ℕ → C.Model → Shares
-  shared = code-shares (c .args .n) (c .args .d) (held-step (c .args .s)) (view (c .args .input)) (view (c .args .f))
+  shared = code-shares (c .args .n) (c .args .d) (held-step (c .args .s)) m (view (c .args .f))
       (view (c .args .g))
 
   -- what is answered
   abbrev Answered : Accounted → Type 0
   Answered r =
       r
-      ≡ accounted (step-answer (c .args .n) (c .args .d) (held-step (c .args .s)) (view (c .args .input))
+      ≡ accounted (step-answer (c .args .n) (c .args .d) (held-step (c .args .s)) m
       (view (c .args .f)) (view (c .args .g)))
-      (step-row (c .args .n) (c .args .d) (held-step (c .args .s)) (view (c .args .input))
+      (step-row (c .args .n) (c .args .d) (held-step (c .args .s)) m
       (view (c .args .f)) (view (c .args .g)))
 
   answers : {r : Accounted} (i : ℕ) (a : R.Answer C.Model) (k : C.Model → Shares) → r ≡ accounted a k
       → c .args .s .code ≡ i → given i ≡ a → shared i ≡ k → Answered r
   unfolding held-step
   answers =
-      accounted-is (c .args .n) (c .args .d) (held-step (c .args .s)) (c .args .input) (c .args .f) (c .args .g)
+      accounted-is (c .args .n) (c .args .d) (held-step (c .args .s)) m (c .args .f) (c .args .g)
 
--- where the product is made, and where the substitution
-abbrev product : tie.After-sums → tie.After-multiplied-accounted
-product c = c .before .before .before .before .before
-
-abbrev substituted : tie.After-sums2 → tie.After-substituted-accounted
+-- where the substitution is made
+abbrev substituted : tie.After-sums → tie.After-substituted-accounted
 substituted c = c .before .before .before .before .before
 
 same-length : tie.Need-same-length
-same-length c = product c .multiplied-accounted .kept .1 .1 .1 .0
+same-length c = substituted c .substituted-accounted .kept .1 .1 .1 .1 .0
 
 same-length-2 : tie.Need-same-length-2
-same-length-2 c = product c .multiplied-accounted .kept .1 .1 .1 .1 .0
+same-length-2 c = substituted c .substituted-accounted .kept .1 .1 .1 .1 .1 .0
 
 same-length-3 : tie.Need-same-length-3
-same-length-3 c = product c .multiplied-accounted .kept .1 .1 .1 .1 .1 .0
+same-length-3 c = substituted c .substituted-accounted .kept .1 .1 .1 .1 .1 .1 .0
 
 returns : tie.Need-returns
-unfolding codes
-returns c =
-    let m = product c .before .before .before .before in (
-      answers (start (m .before)) 6 _ _ (product c .multiplied-accounted .ensures .0) (m .match .keys1) refl refl,
-      product c .multiplied-accounted .ensures .1,
-    )
-
-same-length-4 : tie.Need-same-length-4
-same-length-4 c = substituted c .substituted-accounted .kept .1 .1 .1 .1 .0
-
-same-length-5 : tie.Need-same-length-5
-same-length-5 c = substituted c .substituted-accounted .kept .1 .1 .1 .1 .1 .0
-
-same-length-6 : tie.Need-same-length-6
-same-length-6 c = substituted c .substituted-accounted .kept .1 .1 .1 .1 .1 .1 .0
-
-returns-2 : tie.Need-returns-2
 unfolding codes held-step
-returns-2 c =
+returns c =
     let m = substituted c .before .before .before .before in (
-      answers (start (m .before)) 7 _ _ (substituted c .substituted-accounted .ensures .0) (m .match .keys2) refl refl,
+      λ k. answers (start (m .before)) k 7 _ _ (substituted c .substituted-accounted .ensures .0) (m .match .keys1) refl refl,
       substituted c .substituted-accounted .ensures .1,
     )
 
 -- the table is as it was lent
-returns-3 : tie.Need-returns-3
+returns-2 : tie.Need-returns-2
 unfolding codes held-step
-returns-3 c =
+returns-2 c =
     let t = c .before .before in
     let s = start (t .before .before) in
     let read-back : toZ w64 (ofZ w64 (s .args .s .value)) ≡ s .args .s .value =
     toZ-ofZ (record { sfits = t .struct-told .given .1 .1 .1 .1 .0 .1 }) in (
-      answers s 8 _ _
+      λ k. answers s k 8 _ _
           (c .swept-accounted .ensures
           ∙ ap (λ k. accounted (accepted (Op.sweep k (view (s .args .f)))) (λ m. sweep-shares k (view (s .args .f))))
           (c .before .magnitude .ensures ∙ ap natAbs read-back))
-          (t .before .match .keys3) refl refl,
+          (t .before .match .keys2) refl refl,
+      record { slots-length = refl; keys-length = refl; sums-length = refl },
+    )
+
+returns-3 : tie.Need-returns-3
+unfolding codes held-step
+returns-3 c =
+    let m = c .before in (
+      λ k. answers (start (m .before)) k 10 _ _ (c .integrated-accounted .ensures) (m .match .keys3) refl refl,
       record { slots-length = refl; keys-length = refl; sums-length = refl },
     )
 
 returns-4 : tie.Need-returns-4
-unfolding codes held-step
 returns-4 c =
-    let m = c .before in (
-      answers (start (m .before)) 10 _ _ (c .integrated-accounted .ensures) (m .match .keys4) refl refl,
-      record { slots-length = refl; keys-length = refl; sums-length = refl },
-    )
-
-returns-5 : tie.Need-returns-5
-returns-5 c =
     let s = start (c .before .before .before) in (
-      carried-is (s .args .n) (s .args .d) (held-step (s .args .s)) (s .args .input) (s .args .f) (s .args .g)
-          (direct (c .before .before)) (c .before .direct-answer .ensures (s .args .d)) (c .all-carried .ensures),
+      λ k. carried-is (s .args .n) (s .args .d) (held-step (s .args .s)) k (s .args .f) (s .args .g)
+          (direct (c .before .before)) (c .before .direct-answer .ensures (s .args .d) k) (c .all-carried .ensures),
       record { slots-length = refl; keys-length = refl; sums-length = refl },
     )
 
@@ -170,7 +147,6 @@ pub step-answer-spec : {M : Type 1} → statement M
 step-answer-spec =
     tie.close
     (tie.spec
-    multiplied-accounted-requires
     substituted-accounted-requires
     magnitude-requires
     swept-accounted-requires
@@ -181,10 +157,6 @@ step-answer-spec =
     same-length-2
     same-length-3
     returns
-    same-length-4
-    same-length-5
-    same-length-6
     returns-2
     returns-3
-    returns-4
-    returns-5)
+    returns-4)
