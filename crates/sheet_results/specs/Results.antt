@@ -72,12 +72,15 @@ first-rows l zero = []
 first-rows l (suc n) = first-rows l n ++ (row-at l n ∷ [])
 
 -- ---- an answer put down unless it is refused
+-- one of two by a verdict
 unfoldable pub unless : {A : Type 0} → Verdict → (put kept : A) → A
 unless Accepted put kept = put
 unless (Refused r i) put kept = kept
 
+-- its model
 unfoldable pub settled-results : Accounted → (i : ℕ) → Results → Results
 settled-results c i m = unless (c .answer .verdict) (with-result (c .answer .model) i m) m
 
+-- and its shares
 unfoldable pub settled-rows : Accounted → (i : ℕ) → List ℕ → List ℕ
 settled-rows c i l = unless (c .answer .verdict) (with-row (c .shares) i l) l

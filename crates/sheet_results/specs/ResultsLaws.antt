@@ -108,9 +108,14 @@ module _ (n : ℕ) (k : Model) (i : ℕ) {m : Results} (r : Roomy m) (l : i < 64
   pub result-here : k .n ≡ n → length (k .terms) ≡ 64 → result n (with-result k i m) i ≡ k
   unfolding result with-result handed over most-terms
   result-here e w =
-      ap₂ (λ (c e : ℕ). record { n = n; count = c; radius = e; terms = pad (terms-of 64
-      (drop (64 * i) (spliced (64 * i) (map (λ t. t .key) (k .terms)) (m .keys)))
-      (drop (64 * i) (spliced (64 * i) (map (λ t. t .coefficient) (k .terms)) (m .coefficients)))) })
+      ap₂ (λ (c e : ℕ). record {
+        n = n;
+        count = c;
+        radius = e;
+        terms = pad (terms-of 64
+            (drop (64 * i) (spliced (64 * i) (map (λ t. t .key) (k .terms)) (m .keys)))
+            (drop (64 * i) (spliced (64 * i) (map (λ t. t .coefficient) (k .terms)) (m .coefficients))));
+      })
       (getD-set-same (m .counts) i (k .count) 0 (omega (arith, r .counts-long)))
       (getD-set-same (m .radii) i (k .radius) 0 (omega (arith, r .radii-long)))
       ∙ ap₂ (λ (n : ℕ) (t : List Term). record { n = n; count = k .count; radius = k .radius; terms = t }) (sym e)
@@ -128,11 +133,22 @@ module _ (n : ℕ) (k : Model) (i : ℕ) {m : Results} (r : Roomy m) (l : i < 64
   unfolding result with-result handed most-terms
   result-before j h =
       let o : j ≢ i = λ e. omega (arith, e) in
-      ap₂ (λ (c e : ℕ). record { n = n; count = c; radius = e; terms = pad (terms-of 64
-      (drop (64 * j) (spliced (64 * i) (map (λ t. t .key) (k .terms)) (m .keys)))
-      (drop (64 * j) (spliced (64 * i) (map (λ t. t .coefficient) (k .terms)) (m .coefficients)))) })
+      ap₂ (λ (c e : ℕ). record {
+        n = n;
+        count = c;
+        radius = e;
+        terms = pad (terms-of 64
+            (drop (64 * j) (spliced (64 * i) (map (λ t. t .key) (k .terms)) (m .keys)))
+            (drop (64 * j) (spliced (64 * i) (map (λ t. t .coefficient) (k .terms)) (m .coefficients))));
+      })
       (getD-set-other (m .counts) i j (k .count) 0 o) (getD-set-other (m .radii) i j (k .radius) 0 o)
-      ∙ ap (λ (t : List Term). record { n = n; count = getD (m .counts) j 0; radius = getD (m .radii) j 0; terms = pad t })
+      ∙ ap (λ (t : List Term). record {
+        n = n;
+        count = getD (m .counts) j 0;
+        radius = getD (m .radii) j 0;
+        terms =
+            pad t;
+      })
       (terms-taken 64 _ _
       ∙ ap₂ (terms-of 64)
       (spliced-before (64 * i) (64 * j) 64 (map (λ t. t .key) (k .terms)) (m .keys) (omega arith)
@@ -182,13 +198,24 @@ module _ {m : Results} (r : Roomy m) {j : ℕ} (l : j < 64) where
 
   -- its end
   pub taken-end : (n i : ℕ) → i ≡ getD (m .counts) j 0
-      → view (record { n = n; count = getD (m .counts) j 0; radius = getD (m .radii) j 0;
-      terms = pad (terms-of i (drop (64 * j) (m .keys)) (drop (64 * j) (m .coefficients))) })
+      → view (record {
+        n = n;
+        count = getD (m .counts) j 0;
+        radius = getD (m .radii) j 0;
+        terms = pad (terms-of i (drop (64 * j) (m .keys)) (drop (64 * j) (m .coefficients)));
+      })
       ≡ view (result n m j)
   unfolding result most-terms
   taken-end n i e = taken-view n _ _ i _ _
-      (omega (arith, e, r .few j, r .keys-long, length-drop (64 * j) (m .keys), r .coefficients-long,
-      length-drop (64 * j) (m .coefficients)))
+      (omega (
+        arith,
+        e,
+        r .few j,
+        r .keys-long,
+        length-drop (64 * j) (m .keys),
+        r .coefficients-long,
+        length-drop (64 * j) (m .coefficients),
+      ))
 
 -- ---- an answer put down
 module _ (c : Accounted) (i : ℕ) (m : Results) (l : List ℕ) where

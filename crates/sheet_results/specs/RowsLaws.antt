@@ -78,8 +78,13 @@ module _ (s : Shares) (i : ℕ) (l : List ℕ) where
     here-3 : getD (with-row s i l) (4 * i + 3) 0 ≡ s .slack
     unfolding with-row
     here-3 = getD-set-same thrice (4 * i + 3) (s .slack) 0
-        (omega (arith, h, length-set twice (4 * i + 2) (s .swept), length-set once (4 * i + 1) (s .rounding),
-        length-set l (4 * i) (s .carried)))
+        (omega (
+          arith,
+          h,
+          length-set twice (4 * i + 2) (s .swept),
+          length-set once (4 * i + 1) (s .rounding),
+          length-set l (4 * i) (s .carried),
+        ))
 
     pub row-here : row-at (with-row s i l) i ≡ s
     unfolding row-at

@@ -1,5 +1,5 @@
 pub mod Running
 pub mod Run
 pub mod RunLaws
-pub mod TurnLaws
+pub mod RunTurnLaws
 pub mod MemoryLaws

@@ -71,7 +71,8 @@ zeros-at (suc n) zero = refl
 zeros-at (suc n) (suc j) = zeros-at n j
 
 pub begun-first : (b : Book) → Held-passes (held-book b)
-    → Begun b 0 (results (replicate 4096 0) (replicate 4096 (pos 0)) (replicate 64 0) (replicate 64 0)) (replicate 256 0)
+    → Begun b 0 (results (replicate 4096 0) (replicate 4096 (pos 0)) (replicate 64 0) (replicate 64 0)) (replicate
+    256 0)
 begun-first b p = record {
   passes = p;
   so-far = running-first p

@@ -1,5 +1,5 @@
--- What is known in the middle of a run, what a step asks and what it leads to, where a run may stop, and what is lent for
--- products.
+-- What is known in the middle of a run, what a step asks and what it leads to, where a run may stop, and what is lent
+-- for products.
 use mathlib.Core.Path.{_≡_}
 use mathlib.Core.List.{List, [], _++_}
 use Prim.Native.Nat.{ℕ, _+_, _*_, _<_, _≤_}
@@ -39,8 +39,8 @@ module _ (h : Held-book) where
   abbrev pub Good : C.Model → Type 0
   Good = Sound (h .n) (h .d)
 
-  -- the results of the first i steps stand in flat slices, and so do their rows, and the steps that are left lead to the
-  -- answer and to the rows behind these
+  -- the results of the first i steps stand in flat slices, and so do their rows, and the steps that are left lead to
+  -- the answer and to the rows behind these
   pub record Running (i : ℕ) (m : Results) (flat : List ℕ) : Type 0 where
     pub models : List C.Model
     pub count : length models ≡ i

@@ -133,12 +133,15 @@ rows-are rows {flat} h r = ext-getD (stored-shares no-shares) (first-rows flat 6
 -- no row yet
 pub no-rows : Rows-stored [] (replicate 256 0)
 unfolding row-at stored-shares no-shares
-no-rows = record { room = refl; each = λ j h. λ t. record {
-  carried = getD-replicate 256 (4 * j) 0 0 (omega (arith, h)) t;
-  rounding = getD-replicate 256 (4 * j + 1) 0 0 (omega (arith, h)) t;
-  swept = getD-replicate 256 (4 * j + 2) 0 0 (omega (arith, h)) t;
-  slack = getD-replicate 256 (4 * j + 3) 0 0 (omega (arith, h)) t;
-} }
+no-rows = record {
+  room = refl;
+  each = λ j h. λ t. record {
+    carried = getD-replicate 256 (4 * j) 0 0 (omega (arith, h)) t;
+    rounding = getD-replicate 256 (4 * j + 1) 0 0 (omega (arith, h)) t;
+    swept = getD-replicate 256 (4 * j + 2) 0 0 (omega (arith, h)) t;
+    slack = getD-replicate 256 (4 * j + 3) 0 0 (omega (arith, h)) t;
+  };
+}
 
 -- one more
 row-more : {rows : List S.Shares} {flat : List ℕ} {i : ℕ} (k : S.Shares) {s : Shares} → Rows-stored rows flat
@@ -620,7 +623,8 @@ module _ {h : Held-book} (p : Held-passes h) where
         last-at (zero-model (h .n)) y k ∙ ap (λ j. getD (y ∷ k) j (zero-model (h .n))) e
 
     final-good : Good h final
-    final-good = each-last (λ m k. Good h k) (zero-model (h .n)) (zero-model (h .n)) (zero-sound (h .n) (h .d)) (l .good)
+    final-good = each-last (λ m k. Good h k) (zero-model (h .n)) (zero-model (h .n)) (zero-sound (h .n) (h .d)) (l
+        .good)
 
     final-held : Holds (h .n) (h .d) (result (h .n) m (length (h .steps) - 1)) final
     final-held = record {

@@ -1,6 +1,6 @@
-// The steps of a book in order: each after the results so far, until the last or until one is refused. The results stand
-// in flat slices, and a step copies only those that it names. All products share one table: a small one first, and the
-// full one from the first step on that needs it.
+// The steps of a book in order: each after the results so far, until the last or until one is refused. The results
+// stand in flat slices, and a step copies only those that it names. All products share one table: a small one first,
+// and the full one from the first step on that needs it.
 ghost use mathlib.Core.Path.{_≡_};
 ghost use mathlib.Core.Bool.{true};
 ghost use Prim.Native.Nat.{ℕ, _+_, _*_, _<_, _≤_};
@@ -17,7 +17,8 @@ ghost use Rattle.sheet_book.specs.BookStruct.{«held-step», «held-book»};
 ghost use Rattle.sheet_results.specs.Results.{results, Roomy, result};
 ghost use Rattle.sheet_steps.specs.Steps.{«names-second»};
 ghost use Rattle.sheet_running.specs.Running.{ran};
-ghost use Rattle.sheet_running.specs.Run.{Running, Turn, «Input-turn», Turned, «Lent-for», Served, Fit, Begun, Stopped};
+ghost use Rattle.sheet_running.specs.Run.{Running, Turn, «Input-turn», Turned};
+ghost use Rattle.sheet_running.specs.Run.{«Lent-for», Served, Fit, Begun, Stopped};
 use model_types::Accounted;
 use model_types::Answer;
 use model_types::Model;
@@ -41,6 +42,7 @@ pub struct Stop {
 
 // The numbers of all results and rows.
 const ALL_TERMS: usize = model_types::MOST_TERMS * sheet_book::MOST_STEPS;
+
 const ALL_ROWS: usize = 4 * sheet_book::MOST_STEPS;
 
 // The products that the full table has room for: those of 64 terms with 64.
@@ -48,7 +50,9 @@ const PRODUCTS: usize = 4096;
 
 // The products of the small table, and its size.
 const FEW_PRODUCTS: usize = 256;
+
 const FEW_SLOTS: usize = 6 * FEW_PRODUCTS + 1;
+
 const FEW_PLACES: usize = FEW_PRODUCTS + 1;
 
 // ---- one step
@@ -166,7 +170,19 @@ fn product_step(
 {
     let a = s.a as usize;
     let b = s.b as usize;
-    let c = product(n, d, a, b, keys, coefficients, counts, radii, slots, places, sums);
+    let c = product(
+        n,
+        d,
+        a,
+        b,
+        keys,
+        coefficients,
+        counts,
+        radii,
+        slots,
+        places,
+        sums,
+    );
     sheet_results::settled(c, i, keys, coefficients, counts, radii, rows)
 }
 
@@ -272,12 +288,51 @@ fn step(
 {
     let code = s.code;
     if code == 6 {
-        return product_step(n, d, s, i, keys, coefficients, counts, radii, rows, slots, places, sums);
+        return product_step(
+            n,
+            d,
+            s,
+            i,
+            keys,
+            coefficients,
+            counts,
+            radii,
+            rows,
+            slots,
+            places,
+            sums,
+        );
     }
     if code == 9 {
-        return quotient_step(n, d, s, i, keys, coefficients, counts, radii, rows, slots, places, sums);
+        return quotient_step(
+            n,
+            d,
+            s,
+            i,
+            keys,
+            coefficients,
+            counts,
+            radii,
+            rows,
+            slots,
+            places,
+            sums,
+        );
     }
-    other_step(n, d, s, i, keys, coefficients, counts, radii, rows, slots, places, sums)
+    other_step(
+        n,
+        d,
+        s,
+        i,
+        keys,
+        coefficients,
+        counts,
+        radii,
+        rows,
+        slots,
+        places,
+        sums,
+    )
 }
 
 // Whether a table for so many products serves a step. A substitution and a quotient want the full one.
@@ -346,15 +401,25 @@ fn steps(
                 verdict: Verdict::Accepted,
             };
         }
-        let v = step(n, d, s, i, keys, coefficients, counts, radii, rows, slots, places, sums);
+        let v = step(
+            n,
+            d,
+            s,
+            i,
+            keys,
+            coefficients,
+            counts,
+            radii,
+            rows,
+            slots,
+            places,
+            sums,
+        );
         let Verdict::Refused(_, _) = v else {
             i += 1;
             continue;
         };
-        return Stop {
-            at: i,
-            verdict: v,
-        };
+        return Stop { at: i, verdict: v };
     }
     Stop {
         at: i,
@@ -468,7 +533,14 @@ pub fn last_result(b: Book) -> Ran
     let mut counts = [0usize; sheet_book::MOST_STEPS];
     let mut radii = [0u64; sheet_book::MOST_STEPS];
     let mut rows = [0u64; ALL_ROWS];
-    let t = run(b, &mut keys, &mut coefficients, &mut counts, &mut radii, &mut rows);
+    let t = run(
+        b,
+        &mut keys,
+        &mut coefficients,
+        &mut counts,
+        &mut radii,
+        &mut rows,
+    );
     let shares = sheet_results::all_rows(&rows);
     let at = t.at;
     let v = t.verdict;

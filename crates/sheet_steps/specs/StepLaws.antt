@@ -178,11 +178,15 @@ module _ (n d : ℕ) (s : Held-step) (m k f x g y : C.Model) where
   named-by-code (suc (suc (suc (suc zero)))) l z w o e q = ap₂ (λ f g. code-answer n d s m f g 4) (e tt) (q tt)
   named-by-code (suc (suc (suc (suc (suc zero))))) l z w o e q = ap₂ (λ f g. code-answer n d s m f g 5) (e tt) (q tt)
   named-by-code (suc (suc (suc (suc (suc (suc zero)))))) l z w o e q = absurd (w refl)
-  named-by-code (suc (suc (suc (suc (suc (suc (suc zero))))))) l z w o e q = ap₂ (λ f g. code-answer n d s m f g 7) (e tt) (q tt)
-  named-by-code (suc (suc (suc (suc (suc (suc (suc (suc zero)))))))) l z w o e q = ap (λ f. code-answer n d s m f g 8) (e tt)
+  named-by-code (suc (suc (suc (suc (suc (suc (suc zero))))))) l z w o e q = ap₂ (λ f g. code-answer n d s m f g 7)
+      (e tt) (q tt)
+  named-by-code (suc (suc (suc (suc (suc (suc (suc (suc zero)))))))) l z w o e q = ap (λ f. code-answer n d s m f g
+      8) (e tt)
   named-by-code (suc (suc (suc (suc (suc (suc (suc (suc (suc zero))))))))) l z w o e q = absurd (o refl)
-  named-by-code (suc (suc (suc (suc (suc (suc (suc (suc (suc (suc zero)))))))))) l z w o e q = ap (λ f. code-answer n d s m f g 10) (e tt)
-  named-by-code (suc (suc (suc (suc (suc (suc (suc (suc (suc (suc (suc c))))))))))) l z w o e q = absurd (omega (arith, l))
+  named-by-code (suc (suc (suc (suc (suc (suc (suc (suc (suc (suc zero)))))))))) l z w o e q = ap (λ f. code-answer n
+      d s m f g 10) (e tt)
+  named-by-code (suc (suc (suc (suc (suc (suc (suc (suc (suc (suc (suc c))))))))))) l z w o e q = absurd (omega
+      (arith, l))
 
   shares-named : (c : ℕ) → c ≤ last-code → (c ≡ 0 → ⊥) → (c ≡ 6 → ⊥) → (c ≡ 9 → ⊥) → (T (leb 3 c) → f ≡ x)
       → (T (names-second c) → g ≡ y) → code-shares n d s m f g c ≡ code-shares n d s k x y c
@@ -194,11 +198,15 @@ module _ (n d : ℕ) (s : Held-step) (m k f x g y : C.Model) where
   shares-named (suc (suc (suc (suc zero)))) l z w o e q = refl
   shares-named (suc (suc (suc (suc (suc zero))))) l z w o e q = refl
   shares-named (suc (suc (suc (suc (suc (suc zero)))))) l z w o e q = absurd (w refl)
-  shares-named (suc (suc (suc (suc (suc (suc (suc zero))))))) l z w o e q = ap₂ (λ f g. code-shares n d s m f g 7) (e tt) (q tt)
-  shares-named (suc (suc (suc (suc (suc (suc (suc (suc zero)))))))) l z w o e q = ap (λ f. code-shares n d s m f g 8) (e tt)
+  shares-named (suc (suc (suc (suc (suc (suc (suc zero))))))) l z w o e q = ap₂ (λ f g. code-shares n d s m f g 7) (e
+      tt) (q tt)
+  shares-named (suc (suc (suc (suc (suc (suc (suc (suc zero)))))))) l z w o e q = ap (λ f. code-shares n d s m f g 8)
+      (e tt)
   shares-named (suc (suc (suc (suc (suc (suc (suc (suc (suc zero))))))))) l z w o e q = absurd (o refl)
-  shares-named (suc (suc (suc (suc (suc (suc (suc (suc (suc (suc zero)))))))))) l z w o e q = ap (λ f. code-shares n d s m f g 10) (e tt)
-  shares-named (suc (suc (suc (suc (suc (suc (suc (suc (suc (suc (suc c))))))))))) l z w o e q = absurd (omega (arith, l))
+  shares-named (suc (suc (suc (suc (suc (suc (suc (suc (suc (suc zero)))))))))) l z w o e q = ap (λ f. code-shares n
+      d s m f g 10) (e tt)
+  shares-named (suc (suc (suc (suc (suc (suc (suc (suc (suc (suc (suc c))))))))))) l z w o e q = absurd (omega
+      (arith, l))
 
   pub only-named : s .code ≤ last-code → (s .code ≡ 0 → ⊥) → (s .code ≡ 6 → ⊥) → (s .code ≡ 9 → ⊥)
       → (T (leb 3 (s .code)) → f ≡ x) → (T (names-second (s .code)) → g ≡ y)

@@ -1,5 +1,5 @@
-// One step of a book, a product and a quotient apart: the operation that its code names, on the model or the results that
-// its fields name.
+// One step of a book, a product and a quotient apart: the operation that its code names, on the model or the results
+// that its fields name.
 ghost use mathlib.Core.Path.{_≡_};
 ghost use Prim.Native.Nat.{ℕ, _-_, min};
 ghost use lib.Dec.{T};
@@ -38,8 +38,8 @@ pub fn input_answer(input: Model) -> Accounted
     model::all_carried(sheet_step_answers::accepted(sheet_step_answers::cleared(input)))
 }
 
-// What a step gives whose radius is all carried, with the results that a and b name: a constant, a variable, a negation,
-// a sum or a difference. The same for every order, and whatever the book's models are.
+// What a step gives whose radius is all carried, with the results that a and b name: a constant, a variable, a
+// negation, a sum or a difference. The same for every order, and whatever the book's models are.
 fn direct_answer(n: u8, s: Step, f: Model, g: Model) -> Answer
     requires { ⌜ Direct-ready n (held-step s) f g ⌝ }
     ensures { λ r. ⌜ ((d : ℕ) (m : C.Model)

@@ -24,7 +24,8 @@ returns : tie.Need-returns
 returns c =
     let i = c .before in
     c .result .ensures
-    ∙ sym (ap (λ b. cond b (there (i .before .before .before .before)) (zero-model (i .before .before .before .before .args .n))) (i .if1 .taken))
+    ∙ sym (ap (λ b. cond b (there (i .before .before .before .before)) (zero-model (i .before .before .before .before
+    .args .n))) (i .if1 .taken))
 
 without-terms-requires : tie.Need-without-terms-requires
 without-terms-requires c κs = search needs
@@ -33,7 +34,8 @@ returns-2 : tie.Need-returns-2
 returns-2 c =
     let i = c .before in
     ap view (c .without-terms .ensures) ∙ zero-view (i .before .before .before .before .args .n)
-    ∙ sym (ap (λ b. cond b (there (i .before .before .before .before)) (zero-model (i .before .before .before .before .args .n))) (i .if1 .left))
+    ∙ sym (ap (λ b. cond b (there (i .before .before .before .before)) (zero-model (i .before .before .before .before
+    .args .n))) (i .if1 .left))
 
 pub operand-spec : {M : Type 1} → statement M
 operand-spec = tie.close (tie.spec result-requires returns without-terms-requires returns-2)

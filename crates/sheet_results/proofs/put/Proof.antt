@@ -48,8 +48,13 @@ store-terms-requires c κs =
     let i = s .args .i in
     let r = s .pre .1 .0 in (
       omega (arith, s .pre .0, r .keys-long, length-take (length k - 64 * i) (drop (64 * i) k), length-drop (64 * i) k),
-      omega (arith, s .pre .0, r .coefficients-long, length-take (length z - 64 * i) (drop (64 * i) z),
-          length-drop (64 * i) z),
+      omega (
+        arith,
+        s .pre .0,
+        r .coefficients-long,
+        length-take (length z - 64 * i) (drop (64 * i) z),
+        length-drop (64 * i) z,
+      ),
     )
 
 put-numbers-requires : tie.Need-put-numbers-requires
@@ -73,8 +78,10 @@ same-length-5 c = search needs
 returns : tie.Need-returns
 unfolding with-result stored-keys stored-coefficients
 returns c =
-    let s = c .before .before .before .before .before .before .before .before .before .before .before .before .before .before .before .before .before .before .before .before in
-    let w = c .before .before .before .before .before .before .before .before .before .before .before .before .before .store-terms .ensures in
+    let s = c .before .before .before .before .before .before .before .before .before .before .before .before .before
+    .before .before .before .before .before .before .before in
+    let w = c .before .before .before .before .before .before .before .before .before .before .before .before .before
+    .store-terms .ensures in
     let p = c .before .before .before .before .before .before .put-numbers .ensures in
     let i = s .args .i in
     let r = s .pre .1 .0 in

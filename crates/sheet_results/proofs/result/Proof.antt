@@ -89,7 +89,11 @@ loop-again c =
     let s = start c in (
       omega arith,
       l .loop .inv .1,
-      rw (l .loop .inv .2, read-back c) (taken-more (s .pre .1) (s .pre .0) (l .loop .i) (omega (arith, l .loop .inv .1))),
+      rw (l .loop .inv .2, read-back c) (taken-more (s .pre .1) (s .pre .0) (l .loop .i) (omega (
+        arith,
+        l .loop .inv
+            .1,
+      ))),
     )
 
 returns : tie.Need-returns Inv-loop μ-loop

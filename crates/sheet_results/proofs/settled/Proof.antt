@@ -38,10 +38,12 @@ memory s =
 
 returns : tie.Need-returns
 returns c =
-    let s = c .before .before .before .before .before .before .before .before .before .before .before .before .before .before .before .before .before .before .before .before .before .before .before .before in
+    let s = c .before .before .before .before .before .before .before .before .before .before .before .before .before
+    .before .before .before .before .before .before .before .before .before .before .before in
     let a = s .args in
     let p = c .before .before .before .before .before .before .before .before .before .put .ensures in
-    let e : a .c .answer .verdict ≡ Accepted = c .before .before .before .before .before .before .before .before .before .before .before .before .before .before .before .before .before .enum-told2 .given .1 in (
+    let e : a .c .answer .verdict ≡ Accepted = c .before .before .before .before .before .before .before .before
+    .before .before .before .before .before .before .before .before .before .enum-told2 .given .1 in (
       refl,
       p .0 ∙ sym (settled-put (a .c) (a .i) (memory s) (a .rows .now) e),
       p .1 ∙ sym (settled-row (a .c) (a .i) (memory s) (a .rows .now) e),

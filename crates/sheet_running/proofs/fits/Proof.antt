@@ -5,7 +5,7 @@ use Prim.Native.Nat.{_*_}
 use native.Mathlib.Omega.{arith}
 use lib.ListN.{getD}
 use Rattle.sheet_book.specs.BookStruct.{held-step}
-use Rattle.sheet_running.specs.TurnLaws.{products-few}
+use Rattle.sheet_running.specs.RunTurnLaws.{products-few}
 use borrow.Author.Needs.{needs}
 use Rattle.sheet_running.proofs.fits.Statement.{statement}
 use Rattle.sheet_running.proofs.fits.Tie as tie

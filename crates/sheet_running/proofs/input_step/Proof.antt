@@ -1,5 +1,5 @@
 -- `input_step` puts the model that it is handed.
-use Rattle.sheet_running.specs.TurnLaws.{input-turned}
+use Rattle.sheet_running.specs.RunTurnLaws.{input-turned}
 use borrow.Author.Needs.{needs}
 use Rattle.sheet_running.proofs.input_step.Statement.{statement}
 use Rattle.sheet_running.proofs.input_step.Tie as tie
@@ -28,7 +28,10 @@ same-length-5 c = search needs
 returns : tie.Need-returns
 returns c = λ n d s t.
     let w = c .before .before .before .before .before .before .before .before .before .settled .ensures in
-    input-turned (c .before .before .before .before .before .before .before .before .before .before .before .before .before .before .before .before .before .before .before .before .args .input) t (c .before .before .before .before .before .before .before .before .before .before .before .before .before .before .before .input-answer .ensures) (w .1) (w .2)
+    input-turned (c .before .before .before .before .before .before .before .before .before .before .before .before
+    .before .before .before .before .before .before .before .before .args .input) t (c .before .before .before
+    .before .before .before .before .before .before .before .before .before .before .before .before .input-answer
+    .ensures) (w .1) (w .2)
 
 pub input-step-spec : {M : Type 1} → statement M
 input-step-spec =

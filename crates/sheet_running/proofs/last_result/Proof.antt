@@ -26,7 +26,8 @@ slice-aggregate-run-5 : tie.Need-slice-aggregate-run-5
 slice-aggregate-run-5 c = search needs
 
 run-requires : tie.Need-run-requires
-run-requires c κs = begun-first (c .before .before .before .before .before .args .b) (c .before .before .before .before .before .pre)
+run-requires c κs = begun-first (c .before .before .before .before .before .args .b) (c .before .before .before
+    .before .before .pre)
 
 slice-aggregate-all-rows : tie.Need-slice-aggregate-all-rows
 slice-aggregate-all-rows c = search needs
@@ -41,7 +42,9 @@ enum-told : tie.Need-enum-told
 enum-told c = search needs
 
 sub-result : tie.Need-sub-result
-sub-result c = some-step (c .before .before .before .before .before .before .before .before .before .before .before .before .before .before .before .args .b) (c .before .before .before .before .before .before .before .before .before .before .before .before .before .before .before .pre)
+sub-result c = some-step (c .before .before .before .before .before .before .before .before .before .before .before
+    .before .before .before .before .args .b) (c .before .before .before .before .before .before .before .before
+    .before .before .before .before .before .before .before .pre)
 
 slice-aggregate-result : tie.Need-slice-aggregate-result
 slice-aggregate-result c = search needs
@@ -57,15 +60,20 @@ slice-aggregate-result-4 c = search needs
 
 result-requires : tie.Need-result-requires
 result-requires c κs =
-    let s = c .before .before .before .before .before .before .before .before .before .before .before .before .before .before .before .before .before .before .before in (
+    let s = c .before .before .before .before .before .before .before .before .before .before .before .before .before
+    .before .before .before .before .before .before in (
       omega (arith, few-steps (s .args .b) (s .pre), some-step (s .args .b) (s .pre)),
-      c .before .before .before .before .before .before .before .before .before .before .before .before .before .run .ensures .going (c .before .before .before .before .enum-told .given .1) .so-far .room,
+      c .before .before .before .before .before .before .before .before .before .before .before .before .before .run
+          .ensures .going (c .before .before .before .before .enum-told .given .1) .so-far .room,
     )
 
 cleared-requires : tie.Need-cleared-requires
 cleared-requires c κs =
-    let s = c .before .before .before .before .before .before .before .before .before .before .before .before .before .before .before .before .before .before .before .before in
-    last-sound (s .args .b) (s .pre) (c .before .before .before .before .before .before .before .before .before .before .before .before .before .before .run .ensures) (c .before .before .before .before .before .enum-told .given .1) (c .result .result)
+    let s = c .before .before .before .before .before .before .before .before .before .before .before .before .before
+    .before .before .before .before .before .before .before in
+    last-sound (s .args .b) (s .pre) (c .before .before .before .before .before .before .before .before .before
+    .before .before .before .before .before .run .ensures) (c .before .before .before .before .before .enum-told
+    .given .1) (c .result .result)
     (c .result .ensures)
 
 accepted-requires : tie.Need-accepted-requires
@@ -73,10 +81,14 @@ accepted-requires c κs = search needs
 
 returns : tie.Need-returns
 returns c =
-    let s = c .before .before .before .before .before .before .before .before .before .before .before .before .before .before .before .before .before .before .before .before .before .before in
+    let s = c .before .before .before .before .before .before .before .before .before .before .before .before .before
+    .before .before .before .before .before .before .before .before .before in
     let r = c .before .before .result in
-    last-ran (s .args .b) (s .pre) (c .before .before .before .before .before .before .before .before .before .before .before .before .before .before .before .before .run .ensures) (c .before .before .before .before .before .before .before .enum-told .given .1) (r .result) (r .ensures)
-    (c .accepted .ensures ∙ ap accepted-answer (c .before .cleared .ensures)) (c .before .before .before .before .before .before .before .before .before .all-rows .ensures)
+    last-ran (s .args .b) (s .pre) (c .before .before .before .before .before .before .before .before .before .before
+    .before .before .before .before .before .before .run .ensures) (c .before .before .before .before .before
+    .before .before .enum-told .given .1) (r .result) (r .ensures)
+    (c .accepted .ensures ∙ ap accepted-answer (c .before .cleared .ensures)) (c .before .before .before .before
+    .before .before .before .before .before .all-rows .ensures)
 
 refuse-requires : tie.Need-refuse-requires
 refuse-requires c κs = search needs
@@ -86,7 +98,8 @@ returns-2 c =
     let r = c .before .before .before .before .before .before .before .before .before .before .before .run in
     let v = c .before .before .v .given in
     let place : c .refuse .result ≡ answer (stopped (cause (v .0 .0)) (r .result .at)) = c .refuse .ensures in
-    ended-ran (r .ensures .ended (v .0 .0) (v .0 .1 .0) (v .1)) place (c .before .before .before .before .all-rows .ensures)
+    ended-ran (r .ensures .ended (v .0 .0) (v .0 .1 .0) (v .1)) place (c .before .before .before .before .all-rows
+    .ensures)
 
 pub last-result-spec : {M : Type 1} → statement M
 last-result-spec =

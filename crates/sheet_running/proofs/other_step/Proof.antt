@@ -8,7 +8,8 @@ use Rattle.model_types.specs.ModelStruct.{view}
 use Rattle.sheet_book.specs.BookStruct.{held-step}
 use Rattle.sheet_results.specs.Results.{Results, results, result}
 use Rattle.sheet_steps.specs.Steps.{names-second}
-use Rattle.sheet_running.specs.TurnLaws.{turn-small, turn-first, turn-second, turn-room, turn-rows, other-ready, other-turned}
+use Rattle.sheet_running.specs.RunTurnLaws.{turn-small, turn-first, turn-second, turn-room, turn-rows}
+use Rattle.sheet_running.specs.RunTurnLaws.{other-ready, other-turned}
 use borrow.Author.Needs.{needs}
 use Rattle.sheet_running.proofs.other_step.Statement.{statement}
 use Rattle.sheet_running.proofs.other_step.Tie as tie
@@ -24,16 +25,19 @@ names-second-requires c κs = search needs
 
 operand-requires : tie.Need-operand-requires
 unfolding held-step
-operand-requires c κs = let t = c .before .before .before .before .before .before .before .before .before .before .before .before .before .pre .0 in (turn-first t, turn-room t)
+operand-requires c κs = let t = c .before .before .before .before .before .before .before .before .before .before
+    .before .before .before .pre .0 in (turn-first t, turn-room t)
 
 operand-requires-2 : tie.Need-operand-requires-2
 unfolding held-step
-operand-requires-2 c κs = let t = c .before .before .before .before .before .before .before .before .before .before .before .before .before .before .before .before .before .before .pre .0 in (turn-second t, turn-room t)
+operand-requires-2 c κs = let t = c .before .before .before .before .before .before .before .before .before .before
+    .before .before .before .before .before .before .before .before .pre .0 in (turn-second t, turn-room t)
 
 -- what is taken out
 module _ (c : tie.After-operand2) where
   abbrev start : tie.Start
-  start = c .before .before .before .before .before .before .before .before .before .before .before .before .before .before .before .before .before .before .before
+  start = c .before .before .before .before .before .before .before .before .before .before .before .before .before
+      .before .before .before .before .before .before
 
   abbrev memory : Results
   memory = results (start .args .keys .now) (start .args .coefficients .now) (start .args .counts .now)
@@ -68,7 +72,15 @@ step-answer-requires c κs =
     )
 
 settled-requires : tie.Need-settled-requires
-settled-requires c κs = let t = c .before .before .before .before .before .before .before .before .before .before .before .before .before .before .before .before .before .before .before .before .before .before .before .before .before .before .before .before .before .before .before .before .before .pre .0 in (turn-small t, (turn-room t, turn-rows t))
+settled-requires c κs = let t = c .before .before .before .before .before .before .before .before .before .before
+    .before .before .before .before .before .before .before .before .before .before .before .before .before .before
+    .before .before .before .before .before .before .before .before .before .pre .0 in (
+      turn-small t,
+      (
+        turn-room t,
+        turn-rows t,
+      ),
+    )
 
 same-length : tie.Need-same-length
 same-length c = search needs
@@ -97,11 +109,13 @@ same-length-8 c = search needs
 returns : tie.Need-returns
 unfolding held-step
 returns c = λ t.
-    let o = c .before .before .before .before .before .before .before .before .before .before .before .before .before .before .before .before .before .before .before .before .before .before .before .before in
+    let o = c .before .before .before .before .before .before .before .before .before .before .before .before .before
+    .before .before .before .before .before .before .before .before .before .before .before in
     let p = start o .pre .1 .1 in
     let w = c .before .before .before .before .before .before .before .before .before .settled .ensures in
     other-turned t (first o) (second o) (is-first o) (is-second o) (p .0) (p .1) (p .2)
-    (c .before .before .before .before .before .before .before .before .before .before .before .before .before .before .before .before .before .before .before .before .step-answer .ensures .0) (w .0) (w .1) (w .2)
+    (c .before .before .before .before .before .before .before .before .before .before .before .before .before
+    .before .before .before .before .before .before .before .step-answer .ensures .0) (w .0) (w .1) (w .2)
 
 pub other-step-spec : {M : Type 1} → statement M
 other-step-spec =

@@ -9,7 +9,7 @@ use Rattle.model_types.specs.ModelStruct.{view}
 use Rattle.model_types.specs.SharesStruct.{accounted}
 use Rattle.model.specs.OperationContracts.{Factors}
 use Rattle.sheet_results.specs.Results.{Results, results}
-use Rattle.sheet_running.specs.TurnLaws.{result-part, factors-part, part-holds}
+use Rattle.sheet_running.specs.RunTurnLaws.{result-part, factors-part, part-holds}
 use borrow.Author.Needs.{needs}
 use Rattle.sheet_running.proofs.product.Statement.{statement}
 use Rattle.sheet_running.proofs.product.Tie as tie
@@ -98,7 +98,8 @@ memory s = results (s .args .keys .now) (s .args .coefficients .now) (s .args .c
 
 multiplied-slices-accounted-requires : tie.Need-multiplied-slices-accounted-requires
 multiplied-slices-accounted-requires c κs =
-    let s = c .before .before .before .before .before .before .before .before .before .before .before .before .before .before .before .before in
+    let s = c .before .before .before .before .before .before .before .before .before .before .before .before .before
+    .before .before .before in
     let r = s .pre .1 .0 in (
       factors-part (s .args .n) (memory s) (s .args .a) (s .args .b) (s .pre .1 .1 .0),
       (part-holds r (s .pre .0 .0), (part-holds r (s .pre .0 .1), s .pre .1 .1 .1)),
@@ -115,9 +116,11 @@ same-length-3 c = search needs
 
 returns : tie.Need-returns
 returns c =
-    let s = c .before .before .before .before .before .before .before .before .before .before .before .before .before .before .before .before .before .before .before .before .before .before in
+    let s = c .before .before .before .before .before .before .before .before .before .before .before .before .before
+    .before .before .before .before .before .before .before .before .before in
     c .before .before .before .before .before .multiplied-slices-accounted .ensures .0
-    ∙ ap₂ (λ x y. accounted (multiply (s .args .d) (view x) (view y)) (λ k. product-shares (s .args .d) (view x) (view y)))
+    ∙ ap₂ (λ x y. accounted (multiply (s .args .d) (view x) (view y)) (λ k. product-shares (s .args .d) (view x)
+    (view y)))
     (result-part (s .args .n) (memory s) (s .args .a)) (result-part (s .args .n) (memory s) (s .args .b))
 
 pub product-spec : {M : Type 1} → statement M

@@ -1,6 +1,7 @@
 -- `product_step` multiplies, and puts the answer.
 use Rattle.sheet_book.specs.BookStruct.{held-step}
-use Rattle.sheet_running.specs.TurnLaws.{turn-small, turn-first, turn-second, turn-room, turn-rows, turn-factors, product-turned}
+use Rattle.sheet_running.specs.RunTurnLaws.{turn-small, turn-first, turn-second, turn-room, turn-rows}
+use Rattle.sheet_running.specs.RunTurnLaws.{turn-factors, product-turned}
 use borrow.Author.Needs.{needs}
 use Rattle.sheet_running.proofs.product_step.Statement.{statement}
 use Rattle.sheet_running.proofs.product_step.Tie as tie
@@ -14,13 +15,16 @@ cast-b c = search needs
 product-requires : tie.Need-product-requires
 unfolding held-step
 product-requires c κs =
-    let s = c .before .before .before .before .before .before .before .before .before .before .before .before .before .before .before in
+    let s = c .before .before .before .before .before .before .before .before .before .before .before .before .before
+    .before .before in
     let t = s .pre .0 in
     let e = s .pre .1 .1 in
     ((turn-first t, turn-second t), (turn-room t, (turn-factors t e, s .pre .1 .0 .product e)))
 
 settled-requires : tie.Need-settled-requires
-settled-requires c κs = let t = c .before .before .before .before .before .before .before .before .before .before .before .before .before .before .before .before .before .before .before .before .before .before .before .before .before .before .pre .0 in (turn-small t, (turn-room t, turn-rows t))
+settled-requires c κs = let t = c .before .before .before .before .before .before .before .before .before .before
+    .before .before .before .before .before .before .before .before .before .before .before .before .before .before
+    .before .before .pre .0 in (turn-small t, (turn-room t, turn-rows t))
 
 same-length : tie.Need-same-length
 same-length c = search needs
@@ -50,7 +54,11 @@ returns : tie.Need-returns
 unfolding held-step
 returns c = λ t.
     let w = c .before .before .before .before .before .before .before .before .before .settled .ensures in
-    product-turned t (c .before .before .before .before .before .before .before .before .before .before .before .before .before .before .before .before .before .before .before .before .before .before .before .before .before .before .before .before .before .before .before .before .before .before .before .before .pre .1 .1) (c .before .before .before .before .before .before .before .before .before .before .before .before .before .before .before .before .before .before .before .before .product .ensures) (w .0) (w .1) (w .2)
+    product-turned t (c .before .before .before .before .before .before .before .before .before .before .before
+    .before .before .before .before .before .before .before .before .before .before .before .before .before
+    .before .before .before .before .before .before .before .before .before .before .before .before .pre .1 .1)
+    (c .before .before .before .before .before .before .before .before .before .before .before .before .before
+    .before .before .before .before .before .before .before .product .ensures) (w .0) (w .1) (w .2)
 
 pub product-step-spec : {M : Type 1} → statement M
 product-step-spec =

@@ -9,8 +9,9 @@ use mir.Val.{toZ, ofZ}
 use Rattle.model_types.specs.ModelStruct.{view}
 use Rattle.sheet_book.specs.BookStruct.{held-step}
 use Rattle.sheet_results.specs.Results.{Results, results, result}
-use Rattle.sheet_running.specs.TurnLaws.{turn-small, turn-first, turn-second, turn-third, turn-fourth, turn-room, turn-rows}
-use Rattle.sheet_running.specs.TurnLaws.{turn-proposal, turn-bounded, quotient-turned}
+use Rattle.sheet_running.specs.RunTurnLaws.{turn-small, turn-first, turn-second, turn-third, turn-fourth}
+use Rattle.sheet_running.specs.RunTurnLaws.{turn-room, turn-rows}
+use Rattle.sheet_running.specs.RunTurnLaws.{turn-proposal, turn-bounded, quotient-turned}
 use borrow.Author.Needs.{needs}
 use Rattle.sheet_running.proofs.quotient_step.Statement.{statement}
 use Rattle.sheet_running.proofs.quotient_step.Tie as tie
@@ -29,34 +30,56 @@ magnitude-requires c κs = search needs
 
 -- the number that is the last operand
 module _ (c : tie.After-magnitude) where
-  value-place : c .magnitude .result ≡ natAbs (c .before .before .before .before .before .before .before .before .before .before .before .args .s .value)
+  value-place : c .magnitude .result ≡ natAbs (c .before .before .before .before .before .before .before .before
+      .before .before .before .args .s .value)
   value-place = c .magnitude .ensures ∙ ap natAbs read-back
     where
-      read-back : toZ w64 (ofZ w64 (c .before .before .before .before .before .before .before .before .before .before .before .args .s .value)) ≡ c .before .before .before .before .before .before .before .before .before .before .before .args .s .value
+      read-back : toZ w64 (ofZ w64 (c .before .before .before .before .before .before .before .before .before .before
+          .before .args .s .value)) ≡ c .before .before .before .before .before .before .before .before .before
+          .before .before .args .s .value
       read-back = toZ-ofZ (record { sfits = c .before .struct-told .given .1 .1 .1 .1 .0 .1 })
 
 result-requires : tie.Need-result-requires
 unfolding held-step
-result-requires c κs = let t = c .before .before .before .before .before .before .before .before .before .before .before .before .before .before .before .pre .0 in (turn-first t, turn-room t)
+result-requires c κs = let t = c .before .before .before .before .before .before .before .before .before .before
+    .before .before .before .before .before .pre .0 in (turn-first t, turn-room t)
 
 result-requires-2 : tie.Need-result-requires-2
 unfolding held-step
-result-requires-2 c κs = let t = c .before .before .before .before .before .before .before .before .before .before .before .before .before .before .before .before .before .before .before .before .pre .0 in (turn-second t, turn-room t)
+result-requires-2 c κs = let t = c .before .before .before .before .before .before .before .before .before .before
+    .before .before .before .before .before .before .before .before .before .before .pre .0 in (
+      turn-second t,
+      turn-room t,
+    )
 
 result-requires-3 : tie.Need-result-requires-3
 unfolding held-step
-result-requires-3 c κs = let s = c .before .before .before .before .before .before .before .before .before .before .before .before .before .before .before .before .before .before .before .before .before .before .before .before .before in (turn-third (s .pre .0) (s .pre .1 .1), turn-room (s .pre .0))
+result-requires-3 c κs = let s = c .before .before .before .before .before .before .before .before .before .before
+    .before .before .before .before .before .before .before .before .before .before .before .before .before .before
+    .before in (turn-third (s .pre .0) (s .pre .1 .1), turn-room (s .pre .0))
 
 result-requires-4 : tie.Need-result-requires-4
 unfolding held-step
 result-requires-4 c κs =
-    let s = c .before .before .before .before .before .before .before .before .before .before .before .before .before .before .before .before .before .before .before .before .before .before .before .before .before .before .before .before .before .before in
-    (omega (arith, value-place (c .before .before .before .before .before .before .before .before .before .before .before .before .before .before .before .before .before .before .before), turn-fourth (s .pre .0) (s .pre .1 .1)), turn-room (s .pre .0))
+    let s = c .before .before .before .before .before .before .before .before .before .before .before .before .before
+    .before .before .before .before .before .before .before .before .before .before .before .before .before
+    .before .before .before .before in (
+      omega (
+        arith,
+        value-place (c .before .before .before .before .before .before .before .before .before .before
+            .before .before .before .before .before .before .before .before .before),
+        turn-fourth (s .pre .0) (s .pre .1
+            .1),
+      ),
+      turn-room (s .pre .0),
+    )
 
 -- what is taken out
 module _ (c : tie.After-result4) where
   abbrev start : tie.Start
-  start = c .before .before .before .before .before .before .before .before .before .before .before .before .before .before .before .before .before .before .before .before .before .before .before .before .before .before .before .before .before .before .before
+  start = c .before .before .before .before .before .before .before .before .before .before .before .before .before
+      .before .before .before .before .before .before .before .before .before .before .before .before .before .before
+      .before .before .before .before
 
   abbrev memory : Results
   memory = results (start .args .keys .now) (start .args .coefficients .now) (start .args .counts .now)
@@ -65,16 +88,24 @@ module _ (c : tie.After-result4) where
   is-fourth : view (c .result4 .result)
       ≡ view (result (start .args .n) memory (natAbs (start .args .s .value)))
   is-fourth = c .result4 .ensures
-      ∙ ap (λ j. view (result (start .args .n) memory j)) (value-place (c .before .before .before .before .before .before .before .before .before .before .before .before .before .before .before .before .before .before .before .before))
+      ∙ ap (λ j. view (result (start .args .n) memory j)) (value-place (c .before .before .before .before .before
+      .before .before .before .before .before .before .before .before .before .before .before .before .before
+      .before .before))
 
 divided-requires : tie.Need-divided-requires
 unfolding held-step
 divided-requires c κs =
     let o = c .before .before .before in
     let s = start o in (
-      turn-proposal (s .pre .0) (o .before .before .before .before .before .before .before .before .before .before .before .before .before .before .before .result .result) (o .before .before .before .before .before .before .before .before .before .before .result2 .result) (o .before .before .before .before .before .result3 .result) (o .result4 .result)
+      turn-proposal (s .pre .0) (o .before .before .before .before .before .before .before .before .before .before
+          .before .before .before .before .before .result .result) (o .before .before .before .before .before .before
+          .before .before .before .before .result2 .result) (o .before .before .before .before .before .result3
+          .result) (o .result4 .result)
           (s .pre .1 .1)
-          (o .before .before .before .before .before .before .before .before .before .before .before .before .before .before .before .result .ensures) (o .before .before .before .before .before .before .before .before .before .before .result2 .ensures) (o .before .before .before .before .before .result3 .ensures) (is-fourth o),
+          (o .before .before .before .before .before .before .before .before .before .before .before .before .before
+          .before .before .result .ensures) (o .before .before .before .before .before .before .before .before
+          .before .before .result2 .ensures) (o .before .before .before .before .before .result3 .ensures)
+          (is-fourth o),
       s .pre .1 .0 .quotient (s .pre .1 .1),
     )
 
@@ -83,13 +114,28 @@ unfolding held-step
 all-carried-requires c κs =
     let o = c .before .before .before .before .before .before .before .before .before in
     let s = start o in
-    turn-bounded (s .pre .0) (o .before .before .before .before .before .before .before .before .before .before .before .before .before .before .before .result .result) (o .before .before .before .before .before .before .before .before .before .before .result2 .result) (o .before .before .before .before .before .result3 .result) (o .result4 .result)
+    turn-bounded (s .pre .0) (o .before .before .before .before .before .before .before .before .before .before
+    .before .before .before .before .before .result .result) (o .before .before .before .before .before .before
+    .before .before .before .before .result2 .result) (o .before .before .before .before .before .result3
+    .result) (o .result4 .result)
     (s .pre .1 .1)
-    (o .before .before .before .before .before .before .before .before .before .before .before .before .before .before .before .result .ensures) (o .before .before .before .before .before .before .before .before .before .before .result2 .ensures) (o .before .before .before .before .before .result3 .ensures) (is-fourth o)
+    (o .before .before .before .before .before .before .before .before .before .before .before .before .before
+    .before .before .result .ensures) (o .before .before .before .before .before .before .before .before .before
+    .before .result2 .ensures) (o .before .before .before .before .before .result3 .ensures) (is-fourth o)
     (c .before .before .before .before .before .divided .ensures .0)
 
 settled-requires : tie.Need-settled-requires
-settled-requires c κs = let t = c .before .before .before .before .before .before .before .before .before .before .before .before .before .before .before .before .before .before .before .before .before .before .before .before .before .before .before .before .before .before .before .before .before .before .before .before .before .before .before .before .before .before .before .before .before .before .pre .0 in (turn-small t, (turn-room t, turn-rows t))
+settled-requires c κs = let t = c .before .before .before .before .before .before .before .before .before .before
+    .before .before .before .before .before .before .before .before .before .before .before .before .before .before
+    .before .before .before .before .before .before .before .before .before .before .before .before .before .before
+    .before .before .before .before .before .before .before .before .pre .0 in (
+      turn-small t,
+      (
+        turn-room t,
+        turn-rows
+            t,
+      ),
+    )
 
 same-length : tie.Need-same-length
 same-length c = search needs
@@ -118,12 +164,21 @@ same-length-8 c = search needs
 returns : tie.Need-returns
 unfolding held-step
 returns c = λ t.
-    let o = c .before .before .before .before .before .before .before .before .before .before .before .before .before .before .before .before .before .before .before .before .before .before .before .before .before in
+    let o = c .before .before .before .before .before .before .before .before .before .before .before .before .before
+    .before .before .before .before .before .before .before .before .before .before .before .before in
     let w = c .before .before .before .before .before .before .before .before .before .settled .ensures in
-    quotient-turned t (o .before .before .before .before .before .before .before .before .before .before .before .before .before .before .before .result .result) (o .before .before .before .before .before .before .before .before .before .before .result2 .result) (o .before .before .before .before .before .result3 .result) (o .result4 .result)
+    quotient-turned t (o .before .before .before .before .before .before .before .before .before .before .before
+    .before .before .before .before .result .result) (o .before .before .before .before .before .before .before
+    .before .before .before .result2 .result) (o .before .before .before .before .before .result3 .result) (o
+    .result4 .result)
     (start o .pre .1 .1)
-    (o .before .before .before .before .before .before .before .before .before .before .before .before .before .before .before .result .ensures) (o .before .before .before .before .before .before .before .before .before .before .result2 .ensures) (o .before .before .before .before .before .result3 .ensures) (is-fourth o)
-    (c .before .before .before .before .before .before .before .before .before .before .before .before .before .before .before .before .before .before .before .before .before .divided .ensures .0) (c .before .before .before .before .before .before .before .before .before .before .before .before .before .before .before .all-carried .ensures) (w .0) (w .1) (w .2)
+    (o .before .before .before .before .before .before .before .before .before .before .before .before .before
+    .before .before .result .ensures) (o .before .before .before .before .before .before .before .before .before
+    .before .result2 .ensures) (o .before .before .before .before .before .result3 .ensures) (is-fourth o)
+    (c .before .before .before .before .before .before .before .before .before .before .before .before .before
+    .before .before .before .before .before .before .before .before .divided .ensures .0) (c .before .before
+    .before .before .before .before .before .before .before .before .before .before .before .before .before
+    .all-carried .ensures) (w .0) (w .1) (w .2)
 
 pub quotient-step-spec : {M : Type 1} → statement M
 quotient-step-spec =

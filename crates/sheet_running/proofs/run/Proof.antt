@@ -1,6 +1,6 @@
 -- `run` goes on with the full table where the small one did not serve.
 use native.Mathlib.Omega.{arith}
-use Rattle.sheet_running.specs.TurnLaws.{not-both, stopped-on}
+use Rattle.sheet_running.specs.RunTurnLaws.{not-both, stopped-on}
 use borrow.Author.Needs.{needs}
 use Rattle.sheet_running.proofs.run.Statement.{statement}
 use Rattle.sheet_running.proofs.run.Tie as tie
@@ -15,7 +15,9 @@ enum-told-2 : tie.Need-enum-told-2
 enum-told-2 c = search needs
 
 large-requires : tie.Need-large-requires
-large-requires c κs = c .before .before .before .before .before .before .before .before .before .before .before .before .before .before .before .before .before .small .ensures .going (c .before .before .before .before .before .before .enum-told2 .given .1)
+large-requires c κs = c .before .before .before .before .before .before .before .before .before .before .before
+    .before .before .before .before .before .before .small .ensures .going (c .before .before .before .before .before
+    .before .enum-told2 .given .1)
 
 same-length : tie.Need-same-length
 same-length c = search needs
@@ -52,7 +54,8 @@ same-length-10 c = search needs
 
 returns-2 : tie.Need-returns-2
 returns-2 c =
-    let s = c .before .before .before .before .before .before .before .before .before .before .before .before .small .ensures in
+    let s = c .before .before .before .before .before .before .before .before .before .before .before .before .small
+    .ensures in
     stopped-on s (λ e. omega (arith, s .going e .within, c .if1 .left))
 
 same-length-11 : tie.Need-same-length-11

@@ -6,7 +6,15 @@ use Rattle.sheet_running.proofs.step.Tie as tie
 
 product-step-requires : tie.Need-product-step-requires
 unfolding held-step
-product-step-requires c κs = let s = c .before .before .before .before .before .before .before .before .before .before .before .before .before .before .before in (s .pre .0, (s .pre .1 .0, c .before .before .before .before .before .before .before .before .if1 .taken))
+product-step-requires c κs = let s = c .before .before .before .before .before .before .before .before .before
+    .before .before .before .before .before .before in (
+      s .pre .0,
+      (
+        s .pre .1 .0,
+        c .before .before .before .before
+            .before .before .before .before .if1 .taken,
+      ),
+    )
 
 same-length : tie.Need-same-length
 same-length c = search needs
@@ -37,7 +45,15 @@ returns c = search needs
 
 quotient-step-requires : tie.Need-quotient-step-requires
 unfolding held-step
-quotient-step-requires c κs = let s = c .before .before .before .before .before .before .before .before .before .before .before .before .before .before .before .before in (s .pre .0, (s .pre .1 .0, c .before .before .before .before .before .before .before .before .if2 .taken))
+quotient-step-requires c κs = let s = c .before .before .before .before .before .before .before .before .before
+    .before .before .before .before .before .before .before in (
+      s .pre .0,
+      (
+        s .pre .1 .0,
+        c .before .before .before
+            .before .before .before .before .before .if2 .taken,
+      ),
+    )
 
 same-length-9 : tie.Need-same-length-9
 same-length-9 c = search needs
@@ -69,8 +85,19 @@ returns-2 c = search needs
 other-step-requires : tie.Need-other-step-requires
 unfolding held-step
 other-step-requires c κs =
-    let s = c .before .before .before .before .before .before .before .before .before .before .before .before .before .before .before .before in
-    (s .pre .0, (s .pre .1 .0, (s .pre .1 .1, c .before .before .before .before .before .before .before .before .before .if1 .left, c .before .before .before .before .before .before .before .before .if2 .left)))
+    let s = c .before .before .before .before .before .before .before .before .before .before .before .before .before
+    .before .before .before in (
+      s .pre .0,
+      (
+        s .pre .1 .0,
+        (
+          s .pre .1 .1,
+          c .before .before .before .before .before .before .before .before
+              .before .if1 .left,
+          c .before .before .before .before .before .before .before .before .if2 .left,
+        ),
+      ),
+    )
 
 same-length-17 : tie.Need-same-length-17
 same-length-17 c = search needs

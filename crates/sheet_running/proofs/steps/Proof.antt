@@ -15,19 +15,21 @@ use Rattle.sheet_book.specs.BookStruct.{no-step, held-step, held-book}
 use Rattle.sheet_results.specs.Results.{results}
 use Rattle.sheet_running.specs.Run.{Step-at, Turn, Input-turn, Begun, Lent-for}
 use Rattle.sheet_running.specs.RunLaws.{model-place}
-use Rattle.sheet_running.specs.TurnLaws.{turn-input, turn-first, turn-second, fit-served, lent-still}
-use Rattle.sheet_running.specs.TurnLaws.{stopped-short, stopped-whole, stopped-refused, true-false}
+use Rattle.sheet_running.specs.RunTurnLaws.{turn-input, turn-first, turn-second, fit-served, lent-still}
+use Rattle.sheet_running.specs.RunTurnLaws.{stopped-short, stopped-whole, stopped-refused, true-false}
 use Rattle.sheet_running.specs.MemoryLaws.{few-steps, step-here, model-here}
 use Rattle.sheet_running.proofs.steps.Statement.{statement}
 use Rattle.sheet_running.proofs.steps.Tie as tie
 
 abbrev Inv-loop : tie.InvT-loop
-Inv-loop from room keys₀ coefficients₀ counts₀ radii₀ rows₀ slots₀ places₀ sums₀ b n d count i₀ keys coefficients counts radii rows slots places sums i =
+Inv-loop from room keys₀ coefficients₀ counts₀ radii₀ rows₀ slots₀ places₀ sums₀ b n d count i₀ keys coefficients
+    counts radii rows slots places sums i =
     Begun b i (results keys coefficients counts radii) rows × Lent-for room slots places sums
     × (length slots ≡ length slots₀) × (length places ≡ length places₀) × (length sums ≡ length sums₀)
 
 abbrev μ-loop : tie.MeasureT-loop
-μ-loop from room keys₀ coefficients₀ counts₀ radii₀ rows₀ slots₀ places₀ sums₀ b n d count i₀ keys coefficients counts radii rows slots places sums i =
+μ-loop from room keys₀ coefficients₀ counts₀ radii₀ rows₀ slots₀ places₀ sums₀ b n d count i₀ keys coefficients
+    counts radii rows slots places sums i =
     b .«step_count» - i
 
 -- ---- the book and the step at hand
@@ -56,7 +58,8 @@ module _ (c : tie.In-loop Inv-loop μ-loop) where
   book = start .args .t1
 
   abbrev begun : Begun book (turn .loop .i)
-      (results (turn .loop .keys) (turn .loop .coefficients) (turn .loop .counts) (turn .loop .radii)) (turn .loop .rows)
+      (results (turn .loop .keys) (turn .loop .coefficients) (turn .loop .counts) (turn .loop .radii)) (turn .loop
+      .rows)
   begun = turn .loop .inv .0
 
   inside : turn .loop .i < book .«step_count»
@@ -72,7 +75,8 @@ module _ (c : tie.In-loop Inv-loop μ-loop) where
   here = step-here book (begun .passes) (steps-long start) (turn .loop .i) inside
 
   here-turn : Turn (book .n) (book .d) (turn .loop .i) (held-step at)
-      (results (turn .loop .keys) (turn .loop .coefficients) (turn .loop .counts) (turn .loop .radii)) (turn .loop .rows)
+      (results (turn .loop .keys) (turn .loop .coefficients) (turn .loop .counts) (turn .loop .radii)) (turn .loop
+      .rows)
   unfolding held-book
   here-turn = record {
     held = held-book book;
@@ -131,20 +135,30 @@ input-step-requires c κs =
     (turn-input (taken p) (input-here p), (small s, (begun s .so-far .room, begun s .so-far .rows-stored .room)))
 
 add-i : tie.Need-add-i Inv-loop μ-loop
-add-i c = omega (arith, small (c .before .before .before .before .before .before .before .before .before .before .before .before .before .before .before .before .before .before .before))
+add-i c = omega (
+  arith,
+  small (c .before .before .before .before .before .before .before .before .before .before
+      .before .before .before .before .before .before .before .before .before),
+)
 
 loop-less : tie.Need-loop-less Inv-loop μ-loop
-loop-less c = omega (arith, inside (c .before .before .before .before .before .before .before .before .before .before .before .before .before .before .before .before .before .before .before))
+loop-less c = omega (
+  arith,
+  inside (c .before .before .before .before .before .before .before .before .before .before
+      .before .before .before .before .before .before .before .before .before),
+)
 
 loop-again : tie.Need-loop-again Inv-loop μ-loop
 unfolding here-turn input-here
 loop-again c =
-    let p = c .before .before .before .before .before .before .before .before .before .before .before .before .before .before .before .before in
+    let p = c .before .before .before .before .before .before .before .before .before .before .before .before .before
+    .before .before .before in
     let s = step-in p in
     let l = turn s .loop .inv in (
       record {
         passes = begun s .passes;
-        so-far = c .before .before .before .before .before .before .before .before .before .input-step .ensures (book s .n) (book s .d) (held-step (at s)) (input-here p);
+        so-far = c .before .before .before .before .before .before .before .before .before .input-step .ensures (book
+            s .n) (book s .d) (held-step (at s)) (input-here p);
         within = omega (arith, inside s);
       },
       l .1,
@@ -166,19 +180,24 @@ same-room : {a b n : ℕ} → a ≡ n → b ≡ n → a ≡ b
 same-room p q = p ∙ sym q
 
 same-length : tie.Need-same-length Inv-loop μ-loop
-same-length c = let l = c .before .before .before .before .before .before in same-room (l .loop .inv .0 .so-far .room .keys-long) (beginning l .pre .0 .so-far .room .keys-long)
+same-length c = let l = c .before .before .before .before .before .before in same-room (l .loop .inv .0 .so-far .room
+    .keys-long) (beginning l .pre .0 .so-far .room .keys-long)
 
 same-length-2 : tie.Need-same-length-2 Inv-loop μ-loop
-same-length-2 c = let l = c .before .before .before .before .before .before in same-room (l .loop .inv .0 .so-far .room .coefficients-long) (beginning l .pre .0 .so-far .room .coefficients-long)
+same-length-2 c = let l = c .before .before .before .before .before .before in same-room (l .loop .inv .0 .so-far
+    .room .coefficients-long) (beginning l .pre .0 .so-far .room .coefficients-long)
 
 same-length-3 : tie.Need-same-length-3 Inv-loop μ-loop
-same-length-3 c = let l = c .before .before .before .before .before .before in same-room (l .loop .inv .0 .so-far .room .counts-long) (beginning l .pre .0 .so-far .room .counts-long)
+same-length-3 c = let l = c .before .before .before .before .before .before in same-room (l .loop .inv .0 .so-far
+    .room .counts-long) (beginning l .pre .0 .so-far .room .counts-long)
 
 same-length-4 : tie.Need-same-length-4 Inv-loop μ-loop
-same-length-4 c = let l = c .before .before .before .before .before .before in same-room (l .loop .inv .0 .so-far .room .radii-long) (beginning l .pre .0 .so-far .room .radii-long)
+same-length-4 c = let l = c .before .before .before .before .before .before in same-room (l .loop .inv .0 .so-far
+    .room .radii-long) (beginning l .pre .0 .so-far .room .radii-long)
 
 same-length-5 : tie.Need-same-length-5 Inv-loop μ-loop
-same-length-5 c = let l = c .before .before .before .before .before .before in same-room (l .loop .inv .0 .so-far .rows-stored .room) (beginning l .pre .0 .so-far .rows-stored .room)
+same-length-5 c = let l = c .before .before .before .before .before .before in same-room (l .loop .inv .0 .so-far
+    .rows-stored .room) (beginning l .pre .0 .so-far .rows-stored .room)
 
 same-length-6 : tie.Need-same-length-6 Inv-loop μ-loop
 same-length-6 c = let l = c .before .before .before .before .before .before in l .loop .inv .2
@@ -198,10 +217,13 @@ returns c =
 step-requires : tie.Need-step-requires Inv-loop μ-loop
 unfolding held-step
 step-requires c κs =
-    let s = c .before .before .before .before .before .before .before .before .before .before .before .before .before in (
+    let s = c .before .before .before .before .before .before .before .before .before .before .before .before .before
+    in (
       here-turn s,
       (
-        fit-served (c .before .before .before .before .before .before .before .before .before .fits2 .ensures .0 (not-false _ (c .before .before .before .before .before .before .before .before .if2 .left))) (turn s .loop .inv .1),
+        fit-served (c .before .before .before .before .before .before .before .before .before .fits2 .ensures .0
+            (not-false _ (c .before .before .before .before .before .before .before .before .if2 .left))) (turn s
+            .loop .inv .1),
         c .before .before .before .before .before .before .before .before .before .before .before .if1 .left,
       ),
     )
@@ -213,16 +235,29 @@ enum-told-2 : tie.Need-enum-told-2 Inv-loop μ-loop
 enum-told-2 c = search needs
 
 add-i-2 : tie.Need-add-i-2 Inv-loop μ-loop
-add-i-2 c = omega (arith, small (c .before .before .before .before .before .before .before .before .before .before .before .before .before .before .before .before .before .before .before .before .before .before .before .before .before .before .before .before .before .before))
+add-i-2 c = omega (
+  arith,
+  small (c .before .before .before .before .before .before .before .before .before .before
+      .before .before .before .before .before .before .before .before .before .before .before .before .before .before
+      .before .before .before .before .before .before),
+)
 
 loop-less-2 : tie.Need-loop-less-2 Inv-loop μ-loop
-loop-less-2 c = omega (arith, inside (c .before .before .before .before .before .before .before .before .before .before .before .before .before .before .before .before .before .before .before .before .before .before .before .before .before .before .before .before .before .before))
+loop-less-2 c = omega (
+  arith,
+  inside (c .before .before .before .before .before .before .before .before .before
+      .before .before .before .before .before .before .before .before .before .before .before .before .before .before
+      .before .before .before .before .before .before .before),
+)
 
 loop-again-2 : tie.Need-loop-again-2 Inv-loop μ-loop
 unfolding here-turn
 loop-again-2 c =
-    let s = c .before .before .before .before .before .before .before .before .before .before .before .before .before .before .before .before .before .before .before .before .before .before .before .before .before .before .before .before .before .before in
-    let k = c .before .before .before .before .before .before .before .before .before .before .before .before .before .before .before .before .step in
+    let s = c .before .before .before .before .before .before .before .before .before .before .before .before .before
+    .before .before .before .before .before .before .before .before .before .before .before .before .before
+    .before .before .before .before in
+    let k = c .before .before .before .before .before .before .before .before .before .before .before .before .before
+    .before .before .before .step in
     let l = turn s .loop .inv in
     let x = k .kept .1 .1 .1 .1 .1 .1 .1 .1 .1 .0 in
     let y = k .kept .1 .1 .1 .1 .1 .1 .1 .1 .1 .1 .0 in
@@ -239,50 +274,90 @@ loop-again-2 c =
     )
 
 same-length-9 : tie.Need-same-length-9 Inv-loop μ-loop
-same-length-9 c = let l = c .before .before .before .before .before .before .before .before .before .before .before .before .before .before .before .before .before .before .before .before .before .before .before .before .before .before .before .before .before .before .before in c .before .before .before .before .before .before .before .before .before .before .before .before .before .before .before .before .step .kept .1 .1 .1 .1 .0 ∙ same-room (l .loop .inv .0 .so-far .room .keys-long) (beginning l .pre .0 .so-far .room .keys-long)
+same-length-9 c = let l = c .before .before .before .before .before .before .before .before .before .before .before
+    .before .before .before .before .before .before .before .before .before .before .before .before .before .before
+    .before .before .before .before .before .before in c .before .before .before .before .before .before .before
+    .before .before .before .before .before .before .before .before .before .step .kept .1 .1 .1 .1 .0 ∙ same-room (l
+    .loop .inv .0 .so-far .room .keys-long) (beginning l .pre .0 .so-far .room .keys-long)
 
 same-length-10 : tie.Need-same-length-10 Inv-loop μ-loop
-same-length-10 c = let l = c .before .before .before .before .before .before .before .before .before .before .before .before .before .before .before .before .before .before .before .before .before .before .before .before .before .before .before .before .before .before .before in c .before .before .before .before .before .before .before .before .before .before .before .before .before .before .before .before .step .kept .1 .1 .1 .1 .1 .0 ∙ same-room (l .loop .inv .0 .so-far .room .coefficients-long) (beginning l .pre .0 .so-far .room .coefficients-long)
+same-length-10 c = let l = c .before .before .before .before .before .before .before .before .before .before .before
+    .before .before .before .before .before .before .before .before .before .before .before .before .before .before
+    .before .before .before .before .before .before in c .before .before .before .before .before .before .before
+    .before .before .before .before .before .before .before .before .before .step .kept .1 .1 .1 .1 .1 .0 ∙ same-room
+    (l .loop .inv .0 .so-far .room .coefficients-long) (beginning l .pre .0 .so-far .room .coefficients-long)
 
 same-length-11 : tie.Need-same-length-11 Inv-loop μ-loop
-same-length-11 c = let l = c .before .before .before .before .before .before .before .before .before .before .before .before .before .before .before .before .before .before .before .before .before .before .before .before .before .before .before .before .before .before .before in c .before .before .before .before .before .before .before .before .before .before .before .before .before .before .before .before .step .kept .1 .1 .1 .1 .1 .1 .0 ∙ same-room (l .loop .inv .0 .so-far .room .counts-long) (beginning l .pre .0 .so-far .room .counts-long)
+same-length-11 c = let l = c .before .before .before .before .before .before .before .before .before .before .before
+    .before .before .before .before .before .before .before .before .before .before .before .before .before .before
+    .before .before .before .before .before .before in c .before .before .before .before .before .before .before
+    .before .before .before .before .before .before .before .before .before .step .kept .1 .1 .1 .1 .1 .1 .0 ∙
+    same-room (l .loop .inv .0 .so-far .room .counts-long) (beginning l .pre .0 .so-far .room .counts-long)
 
 same-length-12 : tie.Need-same-length-12 Inv-loop μ-loop
-same-length-12 c = let l = c .before .before .before .before .before .before .before .before .before .before .before .before .before .before .before .before .before .before .before .before .before .before .before .before .before .before .before .before .before .before .before in c .before .before .before .before .before .before .before .before .before .before .before .before .before .before .before .before .step .kept .1 .1 .1 .1 .1 .1 .1 .0 ∙ same-room (l .loop .inv .0 .so-far .room .radii-long) (beginning l .pre .0 .so-far .room .radii-long)
+same-length-12 c = let l = c .before .before .before .before .before .before .before .before .before .before .before
+    .before .before .before .before .before .before .before .before .before .before .before .before .before .before
+    .before .before .before .before .before .before in c .before .before .before .before .before .before .before
+    .before .before .before .before .before .before .before .before .before .step .kept .1 .1 .1 .1 .1 .1 .1 .0 ∙
+    same-room (l .loop .inv .0 .so-far .room .radii-long) (beginning l .pre .0 .so-far .room .radii-long)
 
 same-length-13 : tie.Need-same-length-13 Inv-loop μ-loop
-same-length-13 c = let l = c .before .before .before .before .before .before .before .before .before .before .before .before .before .before .before .before .before .before .before .before .before .before .before .before .before .before .before .before .before .before .before in c .before .before .before .before .before .before .before .before .before .before .before .before .before .before .before .before .step .kept .1 .1 .1 .1 .1 .1 .1 .1 .0 ∙ same-room (l .loop .inv .0 .so-far .rows-stored .room) (beginning l .pre .0 .so-far .rows-stored .room)
+same-length-13 c = let l = c .before .before .before .before .before .before .before .before .before .before .before
+    .before .before .before .before .before .before .before .before .before .before .before .before .before .before
+    .before .before .before .before .before .before in c .before .before .before .before .before .before .before
+    .before .before .before .before .before .before .before .before .before .step .kept .1 .1 .1 .1 .1 .1 .1 .1 .0 ∙
+    same-room (l .loop .inv .0 .so-far .rows-stored .room) (beginning l .pre .0 .so-far .rows-stored .room)
 
 same-length-14 : tie.Need-same-length-14 Inv-loop μ-loop
-same-length-14 c = let l = c .before .before .before .before .before .before .before .before .before .before .before .before .before .before .before .before .before .before .before .before .before .before .before .before .before .before .before .before .before .before .before in c .before .before .before .before .before .before .before .before .before .before .before .before .before .before .before .before .step .kept .1 .1 .1 .1 .1 .1 .1 .1 .1 .0 ∙ l .loop .inv .2
+same-length-14 c = let l = c .before .before .before .before .before .before .before .before .before .before .before
+    .before .before .before .before .before .before .before .before .before .before .before .before .before .before
+    .before .before .before .before .before .before in c .before .before .before .before .before .before .before
+    .before .before .before .before .before .before .before .before .before .step .kept .1 .1 .1 .1 .1 .1 .1 .1 .1 .0
+    ∙ l .loop .inv .2
 
 same-length-15 : tie.Need-same-length-15 Inv-loop μ-loop
-same-length-15 c = let l = c .before .before .before .before .before .before .before .before .before .before .before .before .before .before .before .before .before .before .before .before .before .before .before .before .before .before .before .before .before .before .before in c .before .before .before .before .before .before .before .before .before .before .before .before .before .before .before .before .step .kept .1 .1 .1 .1 .1 .1 .1 .1 .1 .1 .0 ∙ l .loop .inv .3
+same-length-15 c = let l = c .before .before .before .before .before .before .before .before .before .before .before
+    .before .before .before .before .before .before .before .before .before .before .before .before .before .before
+    .before .before .before .before .before .before in c .before .before .before .before .before .before .before
+    .before .before .before .before .before .before .before .before .before .step .kept .1 .1 .1 .1 .1 .1 .1 .1 .1 .1
+    .0 ∙ l .loop .inv .3
 
 same-length-16 : tie.Need-same-length-16 Inv-loop μ-loop
-same-length-16 c = let l = c .before .before .before .before .before .before .before .before .before .before .before .before .before .before .before .before .before .before .before .before .before .before .before .before .before .before .before .before .before .before .before in c .before .before .before .before .before .before .before .before .before .before .before .before .before .before .before .before .step .kept .1 .1 .1 .1 .1 .1 .1 .1 .1 .1 .1 .0 ∙ l .loop .inv .4
+same-length-16 c = let l = c .before .before .before .before .before .before .before .before .before .before .before
+    .before .before .before .before .before .before .before .before .before .before .before .before .before .before
+    .before .before .before .before .before .before in c .before .before .before .before .before .before .before
+    .before .before .before .before .before .before .before .before .before .step .kept .1 .1 .1 .1 .1 .1 .1 .1 .1 .1
+    .1 .0 ∙ l .loop .inv .4
 
 returns-2 : tie.Need-returns-2 Inv-loop μ-loop
 unfolding here-turn
 returns-2 c =
-    let s = c .before .before .before .before .before .before .before .before .before .before .before .before .before .before .before .before .before .before .before .before .before .before .before .before .before .before .before .before .before .before in
-    stopped-refused (c .enum-told .given .1) (c .before .before .before .before .before .before .before .before .before .before .before .before .before .before .before .before .step .ensures (here-turn s) .ended)
+    let s = c .before .before .before .before .before .before .before .before .before .before .before .before .before
+    .before .before .before .before .before .before .before .before .before .before .before .before .before
+    .before .before .before .before in
+    stopped-refused (c .enum-told .given .1) (c .before .before .before .before .before .before .before .before
+    .before .before .before .before .before .before .before .before .step .ensures (here-turn s) .ended)
 
 -- ---- after the loop
 same-length-17 : tie.Need-same-length-17 Inv-loop μ-loop
-same-length-17 c = let l = c .before in same-room (l .loop .inv .0 .so-far .room .keys-long) (beginning l .pre .0 .so-far .room .keys-long)
+same-length-17 c = let l = c .before in same-room (l .loop .inv .0 .so-far .room .keys-long) (beginning l .pre .0
+    .so-far .room .keys-long)
 
 same-length-18 : tie.Need-same-length-18 Inv-loop μ-loop
-same-length-18 c = let l = c .before in same-room (l .loop .inv .0 .so-far .room .coefficients-long) (beginning l .pre .0 .so-far .room .coefficients-long)
+same-length-18 c = let l = c .before in same-room (l .loop .inv .0 .so-far .room .coefficients-long) (beginning l
+    .pre .0 .so-far .room .coefficients-long)
 
 same-length-19 : tie.Need-same-length-19 Inv-loop μ-loop
-same-length-19 c = let l = c .before in same-room (l .loop .inv .0 .so-far .room .counts-long) (beginning l .pre .0 .so-far .room .counts-long)
+same-length-19 c = let l = c .before in same-room (l .loop .inv .0 .so-far .room .counts-long) (beginning l .pre .0
+    .so-far .room .counts-long)
 
 same-length-20 : tie.Need-same-length-20 Inv-loop μ-loop
-same-length-20 c = let l = c .before in same-room (l .loop .inv .0 .so-far .room .radii-long) (beginning l .pre .0 .so-far .room .radii-long)
+same-length-20 c = let l = c .before in same-room (l .loop .inv .0 .so-far .room .radii-long) (beginning l .pre .0
+    .so-far .room .radii-long)
 
 same-length-21 : tie.Need-same-length-21 Inv-loop μ-loop
-same-length-21 c = let l = c .before in same-room (l .loop .inv .0 .so-far .rows-stored .room) (beginning l .pre .0 .so-far .rows-stored .room)
+same-length-21 c = let l = c .before in same-room (l .loop .inv .0 .so-far .rows-stored .room) (beginning l .pre .0
+    .so-far .rows-stored .room)
 
 same-length-22 : tie.Need-same-length-22 Inv-loop μ-loop
 same-length-22 c = let l = c .before in l .loop .inv .2

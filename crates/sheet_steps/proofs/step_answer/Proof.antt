@@ -107,7 +107,8 @@ returns : tie.Need-returns
 unfolding codes held-step
 returns c =
     let m = substituted c .before .before .before .before in (
-      λ k. answers (start (m .before)) k 7 _ _ (substituted c .substituted-accounted .ensures .0) (m .match .keys1) refl refl,
+      λ k. answers (start (m .before)) k 7 _ _ (substituted c .substituted-accounted .ensures .0) (m .match .keys1)
+          refl refl,
       substituted c .substituted-accounted .ensures .1,
     )
 

@@ -210,8 +210,14 @@ pub part-holds : {m : Results} → Roomy m → {j : ℕ} → j < 64
     × (getD (m .counts) j 0 ≤ length (take (length (m .coefficients) - 64 * j) (drop (64 * j) (m .coefficients))))
 part-holds {m} r {j} h = (
   omega (arith, r .few j, r .keys-long, h, ap length (part-all (64 * j) (m .keys)), length-drop (64 * j) (m .keys)),
-  omega (arith, r .few j, r .coefficients-long, h, ap length (part-all (64 * j) (m .coefficients)),
-      length-drop (64 * j) (m .coefficients)),
+  omega (
+    arith,
+    r .few j,
+    r .coefficients-long,
+    h,
+    ap length (part-all (64 * j) (m .coefficients)),
+    length-drop (64 * j) (m .coefficients),
+  ),
 )
 
 -- what is lent still serves as long as the slices keep their lengths
@@ -237,7 +243,8 @@ not-both p q = let z : _≡_ {A = ℕ} 0 1 = cc in absurd (omega arith)
 
 module _ {b : Book} {room i : ℕ} {m : Results} {flat : List ℕ} where
   -- before a step that asks more room
-  pub stopped-short : Begun b i m flat → (4096 ≤ room → ⊥) → Stopped b room (record { at = i; verdict = Accepted }) m flat
+  pub stopped-short : Begun b i m flat → (4096 ≤ room → ⊥) → Stopped b room (record { at = i; verdict = Accepted }) m
+      flat
   stopped-short s o = record {
     ended = λ x y e. not-both refl e;
     going = λ e. s;
@@ -245,7 +252,8 @@ module _ {b : Book} {room i : ℕ} {m : Results} {flat : List ℕ} where
   }
 
   -- at the end
-  pub stopped-whole : Begun b i m flat → i ≡ b .«step_count» → Stopped b room (record { at = i; verdict = Accepted }) m flat
+  pub stopped-whole : Begun b i m flat → i ≡ b .«step_count» → Stopped b room (record { at = i; verdict = Accepted })
+      m flat
   stopped-whole s o = record { ended = λ x y e. not-both refl e; going = λ e. s; whole = λ h e. o }
 
   -- at a refusal
