@@ -1,5 +1,2 @@
 pub mod Running
-pub mod Run
-pub mod RunLaws
-pub mod RunTurnLaws
-pub mod MemoryLaws
+pub mod RunningLaws

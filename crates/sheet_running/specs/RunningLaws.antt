@@ -1,0 +1,40 @@
+-- What a run that has ended answers.
+use mathlib.Core.Path.{_≡_, _∙_, ap, ap₂}
+use mathlib.Core.List.{List, map}
+use Prim.Native.Nat.{ℕ, _-_}
+use Rattle.calculus.specs.Model as C
+use Rattle.calculus.specs.Refusal as R
+use Rattle.calculus.specs.Shares.{all-rows}
+use Rattle.model_types.specs.declared.Model.{Model}
+use Rattle.model_types.specs.declared.Verdict.the-variants.{Accepted}
+use Rattle.model_types.specs.declared.Answer.{Answer}
+use Rattle.model_types.specs.declared.Shares.{Shares}
+use Rattle.model_types.specs.ModelStruct.{view, pack, answer}
+use Rattle.model_types.specs.SharesStruct.{stored-shares}
+use Rattle.format.specs.HeldBook.{Held-book, view-book, Held-passes}
+use Rattle.sheet_book.specs.declared.Book.{Book}
+use Rattle.sheet_book.specs.BookStruct.{held-book}
+use Rattle.sheet_results.specs.Results.{Results, result, first-rows}
+use Rattle.sheet_step_answers.specs.Answers.{accepted-answer}
+use Rattle.sheet_turns.specs.declared.Stop.{Stop}
+use Rattle.sheet_turns.specs.Run.{Ended, Stopped}
+use Rattle.sheet_turns.specs.RunLaws.{rows-are}
+use Rattle.sheet_turns.specs.MemoryLaws.{run-ended}
+use Rattle.sheet_running.specs.declared.Ran.{Ran}
+use Rattle.sheet_running.specs.Running.{ran}
+
+pub ended-ran : {h : Held-book} {r : R.Result C.Model} {flat : List ℕ} {a : Answer} {shares : List Shares}
+    → Ended h r flat → a ≡ answer r → shares ≡ first-rows flat 64
+    → _≡_ {A = Ran} (record { answer = a; shares = shares }) (ran (view-book h))
+unfolding ran
+ended-ran e p q = ap₂ (λ a s. record { answer = a; shares = s }) (p ∙ ap answer (e .is))
+    (q ∙ rows-are (e .rows) (e .rows-few) (e .rows-stored) ∙ ap (λ l. map stored-shares (all-rows l)) (e .rows-all))
+
+-- the end of a run that was not refused
+pub last-ran : (b : Book) (p : Held-passes (held-book b)) {t : Stop} {m : Results} {flat : List ℕ}
+    (s : Stopped b 4096 t m flat) (e : t .verdict ≡ Accepted)
+    (k : Model) (q : view k ≡ view (result (b .n) m (b .«step_count» - 1))) {a : Answer} {shares : List Shares}
+    → a ≡ accepted-answer (pack (view k)) → shares ≡ first-rows flat 64
+    → _≡_ {A = Ran} (record { answer = a; shares = shares }) (ran (view-book (held-book b)))
+unfolding answer
+last-ran b p s e k q x y = ended-ran (run-ended b p s e k q) x y
