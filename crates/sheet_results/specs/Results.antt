@@ -41,11 +41,11 @@ result n m j =
 unfoldable pub spliced : {A : Type 0} → (at : ℕ) → (new old : List A) → List A
 spliced at new old = take at old ++ over new (drop at old)
 
--- with a struct put at place i
+-- with a struct put at place i: only the terms that its count names
 unfoldable pub with-result : Model → (i : ℕ) → Results → Results
 with-result k i m = record {
-  keys = spliced (64 * i) (map (λ t. t .key) (k .terms)) (m .keys);
-  coefficients = spliced (64 * i) (map (λ t. t .coefficient) (k .terms)) (m .coefficients);
+  keys = spliced (64 * i) (map (λ t. t .key) (take (k .count) (k .terms))) (m .keys);
+  coefficients = spliced (64 * i) (map (λ t. t .coefficient) (take (k .count) (k .terms))) (m .coefficients);
   counts = set (m .counts) i (k .count);
   radii = set (m .radii) i (k .radius);
 }

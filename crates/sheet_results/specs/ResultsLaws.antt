@@ -4,18 +4,18 @@ use mathlib.Core.Path.{_≡_, refl, sym, _∙_, ap, ap₂, subst}
 use mathlib.Core.List.{List, [], _∷_, _++_, map, append-nil}
 use mathlib.Core.Logic.{_≢_}
 use Prim.Native.Nat.{ℕ, zero, suc, _+_, _*_, _-_, _≤_, _<_, min}
-use native.Mathlib.Decide.{ℕ-discrete}
+use native.Mathlib.Decide.{decLt, ℕ-discrete}
 use native.Mathlib.Omega.{arith}
 use lib.IntN.{ℤ, pos}
 use lib.ListN.{length, take, drop, getD, set, length-append, length-map, length-set, length-drop, length-take}
-use lib.ListN.{replicate}
 use lib.Seq.{take-all, drop-length, length-take-le, drop-at, drop-append-le, take-append-le, getD-drop}
 use lib.Seq.{getD-set-same, getD-set-other}
 use Rattle.calculus.specs.Model.{most-terms, zero-model}
 use Rattle.model_types.specs.declared.Term.{Term}
 use Rattle.model_types.specs.declared.Model.{Model}
 use Rattle.model_types.specs.Arrays.{first-places, padded}
-use Rattle.model_types.specs.ModelStruct.{zero-term, pad, view, pack}
+use Rattle.model_types.specs.ArrayLaws.{first-take, first-padded}
+use Rattle.model_types.specs.ModelStruct.{zero-term, view-term, pad, view, pack}
 use Rattle.model_slices.specs.HandedModels.{terms-of, handed, over}
 use Rattle.model_slices.specs.HandedModelsLaws.{handed-more, taken-view}
 use Rattle.model_types.specs.declared.Refusal.{Refusal}
@@ -95,38 +95,65 @@ unfolding terms-of
 terms-put [] ks cs = refl
 terms-put (t ∷ ts) ks cs = ap (λ (r : List Term). t ∷ r) (terms-put ts ks cs)
 
--- as many as there are places
-pad-all : (ts : List Term) → length ts ≡ 64 → pad ts ≡ ts
-unfolding padded most-terms
-pad-all ts e =
-    let z : 64 - length ts ≡ 0 = omega arith in
-    ap (λ n. ts ++ replicate n zero-term) z ∙ append-nil ts
-
 -- ---- a struct put at a place
 module _ (n : ℕ) (k : Model) (i : ℕ) {m : Results} (r : Roomy m) (l : i < 64) where
-  -- it stands there
-  pub result-here : k .n ≡ n → length (k .terms) ≡ 64 → result n (with-result k i m) i ≡ k
-  unfolding result with-result handed over most-terms
-  result-here e w =
-      ap₂ (λ (c e : ℕ). record {
-        n = n;
-        count = c;
-        radius = e;
-        terms = pad (terms-of 64
-            (drop (64 * i) (spliced (64 * i) (map (λ t. t .key) (k .terms)) (m .keys)))
-            (drop (64 * i) (spliced (64 * i) (map (λ t. t .coefficient) (k .terms)) (m .coefficients))));
-      })
-      (getD-set-same (m .counts) i (k .count) 0 (omega (arith, r .counts-long)))
-      (getD-set-same (m .radii) i (k .radius) 0 (omega (arith, r .radii-long)))
-      ∙ ap₂ (λ (n : ℕ) (t : List Term). record { n = n; count = k .count; radius = k .radius; terms = t }) (sym e)
-      (ap pad (ap₂ (terms-of 64)
-      (spliced-from (64 * i) (map (λ t. t .key) (k .terms)) (m .keys) (omega (arith, r .keys-long)))
-      (spliced-from (64 * i) (map (λ t. t .coefficient) (k .terms)) (m .coefficients)
-      (omega (arith, r .coefficients-long)))
-      ∙ ap (λ n. terms-of n (over (map (λ t. t .key) (k .terms)) (drop (64 * i) (m .keys)))
-      (over (map (λ t. t .coefficient) (k .terms)) (drop (64 * i) (m .coefficients)))) (sym w)
-      ∙ terms-put (k .terms) _ _)
-      ∙ pad-all (k .terms) w)
+  -- the terms that its count names
+  abbrev named : List Term
+  named = take (k .count) (k .terms)
+
+  -- as long as there are so many
+  module _ (w : k .count ≤ length (k .terms)) where
+    named-long : length named ≡ k .count
+    named-long = length-take-le (k .count) (k .terms) w
+
+    -- it is seen by them alone
+    named-view : view (record { n = k .n; count = k .count; radius = k .radius; terms = pad named }) ≡ view k
+    unfolding view
+    named-view = ap (λ (l : List Term). record { vars = k .n; radius = k .radius; terms = map (view-term (k .n)) l })
+        (ap (λ c. first-places zero-term c (pad named)) (sym named-long) ∙ first-padded zero-term most-terms named
+        ∙ sym (first-take zero-term (k .count) (k .terms) w))
+
+    terms-here : terms-of (k .count)
+        (drop (64 * i) (spliced (64 * i) (map (λ t. t .key) named) (m .keys)))
+        (drop (64 * i) (spliced (64 * i) (map (λ t. t .coefficient) named) (m .coefficients))) ≡ named
+    unfolding over
+    terms-here =
+        ap₂ (terms-of (k .count))
+        (spliced-from (64 * i) (map (λ t. t .key) named) (m .keys) (omega (arith, r .keys-long)))
+        (spliced-from (64 * i) (map (λ t. t .coefficient) named) (m .coefficients) (omega (
+          arith,
+          r
+              .coefficients-long,
+        )))
+        ∙ ap (λ n. terms-of n (over (map (λ t. t .key) named) (drop (64 * i) (m .keys)))
+        (over (map (λ t. t .coefficient) named) (drop (64 * i) (m .coefficients)))) (sym named-long)
+        ∙ terms-put named _ _
+
+    -- it stands there
+    pub result-here : k .n ≡ n → k .count ≤ 64 → view (result n (with-result k i m) i) ≡ view k
+    unfolding result with-result most-terms
+    result-here e f =
+        ap₂ (λ (c e : ℕ). view (handed n c e
+        (drop (64 * i) (spliced (64 * i) (map (λ t. t .key) named) (m .keys)))
+        (drop (64 * i) (spliced (64 * i) (map (λ t. t .coefficient) named) (m .coefficients)))))
+        (getD-set-same (m .counts) i (k .count) 0 (omega (arith, r .counts-long)))
+        (getD-set-same (m .radii) i (k .radius) 0 (omega (arith, r .radii-long)))
+        ∙ sym (taken-view n (k .count) (k .radius) (k .count) _ _ short)
+        ∙ ap₂ (λ (n : ℕ) (t : List Term). view (record { n = n; count = k .count; radius = k .radius; terms = pad t }))
+        (sym e) terms-here
+        ∙ named-view
+      where
+        short : k .count ≡ min (min (k .count) 64)
+            (min (length (drop (64 * i) (spliced (64 * i) (map (λ t. t .key) named) (m .keys))))
+            (length (drop (64 * i) (spliced (64 * i) (map (λ t. t .coefficient) named) (m .coefficients)))))
+        short =
+            let x = length-drop (64 * i) (spliced (64 * i) (map (λ t. t .key) named) (m .keys)) in
+            let y = length-drop (64 * i) (spliced (64 * i) (map (λ t. t .coefficient) named) (m .coefficients)) in
+            let p = length-spliced (64 * i) (map (λ t. t .key) named) (m .keys)
+            (omega (arith, r .keys-long, length-map named (λ t. t .key), named-long)) in
+            let q = length-spliced (64 * i) (map (λ t. t .coefficient) named) (m .coefficients)
+            (omega (arith, r .coefficients-long, length-map named (λ t. t .coefficient), named-long)) in
+            omega (arith, x, y, p, q, r .keys-long, r .coefficients-long, f, l)
 
   -- those before it stay
   pub result-before : (j : ℕ) → j < i → result n (with-result k i m) j ≡ result n m j
@@ -138,8 +165,8 @@ module _ (n : ℕ) (k : Model) (i : ℕ) {m : Results} (r : Roomy m) (l : i < 64
         count = c;
         radius = e;
         terms = pad (terms-of 64
-            (drop (64 * j) (spliced (64 * i) (map (λ t. t .key) (k .terms)) (m .keys)))
-            (drop (64 * j) (spliced (64 * i) (map (λ t. t .coefficient) (k .terms)) (m .coefficients))));
+            (drop (64 * j) (spliced (64 * i) (map (λ t. t .key) named) (m .keys)))
+            (drop (64 * j) (spliced (64 * i) (map (λ t. t .coefficient) named) (m .coefficients))));
       })
       (getD-set-other (m .counts) i j (k .count) 0 o) (getD-set-other (m .radii) i j (k .radius) 0 o)
       ∙ ap (λ (t : List Term). record {
@@ -151,9 +178,9 @@ module _ (n : ℕ) (k : Model) (i : ℕ) {m : Results} (r : Roomy m) (l : i < 64
       })
       (terms-taken 64 _ _
       ∙ ap₂ (terms-of 64)
-      (spliced-before (64 * i) (64 * j) 64 (map (λ t. t .key) (k .terms)) (m .keys) (omega arith)
+      (spliced-before (64 * i) (64 * j) 64 (map (λ t. t .key) named) (m .keys) (omega arith)
       (omega (arith, r .keys-long)))
-      (spliced-before (64 * i) (64 * j) 64 (map (λ t. t .coefficient) (k .terms)) (m .coefficients) (omega arith)
+      (spliced-before (64 * i) (64 * j) 64 (map (λ t. t .coefficient) named) (m .coefficients) (omega arith)
       (omega (arith, r .coefficients-long)))
       ∙ sym (terms-taken 64 _ _))
 
@@ -169,13 +196,14 @@ module _ (n : ℕ) (k : Model) (i : ℕ) {m : Results} (r : Roomy m) (l : i < 64
   ]
 
   -- and the slices keep their room
-  pub roomy-still : k .count ≤ 64 → length (k .terms) ≡ 64 → Roomy (with-result k i m)
+  pub roomy-still : k .count ≤ 64 → k .count ≤ length (k .terms) → Roomy (with-result k i m)
   unfolding with-result
   roomy-still f w = record {
-    keys-long = length-spliced (64 * i) (map (λ t. t .key) (k .terms)) (m .keys)
-        (omega (arith, r .keys-long, length-map (k .terms) (λ t. t .key), w)) ∙ r .keys-long;
-    coefficients-long = length-spliced (64 * i) (map (λ t. t .coefficient) (k .terms)) (m .coefficients)
-        (omega (arith, r .coefficients-long, length-map (k .terms) (λ t. t .coefficient), w)) ∙ r .coefficients-long;
+    keys-long = length-spliced (64 * i) (map (λ t. t .key) named) (m .keys)
+        (omega (arith, r .keys-long, length-map named (λ t. t .key), named-long w)) ∙ r .keys-long;
+    coefficients-long = length-spliced (64 * i) (map (λ t. t .coefficient) named) (m .coefficients)
+        (omega (arith, r .coefficients-long, length-map named (λ t. t .coefficient), named-long w)) ∙ r
+        .coefficients-long;
     counts-long = length-set (m .counts) i (k .count) ∙ r .counts-long;
     radii-long = length-set (m .radii) i (k .radius) ∙ r .radii-long;
     few = still-few f;
@@ -243,3 +271,10 @@ module _ (c : Accounted) (i : ℕ) (m : Results) (l : List ℕ) where
 pub zero-view : (n : ℕ) → view (pack (zero-model n)) ≡ zero-model n
 unfolding view pack zero-model first-places
 zero-view n = refl
+
+-- ---- the terms that a count names, of 64
+pub take-least : {A : Type 0} (c i : ℕ) (ts : List A) → i ≡ min c 64 → length ts ≡ 64 → take i ts ≡ take c ts
+take-least c i ts e w = elim (decLt c 65) [
+  | yes l ↦ let q : i ≡ c = omega (arith, e, l) in ap (λ n. take n ts) q
+  | no l ↦ take-all i ts (omega (arith, e, l, w)) ∙ sym (take-all c ts (omega (arith, l, w)))
+]

@@ -2,10 +2,12 @@
 // their rows, four numbers for each. A step reads what it names out of them, so that nothing else is copied.
 ghost use mathlib.Core.Path.{_≡_};
 ghost use mathlib.Core.Bool.{cond};
+ghost use mathlib.Core.List.{map};
 ghost use Prim.Native.Nat.{_≤_, _<_};
-ghost use lib.ListN.{length, set};
+ghost use lib.ListN.{length, take, set};
 ghost use Rattle.calculus.specs.Model.{«zero-model»};
 ghost use Rattle.model_types.specs.ModelStruct.{view};
+ghost use Rattle.model_slices.specs.HandedModels.{over};
 ghost use Rattle.sheet_results.specs.Results.{results, Roomy, result, «with-result», «with-row», «first-rows»};
 ghost use Rattle.sheet_results.specs.Results.{«settled-results», «settled-rows»};
 use model_types::Accounted;
@@ -104,6 +106,24 @@ pub fn put_numbers(
     rows[at + 3] = row.slack;
 }
 
+// The terms that a model's count names go into two slices.
+fn store_named(m: Model, keys: &mut [u16], coefficients: &mut [i64])
+    requires { ⌜ (64 ≤ length (now keys)) × (64 ≤ length (now coefficients)) ⌝ }
+    ensures { λ r. ⌜ (now (keys .exit) ≡ over (map (λ t. t .key) (take (m .count) (m .terms))) (now (keys .entry)))
+        × (now (coefficients .exit)
+        ≡ over (map (λ t. t .coefficient) (take (m .count) (m .terms))) (now (coefficients .entry))) ⌝ }
+{
+    let count = model_slices::least(m.count, model_types::MOST_TERMS);
+    let mut i = 0;
+    while i < count {
+        let t = m.terms[i];
+        let c = t.coefficient;
+        keys[i] = t.key;
+        coefficients[i] = c;
+        i += 1;
+    }
+}
+
 // A result and its row are put at a place.
 pub fn put(
     m: Model,
@@ -124,7 +144,7 @@ pub fn put(
         × (now (rows .exit) ≡ with-row row i (now (rows .entry))) ⌝ }
 {
     let from = model_types::MOST_TERMS * i;
-    model_slices::store_terms(m, &mut keys[from..], &mut coefficients[from..]);
+    store_named(m, &mut keys[from..], &mut coefficients[from..]);
     let count = m.count;
     let radius = m.radius;
     put_numbers(count, radius, row, i, counts, radii, rows);

@@ -18,7 +18,7 @@ use Rattle.model_types.specs.declared.Model.{Model}
 use Rattle.model_types.specs.declared.Refusal.{Refusal}
 use Rattle.model_types.specs.declared.Verdict.{Verdict}
 use Rattle.model_types.specs.declared.Verdict.the-variants.{Accepted, Refused}
-use Rattle.model_types.specs.ModelStruct.{view, pack, cause}
+use Rattle.model_types.specs.ModelStruct.{view, cause}
 use Rattle.model_types.specs.SharesStruct.{stored-shares}
 use Rattle.model.specs.OperationContracts.{Lent-table, Lent-room}
 use Rattle.format.specs.HeldBook.{Held-step, Held-book, view-book, Held-passes}
@@ -46,7 +46,7 @@ module _ (h : Held-book) where
     pub count : length models ≡ i
     pub good : All Good models
     pub room : Roomy m
-    pub stored : (j : ℕ) → j < i → result (h .n) m j ≡ pack (getD models j (zero-model (h .n)))
+    pub stored : (j : ℕ) → j < i → view (result (h .n) m j) ≡ getD models j (zero-model (h .n))
     pub rest : run-steps (view-book h) models (drop i (view-book h .steps))
         ≡ run-steps (view-book h) [] (view-book h .steps)
     pub rows : List S.Shares

@@ -322,12 +322,9 @@ module _ {h : Held-book} (p : Held-passes h) where
           (l .good) a
 
       -- and as the slices hold it
-      held : (a : ℕ) → a < i → Holds (h .n) (h .d) (result (h .n) m a) (so-far a)
-      unfolding result-of view-book
-      held a s = record { packed = l .stored a s; sound = so-far-good a }
-
       seen : (a : ℕ) → a < i → view (result (h .n) m a) ≡ so-far a
-      seen a s = held-view vars order (held a s)
+      unfolding result-of view-book
+      seen a s = l .stored a s
 
       -- the answer of the book's step
       abbrev pub given : R.Answer C.Model
@@ -433,8 +430,8 @@ module _ {h : Held-book} (p : Held-passes h) where
         unfolding result handed
         factors = record {
           order = order;
-          first = held-sound vars order (held (s .a) first-factor);
-          second = held-sound vars order (held (s .b) second-factor);
+          first = seen-sound (result (h .n) m (s .a)) (seen (s .a) first-factor) (so-far-good (s .a));
+          second = seen-sound (result (h .n) m (s .b)) (seen (s .b) second-factor) (so-far-good (s .b));
           vars = refl;
         }
 
@@ -553,14 +550,13 @@ module _ {h : Held-book} (p : Held-passes h) where
           good = each-snoc (λ m k. Good h k) (l .good) (q .holds .sound);
           room = roomy-still (h .n) k i (l .room) here-small few long;
           stored = λ j t. elim (ℕ-discrete j i) [
-            | yes o ↦ ap (result (h .n) (with-result k i m)) o
-                ∙ result-here (h .n) k i (l .room) here-small (held-vars (q .holds)) long
-                ∙ q .holds .packed
-                ∙ ap pack (sym (getD-last (l .models) (q .model) (zero-model (h .n)) j (l .count ∙ sym o)))
-            | no o ↦ result-before (h .n) k i (l .room) here-small j (omega (arith, t, o))
+            | yes o ↦ ap (λ j. view (result (h .n) (with-result k i m) j)) o
+                ∙ result-here (h .n) k i (l .room) here-small long (held-vars (q .holds)) few
+                ∙ held-view vars order (q .holds)
+                ∙ sym (getD-last (l .models) (q .model) (zero-model (h .n)) j (l .count ∙ sym o))
+            | no o ↦ ap view (result-before (h .n) k i (l .room) here-small j (omega (arith, t, o)))
                 ∙ l .stored j (omega (arith, t, o))
-                ∙ ap pack (sym (getD-before (l .models) (q .model) (zero-model (h .n)) j
-                (omega (arith, t, o, l .count))))
+                ∙ sym (getD-before (l .models) (q .model) (zero-model (h .n)) j (omega (arith, t, o, l .count)))
           ];
           rest = sym (turn ∙ ap (λ a. at-place i a followed-by after) (q .is));
           rows = l .rows ++ (row (q .model) ∷ []);
@@ -577,8 +573,11 @@ module _ {h : Held-book} (p : Held-passes h) where
             k : Model
             k = r .answer .model
 
-            long : length (r .answer .model .terms) ≡ 64
-            long = ap (λ (k : Model). length (k .terms)) (q .holds .packed) ∙ packed-long (q .holds .sound)
+            long : r .answer .model .count ≤ length (r .answer .model .terms)
+            long =
+                let e = ap (λ (k : Model). k .count) (q .holds .packed) in
+                let w = ap (λ (k : Model). length (k .terms)) (q .holds .packed) in
+                omega (arith, e, w, packed-few (q .holds .sound), packed-long (q .holds .sound))
 
             few : r .answer .model .count ≤ 64
             few = let e = ap (λ (k : Model). k .count) (q .holds .packed) in
@@ -617,16 +616,11 @@ module _ {h : Held-book} (p : Held-passes h) where
     final-good = each-last (λ m k. Good h k) (zero-model (h .n)) (zero-model (h .n)) (zero-sound (h .n) (h .d)) (l
         .good)
 
-    final-held : Holds (h .n) (h .d) (result (h .n) m (length (h .steps) - 1)) final
-    final-held = record {
-      packed = l .stored (length (h .steps) - 1) (omega (arith, in-limits-of .steps-low))
-          ∙ ap (λ j. pack (getD (l .models) (j - 1) (zero-model (h .n)))) (sym (l .count))
-          ∙ ap pack (sym (final-at (l .models) (omega (arith, l .count, in-limits-of .steps-low))));
-      sound = final-good;
-    }
-
     final-seen : view k ≡ final
-    final-seen = is-last ∙ held-view vars order final-held
+    final-seen = is-last
+        ∙ l .stored (length (h .steps) - 1) (omega (arith, in-limits-of .steps-low))
+        ∙ ap (λ j. getD (l .models) (j - 1) (zero-model (h .n))) (sym (l .count))
+        ∙ sym (final-at (l .models) (omega (arith, l .count, in-limits-of .steps-low)))
 
     pub final-sound : T (sound most-degree (view k))
     final-sound = sound-order (h .d) (view k) order

@@ -3,9 +3,7 @@ use mathlib.Core.Path.{_≡_, refl, _∙_, ap, ap₂}
 use native.Mathlib.Omega.{arith}
 use Prim.Native.Nat.{_-_, _*_}
 use mathlib.Core.List.{map}
-use lib.ListN.{length, drop, length-take, length-drop}
-use Rattle.calculus.specs.Model.{most-terms}
-use Rattle.model_slices.specs.HandedModels.{stored-keys, stored-coefficients}
+use lib.ListN.{length, take, drop, length-take, length-drop}
 use Rattle.sheet_results.specs.Results.{with-result}
 use Rattle.sheet_results.specs.ResultsLaws.{spliced-part}
 use borrow.Author.Needs.{needs}
@@ -15,33 +13,32 @@ use Rattle.sheet_results.proofs.put.Tie as tie
 mul-from : tie.Need-mul-from
 mul-from c = search needs
 
-mul-store-terms : tie.Need-mul-store-terms
-mul-store-terms c = search needs
+mul-store-named : tie.Need-mul-store-named
+mul-store-named c = search needs
 
-sub-store-terms : tie.Need-sub-store-terms
-sub-store-terms c = search needs
+sub-store-named : tie.Need-sub-store-named
+sub-store-named c = search needs
 
-part-store-terms-start : tie.Need-part-store-terms-start
-part-store-terms-start c = search needs
+part-store-named-start : tie.Need-part-store-named-start
+part-store-named-start c = search needs
 
-part-store-terms-end : tie.Need-part-store-terms-end
-part-store-terms-end c = search needs
+part-store-named-end : tie.Need-part-store-named-end
+part-store-named-end c = search needs
 
-mul-store-terms-2 : tie.Need-mul-store-terms-2
-mul-store-terms-2 c = search needs
+mul-store-named-2 : tie.Need-mul-store-named-2
+mul-store-named-2 c = search needs
 
-sub-store-terms-2 : tie.Need-sub-store-terms-2
-sub-store-terms-2 c = search needs
+sub-store-named-2 : tie.Need-sub-store-named-2
+sub-store-named-2 c = search needs
 
-part-store-terms-start-2 : tie.Need-part-store-terms-start-2
-part-store-terms-start-2 c = search needs
+part-store-named-start-2 : tie.Need-part-store-named-start-2
+part-store-named-start-2 c = search needs
 
-part-store-terms-end-2 : tie.Need-part-store-terms-end-2
-part-store-terms-end-2 c = search needs
+part-store-named-end-2 : tie.Need-part-store-named-end-2
+part-store-named-end-2 c = search needs
 
-store-terms-requires : tie.Need-store-terms-requires
-unfolding most-terms
-store-terms-requires c κs =
+store-named-requires : tie.Need-store-named-requires
+store-named-requires c κs =
     let s = c .before .before .before .before .before .before in
     let k = s .args .keys .now in
     let z = s .args .coefficients .now in
@@ -76,18 +73,20 @@ same-length-5 : tie.Need-same-length-5
 same-length-5 c = search needs
 
 returns : tie.Need-returns
-unfolding with-result stored-keys stored-coefficients
+unfolding with-result
 returns c =
     let s = c .before .before .before .before .before .before .before .before .before .before .before .before .before
     .before .before .before .before .before .before .before in
     let w = c .before .before .before .before .before .before .before .before .before .before .before .before .before
-    .store-terms .ensures in
+    .store-named .ensures in
     let p = c .before .before .before .before .before .before .put-numbers .ensures in
     let i = s .args .i in
     let r = s .pre .1 .0 in
-    let k = spliced-part (64 * i) (map (λ t. t .key) (s .args .m .terms)) (s .args .keys .now)
+    let k = spliced-part (64 * i) (map (λ t. t .key) (take (s .args .m .count) (s .args .m .terms))) (s .args .keys
+    .now)
     (omega (arith, s .pre .0, r .keys-long)) (w .0) in
-    let z = spliced-part (64 * i) (map (λ t. t .coefficient) (s .args .m .terms)) (s .args .coefficients .now)
+    let z = spliced-part (64 * i) (map (λ t. t .coefficient) (take (s .args .m .count) (s .args .m .terms))) (s .args
+    .coefficients .now)
     (omega (arith, s .pre .0, r .coefficients-long)) (w .1) in (
       λ t. record { keys = k t; coefficients = z t; counts = p .0 t; radii = p .1 t },
       p .2,
@@ -98,15 +97,15 @@ put-spec =
     tie.close
     (tie.spec
     mul-from
-    mul-store-terms
-    sub-store-terms
-    part-store-terms-start
-    part-store-terms-end
-    mul-store-terms-2
-    sub-store-terms-2
-    part-store-terms-start-2
-    part-store-terms-end-2
-    store-terms-requires
+    mul-store-named
+    sub-store-named
+    part-store-named-start
+    part-store-named-end
+    mul-store-named-2
+    sub-store-named-2
+    part-store-named-start-2
+    part-store-named-end-2
+    store-named-requires
     put-numbers-requires
     same-length
     same-length-2

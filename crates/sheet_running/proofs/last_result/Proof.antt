@@ -42,9 +42,9 @@ enum-told : tie.Need-enum-told
 enum-told c = search needs
 
 sub-result : tie.Need-sub-result
-sub-result c = some-step (c .before .before .before .before .before .before .before .before .before .before .before
-    .before .before .before .before .args .b) (c .before .before .before .before .before .before .before .before
-    .before .before .before .before .before .before .before .pre)
+sub-result c =
+    let s = c .before .before .before .before .before .before .before .before .before .before .before .before .before
+    .before .before in omega (arith, some-step (s .args .b) (s .pre))
 
 slice-aggregate-result : tie.Need-slice-aggregate-result
 slice-aggregate-result c = search needs
