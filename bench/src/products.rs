@@ -1,5 +1,6 @@
-//! Products of two models in 4 variables, or in the first of them alone. Ours is the whole public call through the library's C interface: both models
-//! copied from arrays and tested, all products collected by monomial, rounded, the radius, the result packed and stored.
+//! Products of two models in 4 variables, or in the first of them alone. Ours is the whole public call through the
+//! library's C interface: both models tested and read in their arrays, all products collected by monomial, rounded, the
+//! radius, all places of the result stored.
 //! FLINT's is the exact product alone, of polynomials built beforehand. The second implementation's is its whole call.
 
 use crate::flint::Polynomial;
