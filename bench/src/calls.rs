@@ -80,16 +80,7 @@ fn model_row(
         assert_eq!(a.refusal, None, "{name} is accepted");
         assert_eq!(stored(&a.model), b.model, "{name}: both give one model");
     }
-    row(
-        name,
-        all,
-        |o| {
-            let _ = black_box(ours(o));
-        },
-        |o| {
-            let _ = black_box(second(o));
-        },
-    );
+    row(name, all, ours, second);
 }
 
 fn ends_row(
@@ -107,25 +98,21 @@ fn ends_row(
             "{name}: both give the same ends"
         );
     }
-    row(
-        name,
-        all,
-        |o| {
-            let _ = black_box(ours(o));
-        },
-        |o| {
-            let _ = black_box(second(o));
-        },
-    );
+    row(name, all, ours, second);
 }
 
-fn row(name: &str, all: &[Operands], ours: impl Fn(&Operands), second: impl Fn(&Operands)) {
+fn row<A, B>(
+    name: &str,
+    all: &[Operands],
+    ours: impl Fn(&Operands) -> A,
+    second: impl Fn(&Operands) -> B,
+) {
     let [ours, second] = best(ROUNDS, all.len(), |way, input| {
         let operands = &all[input];
         if way == 0 {
-            ours(operands)
+            let _ = black_box(ours(operands));
         } else {
-            second(operands)
+            let _ = black_box(second(operands));
         }
     });
     println!(

@@ -7,6 +7,7 @@ use reference::book::{Step, ADD};
 use reference::calls::{self, Call, IntegralAnswer};
 use reference::exact::check::is_exact;
 use reference::exact::{ExactPolynomial, Fraction};
+use reference::generate::integrands::LARGEST_REMAINDER;
 use reference::generate::{hostile, models, DraftModel, Random};
 use reference::model::{degree, monomial_of_key, Model, LARGEST_DEGREE, UNIT as ONE};
 use reference::operations::DENOMINATOR;
@@ -70,16 +71,9 @@ fn sound(n: u8, radius: u64, terms: &[(u16, i64)]) -> Model {
     model.expect("a sound model")
 }
 
-/// The largest remainder: 1 / D below 41.
 #[test]
 fn the_largest_remainder() {
-    let terms = [
-        (0x4442, 117),
-        (0x6620, 47),
-        (0x8222, 431),
-        (0xA400, 3),
-        (0xC200, 4),
-    ];
+    let terms = LARGEST_REMAINDER.map(|(key, c)| (key, i64::from(c)));
     assert_eq!(of(4, 0, &terms), [40, 41, 40, DENOMINATOR - 1]);
     // Mirrored: 1 / D above -41.
     let mirrored = terms.map(|(key, c)| (key, -c));

@@ -40,14 +40,17 @@ fn few_terms(list: &mut Samples) {
     list.accept("a third of three units below 0", &of(1, 0, &[(0x2000, -3)]));
 }
 
+/// Terms whose integral has the largest remainder: 1 / D below 41.
+pub const LARGEST_REMAINDER: [(u16, i32); 5] = [
+    (0x4442, 117),
+    (0x6620, 47),
+    (0x8222, 431),
+    (0xA400, 3),
+    (0xC200, 4),
+];
+
 fn remainders(list: &mut Samples) {
-    let terms = [
-        (0x4442, 117),
-        (0x6620, 47),
-        (0x8222, 431),
-        (0xA400, 3),
-        (0xC200, 4),
-    ];
+    let terms = LARGEST_REMAINDER;
     list.accept("the largest remainder", &of(4, 0, &terms));
     let turned = terms.map(|(key, c)| (key, -c));
     list.accept("the smallest remainder, below 0", &of(4, 7, &turned));
