@@ -275,16 +275,11 @@ pub use model_keys::exponent_of;
 // All signs turned: the sound model of `negate`.
 pub use model_unary::negated;
 
-// Small terms swept into the radius: the model of `sweep`, for a sound one.
-pub use model_unary::swept;
-
-// The same with the shares of its radius.
+// The answer of `sweep` with the shares of its radius, for a sound model.
 pub use model_unary::swept_accounted;
 
-// The model of `antiderivative`, for a sound model of the order and one of its variables.
-pub use model_antiderivative::integrated;
-
-// The same with the shares of its radius.
+// The answer of `antiderivative` with the shares of its radius, for a sound model of the order and one of its
+// variables.
 pub use model_antiderivative::integrated_accounted;
 
 // The two ends of `range`, for a sound model.
@@ -299,26 +294,19 @@ pub use model_addition::added;
 // The answer of `subtract`, for two sound models in the same variables.
 pub use model_addition::subtracted;
 
-// The answer of `multiply`, for two sound models in the same variables. The table is lent, whatever is in it.
-pub use model_multiplication::multiplied;
-
-// The same with the shares of its radius.
-pub use model_multiplication::multiplied_accounted;
-
 // `multiply` for two models that lie in slices with all the places which their counts name: the terms that are kept go
 // into two arrays, by wide keys.
 pub use product_calls::multiply_slices;
 
-// The same for two sound models that lie in slices.
-pub use product_calls::multiplied_slices_accounted;
-
-// All places of an answer's model go into two slices, where its terms are by wide keys in two arrays.
+// All places of the model that it answers go into two slices.
 pub use product_calls::store_kept;
 
-// The answer of `substitute`, for two sound models in the same variables and one of these. The table is lent.
-pub use model_substitution::substituted;
+// The answer of `multiply` with the shares of its radius, for two sound models in the same variables that lie in
+// slices. The table is lent, whatever is in it.
+pub use product_calls::multiplied_slices_accounted;
 
-// The same with the shares of its radius: of its last product, and of the radius of f.
+// The answer of `substitute` with the shares of its radius, those of its last product and the radius of f, for two
+// sound models in the same variables and one of these. The table is lent.
 pub use model_substitution::substituted_accounted;
 
 // The answer of `quotient`, for four sound models in the same variables. The table is lent.
