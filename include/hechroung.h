@@ -69,14 +69,12 @@ struct hechroung_exact {
 };
 
 /* What a run gives: the last step's model, the ends of its range and of its integral over the box, and the exact
-   integral of its polynomial, without its radius. Demand 3 of document
-   01 holds of it, for all functions within the sheet's models and all points of the box with fraction coordinates. Of a
-   sheet with an antiderivative it holds for all polynomials within them, unless a quotient feeds one, directly or
-   through other steps; of a sheet with a quotient nothing is said about the integral. Where the n variables of a sheet
-   or a book that passes tests 1 to 6 are renamed among themselves, with terms put back in key order, the answer has its
-   keys renamed likewise and is the same in everything else: coefficients, radius, ends, the exact integral and the
-   shares of each step, or the refusal and its place. The variable of a step is v in codes 2, 7 and 10. An evaluation at
-   the renamed point can have other ends: it puts the variables in one after the other and rounds between. */
+   integral of its polynomial, without its radius. Point 3 at the beginning of README.md says what is promised of it,
+   with the exceptions for sheets with a quotient or an antiderivative. Where the n variables of a sheet or a book that
+   passes tests 1 to 6 are renamed among themselves, with terms put back in key order, the answer has its keys renamed
+   likewise and is the same in everything else: coefficients, radius, ends, the exact integral and the shares of each
+   step, or the refusal and its place. The variable of a step is v in codes 2, 7 and 10. An evaluation at the renamed
+   point can have other ends: it puts the variables in one after the other and rounds between. */
 struct hechroung_summary {
     struct hechroung_model model;
     struct hechroung_ends range, integral;
@@ -85,9 +83,10 @@ struct hechroung_summary {
 
 /* Where the radius of a step came from: four whole numbers that sum to HECHROUNG_UNIT times the radius. carried is from
    the radii of the operands, rounding from coefficients that were rounded, swept from terms above the order or dropped
-   by a sweep, slack is what rounding the radius up added. A product and an antiderivative have what they made
-   themselves; a substitution has the shares of its last product, which carries the radii of the earlier ones, and the
-   radius of its first step as carried; every other step, a quotient too, is all carried. */
+   by a sweep, slack is what rounding the radius up added. A product, a sweep and an antiderivative have what they
+   carried and, beside it, what they made themselves; a substitution has the shares of its last product (zeros if it
+   made none), which carries the radii of the earlier ones, and the radius of its first step as carried; any other step,
+   a sum or a quotient for instance, is all carried. */
 struct hechroung_shares {
     uint64_t carried, rounding, swept, slack;
 };
