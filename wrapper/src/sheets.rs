@@ -20,8 +20,8 @@ pub struct Summary {
 
 /// Where the radius of a step came from: four whole numbers that sum to [`UNIT`](crate::UNIT) times the radius. A
 /// product, a sweep and an antiderivative have what they carried and, beside it, what they made themselves; a
-/// substitution has the shares of its last product (zeros if it made none), which carries the radii of the earlier ones,
-/// and the radius of its first step as carried; any other step, a sum or a quotient for instance, is all carried.
+/// substitution has the shares of its last product (zeros if it made none), which carries the radii of the earlier
+/// ones, and the radius of its first step as carried; any other step, a sum or a quotient for instance, is all carried.
 #[derive(Clone, Copy, Debug, Default, PartialEq, Eq)]
 pub struct Shares {
     /// From the radii of the operands.
