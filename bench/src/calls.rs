@@ -4,7 +4,7 @@
 use crate::inputs::{factors, Kind, VARIABLES};
 use crate::products::stored;
 use crate::timing::best;
-use hechroung::{Answer, Bounds, Model, UNIT};
+use hechroung::{Ends, Model, Refusal, UNIT};
 use reference::calls::{self, EndsAnswer, ModelAnswer};
 use reference::generate::Random;
 use reference::stored::StoredModel;
@@ -72,13 +72,14 @@ pub fn print(random: &mut Random) {
 fn model_row(
     name: &str,
     all: &[Operands],
-    ours: impl Fn(&Operands) -> Answer,
+    ours: impl Fn(&Operands) -> Result<Model, Refusal>,
     second: impl Fn(&Operands) -> ModelAnswer,
 ) {
     for operands in all {
         let (a, b) = (ours(operands), second(operands));
-        assert_eq!(a.refusal, None, "{name} is accepted");
-        assert_eq!(stored(&a.model), b.model, "{name}: both give one model");
+        assert_eq!(b.refusal, None, "{name} is accepted");
+        let a = a.map(|model| stored(&model));
+        assert_eq!(a, Ok(b.model), "{name}: both give one model");
     }
     row(name, all, ours, second);
 }
@@ -86,15 +87,15 @@ fn model_row(
 fn ends_row(
     name: &str,
     all: &[Operands],
-    ours: impl Fn(&Operands) -> Bounds,
+    ours: impl Fn(&Operands) -> Result<Ends, Refusal>,
     second: impl Fn(&Operands) -> EndsAnswer,
 ) {
     for operands in all {
         let (a, b) = (ours(operands), second(operands));
-        assert_eq!(a.refusal, None, "{name} is accepted");
+        assert_eq!(b.refusal, None, "{name} is accepted");
         assert_eq!(
-            [a.ends.low, a.ends.high].map(i128::from),
-            [b.ends.low, b.ends.high],
+            a.map(|ends| [ends.low, ends.high].map(i128::from)),
+            Ok([b.ends.low, b.ends.high]),
             "{name}: both give the same ends"
         );
     }

@@ -33,12 +33,7 @@ pub fn factors(random: &mut Random, terms: usize, order: u8, kind: Kind) -> (Mod
 }
 
 /// Two factors with these keys.
-pub fn factors_at(
-    random: &mut Random,
-    keys: &[u16],
-    other: &[u16],
-    kind: Kind,
-) -> (Model, Model) {
+pub fn factors_at(random: &mut Random, keys: &[u16], other: &[u16], kind: Kind) -> (Model, Model) {
     let f = model(random, keys, kind);
     let g = model(random, other, kind);
     (f, g)
@@ -120,7 +115,7 @@ pub fn typical(random: &mut Random) -> Vec<u8> {
     let models = (0..3).map(|_| draft_model(random, &keys)).collect();
     let mut steps: Vec<Step> = (0..3).map(|number| Step::one(INPUT, number)).collect();
     while steps.len() < 20 {
-        let code = if steps.len() % 2 == 0 { ADD } else { MULTIPLY };
+        let code = if steps.len() % 2 == 1 { MULTIPLY } else { ADD };
         let last = steps.len() as u8 - 1;
         let earlier = random.byte(0, 2);
         steps.push(if code == ADD {

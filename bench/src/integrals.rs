@@ -48,12 +48,12 @@ fn measured(random: &mut Random, terms: usize, order: u8, parity: Parity) -> Tim
         .collect();
     let stored: Vec<_> = models.iter().map(stored).collect();
     for (model, stored) in models.iter().zip(&stored) {
-        let ours = hechroung::integral(model);
+        let ours = hechroung::integral(model).map(|integral| integral.exact);
+        let parts = ours.map(|exact| [exact.quotient, exact.remainder].map(i128::from));
         let theirs = calls::integral(stored);
-        assert_eq!((ours.refusal, theirs.refusal), (None, None));
-        let (exact, expected) = (ours.exact, theirs.integral.exact);
-        let parts = [exact.quotient, exact.remainder].map(i128::from);
-        assert_eq!(parts, [expected.quotient, expected.remainder]);
+        assert_eq!(theirs.refusal, None, "the integral is accepted");
+        let expected = theirs.integral.exact;
+        assert_eq!(parts, Ok([expected.quotient, expected.remainder]));
     }
     best(ROUNDS, INPUTS, |way, input| {
         if way == 0 {

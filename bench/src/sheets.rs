@@ -39,7 +39,8 @@ fn stepping_row(sheets: &[Vec<u8>]) {
     for sheet in sheets {
         let records = records::open(sheet).reader;
         let expected: Vec<_> = records.map(|record| record.bytes().to_vec()).collect();
-        let stepped = hechroung::open(sheet).records.map(|record| record.bytes);
+        let opened = hechroung::open(sheet).expect("the largest sheet is accepted");
+        let stepped = opened.map(|record| record.bytes);
         assert!(stepped.eq(expected), "both implementations step alike");
     }
     let mut numbers = [0; 2];
@@ -51,7 +52,7 @@ fn stepping_row(sheets: &[Vec<u8>]) {
                 let _ = black_box(raw::open(sheet, &mut numbers));
             }
             1 => {
-                raw::open(sheet, &mut numbers);
+                let _ = black_box(raw::open(sheet, &mut numbers));
                 while raw::next(sheet, numbers[1] as usize, &mut bytes, &mut numbers) != 0 {
                     black_box(&bytes);
                 }
@@ -102,12 +103,11 @@ fn products(sheet: &[u8]) -> Vec<(Model, Model)> {
             let f = results[usize::from(step.a)];
             let g = results[usize::from(step.b)];
             products.push((f, g));
-            hechroung::multiply(ORDER, &f, &g).model
+            hechroung::multiply(ORDER, &f, &g).expect("each product is accepted")
         };
         results.push(result);
     }
-    let last = hechroung::run(sheet);
-    assert_eq!(last.refusal, None, "the largest sheet is accepted");
+    let last = hechroung::run(sheet).expect("the largest sheet is accepted");
     assert_eq!(
         results.last(),
         Some(&last.model),

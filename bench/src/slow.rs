@@ -54,7 +54,9 @@ pub fn print(random: &mut Random) {
         climb.step(random);
         products(random, &climb.factors)
     });
-    row("substitutions", SUBSTITUTIONS, usual, || substitution(random));
+    row("substitutions", SUBSTITUTIONS, usual, || {
+        substitution(random)
+    });
     row("quotients", QUOTIENTS, usual, || quotient(random));
 }
 
@@ -85,8 +87,7 @@ struct Candidate {
 impl Candidate {
     fn new(products: usize, draft: Draft) -> Candidate {
         let bytes = draft.bytes();
-        let answer = hechroung::run(&bytes);
-        assert_eq!(answer.refusal, None, "a sheet that is timed is accepted");
+        hechroung::run(&bytes).expect("a sheet that is timed is accepted");
         Candidate { bytes, products }
     }
 
@@ -149,7 +150,7 @@ fn passed(f: &[u16], g: &[u16]) -> usize {
     for &a in f {
         for &b in g {
             let key = wide(a) + wide(b);
-            let mut slot = (mixed(key) * homes as u64 >> 32) as usize;
+            let mut slot = ((mixed(key) * homes as u64) >> 32) as usize;
             let mut bits = (key >> 36) as usize;
             while slots[slot] != 0 && entries[slots[slot]] != key {
                 slot = homes + 2 * slots[slot] + bits % 2;

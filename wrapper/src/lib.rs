@@ -1,6 +1,7 @@
 //! Polynomial models in 1 to 4 variables on the box [-1, 1]^n, with an error radius: a safe wrapper over the proved
 //! library of this repository. Every call takes anything whatever; what is unfit gets the refusal that documents 01
-//! and 02 list for it.
+//! and 02 list for it, as the error of a [`Result`], so that no answer of a refused call can be taken for a model. What
+//! the exported functions store beside a refusal, the zero model and zeros, is there in [`raw`] alone.
 //!
 //! Coefficients, radii and ends are whole numbers in units of 1/[`UNIT`].
 //!
@@ -9,9 +10,9 @@
 //!
 //! let x = Model::variable(1, 1)?;
 //! let half = Model::constant(1, UNIT / 2)?;
-//! let sum = hechroung::add(&x, &half).accepted()?;
-//! let square = hechroung::multiply(2, &sum, &sum).accepted()?;
-//! let ends = range(&square).accepted()?;
+//! let sum = hechroung::add(&x, &half)?;
+//! let square = hechroung::multiply(2, &sum, &sum)?;
+//! let ends = range(&square)?;
 //! assert_eq!((ends.low, ends.high), (-786_432, 2_359_296));
 //! # Ok::<(), hechroung::Refusal>(())
 //! ```
@@ -24,7 +25,7 @@ pub mod raw;
 mod sheets;
 
 pub use sheets::{lines, open, records, rewrite, run, run_book, shares, shares_book, write};
-pub use sheets::{Book, Kind, Opened, Record, Records, Report, Shares, Step, Summary, Written};
+pub use sheets::{Book, Flat, Kind, Record, Records, RefusedRun, Report, Shares, Step, Summary};
 
 use raw::{Handed, HandedModels, MISUSED};
 use std::error::Error;
@@ -62,13 +63,6 @@ pub struct Refusal {
     pub place: usize,
 }
 
-/// A model, or the zero model beside a refusal.
-#[derive(Clone, Copy, Debug, PartialEq, Eq)]
-pub struct Answer {
-    pub model: Model,
-    pub refusal: Option<Refusal>,
-}
-
 /// Two ends.
 #[derive(Clone, Copy, Debug, Default, PartialEq, Eq)]
 pub struct Ends {
@@ -84,19 +78,11 @@ pub struct Exact {
     pub remainder: i64,
 }
 
-/// The ends of an integral and the exact one of the model's polynomial, or zeros beside a refusal.
+/// The ends of an integral and the exact one of the model's polynomial.
 #[derive(Clone, Copy, Debug, PartialEq, Eq)]
 pub struct Integral {
     pub ends: Ends,
     pub exact: Exact,
-    pub refusal: Option<Refusal>,
-}
-
-/// Two ends, or zeros beside a refusal.
-#[derive(Clone, Copy, Debug, PartialEq, Eq)]
-pub struct Bounds {
-    pub ends: Ends,
-    pub refusal: Option<Refusal>,
 }
 
 impl Model {
@@ -111,12 +97,12 @@ impl Model {
 
     /// The constant `value`, in units. Refusals 3, 6.
     pub fn constant(n: u8, value: i64) -> Result<Model, Refusal> {
-        constant(n, value).accepted()
+        called(1, 0, 0, value, Handed { n, ..Handed::NONE }, Handed::NONE)
     }
 
     /// Variable i, from 1. Refusals 3, 6.
     pub fn variable(n: u8, i: u8) -> Result<Model, Refusal> {
-        variable(n, i).accepted()
+        called(2, 0, i, 0, Handed { n, ..Handed::NONE }, Handed::NONE)
     }
 
     /// The terms in use, each a key and a coefficient; a count above 64 has no more than 64.
@@ -133,25 +119,6 @@ impl Model {
             keys: &self.keys,
             coefficients: &self.coefficients,
         }
-    }
-}
-
-impl Answer {
-    pub fn accepted(self) -> Result<Model, Refusal> {
-        self.refusal.map_or(Ok(self.model), Err)
-    }
-}
-
-impl Bounds {
-    pub fn accepted(self) -> Result<Ends, Refusal> {
-        self.refusal.map_or(Ok(self.ends), Err)
-    }
-}
-
-impl Integral {
-    /// The integral, or why the call is refused.
-    pub fn accepted(self) -> Result<Integral, Refusal> {
-        self.refusal.map_or(Ok(self), Err)
     }
 }
 
@@ -177,38 +144,28 @@ impl fmt::Display for Refusal {
 
 impl Error for Refusal {}
 
-/// The constant `value`, in units. Refusals 3, 6.
-pub fn constant(n: u8, value: i64) -> Answer {
-    called(1, 0, 0, value, Handed { n, ..Handed::NONE }, Handed::NONE)
-}
-
-/// Variable i, from 1. Refusals 3, 6.
-pub fn variable(n: u8, i: u8) -> Answer {
-    called(2, 0, i, 0, Handed { n, ..Handed::NONE }, Handed::NONE)
-}
-
 /// All signs turned. Refusal 5.
-pub fn negate(f: &Model) -> Answer {
+pub fn negate(f: &Model) -> Result<Model, Refusal> {
     called(3, 0, 0, 0, f.handed(), Handed::NONE)
 }
 
 /// The sum. Refusals 5 at place 0 or 1, 10, 8, 7.
-pub fn add(f: &Model, g: &Model) -> Answer {
+pub fn add(f: &Model, g: &Model) -> Result<Model, Refusal> {
     called(4, 0, 0, 0, f.handed(), g.handed())
 }
 
 /// The difference. Refusals 5 at place 0 or 1, 10, 8, 7.
-pub fn subtract(f: &Model, g: &Model) -> Answer {
+pub fn subtract(f: &Model, g: &Model) -> Result<Model, Refusal> {
     called(5, 0, 0, 0, f.handed(), g.handed())
 }
 
 /// The product; what is above degree d goes into the radius. Refusals 3, 5 at place 0 or 1, 10, 8, 7.
-pub fn multiply(d: u8, f: &Model, g: &Model) -> Answer {
+pub fn multiply(d: u8, f: &Model, g: &Model) -> Result<Model, Refusal> {
     called(6, d, 0, 0, f.handed(), g.handed())
 }
 
 /// g put in for variable i of f. Refusals 3, 5 at place 0 or 1, 10, 6, 9, then the first 8 or 7 inside.
-pub fn substitute(d: u8, i: u8, f: &Model, g: &Model) -> Answer {
+pub fn substitute(d: u8, i: u8, f: &Model, g: &Model) -> Result<Model, Refusal> {
     called(7, d, i, 0, f.handed(), g.handed())
 }
 
@@ -221,11 +178,11 @@ pub fn substitute(d: u8, i: u8, f: &Model, g: &Model) -> Answer {
 ///
 /// let (one, three) = (Model::constant(1, UNIT)?, Model::constant(1, 3 * UNIT)?);
 /// let third = Model::constant(1, UNIT / 3)?;
-/// let answer = quotient(1, &one, &three, &third, &third).accepted()?;
+/// let answer = quotient(1, &one, &three, &third, &third)?;
 /// assert_eq!((answer.coefficients[0], answer.radius), (349_525, 2));
 /// # Ok::<(), hechroung::Refusal>(())
 /// ```
-pub fn quotient(d: u8, f: &Model, g: &Model, h: &Model, w: &Model) -> Answer {
+pub fn quotient(d: u8, f: &Model, g: &Model, h: &Model, w: &Model) -> Result<Model, Refusal> {
     let models = [f, g, h, w];
     let mut keys = [0; 4 * MOST_TERMS];
     let mut coefficients = [0; 4 * MOST_TERMS];
@@ -247,7 +204,7 @@ pub fn quotient(d: u8, f: &Model, g: &Model, h: &Model, w: &Model) -> Answer {
 }
 
 /// Terms but the constant one with |c| at most the threshold moved into the radius. Refusals 5, 6.
-pub fn sweep(f: &Model, threshold: i64) -> Answer {
+pub fn sweep(f: &Model, threshold: i64) -> Result<Model, Refusal> {
     called(8, 0, 0, threshold, f.handed(), Handed::NONE)
 }
 
@@ -258,16 +215,16 @@ pub fn sweep(f: &Model, threshold: i64) -> Answer {
 /// use hechroung::{antiderivative, Model, UNIT};
 ///
 /// let x = Model::variable(1, 1)?;
-/// let half_square = antiderivative(2, 1, &x).accepted()?;
+/// let half_square = antiderivative(2, 1, &x)?;
 /// assert_eq!((half_square.keys[0], half_square.coefficients[0]), (0x2000, UNIT / 2));
 /// # Ok::<(), hechroung::Refusal>(())
 /// ```
-pub fn antiderivative(d: u8, i: u8, f: &Model) -> Answer {
+pub fn antiderivative(d: u8, i: u8, f: &Model) -> Result<Model, Refusal> {
     called(9, d, i, 0, f.handed(), Handed::NONE)
 }
 
 /// The range over the box. Refusal 5.
-pub fn range(f: &Model) -> Bounds {
+pub fn range(f: &Model) -> Result<Ends, Refusal> {
     bounds(1, f, [0; 4])
 }
 
@@ -279,29 +236,35 @@ pub fn range(f: &Model) -> Bounds {
 /// // 2/3 of a unit.
 /// let mut square = Model::ZERO;
 /// (square.count, square.keys[0], square.coefficients[0]) = (1, 0x2000, 1);
-/// let found = integral(&square).accepted()?;
+/// let found = integral(&square)?;
 /// assert_eq!((found.ends.low, found.ends.high), (0, 1));
 /// assert_eq!((found.exact.quotient, found.exact.remainder), (0, DENOMINATOR / 3 * 2));
 /// # Ok::<(), hechroung::Refusal>(())
 /// ```
-pub fn integral(f: &Model) -> Integral {
-    let ([low, high, quotient, remainder], refusal) = ended(2, f, [0; 4]);
-    Integral {
+pub fn integral(f: &Model) -> Result<Integral, Refusal> {
+    let [low, high, quotient, remainder] = ended(2, f, [0; 4])?;
+    Ok(Integral {
         ends: Ends { low, high },
         exact: Exact {
             quotient,
             remainder,
         },
-        refusal,
-    }
+    })
 }
 
 /// The values at the point X_1/U, .., X_n/U; coordinates above n are 0. Refusals 5, 6, 9, 7.
-pub fn evaluate(f: &Model, point: [i64; 4]) -> Bounds {
+pub fn evaluate(f: &Model, point: [i64; 4]) -> Result<Ends, Refusal> {
     bounds(3, f, point)
 }
 
-fn called(code: u8, d: u8, i: u8, value: i64, f: Handed<'_>, g: Handed<'_>) -> Answer {
+fn called(
+    code: u8,
+    d: u8,
+    i: u8,
+    value: i64,
+    f: Handed<'_>,
+    g: Handed<'_>,
+) -> Result<Model, Refusal> {
     answered(|model, numbers| {
         raw::call(
             code,
@@ -317,42 +280,43 @@ fn called(code: u8, d: u8, i: u8, value: i64, f: Handed<'_>, g: Handed<'_>) -> A
     })
 }
 
-/// What a call stored.
-fn answered(call: impl FnOnce(&mut Model, &mut [u64]) -> u8) -> Answer {
+/// The model that a call stored.
+fn answered(call: impl FnOnce(&mut Model, &mut [u64]) -> u8) -> Result<Model, Refusal> {
     let mut model = Model::ZERO;
     let mut numbers = [0; 4];
     let number = call(&mut model, &mut numbers);
     let [place, n, count, radius] = numbers;
+    accepted(number, place)?;
     model.n = narrowed(n);
     model.count = narrowed(count);
     model.radius = radius;
-    Answer {
-        model,
-        refusal: refusal(number, narrowed(place)),
-    }
+    Ok(model)
 }
 
-fn bounds(code: u8, f: &Model, point: [i64; 4]) -> Bounds {
-    let ([low, high, _, _], refusal) = ended(code, f, point);
-    Bounds {
-        ends: Ends { low, high },
-        refusal,
-    }
+fn bounds(code: u8, f: &Model, point: [i64; 4]) -> Result<Ends, Refusal> {
+    let [low, high, _, _] = ended(code, f, point)?;
+    Ok(Ends { low, high })
 }
 
 /// What a call of one model stored: both ends, and the exact integral. The place of its refusal is 0.
-fn ended(code: u8, f: &Model, point: [i64; 4]) -> ([i64; 4], Option<Refusal>) {
+fn ended(code: u8, f: &Model, point: [i64; 4]) -> Result<[i64; 4], Refusal> {
     let mut ends = [0; 4];
     let number = raw::ends(code, f.handed(), point, &mut ends);
-    (ends, refusal(number, 0))
+    accepted(number, 0)?;
+    Ok(ends)
 }
 
-fn refusal(number: u8, place: usize) -> Option<Refusal> {
+/// Whether a call was accepted, by the number that it returned and the place that it stored.
+fn accepted(number: u8, place: u64) -> Result<(), Refusal> {
     assert!(
         number != MISUSED,
         "every slice is long enough, and every code is known"
     );
-    (number != 0).then_some(Refusal { number, place })
+    if number != 0 {
+        let place = narrowed(place);
+        return Err(Refusal { number, place });
+    }
+    Ok(())
 }
 
 /// A number that was a byte or a size before it was stored.

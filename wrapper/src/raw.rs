@@ -1,7 +1,8 @@
 //! The exported functions as they are, on slices of any length. All unsafe code of this crate stands here.
 //!
 //! Each contract (crates/exports) takes any number and any slices. A slice that is too short, or a code that names no
-//! call, is answered with [`MISUSED`], and nothing is changed then.
+//! call, is answered with [`MISUSED`], and nothing is changed then. Beside a refusal zeros are stored: what the slices
+//! hold is an answer only where the number is 0.
 
 /// The answer to a call that is not one.
 pub const MISUSED: u8 = 255;
@@ -295,6 +296,7 @@ pub struct HandedBook<'a> {
 /// 7 substitute, 8 sweep, 9 antiderivative. It returns the refusal's number, 0 without one. 64 keys and 64 coefficients
 /// go into the slices, and the refusal's place, n, the count and the radius into `numbers`.
 #[allow(clippy::too_many_arguments)]
+#[must_use]
 pub fn call(
     code: u8,
     d: u8,
@@ -340,6 +342,7 @@ pub fn call(
 
 /// f / g with order d, from the proposal h and w: the refusal's number, 0 without one. The slices hold at least four
 /// models: f, g, h and w in this order. The answer goes into `keys`, `coefficients` and `numbers` as in [`call`].
+#[must_use]
 pub fn quotient(
     d: u8,
     models: HandedModels<'_>,
@@ -374,6 +377,7 @@ pub fn quotient(
 /// A call that answers with two ends. Codes: 1 range, 2 integral, 3 evaluate at `point`. It returns the refusal's
 /// number, 0 without one; the low and the high end go into `ends`, and behind them the quotient and the remainder of
 /// the exact integral, or 0 for the other codes.
+#[must_use]
 pub fn ends(code: u8, f: Handed<'_>, point: [i64; 4], ends: &mut [i64]) -> u8 {
     let [x1, x2, x3, x4] = point;
     // SAFETY: as in `call`.
@@ -400,6 +404,7 @@ pub fn ends(code: u8, f: Handed<'_>, point: [i64; 4], ends: &mut [i64]) -> u8 {
 /// Runs a sheet: the refusal's number, 0 without one. The result goes into `keys`, `coefficients` and `numbers` as in
 /// [`call`]; the ends of its range, those of its integral, and the quotient and the remainder of the exact integral go
 /// into `ends`.
+#[must_use]
 pub fn run(
     sheet: &[u8],
     keys: &mut [u16],
@@ -426,6 +431,7 @@ pub fn run(
 
 /// Runs a sheet as [`run`] does, and stores besides where the radius of each of 64 steps came from: carried, rounding,
 /// swept and slack of step i at `shares[4 * i..]`.
+#[must_use]
 pub fn shares(
     sheet: &[u8],
     keys: &mut [u16],
@@ -461,6 +467,7 @@ pub fn print(sheet: &[u8], text: &mut [u8]) -> usize {
 
 /// Reads a sheet and writes what was read: the refusal's number, 0 without one. Its place and the length go into
 /// `numbers`.
+#[must_use]
 pub fn rewrite(sheet: &[u8], buffer: &mut [u8], numbers: &mut [u64]) -> u8 {
     // SAFETY: as in `call`.
     unsafe {
@@ -491,6 +498,7 @@ pub fn record(sheet: &[u8], i: usize, bytes: &mut [u8]) -> usize {
 }
 
 /// Writes a book as a sheet: the refusal's number, 0 without one. Its place and the length go into `numbers`.
+#[must_use]
 pub fn write(book: HandedBook<'_>, buffer: &mut [u8], numbers: &mut [u64]) -> u8 {
     // SAFETY: as in `call`.
     unsafe {
@@ -523,6 +531,7 @@ pub fn write(book: HandedBook<'_>, buffer: &mut [u8], numbers: &mut [u64]) -> u8
 
 /// Opens a sheet for stepping: the refusal's number, 0 without one. Its place and the place of the first record go into
 /// `numbers`.
+#[must_use]
 pub fn open(sheet: &[u8], numbers: &mut [u64]) -> u8 {
     // SAFETY: as in `call`.
     unsafe {
@@ -537,6 +546,7 @@ pub fn open(sheet: &[u8], numbers: &mut [u64]) -> u8 {
 
 /// The record at a place of a sheet: 1 for a model, 2 for a step, 0 where there is none. As much of it as `bytes` has
 /// room for is put there; its length and the place of the next go into `numbers`.
+#[must_use]
 pub fn next(sheet: &[u8], at: usize, bytes: &mut [u8], numbers: &mut [u64]) -> u8 {
     // SAFETY: as in `call`.
     unsafe {
@@ -553,6 +563,7 @@ pub fn next(sheet: &[u8], at: usize, bytes: &mut [u8], numbers: &mut [u64]) -> u
 }
 
 /// Runs a book: the refusal's number, 0 without one. The result goes into the slices as in [`run`].
+#[must_use]
 pub fn run_book(
     book: HandedBook<'_>,
     keys: &mut [u16],
@@ -594,6 +605,7 @@ pub fn run_book(
 }
 
 /// Runs a book as [`run_book`] does, and stores its shares besides, as [`shares`] does.
+#[must_use]
 pub fn shares_book(
     book: HandedBook<'_>,
     keys: &mut [u16],

@@ -1,11 +1,13 @@
 //! Sheets and books.
 
 use crate::raw::{self, HandedBook};
-use crate::{narrowed, refusal, Ends, Exact, Model, Refusal};
+use crate::{accepted, narrowed, Ends, Exact, Model, Refusal};
 use crate::{LONGEST_RECORD, MOST_MODELS, MOST_STEPS, MOST_TERMS};
+use std::error::Error;
+use std::fmt;
 
 /// What a run gives: the last step's model, its range, its integral and the exact integral of its polynomial, without
-/// its radius; beside a refusal the zero model, ends 0 and the exact integral 0.
+/// its radius.
 /// Of a sheet with an antiderivative the promise holds for polynomials within its models, unless a quotient feeds one;
 /// nothing is said about the integral of a sheet with a quotient. Variables that are renamed among themselves
 /// throughout a sheet, with terms put back in key order, rename the keys of the answer and change nothing else.
@@ -15,7 +17,6 @@ pub struct Summary {
     pub range: Ends,
     pub integral: Ends,
     pub exact: Exact,
-    pub refusal: Option<Refusal>,
 }
 
 /// Where the radius of a step came from: four whole numbers that sum to [`UNIT`](crate::UNIT) times the radius. A
@@ -34,19 +35,19 @@ pub struct Shares {
     pub slack: u64,
 }
 
-/// What a run gives, and the shares of each of its steps: zeros for a refused step and those after it, for steps that
-/// there are none of, and for all steps where the sheet or the book is refused before it runs.
+/// What a run gives, and the shares of each of its steps; zeros for steps that there are none of.
 #[derive(Clone, Copy, Debug, PartialEq, Eq)]
 pub struct Report {
     pub summary: Summary,
     pub shares: [Shares; MOST_STEPS],
 }
 
-/// The length of what was written, 0 beside a refusal.
-#[derive(Clone, Copy, Debug, PartialEq, Eq)]
-pub struct Written {
-    pub length: usize,
-    pub refusal: Option<Refusal>,
+/// Why a run with shares is refused, and the shares of the steps before the refused one: zeros for that and those after
+/// it, and for all steps where the sheet or the book is refused before it runs. `?` makes it a [`Refusal`].
+#[derive(Clone, Debug, PartialEq, Eq)]
+pub struct RefusedRun {
+    pub refusal: Refusal,
+    pub shares: Box<[Shares; MOST_STEPS]>,
 }
 
 /// A step: its code and its fields. A quotient, code 9, has f in a, g in b, step h in v and step w in value; an
@@ -71,19 +72,19 @@ pub struct Book {
     pub steps: [Step; MOST_STEPS],
 }
 
-impl Summary {
-    /// The summary, or why the sheet is refused.
-    pub fn accepted(self) -> Result<Summary, Refusal> {
-        self.refusal.map_or(Ok(self), Err)
+impl From<RefusedRun> for Refusal {
+    fn from(run: RefusedRun) -> Refusal {
+        run.refusal
     }
 }
 
-impl Written {
-    /// The length, or why the write is refused.
-    pub fn accepted(self) -> Result<usize, Refusal> {
-        self.refusal.map_or(Ok(self.length), Err)
+impl fmt::Display for RefusedRun {
+    fn fmt(&self, out: &mut fmt::Formatter<'_>) -> fmt::Result {
+        self.refusal.fmt(out)
     }
 }
+
+impl Error for RefusedRun {}
 
 impl Book {
     /// A book of these models and steps. What does not fit 16 and 64 places is left out, and its count refused.
@@ -107,7 +108,7 @@ impl Book {
 }
 
 /// Runs a sheet. Refusals 1 to 9, 12.
-pub fn run(sheet: &[u8]) -> Summary {
+pub fn run(sheet: &[u8]) -> Result<Summary, Refusal> {
     summary(|model, numbers, ends| {
         raw::run(
             sheet,
@@ -120,11 +121,11 @@ pub fn run(sheet: &[u8]) -> Summary {
 }
 
 /// Runs a book in memory. Refusals 3, 5 to 9, 12.
-pub fn run_book(book: &Book) -> Summary {
+pub fn run_book(book: &Book) -> Result<Summary, Refusal> {
     let flat = Flat::of(book);
     summary(|model, numbers, ends| {
         raw::run_book(
-            flat.handed(book),
+            flat.handed(),
             &mut model.keys,
             &mut model.coefficients,
             numbers,
@@ -138,11 +139,12 @@ pub fn run_book(book: &Book) -> Summary {
 /// ```
 /// // x, and x times x, of order 1: there is no room for a square.
 /// let sheet = [2, 0, 0, 1, 0, 0, 0, 0, 6, 0, 0, 0, 0, 0, 0, 0, 1, 1, 0, 2, 0, 0, 0x4D, 0x4B];
-/// let report = hechroung::shares(&sheet);
+/// let report = hechroung::shares(&sheet)?;
 /// assert_eq!(report.summary.model.radius, 1 << 20);
 /// assert_eq!((report.shares[1].swept, report.shares[1].slack), (1 << 40, 0));
+/// # Ok::<(), hechroung::Refusal>(())
 /// ```
-pub fn shares(sheet: &[u8]) -> Report {
+pub fn shares(sheet: &[u8]) -> Result<Report, RefusedRun> {
     reported(|model, numbers, ends, shares| {
         raw::shares(
             sheet,
@@ -156,11 +158,11 @@ pub fn shares(sheet: &[u8]) -> Report {
 }
 
 /// Runs a book in memory, and tells where the radius of each of its steps came from. Refusals 3, 5 to 9, 12.
-pub fn shares_book(book: &Book) -> Report {
+pub fn shares_book(book: &Book) -> Result<Report, RefusedRun> {
     let flat = Flat::of(book);
     reported(|model, numbers, ends, shares| {
         raw::shares_book(
-            flat.handed(book),
+            flat.handed(),
             &mut model.keys,
             &mut model.coefficients,
             numbers,
@@ -171,7 +173,9 @@ pub fn shares_book(book: &Book) -> Report {
 }
 
 /// What a run with shares stored.
-fn reported(run: impl FnOnce(&mut Model, &mut [u64], &mut [i64], &mut [u64]) -> u8) -> Report {
+fn reported(
+    run: impl FnOnce(&mut Model, &mut [u64], &mut [i64], &mut [u64]) -> u8,
+) -> Result<Report, RefusedRun> {
     let mut stored = [0; 4 * MOST_STEPS];
     let summary = summary(|model, numbers, ends| run(model, numbers, ends, &mut stored));
     let mut shares = [Shares::default(); MOST_STEPS];
@@ -183,21 +187,28 @@ fn reported(run: impl FnOnce(&mut Model, &mut [u64], &mut [i64], &mut [u64]) -> 
             slack: stored[3],
         };
     }
-    Report { summary, shares }
+    match summary {
+        Ok(summary) => Ok(Report { summary, shares }),
+        Err(refusal) => Err(RefusedRun {
+            refusal,
+            shares: Box::new(shares),
+        }),
+    }
 }
 
 /// What a run stored.
-fn summary(run: impl FnOnce(&mut Model, &mut [u64], &mut [i64]) -> u8) -> Summary {
+fn summary(run: impl FnOnce(&mut Model, &mut [u64], &mut [i64]) -> u8) -> Result<Summary, Refusal> {
     let mut model = Model::ZERO;
     let mut numbers = [0; 4];
     let mut ends = [0; 6];
     let number = run(&mut model, &mut numbers, &mut ends);
     let [place, n, count, radius] = numbers;
+    accepted(number, place)?;
     model.n = narrowed(n);
     model.count = narrowed(count);
     model.radius = radius;
     let [low, high, integral_low, integral_high, quotient, remainder] = ends;
-    Summary {
+    Ok(Summary {
         model,
         range: Ends { low, high },
         integral: Ends {
@@ -208,25 +219,25 @@ fn summary(run: impl FnOnce(&mut Model, &mut [u64], &mut [i64]) -> u8) -> Summar
             quotient,
             remainder,
         },
-        refusal: refusal(number, narrowed(place)),
-    }
+    })
 }
 
-/// The lines that the program prints for a sheet.
+/// The lines that the program prints for a sheet; of a refused one that is the line of its refusal.
+#[must_use]
 pub fn lines(sheet: &[u8]) -> String {
     let mut text = vec![0; raw::print(sheet, &mut [])];
     raw::print(sheet, &mut text);
     String::from_utf8(text).expect("the lines are ASCII")
 }
 
-/// The records of a sheet in order, each model's bytes and then each step's 8. A sheet that tests 1 to 6 refuse has
-/// none.
-pub fn records(sheet: &[u8]) -> impl Iterator<Item = Vec<u8>> + '_ {
-    (0..).map_while(|i| {
+/// The records of a sheet in order, each model's bytes and then each step's 8. Refusals 1 to 6.
+pub fn records(sheet: &[u8]) -> Result<impl Iterator<Item = Vec<u8>> + '_, Refusal> {
+    open(sheet)?;
+    Ok((0..).map_while(|i| {
         let mut bytes = vec![0; raw::record(sheet, i, &mut [])];
         raw::record(sheet, i, &mut bytes);
         (!bytes.is_empty()).then_some(bytes)
-    })
+    }))
 }
 
 /// What a record is.
@@ -250,25 +261,14 @@ pub struct Records<'sheet> {
     at: usize,
 }
 
-/// What an opening gives; beside a refusal there are no records.
-#[derive(Clone, Debug)]
-pub struct Opened<'sheet> {
-    pub records: Records<'sheet>,
-    pub refusal: Option<Refusal>,
-}
-
 /// Opens a sheet for stepping through it. Refusals 1 to 6.
-pub fn open(sheet: &[u8]) -> Opened<'_> {
+pub fn open(sheet: &[u8]) -> Result<Records<'_>, Refusal> {
     let mut numbers = [0; 2];
     let number = raw::open(sheet, &mut numbers);
     let [place, at] = numbers;
-    Opened {
-        records: Records {
-            sheet,
-            at: narrowed(at),
-        },
-        refusal: refusal(number, narrowed(place)),
-    }
+    accepted(number, place)?;
+    let at = narrowed(at);
+    Ok(Records { sheet, at })
 }
 
 impl Records<'_> {
@@ -300,31 +300,34 @@ impl Iterator for Records<'_> {
     }
 }
 
-/// Reads a sheet and writes what was read into the buffer. Refusals 1 to 6, 11; a refused call changes no byte.
-pub fn rewrite(sheet: &[u8], buffer: &mut [u8]) -> Written {
+/// Reads a sheet and writes what was read into the buffer: its length. Refusals 1 to 6, 11; a refused call changes no
+/// byte.
+pub fn rewrite(sheet: &[u8], buffer: &mut [u8]) -> Result<usize, Refusal> {
     let mut numbers = [0; 2];
     let number = raw::rewrite(sheet, buffer, &mut numbers);
     written(number, numbers)
 }
 
-/// Writes a book as a sheet into the buffer. Refusals 3, 5, 6, 11; a refused write changes no byte, and bytes beyond
-/// the length stay.
-pub fn write(book: &Book, buffer: &mut [u8]) -> Written {
+/// Writes a book as a sheet into the buffer: its length. Refusals 3, 5, 6, 11; a refused write changes no byte, and
+/// bytes beyond the length stay.
+pub fn write(book: &Book, buffer: &mut [u8]) -> Result<usize, Refusal> {
     let mut numbers = [0; 2];
-    let number = raw::write(Flat::of(book).handed(book), buffer, &mut numbers);
+    let number = raw::write(Flat::of(book).handed(), buffer, &mut numbers);
     written(number, numbers)
 }
 
-fn written(number: u8, numbers: [u64; 2]) -> Written {
+fn written(number: u8, numbers: [u64; 2]) -> Result<usize, Refusal> {
     let [place, length] = numbers;
-    Written {
-        length: narrowed(length),
-        refusal: refusal(number, narrowed(place)),
-    }
+    accepted(number, place)?;
+    Ok(narrowed(length))
 }
 
-/// A book's arrays, one after the other.
-struct Flat {
+/// A book's numbers and arrays, one after the other, for the functions of [`raw`](crate::raw) that take a book.
+pub struct Flat {
+    n: u8,
+    d: u8,
+    model_count: usize,
+    step_count: usize,
     ns: [u8; MOST_MODELS],
     counts: [usize; MOST_MODELS],
     radii: [u64; MOST_MODELS],
@@ -335,8 +338,12 @@ struct Flat {
 }
 
 impl Flat {
-    fn of(book: &Book) -> Flat {
+    pub fn of(book: &Book) -> Flat {
         let mut flat = Flat {
+            n: book.n,
+            d: book.d,
+            model_count: book.model_count,
+            step_count: book.step_count,
             ns: book.models.map(|model| model.n),
             counts: book.models.map(|model| model.count),
             radii: book.models.map(|model| model.radius),
@@ -355,12 +362,12 @@ impl Flat {
         flat
     }
 
-    fn handed(&self, book: &Book) -> HandedBook<'_> {
+    pub fn handed(&self) -> HandedBook<'_> {
         HandedBook {
-            n: book.n,
-            d: book.d,
-            model_count: book.model_count,
-            step_count: book.step_count,
+            n: self.n,
+            d: self.d,
+            model_count: self.model_count,
+            step_count: self.step_count,
             ns: &self.ns,
             counts: &self.counts,
             radii: &self.radii,

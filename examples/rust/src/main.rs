@@ -10,10 +10,10 @@ use hechroung::{LONGEST_SHEET, UNIT};
 fn main() -> Result<(), Refusal> {
     let x = Model::variable(1, 1)?;
     let half = Model::constant(1, UNIT / 2)?;
-    let sum = add(&x, &half).accepted()?;
-    let square = multiply(2, &sum, &sum).accepted()?;
-    let ends = range(&square).accepted()?;
-    let value = evaluate(&square, [UNIT / 4, 0, 0, 0]).accepted()?;
+    let sum = add(&x, &half)?;
+    let square = multiply(2, &sum, &sum)?;
+    let ends = range(&square)?;
+    let value = evaluate(&square, [UNIT / 4, 0, 0, 0])?;
 
     println!("radius {}", square.radius);
     for (key, coefficient) in square.terms() {
@@ -47,14 +47,14 @@ fn main() -> Result<(), Refusal> {
         },
     ];
     let mut sheet = [0; LONGEST_SHEET];
-    let length = write(&Book::new(1, 2, &[], &steps), &mut sheet).accepted()?;
+    let length = write(&Book::new(1, 2, &[], &steps), &mut sheet)?;
     println!("sheet of {length} bytes");
     print!("{}", lines(&sheet[..length]));
 
     // Order 1, the second byte of the trailer, has no room for the square: the radius of step 3 is what was swept.
     sheet[length - 7] = 1;
-    let report = shares(&sheet[..length]);
-    let (radius, row) = (report.summary.accepted()?.model.radius, report.shares[3]);
+    let report = shares(&sheet[..length])?;
+    let (radius, row) = (report.summary.model.radius, report.shares[3]);
     println!(
         "with order 1: radius {radius} from {} {} {} {}",
         row.carried, row.rounding, row.swept, row.slack
@@ -62,7 +62,7 @@ fn main() -> Result<(), Refusal> {
 
     // The second model is no model of one variable.
     let unfit = Model { n: 7, ..half };
-    if let Err(refusal) = add(&x, &unfit).accepted() {
+    if let Err(refusal) = add(&x, &unfit) {
         println!("refused {} {}", refusal.number, refusal.place);
     }
     // The exported functions themselves take slices of any length.

@@ -4,8 +4,9 @@ use crate::case::Case;
 use crate::integrals::Integrals;
 use crate::renamed::Renamed;
 use crate::rows::Rows;
-use crate::{renamed, shaped, sheets, stepping};
-use hechroung::{Answer, Bounds, Ends, Exact, Integral, Model};
+use crate::shaped::{self, Shape};
+use crate::{renamed, sheets, stepping};
+use hechroung::{Ends, Exact, Integral, Model};
 use reference::calls::{Call, CallAnswer};
 use reference::model::monomial_of_key;
 use reference::refusal::Refusal;
@@ -63,7 +64,7 @@ impl Seen {
 pub fn compare(case: &Case) -> Result<Seen, String> {
     let found = match case {
         Case::Call(call) => compare_call(call),
-        Case::Shaped(call, shape) => shaped::compare(call, shape),
+        Case::Shaped(call, shape) => shaped::compare(call, &call.answer(), shape),
         Case::Sheet(sheet) => sheets::compare(sheet),
         Case::Rewrite(sheet, length) => sheets::compare_rewrite(sheet, *length),
         Case::Book(book, length) => sheets::compare_write(book, *length),
@@ -74,23 +75,23 @@ pub fn compare(case: &Case) -> Result<Seen, String> {
     found.map_err(|difference| format!("{}: {difference}\n{}", case.kind(), case.line()))
 }
 
-/// What the proved library answers to a single call.
+/// What the wrapper hands out for a single call that is accepted.
 #[derive(Debug, PartialEq)]
-pub enum Proved {
-    Model(Box<Answer>),
-    Ends(Bounds),
+enum Handed {
+    Model(Box<Model>),
+    Ends(Ends),
     Integral(Integral),
 }
 
+/// By the exported function, with all that it stores, also beside a refusal; and by the wrapper, which hands out an
+/// answer or a refusal.
 fn compare_call(call: &Call) -> Result<Seen, String> {
     let expected = call.answer();
-    let proved = proved_answer(call);
-    same(&proved, &translated(&expected))?;
-    let mut seen = Seen::of(expected.refusal().map(pair));
-    if let (Call::Integral { f }, Proved::Integral(answer)) = (call, proved) {
-        if answer.refusal.is_none() {
-            seen.integrals = Integrals::checked(&to_model(f), answer.exact)?;
-        }
+    let mut seen = shaped::compare(call, &expected, &Shape::ENOUGH)?;
+    let handed = handed(call);
+    same(&handed, &translated(&expected))?;
+    if let (Call::Integral { f }, Ok(Handed::Integral(answer))) = (call, handed) {
+        seen.integrals = Integrals::checked(&to_model(f), answer.exact)?;
     }
     Ok(seen)
 }
@@ -108,54 +109,50 @@ pub fn pair(refusal: Refusal) -> (u8, usize) {
     (refusal.number(), refusal.place())
 }
 
-fn proved_answer(call: &Call) -> Proved {
-    let model = |answer| Proved::Model(Box::new(answer));
+fn handed(call: &Call) -> Result<Handed, hechroung::Refusal> {
+    let model = |answer: Model| Handed::Model(Box::new(answer));
     match call {
-        Call::Constant { n, value } => model(hechroung::constant(*n, *value)),
-        Call::Variable { n, i } => model(hechroung::variable(*n, *i)),
-        Call::Negate { f } => model(hechroung::negate(&to_model(f))),
-        Call::Add { f, g } => model(hechroung::add(&to_model(f), &to_model(g))),
-        Call::Subtract { f, g } => model(hechroung::subtract(&to_model(f), &to_model(g))),
+        Call::Constant { n, value } => Model::constant(*n, *value).map(model),
+        Call::Variable { n, i } => Model::variable(*n, *i).map(model),
+        Call::Negate { f } => hechroung::negate(&to_model(f)).map(model),
+        Call::Add { f, g } => hechroung::add(&to_model(f), &to_model(g)).map(model),
+        Call::Subtract { f, g } => hechroung::subtract(&to_model(f), &to_model(g)).map(model),
         Call::Multiply { f, g, order } => {
-            model(hechroung::multiply(*order, &to_model(f), &to_model(g)))
+            hechroung::multiply(*order, &to_model(f), &to_model(g)).map(model)
         }
-        Call::Substitute { f, g, i, order } => model(hechroung::substitute(
-            *order,
-            *i,
-            &to_model(f),
-            &to_model(g),
-        )),
-        Call::Sweep { f, threshold } => model(hechroung::sweep(&to_model(f), *threshold)),
+        Call::Substitute { f, g, i, order } => {
+            hechroung::substitute(*order, *i, &to_model(f), &to_model(g)).map(model)
+        }
+        Call::Sweep { f, threshold } => hechroung::sweep(&to_model(f), *threshold).map(model),
         Call::Quotient { f, g, h, w, order } => {
             let [f, g, h, w] = [f, g, h, w].map(|operand| to_model(operand));
-            model(hechroung::quotient(*order, &f, &g, &h, &w))
+            hechroung::quotient(*order, &f, &g, &h, &w).map(model)
         }
         Call::Antiderivative { f, i, order } => {
-            model(hechroung::antiderivative(*order, *i, &to_model(f)))
+            hechroung::antiderivative(*order, *i, &to_model(f)).map(model)
         }
-        Call::Range { f } => Proved::Ends(hechroung::range(&to_model(f))),
-        Call::Integral { f } => Proved::Integral(hechroung::integral(&to_model(f))),
-        Call::Evaluate { f, point } => Proved::Ends(hechroung::evaluate(&to_model(f), *point)),
+        Call::Range { f } => hechroung::range(&to_model(f)).map(Handed::Ends),
+        Call::Integral { f } => hechroung::integral(&to_model(f)).map(Handed::Integral),
+        Call::Evaluate { f, point } => hechroung::evaluate(&to_model(f), *point).map(Handed::Ends),
     }
 }
 
-/// The second implementation's answer in the wrapper's types.
-pub fn translated(answer: &CallAnswer) -> Proved {
-    match answer {
-        CallAnswer::Model(answer) => Proved::Model(Box::new(Answer {
-            model: to_model(&answer.model),
-            refusal: answer.refusal.map(to_refusal),
-        })),
-        CallAnswer::Ends(answer) => Proved::Ends(Bounds {
-            ends: to_ends(answer.ends),
-            refusal: answer.refusal.map(to_refusal),
-        }),
-        CallAnswer::Integral(answer) => Proved::Integral(Integral {
+/// The second implementation's answer as the wrapper hands it out.
+fn translated(answer: &CallAnswer) -> Result<Handed, hechroung::Refusal> {
+    let handed = match answer {
+        CallAnswer::Model(answer) => Handed::Model(Box::new(to_model(&answer.model))),
+        CallAnswer::Ends(answer) => Handed::Ends(to_ends(answer.ends)),
+        CallAnswer::Integral(answer) => Handed::Integral(Integral {
             ends: to_ends(answer.integral.ends),
             exact: to_exact(answer.integral.exact),
-            refusal: answer.refusal.map(to_refusal),
         }),
-    }
+    };
+    unless(answer.refusal(), handed)
+}
+
+/// What the wrapper hands out where the second implementation refuses or does not.
+pub fn unless<T>(refusal: Option<Refusal>, answer: T) -> Result<T, hechroung::Refusal> {
+    refusal.map_or(Ok(answer), |refusal| Err(to_refusal(refusal)))
 }
 
 pub fn to_model(stored: &StoredModel) -> Model {

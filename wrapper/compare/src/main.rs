@@ -24,6 +24,7 @@ mod rows;
 mod shaped;
 mod sheets;
 mod stepping;
+mod stored;
 mod stream;
 
 use agree::Seen;

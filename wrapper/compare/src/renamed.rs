@@ -6,8 +6,9 @@ use crate::case::Case;
 use crate::integrals::Integrals;
 use crate::program;
 use crate::rows::Rows;
-use crate::sheets::{to_book, traced, translated};
-use hechroung::{Model, Report, Summary};
+use crate::sheets::{parts, to_book, traced, translated};
+use crate::stored;
+use hechroung::{Model, Summary};
 use reference::generate::reorderings;
 use reference::model::{key_of_monomial, monomial_of_key};
 use reference::renaming::Reordering;
@@ -122,30 +123,30 @@ pub fn compare_both(path: &str, bytes: &[u8], other: &Reordering) -> Result<Seen
 /// the reader accepts and which is written back as it is.
 pub fn compare(bytes: &[u8], other: &Reordering) -> Result<Seen, String> {
     let sheet = renamed(bytes, other)?;
-    let (before, after) = (hechroung::shares(bytes), hechroung::shares(&sheet));
-    let expected = Report {
-        summary: renamed_summary(&before.summary, other),
-        ..before
-    };
-    same(&after, &expected)?;
+    let (before, rows_before) = parts(hechroung::shares(bytes));
+    let (after, rows) = parts(hechroung::shares(&sheet));
+    let expected = before.map(|summary| renamed_summary(&summary, other));
+    same(&(after, rows), &(expected, rows_before))?;
     let run = traced(sheet::sound_book(&sheet));
     let second = ReportAnswer::of(run.as_ref().map(|(_, trace)| trace));
-    same(&after.summary, &translated(&second.answer))?;
-    same(&hechroung::run(&sheet), &after.summary)?;
+    stored::compare_sheet(&sheet, &second)?;
+    same(&after, &translated(&second.answer))?;
+    same(&hechroung::run(&sheet), &after)?;
     let lines = other.lines(&hechroung::lines(bytes));
     same(&hechroung::lines(&sheet), &lines)?;
     let book = to_book(&sheet::read(&sheet).book);
-    same(&hechroung::shares_book(&book), &after)?;
+    stored::compare_book(&book, &second)?;
+    same(&parts(hechroung::shares_book(&book)), &(after, rows))?;
     let mut buffer = vec![0; bytes.len()];
     let written = hechroung::rewrite(&sheet, &mut buffer);
-    same(&(written.refusal, buffer), &(None, sheet))?;
+    same(&(written, buffer), &(Ok(sheet.len()), sheet))?;
 
     let mut seen = Seen::of(second.answer.refusal.map(pair));
-    seen.rows = Rows::compared(&after.shares, &second, &run)?;
-    if seen.refusal.is_none() {
-        seen.integrals = Integrals::checked(&after.summary.model, after.summary.exact)?;
+    seen.rows = Rows::compared(&rows, &second, &run)?;
+    if let Ok(summary) = after {
+        seen.integrals = Integrals::checked(&summary.model, summary.exact)?;
     }
-    seen.renamed = Renamed::of(bytes, other, after.summary != before.summary);
+    seen.renamed = Renamed::of(bytes, other, after != before);
     Ok(seen)
 }
 
@@ -155,11 +156,8 @@ fn renamed(bytes: &[u8], other: &Reordering) -> Result<Vec<u8>, String> {
         .ok_or_else(|| "the reader refuses the sheet, or it has another n".into())
 }
 
-/// Another key for each term, in key order again; everything else stays, and a refusal as it is.
+/// Another key for each term, in key order again; everything else stays.
 fn renamed_summary(summary: &Summary, other: &Reordering) -> Summary {
-    if summary.refusal.is_some() {
-        return *summary;
-    }
     let key = |key| key_of_monomial(&other.monomial(&monomial_of_key(key)));
     let mut terms: Vec<(u16, i64)> = summary.model.terms().map(|(k, c)| (key(k), c)).collect();
     terms.sort_unstable();

@@ -158,7 +158,7 @@ impl Rows {
     }
 }
 
-fn four(row: &Shares) -> [u64; 4] {
+pub fn four(row: &Shares) -> [u64; 4] {
     [row.carried, row.rounding, row.swept, row.slack]
 }
 
@@ -173,7 +173,7 @@ fn named(mix: Mix) -> String {
 }
 
 /// The second implementation's rows in the wrapper's type.
-fn translated(expected: &ReportAnswer) -> Vec<Shares> {
+pub fn translated(expected: &ReportAnswer) -> Vec<Shares> {
     let narrowed = |share| u64::try_from(share).expect("a share is below 2^64");
     let rows = expected.shares.iter();
     rows.map(|row| Shares {

@@ -25,6 +25,14 @@ const COEFFICIENT: i64 = -0x0123_4567_89AB_CDEF;
 const NUMBER: u64 = 0xFEDC_BA98_7654_3210;
 
 impl Shape {
+    /// The call's own code, and every slice as long as it has to be.
+    pub const ENOUGH: Shape = Shape {
+        code: 0,
+        inputs: [MOST_TERMS as u8; 4],
+        entries: [4; 3],
+        outputs: [MOST_TERMS as u8, MOST_TERMS as u8, 4],
+    };
+
     /// Mostly long enough.
     pub fn random(random: &mut Random) -> Shape {
         let code = if random.one_in(12) {
@@ -74,16 +82,17 @@ struct Arguments {
     point: [i64; 4],
 }
 
-pub fn compare(call: &Call, shape: &Shape) -> Result<Seen, String> {
+/// All that the exported function stores, held against the second implementation's answer.
+pub fn compare(call: &Call, expected: &CallAnswer, shape: &Shape) -> Result<Seen, String> {
     if let Call::Quotient { f, g, h, w, order } = call {
         let models = [f, g, h, w].map(|model| to_model(model));
-        return compare_quotient(&models, *order, shape, &call.answer());
+        return compare_quotient(&models, *order, shape, expected);
     }
     let mut arguments = arguments(call);
     if shape.code != 0 {
         arguments.code = shape.code;
     }
-    match call.answer() {
+    match expected {
         CallAnswer::Model(answer) => {
             let numbers = [
                 answer.refusal.map_or(0, |refusal| refusal.place() as u64),

@@ -404,7 +404,7 @@ fn a_call_stays_within_its_figure() {
             let point = [0, 1, 2, 3].map(|v| if v < f.n { point[usize::from(v)] } else { 0 });
             let mut ends = [0; 4];
             stack.run(|| {
-                raw::ends(code, f.handed(), point, &mut ends);
+                let _ = raw::ends(code, f.handed(), point, &mut ends);
             })
         });
         most(&format!("ends {code}"), CALL, used);
@@ -480,14 +480,14 @@ fn writing_stays_within_its_figure() {
     let (mut buffer, mut numbers) = ([0; LONGEST_SHEET], [0; 2]);
     let used = sheets.iter().map(|sheet| {
         stack.run(|| {
-            raw::rewrite(sheet, &mut buffer, &mut numbers);
+            let _ = raw::rewrite(sheet, &mut buffer, &mut numbers);
         })
     });
     most("rewrite", WRITE, used);
     let books = books_of(&sheets);
     let used = books.iter().map(|book| {
         stack.run(|| {
-            raw::write(book.handed(), &mut buffer, &mut numbers);
+            let _ = raw::write(book.handed(), &mut buffer, &mut numbers);
         })
     });
     most("write", WRITE, used);
@@ -500,13 +500,13 @@ fn stepping_stays_within_its_figure() {
     let (mut bytes, mut numbers) = ([0; LONGEST_RECORD], [0; 2]);
     let used = sheets.iter().map(|sheet| {
         stack.run(|| {
-            raw::open(sheet, &mut numbers);
+            let _ = raw::open(sheet, &mut numbers);
         })
     });
     most("open", STEP, used);
     let used = sheets.iter().map(|sheet| {
         stack.run(|| {
-            raw::next(sheet, 0, &mut bytes, &mut numbers);
+            let _ = raw::next(sheet, 0, &mut bytes, &mut numbers);
         })
     });
     most("next", STEP, used);

@@ -28,7 +28,7 @@ fn main() -> Result<(), Refusal> {
         println!("term {} {coefficient}", key >> 12);
     }
     for (minutes, x) in [(0, -UNIT), (3, 0), (6, UNIT)] {
-        let value = evaluate(&litres, [x, 0, 0, 0]).accepted()?;
+        let value = evaluate(&litres, [x, 0, 0, 0])?;
         println!("after {minutes} minutes {} {}", value.low, value.high);
     }
 
@@ -50,8 +50,8 @@ fn main() -> Result<(), Refusal> {
         value,
     });
     let book = Book::new(1, ORDER, &[flow], &steps);
-    let report = shares_book(&book);
-    assert_eq!(report.summary.accepted()?.model, litres);
+    let report = shares_book(&book)?;
+    assert_eq!(report.summary.model, litres);
     let row = report.shares[6];
     println!(
         "carried, rounding, swept, slack: {} {} {} {}",
@@ -62,7 +62,7 @@ fn main() -> Result<(), Refusal> {
     println!("with order 3: radius {}", gathered(3, &flow)?.radius);
 
     // The flow has no second variable.
-    if let Err(refusal) = antiderivative(ORDER, 2, &flow).accepted() {
+    if let Err(refusal) = antiderivative(ORDER, 2, &flow) {
         println!("refused {} {}", refusal.number, refusal.place);
     }
     // The exported function itself takes slices of any length: here there is no room for the answer.
@@ -74,12 +74,12 @@ fn main() -> Result<(), Refusal> {
 
 /// Litres since the start, where x is -1: the antiderivative is 0 in the middle, so its value at the start goes off.
 fn gathered(order: u8, flow: &Model) -> Result<Model, Refusal> {
-    let from_middle = antiderivative(order, 1, flow).accepted()?;
+    let from_middle = antiderivative(order, 1, flow)?;
     let start = Model::constant(1, -UNIT)?;
-    let at_start = substitute(order, 1, &from_middle, &start).accepted()?;
-    let since_start = subtract(&from_middle, &at_start).accepted()?;
+    let at_start = substitute(order, 1, &from_middle, &start)?;
+    let since_start = subtract(&from_middle, &at_start)?;
     let half_time = Model::constant(1, HALF_TIME * UNIT)?;
-    multiply(order, &since_start, &half_time).accepted()
+    multiply(order, &since_start, &half_time)
 }
 
 /// A number of hundredths in units, rounded toward 0.

@@ -32,9 +32,9 @@ fn main() -> Result<(), Refusal> {
     );
 
     let (h, w) = propose(&conductivity, &temperature, 2)?;
-    let corrected = quotient(ORDER, &conductivity, &temperature, &h, &w).accepted()?;
-    let ends = range(&corrected).accepted()?;
-    let value = evaluate(&corrected, [hundredths(60), hundredths(-30), 0, 0]).accepted()?;
+    let corrected = quotient(ORDER, &conductivity, &temperature, &h, &w)?;
+    let ends = range(&corrected)?;
+    let value = evaluate(&corrected, [hundredths(60), hundredths(-30), 0, 0])?;
     println!("proposal: h of {} terms, w of {}", h.count, w.count);
     println!("radius {}", corrected.radius);
     for (key, coefficient) in corrected.terms() {
@@ -53,17 +53,17 @@ fn main() -> Result<(), Refusal> {
         value: 3,
     });
     let book = Book::new(2, ORDER, &[conductivity, temperature, h, w], &steps);
-    let summary = run_book(&book).accepted()?;
+    let summary = run_book(&book)?;
     assert_eq!((summary.model, summary.range), (corrected, ends));
 
     // Without Newton's rule w is a constant. That is a proposal as well, only a poorer one.
     let (h, w) = propose(&conductivity, &temperature, 0)?;
-    let poorer = quotient(ORDER, &conductivity, &temperature, &h, &w).accepted()?;
+    let poorer = quotient(ORDER, &conductivity, &temperature, &h, &w)?;
     println!("with a constant w: radius {}", poorer.radius);
 
     // The temperature's own variable is 0 somewhere: no proposal makes it a divisor.
     let y = Model::variable(2, 2)?;
-    if let Err(refusal) = quotient(ORDER, &conductivity, &y, &h, &w).accepted() {
+    if let Err(refusal) = quotient(ORDER, &conductivity, &y, &h, &w) {
         println!("refused {} {}", refusal.number, refusal.place);
     }
     // The exported function itself takes slices of any length: here there are no models.
@@ -87,10 +87,10 @@ fn propose(f: &Model, g: &Model, rounds: usize) -> Result<(Model, Model), Refusa
     let two = Model::constant(f.n, 2 * UNIT)?;
     let mut w = Model::constant(f.n, UNIT * UNIT / g.coefficients[0])?;
     for _ in 0..rounds {
-        let factor = subtract(&two, &multiply(ORDER, &g, &w).accepted()?).accepted()?;
-        w = without_radius(multiply(ORDER, &w, &factor).accepted()?);
+        let factor = subtract(&two, &multiply(ORDER, &g, &w)?)?;
+        w = without_radius(multiply(ORDER, &w, &factor)?);
     }
-    let h = without_radius(multiply(ORDER, &f, &w).accepted()?);
+    let h = without_radius(multiply(ORDER, &f, &w)?);
     Ok((h, w))
 }
 

@@ -22,7 +22,7 @@ fn main() -> Result<(), Refusal> {
     let mut total = Exact::default();
     let mut radii = 0;
     for k in 0..MILKINGS {
-        let summary = run_book(&Book::new(1, ORDER, &[flow(k)], &steps)).accepted()?;
+        let summary = run_book(&Book::new(1, ORDER, &[flow(k)], &steps))?;
         sum.low += summary.integral.low;
         sum.high += summary.integral.high;
         total.quotient += summary.exact.quotient;
