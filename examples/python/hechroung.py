@@ -1,10 +1,11 @@
 """Polynomial models with an error radius: a small wrapper over the proved library, through ctypes.
 
 Coefficients, radii, values and ends are whole numbers in units of 1/UNIT. What documents 01 and 02 refuse is raised as
-Refused.
+Refused; a number that its field cannot hold, and what is no whole number, as ValueError.
 """
 
 import ctypes
+import operator
 import os
 from collections import namedtuple
 
@@ -18,48 +19,60 @@ MISUSED = 255
 _FOLDER = os.path.join(os.path.dirname(os.path.abspath(__file__)), "..", "..", "target", "lib")
 _library = ctypes.CDLL(os.path.join(os.environ.get("HECHROUNG_LIB", _FOLDER), "libhechroung.so"))
 
-_u8, _u64, _i64, _size = ctypes.c_uint8, ctypes.c_uint64, ctypes.c_int64, ctypes.c_size_t
-_Keys = ctypes.c_uint16 * MOST_TERMS
+_u8, _u16, _u64, _i64, _size = ctypes.c_uint8, ctypes.c_uint16, ctypes.c_uint64, ctypes.c_int64, ctypes.c_size_t
+_text = ctypes.c_char_p
+_u16s, _u64s, _i64s, _sizes = (ctypes.POINTER(field) for field in (_u16, _u64, _i64, _size))
+_NUMBERS = (_u8, _u16, _u64, _i64, _size)
+_Keys = _u16 * MOST_TERMS
 _Coefficients = _i64 * MOST_TERMS
-_handed = [_u8, _size, _u64, ctypes.POINTER(ctypes.c_uint16), _size, ctypes.POINTER(_i64), _size]
-_call = _library.hechroung_call
-_call.restype = _u8
-_call.argtypes = [_u8, _u8, _u8, _i64, *_handed, *_handed,
-                  ctypes.POINTER(ctypes.c_uint16), _size, ctypes.POINTER(_i64), _size, ctypes.POINTER(_u64), _size]
-_quotient = _library.hechroung_quotient
-_quotient.restype = _u8
-_quotient.argtypes = [_u8, ctypes.c_char_p, _size, ctypes.POINTER(_size), _size, ctypes.POINTER(_u64), _size,
-                      ctypes.POINTER(ctypes.c_uint16), _size, ctypes.POINTER(_i64), _size,
-                      ctypes.POINTER(ctypes.c_uint16), _size, ctypes.POINTER(_i64), _size, ctypes.POINTER(_u64), _size]
-_ends = _library.hechroung_ends
-_ends.restype = _u8
-_ends.argtypes = [_u8, *_handed, _i64, _i64, _i64, _i64, ctypes.POINTER(_i64), _size]
-_print = _library.hechroung_print
-_print.restype = _size
-_print.argtypes = [ctypes.c_char_p, _size, ctypes.c_char_p, _size]
-_record = _library.hechroung_record
-_record.restype = _size
-_record.argtypes = [ctypes.c_char_p, _size, _size, ctypes.c_char_p, _size]
-_open = _library.hechroung_open
-_open.restype = _u8
-_open.argtypes = [ctypes.c_char_p, _size, ctypes.POINTER(_u64), _size]
-_next = _library.hechroung_next
-_next.restype = _u8
-_next.argtypes = [ctypes.c_char_p, _size, _size, ctypes.c_char_p, _size, ctypes.POINTER(_u64), _size]
-_book = [_u8, _u8, _size, _size, ctypes.c_char_p, _size, ctypes.POINTER(_size), _size,
-         ctypes.POINTER(_u64), _size, ctypes.POINTER(ctypes.c_uint16), _size, ctypes.POINTER(_i64), _size,
-         ctypes.c_char_p, _size, ctypes.POINTER(_i64), _size]
-_summary = [ctypes.POINTER(ctypes.c_uint16), _size, ctypes.POINTER(_i64), _size,
-            ctypes.POINTER(_u64), _size, ctypes.POINTER(_i64), _size]
-_run_book = _library.hechroung_run_book
-_run_book.restype = _u8
-_run_book.argtypes = [*_book, *_summary]
-_shares = _library.hechroung_shares
-_shares.restype = _u8
-_shares.argtypes = [ctypes.c_char_p, _size, *_summary, ctypes.POINTER(_u64), _size]
-_shares_book = _library.hechroung_shares_book
-_shares_book.restype = _u8
-_shares_book.argtypes = [*_book, *_summary, ctypes.POINTER(_u64), _size]
+
+
+def _whole(field, value):
+    """The value, where the field can hold it. ctypes would take the low bits of any other, which is another number."""
+    bits = 8 * ctypes.sizeof(field)
+    low, high = (-1 << bits - 1, (1 << bits - 1) - 1) if field is _i64 else (0, (1 << bits) - 1)
+    try:
+        number = operator.index(value)
+    except TypeError:
+        raise ValueError(f"{value!r} is no whole number") from None
+    if not low <= number <= high:
+        raise ValueError(f"{number} is not from {low} to {high}")
+    return number
+
+
+def _array(field, values):
+    whole = [_whole(field, value) for value in values]
+    return (field * len(whole))(*whole)
+
+
+def _exported(name, answer, *fields):
+    """The exported function of that name; every number is tested before it crosses."""
+    function = getattr(_library, name)
+    function.restype, function.argtypes = answer, fields
+
+    def tested(*arguments):
+        pairs = zip(fields, arguments, strict=True)
+        return function(*(_whole(field, given) if field in _NUMBERS else given for field, given in pairs))
+
+    return tested
+
+
+_handed = [_u8, _size, _u64, _u16s, _size, _i64s, _size]
+_call = _exported("hechroung_call", _u8, _u8, _u8, _u8, _i64, *_handed, *_handed,
+                  _u16s, _size, _i64s, _size, _u64s, _size)
+_quotient = _exported("hechroung_quotient", _u8, _u8, _text, _size, _sizes, _size, _u64s, _size, _u16s, _size,
+                      _i64s, _size, _u16s, _size, _i64s, _size, _u64s, _size)
+_ends = _exported("hechroung_ends", _u8, _u8, *_handed, _i64, _i64, _i64, _i64, _i64s, _size)
+_print = _exported("hechroung_print", _size, _text, _size, _text, _size)
+_record = _exported("hechroung_record", _size, _text, _size, _size, _text, _size)
+_open = _exported("hechroung_open", _u8, _text, _size, _u64s, _size)
+_next = _exported("hechroung_next", _u8, _text, _size, _size, _text, _size, _u64s, _size)
+_book = [_u8, _u8, _size, _size, _text, _size, _sizes, _size, _u64s, _size, _u16s, _size, _i64s, _size, _text, _size,
+         _i64s, _size]
+_summary = [_u16s, _size, _i64s, _size, _u64s, _size, _i64s, _size]
+_run_book = _exported("hechroung_run_book", _u8, *_book, *_summary)
+_shares = _exported("hechroung_shares", _u8, _text, _size, *_summary, _u64s, _size)
+_shares_book = _exported("hechroung_shares_book", _u8, *_book, *_summary, _u64s, _size)
 
 # What a run gives: the last step's model, the ends of its range and of its integral, and the exact integral.
 Summary = namedtuple("Summary", "model range integral exact")
@@ -99,9 +112,9 @@ def _arguments(model):
         raise Misused()
     # More than 64 terms are handed over by their count, which is refused.
     first = model.terms[:MOST_TERMS]
-    keys = _Keys(*(key for key, _ in first))
-    coefficients = _Coefficients(*(coefficient for _, coefficient in first))
-    return model.n, len(model.terms), model.radius, keys, MOST_TERMS, coefficients, MOST_TERMS
+    keys = _array(_u16, (key for key, _ in first))
+    coefficients = _array(_i64, (coefficient for _, coefficient in first))
+    return model.n, len(model.terms), model.radius, keys, len(keys), coefficients, len(coefficients)
 
 
 def _lent(models):
@@ -110,11 +123,11 @@ def _lent(models):
         raise Misused()
     padded = [[*model.terms[:MOST_TERMS], *[(0, 0)] * (MOST_TERMS - len(model.terms))] for model in models]
     terms = [term for places in padded for term in places]
-    return (bytes(model.n for model in models), len(models),
-            (_size * len(models))(*(len(model.terms) for model in models)), len(models),
-            (_u64 * len(models))(*(model.radius for model in models)), len(models),
-            (ctypes.c_uint16 * len(terms))(*(key for key, _ in terms)), len(terms),
-            (_i64 * len(terms))(*(coefficient for _, coefficient in terms)), len(terms))
+    return (bytes(_array(_u8, (model.n for model in models))), len(models),
+            _array(_size, (len(model.terms) for model in models)), len(models),
+            _array(_u64, (model.radius for model in models)), len(models),
+            _array(_u16, (key for key, _ in terms)), len(terms),
+            _array(_i64, (coefficient for _, coefficient in terms)), len(terms))
 
 
 def _called(code, d, i, value, f, g=Model(1)):
@@ -129,7 +142,10 @@ def _called(code, d, i, value, f, g=Model(1)):
 def _ended(code, f, point=()):
     """The two ends, and behind them the exact integral, if it is one."""
     ends = (_i64 * 4)()
-    coordinates = [*point, 0, 0, 0, 0][:4]
+    coordinates = list(point)
+    if len(coordinates) > 4:
+        raise ValueError("a point has at most four coordinates")
+    coordinates += [0] * (4 - len(coordinates))
     _check(_ends(code, *_arguments(f), *coordinates, ends, 4), 0)
     return tuple(ends)
 
@@ -249,8 +265,10 @@ def _rows(stored):
 
 
 def _handed_book(n, d, models, steps):
-    fields = bytes(field for step in steps for field in step[:4])
-    values = (_i64 * len(steps))(*(step[4] for step in steps))
+    if any(len(step) != 5 for step in steps):
+        raise ValueError("a step has five fields")
+    fields = bytes(_array(_u8, (field for step in steps for field in step[:4])))
+    values = _array(_i64, (step[4] for step in steps))
     return n, d, len(models), len(steps), *_lent(models), fields, len(fields), values, len(steps)
 
 

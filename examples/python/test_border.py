@@ -1,0 +1,166 @@
+"""Hands every number of every function of hechroung.py over as one that its field cannot hold: what crosses to the
+library must be the number that was given, or nothing. Each field's least and greatest number do cross."""
+
+import inspect
+from fractions import Fraction
+from typing import NamedTuple
+
+import hechroung
+from hechroung import UNIT, Model, Refused
+
+# The least and the greatest number of each width.
+BYTE, KEY, RADIUS, VALUE = (0, 2 ** 8 - 1), (0, 2 ** 16 - 1), (0, 2 ** 64 - 1), (-2 ** 63, 2 ** 63 - 1)
+NO_WHOLE_NUMBERS = [1.0, 0.5, float("nan"), Fraction(3, 2), "1", b"1", None, [1], 1j]
+
+
+def line():
+    """x + 3 units, within 2 units."""
+    return Model(1, 2, [(0x0000, 3), (0x1000, UNIT // 2)])
+
+
+def one():
+    return Model(1, 0, [(0x0000, UNIT)])
+
+
+STEPS = [(0, 0, 0, 0, 0), (2, 0, 0, 1, 0), (1, 0, 0, 0, 5), (4, 0, 1, 0, 0)]
+SHEET = bytes.fromhex("0100000005000000 010100010000 4D4B")
+# An accepted call of every function, by the names of its parameters.
+CALLS = {
+    "constant": {"n": 1, "value": 3},
+    "variable": {"n": 2, "i": 1},
+    "negate": {"f": line()},
+    "add": {"f": line(), "g": one()},
+    "subtract": {"f": line(), "g": one()},
+    "multiply": {"d": 2, "f": line(), "g": one()},
+    "substitute": {"d": 2, "i": 1, "f": line(), "g": line()},
+    "quotient": {"d": 2, "f": line(), "g": one(), "h": line(), "w": one()},
+    "antiderivative": {"d": 2, "i": 1, "f": line()},
+    "sweep": {"f": line(), "threshold": 3},
+    "range_of": {"f": line()},
+    "integral": {"f": line()},
+    "exact_integral": {"f": line()},
+    "evaluate": {"f": line(), "point": [7, 0, 0, 0]},
+    "lines": {"sheet": SHEET},
+    "records": {"sheet": SHEET},
+    "stepped": {"sheet": SHEET},
+    "run_book": {"n": 1, "d": 2, "models": [line(), one()], "steps": STEPS},
+    "shares": {"sheet": SHEET},
+    "shares_book": {"n": 1, "d": 2, "models": [line(), one()], "steps": STEPS},
+}
+
+
+class Number(NamedTuple):
+    """A number of a call: where it stands, the limits of its field, and the call with another in its place."""
+
+    name: str
+    limits: tuple
+    given: int
+    replaced: object
+
+
+def numbers_of_list(name, values, limits):
+    for k, given in enumerate(values):
+        yield Number(f"{name}[{k}]", limits, given, lambda other, k=k: [*values[:k], other, *values[k + 1:]])
+
+
+def numbers_of_model(name, model):
+    n, radius, terms = model.n, model.radius, model.terms
+    yield Number(f"{name}.n", BYTE, n, lambda other: Model(other, radius, terms))
+    yield Number(f"{name}.radius", RADIUS, radius, lambda other: Model(n, other, terms))
+    keys, coefficients = [list(column) for column in zip(*terms)]
+    for number in numbers_of_list(f"{name}.key", keys, KEY):
+        yield inside(number, lambda others: Model(n, radius, zip(others, coefficients)))
+    for number in numbers_of_list(f"{name}.coefficient", coefficients, VALUE):
+        yield inside(number, lambda others: Model(n, radius, zip(keys, others)))
+
+
+def inside(number, around):
+    """The number, with more around the part of the call that it stands in."""
+    return number._replace(replaced=lambda other: around(number.replaced(other)))
+
+
+def numbers_of_elements(name, values, numbers_of_element):
+    for k, value in enumerate(values):
+        for number in numbers_of_element(f"{name}[{k}]", value):
+            yield inside(number, lambda part, k=k: [*values[:k], part, *values[k + 1:]])
+
+
+def numbers_of_step(name, step):
+    for number in numbers_of_list(name, list(step), BYTE):
+        yield number._replace(limits=VALUE) if number.name.endswith("[4]") else number
+
+
+def numbers_of(name, argument):
+    if name in ("n", "d", "i"):
+        yield Number(name, BYTE, argument, lambda other: other)
+    elif name in ("value", "threshold"):
+        yield Number(name, VALUE, argument, lambda other: other)
+    elif name == "point":
+        yield from numbers_of_list(name, argument, VALUE)
+    elif name == "models":
+        yield from numbers_of_elements(name, argument, numbers_of_model)
+    elif name == "steps":
+        yield from numbers_of_elements(name, argument, numbers_of_step)
+    elif isinstance(argument, Model):
+        yield from numbers_of_model(name, argument)
+    else:
+        assert name == "sheet", f"{name} is no argument that this test knows"
+
+
+def outcome(function, arguments):
+    """The class of what a call raises, or the answer's; a generator is asked for all it has."""
+    try:
+        answer = getattr(hechroung, function)(**arguments)
+        return type(list(answer) if inspect.isgenerator(answer) else answer)
+    except Exception as raised:
+        return type(raised)
+
+
+def outside(number):
+    """The neighbours of the field, and what wraps round to the number that was given, or to 0."""
+    low, high = number.limits
+    width = high - low + 1
+    wraps = [number.given + sign * wrap for wrap in (width, 2 ** 32, 2 ** 64, 2 ** 128) for sign in (1, -1)]
+    others = [low - 1, high + 1, 2 ** 64, -2 ** 64, *wraps]
+    return [other for other in others if not low <= other <= high]
+
+
+def faults_of(function, arguments, name, number):
+    """What a number's place lets through, or keeps back."""
+    def called(other):
+        return outcome(function, {**arguments, name: number.replaced(other)})
+
+    where = f"{function}: {number.name}"
+    for other in [*outside(number), *NO_WHOLE_NUMBERS]:
+        if called(other) is not ValueError:
+            yield f"{where} = {other!r}: {called(other).__name__}"
+    # The greatest number of a field is never a sound one, and the least is at times.
+    low, high = number.limits
+    if called(high) is not Refused:
+        yield f"{where} = {high}: {called(high).__name__}, and the library would refuse it"
+    if called(low) in (ValueError, TypeError, hechroung.Misused):
+        yield f"{where} = {low}: {called(low).__name__}, and its field holds it"
+
+
+def main():
+    functions = inspect.getmembers(hechroung, inspect.isfunction)
+    public = {name for name, found in functions if found.__module__ == "hechroung" and not name.startswith("_")}
+    faults = [f"{name}: no call of it is tried" for name in sorted(public ^ set(CALLS))]
+    tried = 0
+    for function, arguments in CALLS.items():
+        if issubclass(outcome(function, arguments), Exception):
+            faults.append(f"{function}: the call that is tried is not accepted")
+        for name, argument in arguments.items():
+            for number in numbers_of(name, argument):
+                faults += faults_of(function, arguments, name, number)
+                tried += 1
+    for function, arguments in [("evaluate", {"f": line(), "point": [0, 0, 0, 0, 7]}),
+                                ("run_book", {"n": 1, "d": 2, "models": [], "steps": [(1, 0, 0, 0, 5, 7)]})]:
+        if outcome(function, arguments) is not ValueError:
+            faults.append(f"{function}: a number too many is left out")
+    print(*(faults or [f"{tried} numbers of {len(CALLS)} functions: none crosses as another one"]), sep="\n")
+    return bool(faults)
+
+
+if __name__ == "__main__":
+    raise SystemExit(main())
