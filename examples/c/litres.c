@@ -1,14 +1,11 @@
 /* Flow over the milking time in, litres gathered out, with the band at the end of milking: the antiderivative as a
    single call and as a step, then a lower order, a refusal and a misuse. examples/litres.md says what the lines are. */
-#include <hechroung.h>
+#include "measured.h"
 #include <inttypes.h>
 #include <stdio.h>
 
 /* HALF_TIME: minutes from the middle of the milking to its end, where x is 1. */
 enum { ORDER = 4, HALF_TIME = 3 };
-
-/* A number of hundredths in units, rounded toward 0. */
-static int64_t hundredths(int64_t value) { return HECHROUNG_UNIT * value / 100; }
 
 /* Litres since the start, where x is -1: the antiderivative is 0 in the middle, so its value at the start goes off. */
 static int gathered(uint8_t order, const struct hechroung_model *flow, struct hechroung_model *litres) {
@@ -22,15 +19,12 @@ static int gathered(uint8_t order, const struct hechroung_model *flow, struct he
 }
 
 int main(void) {
-    /* Litres a minute, to 0.05: 3.20 - 0.60 x - 2.40 x^2 + 0.40 x^3. Keys: x has hex 1000. */
-    struct hechroung_model flow = hechroung_zero(1), litres, lower;
-    const int64_t coefficients[4] = {hundredths(320), hundredths(-60), hundredths(-240), hundredths(40)};
-    flow.radius = (uint64_t)hundredths(5);
-    for (; flow.count < 4; flow.count++) {
-        flow.keys[flow.count] = (uint16_t)(flow.count << 12);
-        flow.coefficients[flow.count] = coefficients[flow.count];
-    }
+    /* Litres a minute, to 0.05: 3.20 - 0.60 x - 2.40 x^2 + 0.40 x^3, in hundredths. Keys: x has hex 1000. */
+    const struct measured_term terms[4] = {{0x0000, 320}, {0x1000, -60}, {0x2000, -240}, {0x3000, 40}};
+    const struct hechroung_model flow = measured(1, 100, 5, terms, 4);
+    struct hechroung_model litres, lower;
     if (gathered(ORDER, &flow, &litres)) return 1;
+    printf("flow: radius %" PRIu64 "\n", flow.radius);
     printf("radius %" PRIu64 "\n", litres.radius);
     for (size_t i = 0; i < litres.count; i++)
         printf("term %d %" PRId64 "\n", litres.keys[i] >> 12, litres.coefficients[i]);

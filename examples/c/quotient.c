@@ -1,19 +1,10 @@
 /* A conductivity curve corrected by a temperature curve: the quotient from a proposal, as a single call and as a step,
    then a poorer proposal, a refusal and a misuse. examples/quotient.md says what the lines mean. */
-#include <hechroung.h>
+#include "measured.h"
 #include <inttypes.h>
 #include <stdio.h>
 
 enum { ORDER = 3 };
-
-/* A number of hundredths in units, rounded toward 0. */
-static int64_t hundredths(int64_t value) { return HECHROUNG_UNIT * value / 100; }
-
-static void add_term(struct hechroung_model *model, uint16_t key, int64_t coefficient) {
-    model->keys[model->count] = key;
-    model->coefficients[model->count] = coefficient;
-    model->count++;
-}
 
 /* h near f / g and w near 1 / g, by the library's own calls. From the inverse of g's constant part, w <- w (2 - g w)
    squares the distance from 1 / g in every round, up to the order; then h <- f w. Radii do not matter for a proposal
@@ -38,33 +29,30 @@ static int propose(struct hechroung_model f, struct hechroung_model g, int round
 
 int main(void) {
     /* x is the time of the milking, y the milk's temperature. Conductivity in mS/cm, to 0.02; the factor of the
-       temperature, to 0.001. Keys: x has hex 1000, y hex 0100. */
-    struct hechroung_model conductivity = hechroung_zero(2), temperature = hechroung_zero(2);
-    conductivity.radius = (uint64_t)hundredths(2);
-    add_term(&conductivity, 0x0000, hundredths(560));
-    add_term(&conductivity, 0x0100, hundredths(60));
-    add_term(&conductivity, 0x1000, hundredths(50));
-    add_term(&conductivity, 0x1100, hundredths(5));
-    add_term(&conductivity, 0x2000, hundredths(-20));
-    temperature.radius = HECHROUNG_UNIT / 1000;
-    add_term(&temperature, 0x0000, hundredths(124));
-    add_term(&temperature, 0x0100, hundredths(6));
-    add_term(&temperature, 0x1000, hundredths(1));
+       temperature, to 0.001; both in thousandths. Keys: x has hex 1000, y hex 0100. */
+    const struct measured_term conductivities[5] = {
+        {0x0000, 5600}, {0x0100, 600}, {0x1000, 500}, {0x1100, 50}, {0x2000, -200}};
+    const struct measured_term factors[3] = {{0x0000, 1240}, {0x0100, 60}, {0x1000, 10}};
+    const struct hechroung_model conductivity = measured(2, 1000, 20, conductivities, 5);
+    const struct hechroung_model temperature = measured(2, 1000, 1, factors, 3);
 
     struct hechroung_model h, w, corrected, poorer, y;
     struct hechroung_ends range, value;
-    const int64_t point[4] = {hundredths(60), hundredths(-30), 0, 0};
+    /* a point is in whole units; 5/8 and -1/4 are, where 0.6 and -0.3 would be another point */
+    const int64_t point[4] = {HECHROUNG_UNIT / 8 * 5, -HECHROUNG_UNIT / 4, 0, 0};
     if (propose(conductivity, temperature, 2, &h, &w) ||
         hechroung_divide(ORDER, &conductivity, &temperature, &h, &w, &corrected, NULL) ||
         hechroung_range(&corrected, &range) || hechroung_evaluate(&corrected, point, &value))
         return 1;
+    printf("conductivity: radius %" PRIu64 "\n", conductivity.radius);
+    printf("temperature: radius %" PRIu64 "\n", temperature.radius);
     printf("proposal: h of %zu terms, w of %zu\n", h.count, w.count);
     printf("radius %" PRIu64 "\n", corrected.radius);
     for (size_t i = 0; i < corrected.count; i++)
         printf("term %d %d %" PRId64 "\n", corrected.keys[i] >> 12, corrected.keys[i] >> 8 & 15,
                corrected.coefficients[i]);
     printf("range %" PRId64 " %" PRId64 "\n", range.low, range.high);
-    printf("at 0.6 -0.3 %" PRId64 " %" PRId64 "\n", value.low, value.high);
+    printf("at 5/8 -1/4 %" PRId64 " %" PRId64 "\n", value.low, value.high);
 
     /* the same as a step: four inputs, then code 9 with f in a, g in b, step h in v and step w in value */
     const struct hechroung_model models[4] = {conductivity, temperature, h, w};

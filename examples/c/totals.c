@@ -12,17 +12,15 @@
 /* HALF_TIME: minutes from the middle of a milking to its end, where x is 1. */
 enum { MILKINGS = 2000, ORDER = 4, HALF_TIME = 3 };
 
-/* A number of thousandths in units, rounded toward 0. */
-static int64_t thousandths(int64_t value) { return HECHROUNG_UNIT * value / 1000; }
-
-/* Litres a minute of milking k, each a little different. Keys: x has hex 1000. */
+/* Litres a minute of milking k, each a little different. The meter counts in steps of 1/1024, which are whole units:
+   nothing is rounded, and the radius is 0. Keys: x has hex 1000. */
 static struct hechroung_model flow(int64_t k) {
     const int64_t values[5] = {2900 + 7 * k % 611, -650 + 13 * k % 301, -2000 - 11 * k % 407, 310 + 5 * k % 97,
                                -40 - 3 * k % 53};
     struct hechroung_model flow = hechroung_zero(1);
     for (; flow.count < 5; flow.count++) {
         flow.keys[flow.count] = (uint16_t)(flow.count << 12);
-        flow.coefficients[flow.count] = thousandths(values[flow.count]);
+        flow.coefficients[flow.count] = HECHROUNG_UNIT / 1024 * values[flow.count];
     }
     return flow;
 }

@@ -1,17 +1,13 @@
 """Flow over the milking time in, litres gathered out, with the band at the end of milking: the antiderivative as a
 single call and as a step, then a lower order, a refusal and a misuse. examples/litres.md says what the lines mean."""
 
-from hechroung import UNIT, Misused, Model, Refused
+from hechroung import UNIT, Misused, Refused
 from hechroung import antiderivative, constant, evaluate, multiply, shares_book, substitute, subtract
+from measured import measured
 
 ORDER = 4
 # Minutes from the middle of the milking to its end, where x is 1.
 HALF_TIME = 3
-
-
-def hundredths(value):
-    """A number of hundredths in units, rounded toward 0."""
-    return UNIT * value // 100 if value >= 0 else -(UNIT * -value // 100)
 
 
 def gathered(order, flow):
@@ -21,10 +17,10 @@ def gathered(order, flow):
     return multiply(order, subtract(from_middle, at_start), constant(1, HALF_TIME * UNIT))
 
 
-# Litres a minute, to 0.05: 3.20 - 0.60 x - 2.40 x^2 + 0.40 x^3. Keys: x has hex 1000.
-flow = Model(1, hundredths(5), [(0x0000, hundredths(320)), (0x1000, hundredths(-60)), (0x2000, hundredths(-240)),
-                                (0x3000, hundredths(40))])
+# Litres a minute, to 0.05: 3.20 - 0.60 x - 2.40 x^2 + 0.40 x^3, in hundredths. Keys: x has hex 1000.
+flow = measured(1, 100, 5, [(0x0000, 320), (0x1000, -60), (0x2000, -240), (0x3000, 40)])
 litres = gathered(ORDER, flow)
+print("flow: radius", flow.radius)
 print("radius", litres.radius)
 for key, coefficient in litres.terms:
     print("term", key >> 12, coefficient)

@@ -1,32 +1,29 @@
 """A conductivity curve corrected by a temperature curve: the quotient from a proposal, as a single call and as a step,
 then a poorer proposal, a refusal and a misuse. examples/quotient.md says what the lines mean."""
 
-from hechroung import UNIT, Misused, Model, Refused
+from hechroung import UNIT, Misused, Refused
 from hechroung import evaluate, quotient, range_of, run_book, variable
+from measured import measured
 from propose import propose
 
 ORDER = 3
 
-
-def hundredths(value):
-    """A number of hundredths in units, rounded toward 0."""
-    return UNIT * value // 100 if value >= 0 else -(UNIT * -value // 100)
-
-
 # x is the time of the milking, y the milk's temperature. Conductivity in mS/cm, to 0.02; the factor of the temperature,
-# to 0.001. Keys: x has hex 1000, y hex 0100.
-conductivity = Model(2, hundredths(2), [(0x0000, hundredths(560)), (0x0100, hundredths(60)), (0x1000, hundredths(50)),
-                                        (0x1100, hundredths(5)), (0x2000, hundredths(-20))])
-temperature = Model(2, UNIT // 1000, [(0x0000, hundredths(124)), (0x0100, hundredths(6)), (0x1000, hundredths(1))])
+# to 0.001; both in thousandths. Keys: x has hex 1000, y hex 0100.
+conductivity = measured(2, 1000, 20, [(0x0000, 5600), (0x0100, 600), (0x1000, 500), (0x1100, 50), (0x2000, -200)])
+temperature = measured(2, 1000, 1, [(0x0000, 1240), (0x0100, 60), (0x1000, 10)])
 
 h, w = propose(ORDER, conductivity, temperature)
 corrected = quotient(ORDER, conductivity, temperature, h, w)
+print("conductivity: radius", conductivity.radius)
+print("temperature: radius", temperature.radius)
 print("proposal: h of", len(h.terms), "terms, w of", len(w.terms))
 print("radius", corrected.radius)
 for key, coefficient in corrected.terms:
     print("term", key >> 12, key >> 8 & 15, coefficient)
 print("range", *range_of(corrected))
-print("at 0.6 -0.3", *evaluate(corrected, [hundredths(60), hundredths(-30)]))
+# A point is in whole units; 5/8 and -1/4 are, where 0.6 and -0.3 would be another point.
+print("at 5/8 -1/4", *evaluate(corrected, [UNIT * 5 // 8, -UNIT // 4]))
 
 # The same as a step: four inputs, then code 9 with f in a, g in b, step h in v and step w in value.
 inputs = [(0, model, 0, 0, 0) for model in range(4)]

@@ -13,15 +13,11 @@ HALF_TIME = 3
 STEPS = [(0, 0, 0, 0, 0), (1, 0, 0, 0, HALF_TIME * UNIT), (6, 0, 1, 0, 0)]
 
 
-def thousandths(value):
-    """A number of thousandths in units, rounded toward 0."""
-    return UNIT * value // 1000 if value >= 0 else -(UNIT * -value // 1000)
-
-
 def flow(k):
-    """Litres a minute of milking k, each a little different. Keys: x has hex 1000."""
+    """Litres a minute of milking k, each a little different. The meter counts in steps of 1/1024, which are whole
+    units: nothing is rounded, and the radius is 0. Keys: x has hex 1000."""
     values = [2900 + 7 * k % 611, -650 + 13 * k % 301, -2000 - 11 * k % 407, 310 + 5 * k % 97, -40 - 3 * k % 53]
-    return Model(1, 0, [(power << 12, thousandths(value)) for power, value in enumerate(values)])
+    return Model(1, 0, [(power << 12, UNIT // 1024 * value) for power, value in enumerate(values)])
 
 
 def exact(model):

@@ -6,23 +6,18 @@
 use hechroung::raw::{self, Handed};
 use hechroung::{antiderivative, evaluate, multiply, shares_book, substitute, subtract};
 use hechroung::{Book, Model, Refusal, Step, UNIT};
+use measured::measured;
 
 const ORDER: u8 = 4;
 /// Minutes from the middle of the milking to its end, where x is 1.
 const HALF_TIME: i64 = 3;
 
 fn main() -> Result<(), Refusal> {
-    // Litres a minute, to 0.05: 3.20 - 0.60 x - 2.40 x^2 + 0.40 x^3. Keys: x has hex 1000.
-    let mut flow = Model {
-        count: 4,
-        radius: hundredths(5) as u64,
-        ..Model::ZERO
-    };
-    for (place, value) in [320, -60, -240, 40].into_iter().enumerate() {
-        flow.keys[place] = (place as u16) << 12;
-        flow.coefficients[place] = hundredths(value);
-    }
+    // Litres a minute, to 0.05: 3.20 - 0.60 x - 2.40 x^2 + 0.40 x^3, in hundredths. Keys: x has hex 1000.
+    let terms = [(0x0000, 320), (0x1000, -60), (0x2000, -240), (0x3000, 40)];
+    let flow = measured(1, 100, 5, &terms);
     let litres = gathered(ORDER, &flow)?;
+    println!("flow: radius {}", flow.radius);
     println!("radius {}", litres.radius);
     for (key, coefficient) in litres.terms() {
         println!("term {} {coefficient}", key >> 12);
@@ -80,9 +75,4 @@ fn gathered(order: u8, flow: &Model) -> Result<Model, Refusal> {
     let since_start = subtract(&from_middle, &at_start)?;
     let half_time = Model::constant(1, HALF_TIME * UNIT)?;
     multiply(order, &since_start, &half_time)
-}
-
-/// A number of hundredths in units, rounded toward 0.
-fn hundredths(value: i64) -> i64 {
-    UNIT * value / 100
 }

@@ -6,42 +6,38 @@
 use hechroung::raw::{self, HandedModels};
 use hechroung::{evaluate, multiply, quotient, range, run_book, subtract};
 use hechroung::{Book, Model, Refusal, Step, UNIT};
+use measured::measured;
 
 const ORDER: u8 = 3;
 
 fn main() -> Result<(), Refusal> {
     // x is the time of the milking, y the milk's temperature. Conductivity in mS/cm, to 0.02; the factor of the
-    // temperature, to 0.001. Keys: x has hex 1000, y hex 0100.
-    let conductivity = model(
-        hundredths(2),
-        &[
-            (0x0000, hundredths(560)),
-            (0x0100, hundredths(60)),
-            (0x1000, hundredths(50)),
-            (0x1100, hundredths(5)),
-            (0x2000, hundredths(-20)),
-        ],
-    );
-    let temperature = model(
-        UNIT / 1000,
-        &[
-            (0x0000, hundredths(124)),
-            (0x0100, hundredths(6)),
-            (0x1000, hundredths(1)),
-        ],
-    );
+    // temperature, to 0.001; both in thousandths. Keys: x has hex 1000, y hex 0100.
+    let conductivities = [
+        (0x0000, 5600),
+        (0x0100, 600),
+        (0x1000, 500),
+        (0x1100, 50),
+        (0x2000, -200),
+    ];
+    let factors = [(0x0000, 1240), (0x0100, 60), (0x1000, 10)];
+    let conductivity = measured(2, 1000, 20, &conductivities);
+    let temperature = measured(2, 1000, 1, &factors);
 
     let (h, w) = propose(&conductivity, &temperature, 2)?;
     let corrected = quotient(ORDER, &conductivity, &temperature, &h, &w)?;
     let ends = range(&corrected)?;
-    let value = evaluate(&corrected, [hundredths(60), hundredths(-30), 0, 0])?;
+    // A point is in whole units; 5/8 and -1/4 are, where 0.6 and -0.3 would be another point.
+    let value = evaluate(&corrected, [UNIT / 8 * 5, -UNIT / 4, 0, 0])?;
+    println!("conductivity: radius {}", conductivity.radius);
+    println!("temperature: radius {}", temperature.radius);
     println!("proposal: h of {} terms, w of {}", h.count, w.count);
     println!("radius {}", corrected.radius);
     for (key, coefficient) in corrected.terms() {
         println!("term {} {} {coefficient}", key >> 12, key >> 8 & 15);
     }
     println!("range {} {}", ends.low, ends.high);
-    println!("at 0.6 -0.3 {} {}", value.low, value.high);
+    println!("at 5/8 -1/4 {} {}", value.low, value.high);
 
     // The same as a step: four inputs, then code 9 with f in a, g in b, step h in v and step w in value.
     let mut steps: Vec<Step> = (0..4).map(input).collect();
@@ -96,26 +92,6 @@ fn propose(f: &Model, g: &Model, rounds: usize) -> Result<(Model, Model), Refusa
 
 fn without_radius(model: Model) -> Model {
     Model { radius: 0, ..model }
-}
-
-/// A number of hundredths in units, rounded toward 0.
-fn hundredths(value: i64) -> i64 {
-    UNIT * value / 100
-}
-
-/// A model in two variables.
-fn model(radius: i64, terms: &[(u16, i64)]) -> Model {
-    let mut model = Model {
-        n: 2,
-        count: terms.len(),
-        radius: radius as u64,
-        ..Model::ZERO
-    };
-    for (place, &(key, coefficient)) in terms.iter().enumerate() {
-        model.keys[place] = key;
-        model.coefficients[place] = coefficient;
-    }
-    model
 }
 
 fn input(model: u8) -> Step {

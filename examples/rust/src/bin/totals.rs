@@ -51,7 +51,8 @@ fn main() -> Result<(), Refusal> {
     Ok(())
 }
 
-/// Litres a minute of milking k, each a little different. Keys: x has hex 1000.
+/// Litres a minute of milking k, each a little different. The meter counts in steps of 1/1024, which are whole units:
+/// nothing is rounded, and the radius is 0. Keys: x has hex 1000.
 fn flow(k: i64) -> Model {
     let values = [
         2900 + 7 * k % 611,
@@ -66,7 +67,7 @@ fn flow(k: i64) -> Model {
     };
     for (place, value) in values.into_iter().enumerate() {
         flow.keys[place] = (place as u16) << 12;
-        flow.coefficients[place] = UNIT * value / 1000;
+        flow.coefficients[place] = UNIT / 1024 * value;
     }
     flow
 }

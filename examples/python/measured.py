@@ -1,0 +1,22 @@
+"""Models of what was measured in decimals.
+
+A decimal number is rarely a whole number of units. Each coefficient goes to the nearest unit; by what that leaves the
+polynomial is off, so it all goes into the radius, beside the error of the measurement. That sum is rounded up, and once:
+rounded down, a curve at the edge of the error would not be within the model, and its band would not be promised.
+"""
+
+from hechroung import UNIT, Model
+
+
+def measured(n, parts, error, terms):
+    """The model of a polynomial in n variables that is known to an error; the error and the coefficients are whole
+    numbers of parts, so many to 1. Everything is exact, in parts of a unit, up to the last line."""
+    left = UNIT * error
+    rounded = []
+    for key, value in terms:
+        coefficient = (2 * UNIT * value + parts) // (2 * parts)
+        left += abs(UNIT * value - parts * coefficient)
+        # A model has no terms of 0; what was rounded away is paid for.
+        if coefficient:
+            rounded.append((key, coefficient))
+    return Model(n, (left + parts - 1) // parts, rounded)
