@@ -14,6 +14,10 @@
 //! let square = hechroung::multiply(2, &sum, &sum)?;
 //! let ends = range(&square)?;
 //! assert_eq!((ends.low, ends.high), (-786_432, 2_359_296));
+//!
+//! // There is no second variable: `?` ends here with number 6.
+//! let refusal = Model::variable(1, 2).unwrap_err();
+//! assert_eq!((refusal.number, refusal.place), (6, 0));
 //! # Ok::<(), hechroung::Refusal>(())
 //! ```
 
