@@ -54,6 +54,7 @@ def _exported(name, answer, *fields):
         pairs = zip(fields, arguments, strict=True)
         return function(*(_whole(field, given) if field in _NUMBERS else given for field, given in pairs))
 
+    tested.fields = fields
     return tested
 
 

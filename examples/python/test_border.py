@@ -1,15 +1,20 @@
-"""Hands every number of every function of hechroung.py over as one that its field cannot hold: what crosses to the
-library must be the number that was given, or nothing. Each field's least and greatest number do cross."""
+"""Hands every number of every function of hechroung.py, and of every exported function that it declares, over as one
+that its field cannot hold: what crosses to the library must be the number that was given, or nothing. Each field's
+least and greatest number do cross."""
 
+import ctypes
 import inspect
 from fractions import Fraction
 from typing import NamedTuple
 
 import hechroung
-from hechroung import UNIT, Model, Refused
+from hechroung import UNIT, Misused, Model, Refused
 
 # The least and the greatest number of each width.
 BYTE, KEY, RADIUS, VALUE = (0, 2 ** 8 - 1), (0, 2 ** 16 - 1), (0, 2 ** 64 - 1), (-2 ** 63, 2 ** 63 - 1)
+WIDTHS = {ctypes.c_uint8: BYTE, ctypes.c_uint64: RADIUS, ctypes.c_size_t: RADIUS, ctypes.c_int64: VALUE}
+# How many exported functions hechroung.py declares.
+DECLARED = 10
 NO_WHOLE_NUMBERS = [1.0, 0.5, float("nan"), Fraction(3, 2), "1", b"1", None, [1], 1j]
 
 
@@ -107,10 +112,10 @@ def numbers_of(name, argument):
         assert name == "sheet", f"{name} is no argument that this test knows"
 
 
-def outcome(function, arguments):
+def outcome(function, *positional, **named):
     """The class of what a call raises, or the answer's; a generator is asked for all it has."""
     try:
-        answer = getattr(hechroung, function)(**arguments)
+        answer = function(*positional, **named)
         return type(list(answer) if inspect.isgenerator(answer) else answer)
     except Exception as raised:
         return type(raised)
@@ -125,21 +130,30 @@ def outside(number):
     return [other for other in others if not low <= other <= high]
 
 
-def faults_of(function, arguments, name, number):
-    """What a number's place lets through, or keeps back."""
-    def called(other):
-        return outcome(function, {**arguments, name: number.replaced(other)})
-
-    where = f"{function}: {number.name}"
+def crossing(where, number, called):
+    """What a number's place lets through that is not one of its field's."""
     for other in [*outside(number), *NO_WHOLE_NUMBERS]:
         if called(other) is not ValueError:
             yield f"{where} = {other!r}: {called(other).__name__}"
-    # The greatest number of a field is never a sound one, and the least is at times.
+
+
+def kept_back(where, number, called):
+    """What a number's place keeps back of its field. The greatest is never a sound number, and the least at times."""
     low, high = number.limits
     if called(high) is not Refused:
         yield f"{where} = {high}: {called(high).__name__}, and the library would refuse it"
-    if called(low) in (ValueError, TypeError, hechroung.Misused):
+    if called(low) in (ValueError, TypeError, Misused):
         yield f"{where} = {low}: {called(low).__name__}, and its field holds it"
+
+
+def declared():
+    """Each number of each exported function that is declared; the other numbers are 0, and no pointer is handed over."""
+    for name, function in vars(hechroung).items():
+        fields = getattr(function, "fields", ())
+        arguments = [0 if field in WIDTHS else None for field in fields]
+        for field, number in zip(fields, numbers_of_list(name, arguments, None)):
+            if field in WIDTHS:
+                yield function, number._replace(limits=WIDTHS[field])
 
 
 def main():
@@ -147,18 +161,30 @@ def main():
     public = {name for name, found in functions if found.__module__ == "hechroung" and not name.startswith("_")}
     faults = [f"{name}: no call of it is tried" for name in sorted(public ^ set(CALLS))]
     tried = 0
-    for function, arguments in CALLS.items():
-        if issubclass(outcome(function, arguments), Exception):
-            faults.append(f"{function}: the call that is tried is not accepted")
-        for name, argument in arguments.items():
-            for number in numbers_of(name, argument):
-                faults += faults_of(function, arguments, name, number)
+    for name, arguments in CALLS.items():
+        function = getattr(hechroung, name)
+        if issubclass(outcome(function, **arguments), Exception):
+            faults.append(f"{name}: the call that is tried is not accepted")
+        for argument, given in arguments.items():
+            for number in numbers_of(argument, given):
+                def called(other):
+                    return outcome(function, **{**arguments, argument: number.replaced(other)})
+
+                where = f"{name}: {number.name}"
+                faults += [*crossing(where, number, called), *kept_back(where, number, called)]
                 tried += 1
-    for function, arguments in [("evaluate", {"f": line(), "point": [0, 0, 0, 0, 7]}),
-                                ("run_book", {"n": 1, "d": 2, "models": [], "steps": [(1, 0, 0, 0, 5, 7)]})]:
-        if outcome(function, arguments) is not ValueError:
-            faults.append(f"{function}: a number too many is left out")
-    print(*(faults or [f"{tried} numbers of {len(CALLS)} functions: none crosses as another one"]), sep="\n")
+    for name, arguments in [("evaluate", {"f": line(), "point": [0, 0, 0, 0, 7]}),
+                            ("run_book", {"n": 1, "d": 2, "models": [], "steps": [(1, 0, 0, 0, 5, 7)]})]:
+        if outcome(getattr(hechroung, name), **arguments) is not ValueError:
+            faults.append(f"{name}: a number too many is left out")
+    exported = list(declared())
+    if len({function for function, _ in exported}) != DECLARED:
+        faults.append("another number of exported functions is declared")
+    # Last, and only where all else holds: a length that crosses would be one of a slice that is not there.
+    for function, number in exported if not faults else []:
+        faults += crossing(number.name, number, lambda other: outcome(function, *number.replaced(other)))
+    counts = f"{tried} numbers of {len(CALLS)} functions and {len(exported)} of {DECLARED} exported ones"
+    print(*(faults or [f"{counts}: none crosses as another"]), sep="\n")
     return bool(faults)
 
 
