@@ -147,7 +147,7 @@ def kept_back(where, number, called):
 
 
 def declared():
-    """Each number of each exported function that is declared; the other numbers are 0, and no pointer is handed over."""
+    """Each number of each exported function that is declared; its others are 0, and no pointer is handed over."""
     for name, function in vars(hechroung).items():
         fields = getattr(function, "fields", ())
         arguments = [0 if field in WIDTHS else None for field in fields]
@@ -156,33 +156,52 @@ def declared():
                 yield function, number._replace(limits=WIDTHS[field])
 
 
-def main():
+def numbers_of_call(arguments):
+    for name, argument in arguments.items():
+        for number in numbers_of(name, argument):
+            yield inside(number, lambda part, name=name: {**arguments, name: part})
+
+
+def faults_of_call(name, arguments):
+    function = getattr(hechroung, name)
+    if issubclass(outcome(function, **arguments), Exception):
+        yield f"{name}: the call that is tried is not accepted"
+    for number in numbers_of_call(arguments):
+        def called(other):
+            return outcome(function, **number.replaced(other))
+
+        where = f"{name}: {number.name}"
+        yield from crossing(where, number, called)
+        yield from kept_back(where, number, called)
+
+
+def faults_of_exported(exported):
+    for function, number in exported:
+        yield from crossing(number.name, number, lambda other: outcome(function, *number.replaced(other)))
+
+
+def missing(exported):
+    """Functions that are not tried, and numbers behind the last that a call has a place for."""
     functions = inspect.getmembers(hechroung, inspect.isfunction)
     public = {name for name, found in functions if found.__module__ == "hechroung" and not name.startswith("_")}
-    faults = [f"{name}: no call of it is tried" for name in sorted(public ^ set(CALLS))]
-    tried = 0
-    for name, arguments in CALLS.items():
-        function = getattr(hechroung, name)
-        if issubclass(outcome(function, **arguments), Exception):
-            faults.append(f"{name}: the call that is tried is not accepted")
-        for argument, given in arguments.items():
-            for number in numbers_of(argument, given):
-                def called(other):
-                    return outcome(function, **{**arguments, argument: number.replaced(other)})
-
-                where = f"{name}: {number.name}"
-                faults += [*crossing(where, number, called), *kept_back(where, number, called)]
-                tried += 1
-    for name, arguments in [("evaluate", {"f": line(), "point": [0, 0, 0, 0, 7]}),
-                            ("run_book", {"n": 1, "d": 2, "models": [], "steps": [(1, 0, 0, 0, 5, 7)]})]:
-        if outcome(getattr(hechroung, name), **arguments) is not ValueError:
-            faults.append(f"{name}: a number too many is left out")
-    exported = list(declared())
+    for name in sorted(public ^ set(CALLS)):
+        yield f"{name}: no call of it is tried"
     if len({function for function, _ in exported}) != DECLARED:
-        faults.append("another number of exported functions is declared")
+        yield "another number of exported functions is declared"
+    if outcome(hechroung.evaluate, line(), [0, 0, 0, 0, 7]) is not ValueError:
+        yield "a fifth coordinate is left out"
+    if outcome(hechroung.run_book, 1, 2, [], [(1, 0, 0, 0, 5, 7)]) is not ValueError:
+        yield "a sixth field of a step is left out"
+
+
+def main():
+    exported = list(declared())
+    faults = list(missing(exported))
+    for name, arguments in CALLS.items():
+        faults += faults_of_call(name, arguments)
     # Last, and only where all else holds: a length that crosses would be one of a slice that is not there.
-    for function, number in exported if not faults else []:
-        faults += crossing(number.name, number, lambda other: outcome(function, *number.replaced(other)))
+    faults += faults_of_exported(exported) if not faults else []
+    tried = sum(len(list(numbers_of_call(arguments))) for arguments in CALLS.values())
     counts = f"{tried} numbers of {len(CALLS)} functions and {len(exported)} of {DECLARED} exported ones"
     print(*(faults or [f"{counts}: none crosses as another"]), sep="\n")
     return bool(faults)
