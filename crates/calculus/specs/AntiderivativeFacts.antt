@@ -5,10 +5,12 @@
 use mathlib.Core.Path.{_≡_, refl, sym, _∙_, ap, ap₂}
 use mathlib.Core.Bool.{true, false}
 use mathlib.Core.List.{[], _∷_}
+use mathlib.Core.Option.{some}
 use Prim.Native.Nat.{ℕ, _+_, _*_, _/_, _≤_}
 use native.Mathlib.Omega.{arith}
 use lib.IntN.{pos, negsuc}
-use Rattle.algebra.specs.Ring.{pow}
+use lib.Signed.{_≤ℤ_}
+use Rattle.algebra.specs.Ring.{nat, pow}
 use Rattle.algebra.specs.RingSolver.{𝟎, 𝟏, _⊞_, _⊟_, _⊠_, ⊝_, ring}
 use Rattle.algebra.specs.Ordered.{abs}
 use Rattle.algebra.specs.OrderedLaws.{abs-mul, abs-pos, *-mono}
@@ -16,10 +18,11 @@ use Rattle.algebra.specs.Rational.{ℚ, _+ℚ_, _*ℚ_, negℚ, whole, _≤ℚ_
 use Rattle.algebra.specs.RationalRing.{ℚR}
 use Rattle.algebra.specs.RationalOrder.{ℚO}
 use Rattle.algebra.specs.RationalField.{ℚF}
-use Rattle.algebra.specs.RationalLaws.{whole-+, whole-neg, whole-reciprocal}
+use Rattle.algebra.specs.RationalLaws.{≤-whole, nat-whole, whole-+, whole-neg, whole-reciprocal}
 use Rattle.polynomial.specs.Polynomial as P
 use Rattle.polynomial.specs.Polynomial.{eval, monomial, exponent, raise, replace}
 use Rattle.polynomial.specs.PolynomialLaws.{eval-sum, eval-constant}
+use Rattle.polynomial.specs.Integral as I
 use Rattle.polynomial.specs.Antiderivative.{antiderivative-in}
 use Rattle.polynomial.specs.VariableAntiderivativeLaws.{antiderivative-constant}
 use Rattle.fixed.specs.Fixed.{U}
@@ -31,13 +34,11 @@ use Rattle.calculus.specs.Model.{Within}
 use Rattle.calculus.specs.Refusal.{done}
 use Rattle.calculus.specs.Operations.{Ends, Mixed}
 use Rattle.calculus.specs.Book.{input, constant, negate, multiply, quotient, antiderivative, Book, model-of}
-use Rattle.calculus.specs.Book.{Summary}
-use Rattle.calculus.specs.Book.{summary, last, run}
+use Rattle.calculus.specs.Book.{operands, Summary, summary, last, run}
 use Rattle.calculus.specs.Outcome.{0ℚ, ℚ-Polynomial, value-of, antiderivative-of, Inputs, functions, polynomials}
 use Rattle.calculus.specs.Outcome.{input-outcome, mapped, value-of-made, step-value, step-polynomial}
-use Rattle.calculus.specs.Outcome.{step-outcome}
-use Rattle.calculus.specs.Outcome.{outcome-of, outcomes-after, outcomes, outcome}
-use Rattle.calculus.specs.Claim.{All-within, promised, Given, Claim}
+use Rattle.calculus.specs.Outcome.{step-outcome, outcome-of, outcomes-after, outcomes, outcome, exact-integral}
+use Rattle.calculus.specs.Claim.{Lies, All-within, promised, Given, Claim}
 use Rattle.calculus.specs.Computing.{runs, promises}
 use Rattle.calculus.specs.UnitLaws.{natural, natural-*, natural-nonneg, U-times}
 use Rattle.calculus.specs.ValueLaws.{Near, at-near, abs-zero}
@@ -114,6 +115,11 @@ pub fed-not-promised : (I : Inputs) → promised fed I ≡ false
 unfolding promises fed
 fed-not-promised (functions F) = refl
 fed-not-promised (polynomials Q) = refl
+
+-- a quotient names its proposal too: what feeds that feeds the quotient
+pub quotient-operands : operands (quotient 1 2 3 4) ≡ 1 ∷ 2 ∷ 3 ∷ 4 ∷ []
+unfolding promises
+quotient-operands = refl
 
 -- though it runs
 pub fed-runs : run fed ≡ done (summary (record { vars = 1; radius = 1; terms = [] }))
@@ -202,6 +208,18 @@ gathered-radius s c = let h : 2 ≤ s .model .radius + s .model .radius = bounde
         ≡ whole (pos 2)
     apart = ap₂ _-ℚ_ up-at-one down-at-one
         ∙ ap (λ z. whole (pos 1) +ℚ z) (sym (whole-neg (negsuc 0))) ∙ sym (whole-+ (pos 1) (pos 1))
+
+-- and its range reaches as far
+pub gathered-range : (s : Summary) → Claim gathered s
+    → ((s .range .low) ≤ℤ negsuc 0) × (pos 1 ≤ℤ (s .range .high))
+gathered-range s c = (
+  ≤-whole (s .range .low) (negsuc 0) (lies down .from ≤≡ down-at-one),
+  ≤-whole (pos 1) (s .range .high) (sym up-at-one ≡≤ lies up .to),
+)
+  where
+    lies : (j : Jump) → Lies (gathered-outcome (shifted j gathered)) (s .range)
+    lies j = unfold gathered-outcome in
+        c .in-range (polynomials (shifted j gathered)) right (gathered-given j)
 
 pub without-input-refuted : (r i : Ends) (x : Mixed)
     → Claim gathered (record {
@@ -294,6 +312,31 @@ pub without-swept-refuted : (r i : Ends) (x : Mixed)
     })
     → ⊥
 without-swept-refuted r i x c = omega (arith, radius-enough 1 2 0 r i x c)
+
+-- ---- the integral: that of 3x^2/2, the antiderivative of 3x, is 1
+unfoldable pub gathered-curve : ℚ-Polynomial
+gathered-curve = antiderivative-of 1 (own-polynomial (term-book 2 3) 0)
+
+curve-integral : natural U *ℚ exact-integral 1 gathered-curve ≡ natural 1
+unfolding gathered-curve exact-integral antiderivative-of antiderivative-in own-polynomial model-of term-book polynomial
+    exponent raise index-of I.integral I.moment I.all-even I.even I.first I.rest I.divisor
+curve-integral = ring 5 ℚR (λ u a r t s. u ⊠ (a ⊠ r ⊠ (t ⊠ s) ⊞ 𝟎)) (λ u a r t s. (u ⊠ a) ⊠ s ⊠ (t ⊠ r)) refl
+    (natural U) (pos 3 /U) (reciprocal 2) (nat ℚR 2) (reciprocal 3)
+    ∙ ap₂ (λ a t. a *ℚ reciprocal 3 *ℚ (t *ℚ reciprocal 2)) (U-times (pos 3)) (nat-whole 2)
+    ∙ ap₂ _*ℚ_ (whole-reciprocal 3 (omega arith)) (whole-reciprocal 2 (omega arith)) ∙ ℚR .*-one (natural 1)
+
+-- so an answer's ends enclose 1
+pub gathered-integral : (s : Summary) → Claim (term-book 2 3) s
+    → ((s .integral .low) ≤ℤ pos 1) × (pos 1 ≤ℤ (s .integral .high))
+gathered-integral s c = (
+  ≤-whole (s .integral .low) (pos 1) (lies .from ≤≡ curve-integral),
+  ≤-whole (pos 1) (s .integral .high) (sym curve-integral ≡≤ lies .to),
+)
+  where
+    lies : Lies (exact-integral 1 gathered-curve) (s .integral)
+    lies = unfold gathered-curve term-book promises outcome outcomes outcomes-after step-outcome step-polynomial
+        outcome-of last input-outcome mapped in
+        c .integral-in-ends (own-polynomial (term-book 2 3)) tt (own-polynomial-within (term-book 2 3)) _ refl
 
 -- ---- the antiderivative that is zero at -1: the claim would be false of this accepted book
 unfoldable pub ramp : Book

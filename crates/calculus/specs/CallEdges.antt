@@ -1,5 +1,6 @@
 -- Cases at the edges of the single calls: the order of their tests, and what is handed back with a refusal.
 use mathlib.Core.Path.{_≡_, refl}
+use mathlib.Core.Bool.{Bool, true, false}
 use mathlib.Core.List.{List, [], _∷_, map}
 use Prim.Native.Nat.{ℕ}
 use lib.IntN.{ℤ, pos}
@@ -9,7 +10,7 @@ use Rattle.calculus.specs.Refusal.{Result, Returned}
 use Rattle.calculus.specs.Operations.{Ends, Integral}
 use Rattle.calculus.specs.Calls.{call-constant, call-variable, call-negate, call-sweep, call-range, call-integral}
 use Rattle.calculus.specs.Calls.{call-evaluate, call-antiderivative, call-add, call-subtract, call-multiply}
-use Rattle.calculus.specs.Calls.{call-substitute, returned-model, returned-ends, returned-integral}
+use Rattle.calculus.specs.Calls.{call-substitute, call-sound, returned-model, returned-ends, returned-integral}
 use Rattle.calculus.specs.Computing.{calls}
 use Rattle.calculus.specs.Forms.{at-key, model, ends, minus, mixed, line, forms}
 use Rattle.calculus.specs.Edges.{one-term, terms-from}
@@ -245,3 +246,13 @@ unfolding
     back gives refuses gives-ends refuses-ends refuses-integral bad cube two-variables outside near-limit times about
     constant-and-square square-minus integrated square call-edges
 call-edges-hold = refl
+
+-- ---- whether a model keeps the rules: x^15 y^i with degrees up to d
+unfoldable pub sound-to : (d i : ℕ) → Bool
+sound-to d i = call-sound d (model 2 0 (term (pos 1) (15 ∷ i ∷ []) ∷ []))
+
+-- the order holds; above 15 no degree is allowed, whatever the order is
+pub sound-edges : (sound-to 14 0 ∷ sound-to 15 0 ∷ sound-to 16 0 ∷ sound-to 16 1 ∷ sound-to 255 1 ∷ [])
+    ≡ false ∷ true ∷ true ∷ false ∷ false ∷ []
+unfolding calls forms sound-to
+sound-edges = refl

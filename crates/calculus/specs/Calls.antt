@@ -1,7 +1,7 @@
 -- The single calls: their tests in order, then the operation. The numbers are those of the refusals, in order.
-use mathlib.Core.Bool.{_&&_}
+use mathlib.Core.Bool.{Bool, _&&_}
 use mathlib.Core.List.{List}
-use Prim.Native.Nat.{ℕ}
+use Prim.Native.Nat.{ℕ, min}
 use lib.Dec.{eqb}
 use lib.IntN.{ℤ, natAbs}
 use lib.ListN.{take, drop}
@@ -12,6 +12,11 @@ use Rattle.calculus.specs.Operations as Op
 use Rattle.calculus.specs.Operations.{Ends, zero-ends, Integral, zero-integral}
 use Rattle.calculus.specs.Tests.{vars-sound, order-sound, constant-sound, variable-sound, threshold-sound}
 use Rattle.calculus.specs.Tests.{all-zero, all-in-unit}
+
+-- ---- the question whether a struct holds a model
+-- with degrees up to d, and never above 15
+unfoldable pub call-sound : (d : ℕ) → Model → Bool
+call-sound d = sound (min d most-degree)
 
 -- ---- calls that are handed n
 -- 3, 6

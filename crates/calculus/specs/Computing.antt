@@ -74,7 +74,7 @@ unfolding
     R.number R.returned
     O.zero-ends O.zero-mixed O.zero-integral O.whole-integral O.put-constants O.evaluate
     Te.all-zero Te.all-in-unit
-    C.call-constant C.call-variable C.call-negate C.call-sweep C.call-range C.call-integral C.call-evaluate
+    C.call-sound C.call-constant C.call-variable C.call-negate C.call-sweep C.call-range C.call-integral C.call-evaluate
     C.call-antiderivative
     C.require-two C.call-add C.call-subtract C.call-multiply C.call-substitute C.require-four C.call-quotient
     C.returned-model C.returned-ends C.returned-integral

@@ -315,3 +315,28 @@ same-point-refuted h = let k : U ≤ 0 = unfold zero-model in bounded (pos U) 0 
 
     apart : natural U *ℚ natural 1 -ℚ natural U *ℚ 0ℚ ≡ natural U
     apart = ring 1 ℚR (λ u. u ⊠ 𝟏 ⊟ u ⊠ 𝟎) (λ u. u) refl (natural U)
+
+-- and this point is one of the box: 2x put in for x in x, beside any later step, has no answer that the claim holds of
+unfoldable pub put-twice : Book
+put-twice = record {
+  vars = 1;
+  order = 1;
+  models = [];
+  steps = variable 1 ∷ add 0 0 ∷ substitute 0 1 1 ∷ constant (pos 0) ∷ [];
+}
+
+only-coordinate : {y : ℚ} → In-box 1 (y ∷ []) → abs ℚO y ≤ℚ natural 1
+only-coordinate (more h none) = h
+
+pub outside-refuted : (s : Summary) → Claim put-twice s → ⊥
+unfolding put-twice outcomes outcomes-after step-outcome step-value outcome-of coordinate with-coordinate index-of
+    replace
+outside-refuted s c = let k : 2 ≤ 1 = bounded (pos 2) 1 _ (sym (whole-+ (pos 1) (pos 1))) (only-coordinate stays) in
+    omega arith
+  where
+    stays : In-box 1 ((natural 1 +ℚ natural 1) ∷ [])
+    stays = c .stays-in-box (functions (own put-twice)) (natural 1 ∷ []) (record {
+      inputs = own-within put-twice;
+      as-promised = unfold promises in tt;
+      point = more (equal (abs-whole (pos 1))) none;
+    }) 2 0 1 1 refl

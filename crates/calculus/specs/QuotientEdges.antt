@@ -63,6 +63,10 @@ quotient-edges =
     -- beta is the larger size of both ends: the form is -f
     ∷ gives 3 (call-quotient 1 (sloped (pos 3) (pos 1)) one nought one) (model 1 4 [])
     ∷ gives 3 (call-quotient 1 (sloped (minus 3) (pos 1)) one nought one) (model 1 4 [])
+    -- by request 3's range: the form is x^2 - 3, from -3 to -2, and does not count as reaching -4
+    ∷ gives 3 (call-quotient 2 (model 1 0 (at-key 1 0x0000 (pos 3145728) ∷ at-key 1 0x2000 (minus 1048576) ∷ [])) one
+    nought one)
+    (model 1 3145728 [])
     -- and so is mu: the form is 1 - g, U - 3 to U - 1 or its negative
     ∷ gives 4 (call-quotient 1 (number-of (pos 1)) (sloped (pos 2) (pos 1)) nought one) (model 1 1048576 [])
     ∷ gives 4 (call-quotient 1 (number-of (pos 1)) (sloped (pos 2097150) (pos 1)) nought one) (model 1 1048576 [])

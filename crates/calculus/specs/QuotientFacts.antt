@@ -8,12 +8,13 @@ use mathlib.Core.List.{List, [], _∷_}
 use Prim.Native.Nat.{ℕ, _+_, _*_, _/_, _≤_}
 use native.Mathlib.Omega.{arith}
 use lib.IntN.{ℤ, pos, negsuc, natAbs}
+use lib.Signed.{_≤ℤ_}
 use Rattle.algebra.specs.RingSolver.{𝟎, _⊞_, _⊟_, _⊠_, ⊝_, ring}
 use Rattle.algebra.specs.Ordered.{abs}
 use Rattle.algebra.specs.Rational.{ℚ, _+ℚ_, _*ℚ_, negℚ, _/ℚ_, whole, _≤ℚ_}
 use Rattle.algebra.specs.RationalRing.{ℚR}
 use Rattle.algebra.specs.RationalOrder.{ℚO}
-use Rattle.algebra.specs.RationalLaws.{/ℚ-back, whole-+, whole-*, whole-neg}
+use Rattle.algebra.specs.RationalLaws.{/ℚ-back, ≤-whole, whole-+, whole-*, whole-neg}
 use Rattle.polynomial.specs.Polynomial.{eval}
 use Rattle.polynomial.specs.Box.{none, more}
 use Rattle.fixed.specs.FixedLaws.{U-even}
@@ -25,12 +26,12 @@ use Rattle.calculus.specs.Operations.{Ends, Mixed}
 use Rattle.calculus.specs.Book.{input, constant, quotient, Book, model-of, Summary, summary, last, run}
 use Rattle.calculus.specs.Outcome.{0ℚ, coordinate, ℚ-Polynomial, value-of, Inputs, functions, input-outcome}
 use Rattle.calculus.specs.Outcome.{step-value, step-outcome, outcome-of, outcomes-after, outcomes, outcome}
-use Rattle.calculus.specs.Claim.{Given, Claim}
+use Rattle.calculus.specs.Claim.{Lies, Given, Claim}
 use Rattle.calculus.specs.Computing.{runs, promises}
 use Rattle.calculus.specs.UnitLaws.{natural, natural-*, abs-whole, U-times}
 use Rattle.calculus.specs.ValueLaws.{Near, at-near}
 use Rattle.calculus.specs.EnclosureLaws.{zero-near}
-use Rattle.calculus.specs.ChainLaws.{equal}
+use Rattle.calculus.specs.ChainLaws.{_≡≤_, _≤≡_, equal}
 use Rattle.calculus.specs.ClaimFacts.{own, both-near}
 use Rattle.calculus.specs.ClaimProof.{claim}
 use Rattle.calculus.specs.JumpFacts.{Jump, up, down, height, jumping, jumping-within, one-above, bounded, woven}
@@ -147,6 +148,17 @@ least-radius e s c = let h : 12 ≤ s .model .radius + s .model .radius = bounde
     apart : natural U *ℚ halved-outcome e up -ℚ natural U *ℚ halved-outcome e down ≡ whole (pos 12)
     apart = ap₂ _-ℚ_ (outcome-up e s c) (outcome-down e s c)
         ∙ ap (λ z. whole (pos 6) +ℚ z) (sym (whole-neg (negsuc 5))) ∙ sym (whole-+ (pos 6) (pos 6))
+
+-- and its range reaches from -6 to 6
+pub least-range : (e : ℕ) (s : Summary) → Claim (halved e) s
+    → ((s .range .low) ≤ℤ negsuc 5) × (pos 6 ≤ℤ (s .range .high))
+least-range e s c = (
+  ≤-whole (s .range .low) (negsuc 5) (lies down .from ≤≡ outcome-down e s c),
+  ≤-whole (pos 6) (s .range .high) (sym (outcome-up e s c) ≡≤ lies up .to),
+)
+  where
+    lies : (j : Jump) → Lies (halved-outcome e j) (s .range)
+    lies j = unfold halved-outcome in c .in-range (functions (jumping j (halved e))) right (given e j)
 
 -- so these answers are refuted: h with its own radius, and the radius 3 × U / U
 pub own-radius-refuted : (r i : Ends) (x : Mixed)

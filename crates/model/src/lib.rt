@@ -9,7 +9,7 @@ ghost use Rattle.calculus.specs.Refusal.{«at-place»};
 ghost use Rattle.calculus.specs.Operations as Op;
 ghost use Rattle.calculus.specs.Calls.{call-negate, call-add, call-subtract, call-multiply, call-substitute};
 ghost use Rattle.calculus.specs.Calls.{call-sweep, call-range, call-integral, call-evaluate, call-antiderivative};
-ghost use Rattle.calculus.specs.Calls.{call-quotient};
+ghost use Rattle.calculus.specs.Calls.{call-quotient, call-sound};
 ghost use Rattle.model_types.specs.ModelStruct.{view, pack, answer, bounds, «integral-answer»};
 ghost use Rattle.model_substitution.specs.Substitute.{Substitution};
 ghost use Rattle.model.specs.TableSizes.{«few-terms», «some-terms»};
@@ -21,11 +21,18 @@ pub use model_types::Refusal;
 pub use model_types::Term;
 pub use model_types::Verdict;
 
-// Whether a struct holds a model by the rules, with degrees up to d.
-pub use model_soundness::sound;
-
 // The number of a refusal in the documents' table: 1 to 12.
 pub use model_types::number;
+
+// Whether a struct holds a model by the rules, with degrees up to d, and up to 15 where d is more.
+pub fn sound(m: Model, d: u8) -> bool
+    ensures { λ r. ⌜ r ≡ call-sound d (view m) ⌝ }
+{
+    if model_types::MOST_DEGREE < d {
+        return model_soundness::sound(m, model_types::MOST_DEGREE);
+    }
+    model_soundness::sound(m, d)
+}
 
 // ---- the named models
 // `Model::ZERO` is the zero model.
@@ -318,3 +325,7 @@ pub use model_types::all_carried;
 // How long a lent table's keys and sums are at the least, and how long its slots.
 pub use product_table::PLACES;
 pub use product_table::SLOTS;
+
+// The products that such a table has room for, and how many slots a smaller one has for each of its own.
+pub use product_table::ENTRIES;
+pub use product_table::SLOTS_EACH;

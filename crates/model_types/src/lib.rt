@@ -228,14 +228,8 @@ pub fn refuse(refusal: Refusal, place: usize) -> Answer
     ensures { λ r. ⌜ r ≡ answer (stopped (cause refusal) place) ⌝ }
 {
     let at = place % MOST_TERMS;
-    let mut terms = [Term::ZERO; MOST_TERMS];
-    terms[at] = Term::ZERO;
-    let zero = Model {
-        n: 1,
-        count: 0,
-        radius: 0,
-        terms: terms,
-    };
+    let mut zero = Model::ZERO;
+    zero.terms[at] = Term::ZERO;
     Answer {
         model: zero,
         verdict: Verdict::Refused(refusal, place),

@@ -171,12 +171,12 @@ pub fn settled(
 {
     let a = c.answer;
     let v = a.verdict;
-    let Verdict::Refused(_, _) = v else {
-        let m = a.model;
-        let row = c.shares;
-        put(m, row, i, keys, coefficients, counts, radii, rows);
+    let Verdict::Accepted = v else {
         return v;
     };
+    let m = a.model;
+    let row = c.shares;
+    put(m, row, i, keys, coefficients, counts, radii, rows);
     v
 }
 

@@ -17,7 +17,7 @@ use Rattle.sheet_book.specs.BookStruct.{held-book}
 use Rattle.sheet_results.specs.Results.{Results, result, first-rows}
 use Rattle.sheet_step_answers.specs.Answers.{accepted-answer}
 use Rattle.sheet_turns.specs.declared.Stop.{Stop}
-use Rattle.sheet_turns.specs.Run.{Ended, Stopped}
+use Rattle.sheet_turns.specs.Run.{most-entries, Ended, Stopped}
 use Rattle.sheet_turns.specs.RunLaws.{rows-are}
 use Rattle.sheet_turns.specs.MemoryLaws.{run-ended}
 use Rattle.sheet_running.specs.declared.Ran.{Ran}
@@ -32,7 +32,7 @@ ended-ran e p q = ap₂ (λ a s. record { answer = a; shares = s }) (p ∙ ap an
 
 -- the end of a run that was not refused
 pub last-ran : (b : Book) (p : Held-passes (held-book b)) {t : Stop} {m : Results} {flat : List ℕ}
-    (s : Stopped b 4096 t m flat) (e : t .verdict ≡ Accepted)
+    (s : Stopped b most-entries t m flat) (e : t .verdict ≡ Accepted)
     (k : Model) (q : view k ≡ view (result (b .n) m (b .«step_count» - 1))) {a : Answer} {shares : List Shares}
     → a ≡ accepted-answer (pack (view k)) → shares ≡ first-rows flat 64
     → _≡_ {A = Ran} (record { answer = a; shares = shares }) (ran (view-book (held-book b)))

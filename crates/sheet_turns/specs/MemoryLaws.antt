@@ -23,7 +23,7 @@ use Rattle.sheet_book.specs.FailingLaws.{held-at, count-models, count-steps}
 use Rattle.sheet_results.specs.Results.{Results, results, result, first-rows}
 use Rattle.sheet_step_answers.specs.Answers.{accepted-answer}
 use Rattle.sheet_turns.specs.declared.Stop.{Stop}
-use Rattle.sheet_turns.specs.Run.{Running, Ended, Step-at, Begun, Stopped}
+use Rattle.sheet_turns.specs.Run.{most-entries, Running, Ended, Step-at, Begun, Stopped}
 use Rattle.sheet_turns.specs.RunLaws.{in-limits-of, no-rows, running-first, final-sound, last-ended}
 
 module _ (b : Book) (p : Held-passes (held-book b)) where
@@ -88,7 +88,7 @@ begun-first b p = record {
 
 -- ---- the end of a run that was not refused
 module _ (b : Book) (p : Held-passes (held-book b)) {t : Stop} {m : Results} {flat : List ℕ}
-    (s : Stopped b 4096 t m flat) (e : t .verdict ≡ Accepted) where
+    (s : Stopped b most-entries t m flat) (e : t .verdict ≡ Accepted) where
   whole-run : Running (held-book b) (length (held-book b .steps)) m flat
   whole-run =
       let q : t .at ≡ length (held-book b .steps) = omega (arith, s .whole (omega arith) e, count-steps b) in

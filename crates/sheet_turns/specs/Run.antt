@@ -27,6 +27,8 @@ use Rattle.sheet_book.specs.BookStruct.{held-book}
 use Rattle.sheet_results.specs.Results.{Results, Roomy, result, row-at}
 use Rattle.sheet_turns.specs.declared.Stop.{Stop}
 use Rattle.sheet_turns.specs.LastResult.{last-result}
+-- the products that the full table has room for
+pub use Rattle.model.specs.OperationContracts.{most-entries}
 
 -- ---- in the middle of a run
 -- the first 64 rows of a flat slice are these, with zeros behind them
@@ -92,7 +94,7 @@ pub record Input-turn (n d i : ℕ) (s : Held-step) (m : Results) (flat : List �
 -- for products of so many pairs of terms; with room for 64 times 64 it serves a substitution and a quotient too
 pub record Lent-for (room : ℕ) (slots keys : List ℕ) (sums : List ℤ) : Type 0 where
   pub some : Lent-room room slots keys sums
-  pub full : 4096 ≤ room → Lent-table slots keys sums
+  pub full : most-entries ≤ room → Lent-table slots keys sums
 
 -- what a step asks of it
 pub record Served (s : Held-step) (counts : List ℕ) (slots keys : List ℕ) (sums : List ℤ) : Type 0 where
@@ -103,8 +105,8 @@ pub record Served (s : Held-step) (counts : List ℕ) (slots keys : List ℕ) (s
 -- a step that asks no more than there is room for
 pub record Fit (s : Held-step) (room : ℕ) (counts : List ℕ) : Type 0 where
   pub product : s .code ≡ 6 → getD counts (s .a) 0 * getD counts (s .b) 0 ≤ room
-  pub substitution : s .code ≡ 7 → 4096 ≤ room
-  pub quotient : s .code ≡ 9 → 4096 ≤ room
+  pub substitution : s .code ≡ 7 → most-entries ≤ room
+  pub quotient : s .code ≡ 9 → most-entries ≤ room
 
 -- ---- a part of a run
 -- the first steps of a book that passes its tests are done
@@ -117,4 +119,4 @@ pub record Begun (b : Book) (i : ℕ) (m : Results) (flat : List ℕ) : Type 0 w
 pub record Stopped (b : Book) (room : ℕ) (t : Stop) (m : Results) (flat : List ℕ) : Type 0 where
   pub ended : (x : Refusal) (y : ℕ) → t .verdict ≡ Refused x y → Ended (held-book b) (stopped (cause x) (t .at)) flat
   pub going : t .verdict ≡ Accepted → Begun b (t .at) m flat
-  pub whole : 4096 ≤ room → t .verdict ≡ Accepted → t .at ≡ b .«step_count»
+  pub whole : most-entries ≤ room → t .verdict ≡ Accepted → t .at ≡ b .«step_count»

@@ -34,7 +34,7 @@ use Rattle.sheet_results.specs.Results.{Results, Roomy, result, settled-results
 use Rattle.sheet_steps.specs.Steps.{step-answer, step-row, names-second, Step-ready}
 use Rattle.sheet_turns.specs.declared.Stop.{Stop}
 use Rattle.sheet_turns.specs.Run.{Running, Ended, Turned, Turn, Input-turn, Lent-for, Served, Fit}
-use Rattle.sheet_turns.specs.Run.{Begun, Stopped}
+use Rattle.sheet_turns.specs.Run.{most-entries, Begun, Stopped}
 use Rattle.sheet_turns.specs.RunLaws.{first-place, second-place, third-earlier, fourth-earlier, here-small}
 use Rattle.sheet_turns.specs.RunLaws.{step-ready, by-code, input-sound, by-input, factors, by-product}
 use Rattle.sheet_turns.specs.RunLaws.{proposal, by-quotient, quotient-bounded, quotient-carried}
@@ -173,7 +173,7 @@ fit-served f l = record {
 }
 
 -- with all the room there is, every step fits
-pub products-few : (a b : ℕ) → a ≤ 64 → b ≤ 64 → a * b ≤ 4096
+pub products-few : (a b : ℕ) → a ≤ 64 → b ≤ 64 → a * b ≤ most-entries
 products-few a b p q = mul-le-mul p q
 
 -- ---- the parts of the slices that a result begins
@@ -243,7 +243,7 @@ not-both p q = let z : _≡_ {A = ℕ} 0 1 = cc in absurd (omega arith)
 
 module _ {b : Book} {room i : ℕ} {m : Results} {flat : List ℕ} where
   -- before a step that asks more room
-  pub stopped-short : Begun b i m flat → (4096 ≤ room → ⊥) → Stopped b room (record { at = i; verdict = Accepted }) m
+  pub stopped-short : Begun b i m flat → (most-entries ≤ room → ⊥) → Stopped b room (record { at = i; verdict = Accepted }) m
       flat
   stopped-short s o = record {
     ended = λ x y e. not-both refl e;
@@ -268,7 +268,7 @@ module _ {b : Book} {room i : ℕ} {m : Results} {flat : List ℕ} where
 
 -- with less room, at the end or at a refusal
 pub stopped-on : {b : Book} {room : ℕ} {t : Stop} {m : Results} {flat : List ℕ} → Stopped b room t m flat
-    → (t .verdict ≡ Accepted → t .at ≡ b .«step_count») → Stopped b 4096 t m flat
+    → (t .verdict ≡ Accepted → t .at ≡ b .«step_count») → Stopped b most-entries t m flat
 stopped-on s q = record { ended = s .ended; going = s .going; whole = λ h e. q e }
 
 -- no test is both

@@ -11,7 +11,7 @@ ghost use Rattle.calculus.specs.Operations.{multiply};
 ghost use Rattle.calculus.specs.Shares.{«product-shares»};
 ghost use Rattle.model_types.specs.ModelStruct.{view};
 ghost use Rattle.model_types.specs.SharesStruct.{accounted};
-ghost use Rattle.model.specs.OperationContracts.{Factors, «Lent-room»};
+ghost use Rattle.model.specs.OperationContracts.{Factors, «Lent-room», «most-entries»};
 ghost use Rattle.format.specs.HeldBook.{«Held-step», «view-book», «Held-passes»};
 ghost use Rattle.sheet_book.specs.BookStruct.{«held-step», «held-book»};
 ghost use Rattle.sheet_results.specs.Results.{results, Roomy, result};
@@ -32,13 +32,10 @@ pub struct Stop {
     pub verdict: Verdict,
 }
 
-// The products that the full table has room for: those of 64 terms with 64.
-const PRODUCTS: usize = 4096;
-
-// The products of the small table, and its size.
+// The products of the small table, and its size. The full one has room for those of 64 terms with 64.
 const FEW_PRODUCTS: usize = 256;
 
-const FEW_SLOTS: usize = 6 * FEW_PRODUCTS + 1;
+const FEW_SLOTS: usize = model::SLOTS_EACH * FEW_PRODUCTS + 1;
 
 const FEW_PLACES: usize = FEW_PRODUCTS + 1;
 
@@ -327,7 +324,7 @@ fn fits(s: Step, room: usize, counts: &[usize]) -> bool
     requires { ⌜ (s .a < 64) × (s .b < 64) ⌝ }
     requires { ⌜ length (now counts) ≡ 64 ⌝ }
     requires { ⌜ ((j : ℕ) → getD (now counts) j 0 ≤ 64) ⌝ }
-    ensures { λ r. ⌜ (r ≡ true → Fit (held-step s) room (now (counts .entry))) × (4096 ≤ room → r ≡ true) ⌝ }
+    ensures { λ r. ⌜ (r ≡ true → Fit (held-step s) room (now (counts .entry))) × (most-entries ≤ room → r ≡ true) ⌝ }
 {
     let code = s.code;
     if code == 6 {
@@ -339,10 +336,10 @@ fn fits(s: Step, room: usize, counts: &[usize]) -> bool
         return products <= room;
     }
     if code == 7 {
-        return PRODUCTS <= room;
+        return model::ENTRIES <= room;
     }
     if code == 9 {
-        return PRODUCTS <= room;
+        return model::ENTRIES <= room;
     }
     true
 }
@@ -402,11 +399,10 @@ fn steps(
             places,
             sums,
         );
-        let Verdict::Refused(_, _) = v else {
-            i += 1;
-            continue;
+        let Verdict::Accepted = v else {
+            return Stop { at: i, verdict: v };
         };
-        return Stop { at: i, verdict: v };
+        i += 1;
     }
     Stop {
         at: i,
@@ -458,7 +454,7 @@ fn large(
     rows: &mut [u64],
 ) -> Stop
     requires { ⌜ Begun b from (results (now keys) (now coefficients) (now counts) (now radii)) (now rows) ⌝ }
-    ensures { λ r. ⌜ Stopped b 4096 r
+    ensures { λ r. ⌜ Stopped b most-entries r
         (results (now (keys .exit)) (now (coefficients .exit)) (now (counts .exit)) (now (radii .exit)))
         (now (rows .exit)) ⌝ }
 {
@@ -468,7 +464,7 @@ fn large(
     steps(
         b,
         from,
-        PRODUCTS,
+        model::ENTRIES,
         keys,
         coefficients,
         counts,
@@ -490,7 +486,7 @@ pub fn run(
     rows: &mut [u64],
 ) -> Stop
     requires { ⌜ Begun b 0 (results (now keys) (now coefficients) (now counts) (now radii)) (now rows) ⌝ }
-    ensures { λ r. ⌜ Stopped b 4096 r
+    ensures { λ r. ⌜ Stopped b most-entries r
         (results (now (keys .exit)) (now (coefficients .exit)) (now (counts .exit)) (now (radii .exit)))
         (now (rows .exit)) ⌝ }
 {
@@ -498,11 +494,11 @@ pub fn run(
     let t = small(b, keys, coefficients, counts, radii, rows);
     let at = t.at;
     let v = t.verdict;
-    let Verdict::Refused(_, _) = v else {
-        if at < count {
-            return large(b, at, keys, coefficients, counts, radii, rows);
-        }
+    let Verdict::Accepted = v else {
         return t;
     };
+    if at < count {
+        return large(b, at, keys, coefficients, counts, radii, rows);
+    }
     t
 }

@@ -9,11 +9,11 @@ use Rattle.model_types.specs.ModelStructLaws.{refusal-cause}
 use Rattle.model_types.proofs.refuse.Statement.{statement}
 use Rattle.model_types.proofs.refuse.Tie as tie
 
-mul-terms : tie.Need-mul-terms
-mul-terms c = omega arith
+mul-t8 : tie.Need-mul-t8
+mul-t8 c = omega arith
 
-array-set-from-terms : tie.Need-array-set-from-terms
-array-set-from-terms c = omega arith
+element-set-from-zero : tie.Need-element-set-from-zero
+element-set-from-zero c = omega arith
 
 returns : tie.Need-returns
 unfolding zero-model most-terms pack padded answer
@@ -23,4 +23,4 @@ returns c = rw (
 )
 
 pub refuse-spec : {M : Type 1} → statement M
-refuse-spec = tie.close (tie.spec mul-terms array-set-from-terms returns)
+refuse-spec = tie.close (tie.spec mul-t8 element-set-from-zero returns)
