@@ -243,8 +243,8 @@ not-both p q = let z : _≡_ {A = ℕ} 0 1 = cc in absurd (omega arith)
 
 module _ {b : Book} {room i : ℕ} {m : Results} {flat : List ℕ} where
   -- before a step that asks more room
-  pub stopped-short : Begun b i m flat → (most-entries ≤ room → ⊥) → Stopped b room (record { at = i; verdict = Accepted }) m
-      flat
+  pub stopped-short : Begun b i m flat → (most-entries ≤ room → ⊥)
+      → Stopped b room (record { at = i; verdict = Accepted }) m flat
   stopped-short s o = record {
     ended = λ x y e. not-both refl e;
     going = λ e. s;
