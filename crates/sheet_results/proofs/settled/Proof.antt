@@ -38,25 +38,25 @@ memory s =
 
 returns : tie.Need-returns
 returns c =
+    let s = c .before .before .before .before .before .before .before in
+    let a = s .args in
+    let e = c .enum-told2 .given .1 in (
+      refl,
+      sym (settled-kept (a .c) (a .i) (memory s) (a .rows .now) e),
+      sym (settled-row-kept (a .c) (a .i) (memory s) (a .rows .now) e),
+    )
+
+returns-2 : tie.Need-returns-2
+returns-2 c =
     let s = c .before .before .before .before .before .before .before .before .before .before .before .before .before
     .before .before .before .before .before .before .before .before .before .before .before in
     let a = s .args in
     let p = c .before .before .before .before .before .before .before .before .before .put .ensures in
     let e : a .c .answer .verdict ≡ Accepted = c .before .before .before .before .before .before .before .before
-    .before .before .before .before .before .before .before .before .before .enum-told2 .given .1 in (
+    .before .before .before .before .before .before .before .before .before .enum-told .given .1 in (
       refl,
       p .0 ∙ sym (settled-put (a .c) (a .i) (memory s) (a .rows .now) e),
       p .1 ∙ sym (settled-row (a .c) (a .i) (memory s) (a .rows .now) e),
-    )
-
-returns-2 : tie.Need-returns-2
-returns-2 c =
-    let s = c .before .before .before .before .before .before .before in
-    let a = s .args in
-    let e = c .enum-told .given .1 in (
-      refl,
-      sym (settled-kept (a .c) (a .i) (memory s) (a .rows .now) e),
-      sym (settled-row-kept (a .c) (a .i) (memory s) (a .rows .now) e),
     )
 
 pub settled-spec : {M : Type 1} → statement M
@@ -65,11 +65,11 @@ settled-spec =
     (tie.spec
     enum-told
     enum-told-2
+    returns
     put-requires
     same-length
     same-length-2
     same-length-3
     same-length-4
     same-length-5
-    returns
     returns-2)
