@@ -22,14 +22,16 @@ sound-requires c κs = search needs
 
 returns : tie.Need-returns
 unfolding call-sound
-returns c = c .sound .ensures ∙ ap (λ k. sound k _) (above _ (c .before .if1 .taken))
+returns c =
+    c .sound .ensures ∙ ap (λ k. sound k (view (c .before .before .args .m))) (above _ (c .before .if1 .taken))
 
 sound-requires-2 : tie.Need-sound-requires-2
 sound-requires-2 c κs = search needs
 
 returns-2 : tie.Need-returns-2
 unfolding call-sound
-returns-2 c = c .sound .ensures ∙ ap (λ k. sound k _) (below _ (c .before .if1 .left))
+returns-2 c =
+    c .sound2 .ensures ∙ ap (λ k. sound k (view (c .before .before .args .m))) (below _ (c .before .if1 .left))
 
 pub sound-spec : {M : Type 1} → statement M
 sound-spec = tie.close (tie.spec sound-requires returns sound-requires-2 returns-2)

@@ -14,11 +14,6 @@ enum-told c = search needs
 enum-told-2 : tie.Need-enum-told-2
 enum-told-2 c = search needs
 
-large-requires : tie.Need-large-requires
-large-requires c κs = c .before .before .before .before .before .before .before .before .before .before .before
-    .before .before .before .before .before .before .small .ensures .going (c .before .before .before .before .before
-    .before .enum-told2 .given .1)
-
 same-length : tie.Need-same-length
 same-length c = search needs
 
@@ -35,7 +30,14 @@ same-length-5 : tie.Need-same-length-5
 same-length-5 c = search needs
 
 returns : tie.Need-returns
-returns c = search needs
+returns c =
+    let s = c .before .before .before .before .before .before .before .before .before .before .before .small .ensures in
+    stopped-on s (λ e. not-both e (c .enum-told2 .given .1))
+
+large-requires : tie.Need-large-requires
+large-requires c κs = c .before .before .before .before .before .before .before .before .before .before .before
+    .before .before .before .before .before .before .small .ensures .going (c .before .before .before .before .before
+    .before .enum-told .given .1)
 
 same-length-6 : tie.Need-same-length-6
 same-length-6 c = search needs
@@ -53,10 +55,7 @@ same-length-10 : tie.Need-same-length-10
 same-length-10 c = search needs
 
 returns-2 : tie.Need-returns-2
-returns-2 c =
-    let s = c .before .before .before .before .before .before .before .before .before .before .before .before .small
-    .ensures in
-    stopped-on s (λ e. omega (arith, s .going e .within, c .if1 .left))
+returns-2 c = search needs
 
 same-length-11 : tie.Need-same-length-11
 same-length-11 c = search needs
@@ -75,8 +74,9 @@ same-length-15 c = search needs
 
 returns-3 : tie.Need-returns-3
 returns-3 c =
-    let s = c .before .before .before .before .before .before .before .before .before .before .before .small .ensures in
-    stopped-on s (λ e. not-both e (c .enum-told .given .1))
+    let s = c .before .before .before .before .before .before .before .before .before .before .before .before .small
+    .ensures in
+    stopped-on s (λ e. omega (arith, s .going e .within, c .if1 .left))
 
 pub run-spec : {M : Type 1} → statement M
 run-spec =
@@ -85,13 +85,13 @@ run-spec =
     small-requires
     enum-told
     enum-told-2
-    large-requires
     same-length
     same-length-2
     same-length-3
     same-length-4
     same-length-5
     returns
+    large-requires
     same-length-6
     same-length-7
     same-length-8

@@ -234,45 +234,6 @@ enum-told c = search needs
 enum-told-2 : tie.Need-enum-told-2 Inv-loop μ-loop
 enum-told-2 c = search needs
 
-add-i-2 : tie.Need-add-i-2 Inv-loop μ-loop
-add-i-2 c = omega (
-  arith,
-  small (c .before .before .before .before .before .before .before .before .before .before
-      .before .before .before .before .before .before .before .before .before .before .before .before .before .before
-      .before .before .before .before .before .before),
-)
-
-loop-less-2 : tie.Need-loop-less-2 Inv-loop μ-loop
-loop-less-2 c = omega (
-  arith,
-  inside (c .before .before .before .before .before .before .before .before .before
-      .before .before .before .before .before .before .before .before .before .before .before .before .before .before
-      .before .before .before .before .before .before .before),
-)
-
-loop-again-2 : tie.Need-loop-again-2 Inv-loop μ-loop
-unfolding here-turn
-loop-again-2 c =
-    let s = c .before .before .before .before .before .before .before .before .before .before .before .before .before
-    .before .before .before .before .before .before .before .before .before .before .before .before .before
-    .before .before .before .before in
-    let k = c .before .before .before .before .before .before .before .before .before .before .before .before .before
-    .before .before .before .step in
-    let l = turn s .loop .inv in
-    let x = k .kept .1 .1 .1 .1 .1 .1 .1 .1 .1 .0 in
-    let y = k .kept .1 .1 .1 .1 .1 .1 .1 .1 .1 .1 .0 in
-    let z = k .kept .1 .1 .1 .1 .1 .1 .1 .1 .1 .1 .1 .0 in (
-      record {
-        passes = begun s .passes;
-        so-far = k .ensures (here-turn s) .going (c .enum-told2 .given .1);
-        within = omega (arith, inside s);
-      },
-      lent-still _ _ _ (l .1) x y z,
-      x ∙ l .2,
-      y ∙ l .3,
-      z ∙ l .4,
-    )
-
 same-length-9 : tie.Need-same-length-9 Inv-loop μ-loop
 same-length-9 c = let l = c .before .before .before .before .before .before .before .before .before .before .before
     .before .before .before .before .before .before .before .before .before .before .before .before .before .before
@@ -335,8 +296,47 @@ returns-2 c =
     let s = c .before .before .before .before .before .before .before .before .before .before .before .before .before
     .before .before .before .before .before .before .before .before .before .before .before .before .before
     .before .before .before .before in
-    stopped-refused (c .enum-told .given .1) (c .before .before .before .before .before .before .before .before
+    stopped-refused (c .enum-told2 .given .1) (c .before .before .before .before .before .before .before .before
     .before .before .before .before .before .before .before .before .step .ensures (here-turn s) .ended)
+
+add-i-2 : tie.Need-add-i-2 Inv-loop μ-loop
+add-i-2 c = omega (
+  arith,
+  small (c .before .before .before .before .before .before .before .before .before .before
+      .before .before .before .before .before .before .before .before .before .before .before .before .before .before
+      .before .before .before .before .before .before),
+)
+
+loop-less-2 : tie.Need-loop-less-2 Inv-loop μ-loop
+loop-less-2 c = omega (
+  arith,
+  inside (c .before .before .before .before .before .before .before .before .before
+      .before .before .before .before .before .before .before .before .before .before .before .before .before .before
+      .before .before .before .before .before .before .before),
+)
+
+loop-again-2 : tie.Need-loop-again-2 Inv-loop μ-loop
+unfolding here-turn
+loop-again-2 c =
+    let s = c .before .before .before .before .before .before .before .before .before .before .before .before .before
+    .before .before .before .before .before .before .before .before .before .before .before .before .before
+    .before .before .before .before in
+    let k = c .before .before .before .before .before .before .before .before .before .before .before .before .before
+    .before .before .before .step in
+    let l = turn s .loop .inv in
+    let x = k .kept .1 .1 .1 .1 .1 .1 .1 .1 .1 .0 in
+    let y = k .kept .1 .1 .1 .1 .1 .1 .1 .1 .1 .1 .0 in
+    let z = k .kept .1 .1 .1 .1 .1 .1 .1 .1 .1 .1 .1 .0 in (
+      record {
+        passes = begun s .passes;
+        so-far = k .ensures (here-turn s) .going (c .enum-told .given .1);
+        within = omega (arith, inside s);
+      },
+      lent-still _ _ _ (l .1) x y z,
+      x ∙ l .2,
+      y ∙ l .3,
+      z ∙ l .4,
+    )
 
 -- ---- after the loop
 same-length-17 : tie.Need-same-length-17 Inv-loop μ-loop
@@ -402,9 +402,6 @@ steps-spec =
     step-requires
     enum-told
     enum-told-2
-    add-i-2
-    loop-less-2
-    loop-again-2
     same-length-9
     same-length-10
     same-length-11
@@ -414,6 +411,9 @@ steps-spec =
     same-length-15
     same-length-16
     returns-2
+    add-i-2
+    loop-less-2
+    loop-again-2
     same-length-17
     same-length-18
     same-length-19
