@@ -1,11 +1,10 @@
 -- Facts beside the claim with an antiderivative: a book with an antiderivative and then a quotient is promised its
 -- bands and meets the hypotheses, one whose quotient feeds an antiderivative is not; the outcome follows the input and
--- not the model; and answers without the operand's radius or without either growth are refuted, as is an antiderivative
--- that is zero at -1.
+-- not the model; and answers without the operand's radius or without either growth are refuted, as are ranges and
+-- integral ends that leave out what such a book gives, and an antiderivative that is zero at -1.
 use mathlib.Core.Path.{_≡_, refl, sym, _∙_, ap, ap₂}
 use mathlib.Core.Bool.{true, false}
 use mathlib.Core.List.{[], _∷_}
-use mathlib.Core.Option.{some}
 use Prim.Native.Nat.{ℕ, _+_, _*_, _/_, _≤_}
 use native.Mathlib.Omega.{arith}
 use lib.IntN.{pos, negsuc}
@@ -116,15 +115,15 @@ unfolding promises fed
 fed-not-promised (functions F) = refl
 fed-not-promised (polynomials Q) = refl
 
--- a quotient names its proposal too: what feeds that feeds the quotient
-pub quotient-operands : operands (quotient 1 2 3 4) ≡ 1 ∷ 2 ∷ 3 ∷ 4 ∷ []
-unfolding promises
-quotient-operands = refl
-
 -- though it runs
 pub fed-runs : run fed ≡ done (summary (record { vars = 1; radius = 1; terms = [] }))
 unfolding runs fed
 fed-runs = refl
+
+-- a quotient names its proposal too: what feeds that feeds the quotient
+pub quotient-operands : operands (quotient 1 2 3 4) ≡ 1 ∷ 2 ∷ 3 ∷ 4 ∷ []
+unfolding promises
+quotient-operands = refl
 
 -- ---- the outcome follows the input: its polynomial moved up or down by the model's radius
 unfoldable pub shifted : Jump → Book → ℕ → ℚ-Polynomial

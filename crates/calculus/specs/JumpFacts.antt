@@ -1,6 +1,7 @@
 -- Facts beside the claim with functions that are no polynomials: each is that of its model on one half of the box and
 -- differs from it by the whole radius on the other. Through a product, a substitution and a sweep the claim encloses
--- what comes of them, and they refute an answer whose radius lacks the input's, or the size of the term swept away.
+-- what comes of them, and they refute an answer whose radius lacks the input's, or the size of the term swept away. Of
+-- a substitution that leaves the box no answer meets the claim.
 use mathlib.Core.Path.{_≡_, refl, sym, _∙_, ap, ap₂}
 use mathlib.Core.Bool.{Bool, true, false}
 use mathlib.Core.List.{List, [], _∷_}
@@ -316,7 +317,7 @@ same-point-refuted h = let k : U ≤ 0 = unfold zero-model in bounded (pos U) 0 
     apart : natural U *ℚ natural 1 -ℚ natural U *ℚ 0ℚ ≡ natural U
     apart = ring 1 ℚR (λ u. u ⊠ 𝟏 ⊟ u ⊠ 𝟎) (λ u. u) refl (natural U)
 
--- and this point is one of the box: 2x put in for x in x, beside any later step, has no answer that the claim holds of
+-- and this point is one of the box: where 2x is put in for x the claim holds of no answer, whatever the last step is
 unfoldable pub put-twice : Book
 put-twice = record {
   vars = 1;

@@ -1,6 +1,6 @@
--- Facts beside the claim with a quotient: functions that are no polynomials meet its hypotheses and reach its radius;
--- and they refute an answer with h's own radius, one with U in place of U - mu, and a claim that takes the outcome of h
--- for the quotient's.
+-- Facts beside the claim with a quotient: functions that are no polynomials meet its hypotheses and reach its radius
+-- and the ends of its range; and they refute an answer with h's own radius, one with U in place of U - mu, and a claim
+-- that takes the outcome of h for the quotient's.
 use mathlib.Core.Path.{_≡_, refl, sym, _∙_, ap, ap₂}
 use mathlib.Core.Bool.{true, false}
 use mathlib.Core.Logic.{_≢_}
