@@ -2,6 +2,7 @@
 use mathlib.Core.List.{List}
 use Prim.Native.Nat.{ℕ, zero, suc, _+_, _*_, _/_, _%_, _^_, max, _<_, _≤_}
 use lib.ListN.{getD}
+use Rattle.model_keys.specs.Keys.{wide-degree}
 use Rattle.product_slots.specs.Slots.{Told}
 use Rattle.product_dense.specs.declared.Extents.{Extents}
 use Rattle.product_dense.specs.declared.Sides.{Sides}
@@ -82,6 +83,14 @@ place-by second third fourth key =
 -- in a grid
 abbrev pub place : (s : Sides) (key : ℕ) → ℕ
 place s = place-by (s .second) (s .third) (s .fourth)
+
+-- the place of a key with the key's own degree in a last byte
+unfoldable pub word-by : (second third fourth key : ℕ) → ℕ
+word-by second third fourth key = place-by second third fourth key * 2 ^ 8 + wide-degree key
+
+-- in a grid
+abbrev pub word : (s : Sides) (key : ℕ) → ℕ
+word s = word-by (s .second) (s .third) (s .fourth)
 
 -- a key in the grid
 pub record Gridded (s : Sides) (key : ℕ) : Type 0 where

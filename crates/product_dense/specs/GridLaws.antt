@@ -10,7 +10,7 @@ use lib.ListN.{length, getD, set}
 use lib.Seq.{getD-set-same, getD-set-other}
 use Rattle.product_dense.specs.declared.Extents.{Extents}
 use Rattle.product_dense.specs.Grid.{first-of, second-of, third-of, fourth-of, Within, raised-by, Low, extents}
-use Rattle.product_dense.specs.Grid.{sides-for, Narrow}
+use Rattle.product_dense.specs.Grid.{sides-for, Narrow, place-by}
 use Rattle.product_dense.specs.DigitLaws.{Digits, read-first, read-second, read-third, read-fourth}
 
 -- ---- how large they are
@@ -63,6 +63,13 @@ placing a b c d x y z ha hb hc hd w =
       plane = p;
       whole = omega (arith, digit-fits (2 ^ 25) ((a * x + b) * y + c) z d p (w .short-fourth) hd);
     }
+
+pub place-fits : (second third fourth key : ℕ) → key < 2 ^ 64 → Narrow second third fourth
+    → place-by second third fourth key ≤ 2 ^ 34
+unfolding place-by
+place-fits second third fourth key l w =
+    placing (first-of key) (second-of key) (third-of key) (fourth-of key) second third fourth (omega (arith, l))
+    (omega arith) (omega arith) (omega arith) w .whole
 
 -- ---- one more key's exponents
 max-lt : {a b k : ℕ} → a < k → b < k → max a b < k

@@ -5,7 +5,7 @@ ghost use Prim.Native.Nat.{ℕ, max, _<_, _≤_};
 ghost use lib.ListN.{length, getD};
 ghost use Rattle.product_dense.specs.Grid.{«first-of», «second-of», «third-of», «fourth-of», Low};
 ghost use Rattle.product_dense.specs.Grid.{«raised-by», extents};
-ghost use Rattle.product_dense.specs.Grid.{«sides-for», Narrow, «place-by»};
+ghost use Rattle.product_dense.specs.Grid.{«sides-for», Narrow, «place-by», «word-by»};
 ghost use Rattle.product_dense.specs.Degrees.{«Top-degree»};
 
 // ---- the exponents of a wide key: seven bits each, above 36 others
@@ -42,6 +42,9 @@ fn fourth_of(key: u64) -> usize
 {
     (key / FOURTH % DIGIT) as usize
 }
+
+// What a place counts in a word that has a degree in its last byte.
+pub const LAST_BYTE: usize = 1 << 8;
 
 // ---- the grid
 // The largest exponent of each variable.
@@ -133,23 +136,34 @@ fn place_of(key: u64, second: usize, third: usize, fourth: usize) -> usize
     plane * fourth + d
 }
 
-// The places of the first count keys.
-pub fn place_all(
+// That place, and in a last byte the key's own degree: the sum of two such words has the place and the degree of their
+// product.
+fn word_of(key: u64, second: usize, third: usize, fourth: usize) -> usize
+    requires { ⌜ Narrow second third fourth ⌝ }
+    ensures { λ r. ⌜ r ≡ word-by second third fourth key ⌝ }
+{
+    let place = place_of(key, second, third, fourth);
+    let degree = model_keys::wide_degree(key);
+    place * LAST_BYTE + degree as usize
+}
+
+// The words of the first count keys.
+pub fn word_all(
     keys: &[u64],
     count: usize,
     second: usize,
     third: usize,
     fourth: usize,
-    places: &mut [usize],
+    words: &mut [usize],
 )
     requires { ⌜ Narrow second third fourth ⌝ }
-    requires { ⌜ (count ≤ length (now keys)) × (count ≤ length (now places)) ⌝ }
+    requires { ⌜ (count ≤ length (now keys)) × (count ≤ length (now words)) ⌝ }
     ensures { λ r. ⌜ ((i : ℕ) → i < count
-        → getD (now (places .exit)) i 0 ≡ place-by second third fourth (getD (now (keys .entry)) i 0)) ⌝ }
+        → getD (now (words .exit)) i 0 ≡ word-by second third fourth (getD (now (keys .entry)) i 0)) ⌝ }
 {
     let mut i = 0;
     while i < count {
-        places[i] = place_of(keys[i], second, third, fourth);
+        words[i] = word_of(keys[i], second, third, fourth);
         i += 1;
     }
 }

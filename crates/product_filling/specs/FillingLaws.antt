@@ -1,8 +1,9 @@
 -- Sums in a grid: none yet, one more term, and terms after others.
 use mathlib.Core.Path.{_≡_, refl, sym, _∙_, ap}
+use mathlib.Core.Logic.{_⊎_, inl, inr}
 use mathlib.Core.Bool.{not}
 use mathlib.Core.List.{List, [], _∷_, _++_}
-use Prim.Native.Nat.{ℕ, suc, _+_, _*_, _<_, _≤_}
+use Prim.Native.Nat.{ℕ, suc, _+_, _*_, _^_, _<_, _≤_}
 use native.Mathlib.Nat.{mul-le-mul-left, mul-le-mul-right}
 use native.Mathlib.Decide.{ℕ-discrete}
 use native.Mathlib.Omega.{arith}
@@ -20,13 +21,15 @@ use Rattle.calculus.specs.SumLaws.{ℕ-addition, sum-++}
 use Rattle.calculus.specs.CanonicalLaws.{coefficient-at, coefficient-nil, coefficient-cons, coefficient-++, share}
 use Rattle.calculus.specs.CanonicalLaws.{share-here, share-elsewhere}
 use Rattle.calculus.specs.LoopLaws.{times-snoc, product-snoc}
+use Rattle.model_keys.specs.Keys.{wide-degree}
 use Rattle.product_collector.specs.ProductsLaws.{size-times, size-product}
 use Rattle.product_table.specs.Table.{at-key, none, terms}
 use Rattle.product_table.specs.TermArrayLaws.{terms-length, terms-at}
 use Rattle.product_dense.specs.declared.Sides.{Sides}
 use Rattle.product_dense.specs.Grid.{place, Gridded}
 use Rattle.product_dense.specs.GridPlaceLaws.{place-apart}
-use Rattle.product_filling.specs.Filling.{Filled, Row-fits, All-fit, Summed-up}
+use Rattle.product_dense.specs.DegreeLaws.{degree-byte}
+use Rattle.product_filling.specs.Filling.{Marked, Filled, Row-fits, All-fit, Summed-up}
 
 -- ---- sizes
 pub size-append : (p q : Terms) → size (p ++ q) ≡ size p + size q
@@ -66,16 +69,27 @@ zeros-more l i h f j g = elim (ℕ-discrete j i) [
 ]
 
 -- nothing is added yet
-pub filled-none : (s : Sides) (sums : List ℤ) → Filled s sums [] sums
-filled-none s sums = record {
+pub filled-none : (s : Sides) (sums : List ℤ) (degrees : List ℕ) → Marked s sums degrees
+    → Filled s sums [] sums degrees
+filled-none s sums degrees m = record {
   added = λ k g. rw (coefficient-nil (k ∷ [])) (sym (+ℤ-idr (getD sums (place s k) (pos 0))));
   grown = λ i h. omega arith;
+  marked = m;
 }
 
+-- one more degree is short
+short-more : (l : List ℕ) (p x : ℕ) → p < length l → x < 2 ^ 8 → ((i : ℕ) → getD l i 0 < 2 ^ 8)
+    → (i : ℕ) → getD (set l p x) i 0 < 2 ^ 8
+short-more l p x h b f i = elim (ℕ-discrete i p) [
+  | yes c ↦ rw (c, getD-set-same l p x 0 h) b
+  | no c ↦ rw (getD-set-other l p i x 0 c) (f i)
+]
+
 -- one more term
-module _ (s : Sides) (before : List ℤ) (q : Terms) (sums : List ℤ) (f : Filled s before q sums)
-    (sums-room : s .size ≤ length sums)
-    (key : ℕ) (z v : ℤ) (g : Gridded s key) (p : ℕ) (at : p ≡ place s key) (e : v ≡ z +ℤ getD sums p (pos 0)) where
+module _ (s : Sides) (before : List ℤ) (q : Terms) (sums : List ℤ) (degrees : List ℕ)
+    (f : Filled s before q sums degrees) (sums-room : s .size ≤ length sums) (degrees-room : s .size ≤ length degrees)
+    (key : ℕ) (z v : ℤ) (g : Gridded s key) (p : ℕ) (at : p ≡ place s key) (e : v ≡ z +ℤ getD sums p (pos 0))
+    (degree : ℕ) (own : degree ≡ wide-degree key) where
   abbrev t : Term ℤ
   t = at-key key z
 
@@ -118,19 +132,42 @@ module _ (s : Sides) (before : List ℤ) (q : Terms) (sums : List ℤ) (f : Fill
         | no c ↦ rw (getD-set-other sums p i v (pos 0) c) (omega (arith, n, f .grown i h))
       ]
 
-  pub filled-more : Filled s before (q ++ (t ∷ [])) new-sums
-  filled-more = record { added = added-more; grown = grown-more }
+  abbrev new-degrees : List ℕ
+  new-degrees = set degrees p degree
+
+  told-more : (k : ℕ) → Gridded s k
+      → (getD new-sums (place s k) (pos 0) ≡ pos 0) ⊎ (getD new-degrees (place s k) 0 ≡ wide-degree k)
+  told-more k x = elim (ℕ-discrete (place s k) p) [
+    | yes c ↦
+        let w : k ≡ key = place-apart s k key x g (c ∙ at) in
+        inr (rw (c, getD-set-same degrees p degree 0 (omega (arith, inside)), w) own)
+    | no c ↦
+        rw (getD-set-other sums p (place s k) v (pos 0) c, getD-set-other degrees p (place s k) degree 0 c)
+        (f .marked .told k x)
+  ]
+
+  pub filled-more : Filled s before (q ++ (t ∷ [])) (set sums p v) (set degrees p degree)
+  filled-more = record {
+    added = added-more;
+    grown = grown-more;
+    marked = record {
+      short =
+          short-more degrees p degree (omega (arith, inside)) (rw own (degree-byte key)) (f .marked .short);
+      told = told-more;
+    };
+  }
 
 -- terms after others
-pub filled-after : (s : Sides) (before mid : List ℤ) (q r : Terms) (sums : List ℤ)
-    → Filled s before q mid → Filled s mid r sums → Filled s before (q ++ r) sums
-filled-after s before mid q r sums f g = record {
+pub filled-after : (s : Sides) (before mid : List ℤ) (marks : List ℕ) (q r : Terms) (sums : List ℤ) (degrees : List ℕ)
+    → Filled s before q mid marks → Filled s mid r sums degrees → Filled s before (q ++ r) sums degrees
+filled-after s before mid marks q r sums degrees f g = record {
   added = λ k x.
       g .added k x
       ∙ ap (λ y. y +ℤ coefficient-at r (k ∷ [])) (f .added k x)
       ∙ +ℤ-assoc (getD before (place s k) (pos 0)) (coefficient-at q (k ∷ [])) (coefficient-at r (k ∷ []))
       ∙ ap (λ y. getD before (place s k) (pos 0) +ℤ y) (sym (coefficient-++ (k ∷ []) q r));
   grown = λ i h. omega (arith, f .grown i h, g .grown i h, size-append q r);
+  marked = g .marked;
 }
 
 -- ---- a row of products, term by term
@@ -154,15 +191,21 @@ module _ (t : Term ℤ) (bs : Terms) (j : ℕ) (b : Term ℤ) (e : take (suc j) 
 
 -- ---- all products, row by row
 -- sums that are all 0: nothing is added to none
-pub filled-first : (s : Sides) (sums : List ℤ) → ((i : ℕ) → i < s .size → getD sums i (pos 0) ≡ pos 0)
-    → Filled s [] [] sums
-filled-first s sums z = record {
+pub filled-first : (s : Sides) (sums : List ℤ) (degrees : List ℕ)
+    → ((i : ℕ) → i < s .size → getD sums i (pos 0) ≡ pos 0) → ((i : ℕ) → getD degrees i 0 < 2 ^ 8)
+    → Filled s [] [] sums degrees
+filled-first s sums degrees z b = record {
   added = λ k g. z (place s k) (g .below) ∙ rw (coefficient-nil (k ∷ [])) refl;
   grown = λ i h. rw (z i h) (omega arith);
+  marked = record { short = b; told = λ k g. inl (z (place s k) (g .below)) };
 }
 
-pub filled-last : (s : Sides) (p : Terms) (sums : List ℤ) → Filled s [] p sums → Summed-up s p sums
-filled-last s p sums f = record { sum = λ k g. f .added k g ∙ +ℤ-idl (coefficient-at p (k ∷ [])) }
+pub filled-last : (s : Sides) (p : Terms) (sums : List ℤ) (degrees : List ℕ) → Filled s [] p sums degrees
+    → Summed-up s p sums degrees
+filled-last s p sums degrees f = record {
+  sum = λ k g. f .added k g ∙ +ℤ-idl (coefficient-at p (k ∷ []));
+  marked = f .marked;
+}
 
 module _ (firsts seconds : Terms) (i : ℕ) (t : Term ℤ) (e : take (suc i) firsts ≡ take i firsts ++ (t ∷ [])) where
   pub products-more : product ℤR (take (suc i) firsts) seconds
@@ -178,8 +221,8 @@ module _ (firsts seconds : Terms) (i : ℕ) (t : Term ℤ) (e : take (suc i) fir
       omega (arith, n, m, size-product (take (suc i) firsts) seconds, size-product firsts seconds)
 
 -- the row of term i: what it asks, once the rows before it are added
-module _ {zeros ca : List ℤ} {ia : List ℕ} {na : ℕ} {cb : List ℤ} {ib : List ℕ} {nb : ℕ}
-    (w : All-fit zeros ca ia na cb ib nb) (i : ℕ) (turn : i < na) (sums : List ℤ) where
+module _ {zeros : List ℤ} {marks : List ℕ} {ca : List ℤ} {ia : List ℕ} {na : ℕ} {cb : List ℤ} {ib : List ℕ} {nb : ℕ}
+    (w : All-fit zeros marks ca ia na cb ib nb) (i : ℕ) (turn : i < na) (sums : List ℤ) (degrees : List ℕ) where
   abbrev firsts : Terms
   firsts = terms na (w .ka) ca
 
@@ -195,17 +238,22 @@ module _ {zeros ca : List ℤ} {ia : List ℕ} {na : ℕ} {cb : List ℤ} {ib : 
       take-suc firsts i none (omega (arith, turn))
       ∙ ap (λ t. take i firsts ++ (t ∷ [])) (terms-at na (w .ka) ca i turn (w .first-keys) (w .first-coefficients))
 
-  unfoldable pub row-fits : Filled (w .sides) [] (product ℤR (take i (terms na (w .ka) ca)) (terms nb (w .kb) cb)) sums
-      → length sums ≡ length zeros → Row-fits sums (getD ia i 0) (getD ca i (pos 0)) cb ib nb
-  row-fits f long = record {
+  unfoldable pub row-fits : Filled (w .sides) [] (product ℤR (take i (terms na (w .ka) ca)) (terms nb (w .kb) cb))
+      sums degrees
+      → length sums ≡ length zeros → length degrees ≡ length marks
+      → Row-fits sums degrees (getD ia i 0) (getD ca i (pos 0)) cb ib nb
+  row-fits f long wide = record {
     sides = w .sides;
     key = getD (w .ka) i 0;
     kb = w .kb;
+    few-places = w .few-places;
     sums-room = omega (arith, w .sums-room, long);
+    degrees-room = omega (arith, w .degrees-room, wide);
     keys-long = w .second-keys;
     coefficients-long = w .second-coefficients;
-    places-long = w .second-places;
+    words-long = w .second-words;
     gridded = λ j h. w .gridded i j turn h;
-    places = λ j h. w .places i j turn h;
+    words = λ j h. w .words i j turn h;
+    marked = f .marked;
     small = λ j h. omega (arith, f .grown j h, products-most firsts seconds i here next-first, w .small);
   }

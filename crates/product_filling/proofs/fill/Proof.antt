@@ -25,18 +25,19 @@ use Rattle.product_filling.proofs.fill.Lts as lts
 use Rattle.product_filling.proofs.row.Reads as row-reads
 
 -- the products of the first i terms are added, in whatever grid they fit
-record Held (sums₀ ca : List ℤ) (ia : List ℕ) (na : ℕ) (cb : List ℤ) (ib : List ℕ) (nb : ℕ) (sums : List ℤ) (i : ℕ)
-    : Type 0 where
+record Held (sums₀ : List ℤ) (degrees₀ : List ℕ) (ca : List ℤ) (ia : List ℕ) (na : ℕ) (cb : List ℤ) (ib : List ℕ)
+    (nb : ℕ) (sums : List ℤ) (degrees : List ℕ) (i : ℕ) : Type 0 where
   on : i ≤ na
   sums-long : length sums ≡ length sums₀
-  filled : (w : All-fit sums₀ ca ia na cb ib nb)
-      → Filled (w .sides) [] (product ℤR (take i (terms na (w .ka) ca)) (terms nb (w .kb) cb)) sums
+  degrees-long : length degrees ≡ length degrees₀
+  filled : (w : All-fit sums₀ degrees₀ ca ia na cb ib nb)
+      → Filled (w .sides) [] (product ℤR (take i (terms na (w .ka) ca)) (terms nb (w .kb) cb)) sums degrees
 
 abbrev Inv-loop : tie.InvT-loop
-Inv-loop sums₀ ca ia na cb ib nb i₀ sums i = Held sums₀ ca ia na cb ib nb sums i
+Inv-loop sums₀ degrees₀ ca ia na cb ib nb i₀ sums degrees i = Held sums₀ degrees₀ ca ia na cb ib nb sums degrees i
 
 abbrev μ-loop : tie.MeasureT-loop
-μ-loop sums₀ ca ia na cb ib nb i₀ sums i = na - i
+μ-loop sums₀ degrees₀ ca ia na cb ib nb i₀ sums degrees i = na - i
 
 -- in a turn
 module _ (d : tie.After-c Inv-loop μ-loop) where
@@ -44,7 +45,7 @@ module _ (d : tie.After-c Inv-loop μ-loop) where
   l = d .before .before
 
   abbrev s : tie.Start Inv-loop μ-loop
-  s = l .before .before .before
+  s = l .before .before .before .before
 
   turn : l .loop .i < s .args .na
   turn = d .before .loop-test .taken
@@ -54,7 +55,7 @@ module _ (d : tie.After-c Inv-loop μ-loop) where
 
   abbrev Fits : Type 0
   Fits =
-      All-fit (s .args .sums .now) (s .args .ca .now) (s .args .ia .now) (s .args .na) (s .args .cb .now)
+      All-fit (s .args .sums .now) (s .args .degrees .now) (s .args .ca .now) (s .args .ia .now) (s .args .na) (s .args .cb .now)
       (s .args .ib .now) (s .args .nb)
 
   fits-y : toZ w64 (ofZ w64 y) ≡ y
@@ -62,7 +63,13 @@ module _ (d : tie.After-c Inv-loop μ-loop) where
 
 loop-holds : tie.Need-loop-holds Inv-loop μ-loop
 unfolding product
-loop-holds c = record { on = omega arith; sums-long = refl; filled = λ w. filled-first (w .sides) _ (w .zeros) }
+loop-holds c =
+    record {
+      on = omega arith;
+      sums-long = refl;
+      degrees-long = refl;
+      filled = λ w. filled-first (w .sides) _ _ (w .zeros) (w .short);
+    }
 
 mul-c : tie.Need-mul-c Inv-loop μ-loop
 mul-c c = search needs
@@ -78,9 +85,11 @@ shared-slice-read-row c = search needs
 
 row-requires : tie.Need-row-requires Inv-loop μ-loop
 row-requires c κs =
-    let d = c .before .before in
+    let d = c .before .before .before in
     let h = l d .loop .inv in
-    rw (fits-y d) (row-fits (s d .pre) (l d .loop .i) (turn d) (l d .loop .sums) (h .filled (s d .pre)) (h .sums-long))
+    rw (fits-y d)
+    (row-fits (s d .pre) (l d .loop .i) (turn d) (l d .loop .sums) (l d .loop .degrees) (h .filled (s d .pre))
+    (h .sums-long) (h .degrees-long))
 
 add-i : tie.Need-add-i Inv-loop μ-loop
 add-i c = search needs
@@ -91,8 +100,8 @@ loop-less c = search needs
 loop-again : tie.Need-loop-again Inv-loop μ-loop
 unfolding row-fits
 loop-again c =
-    let r = c .before in
-    let d = r .before .before .before in
+    let r = c .before .before .before in
+    let d = r .before .before .before .before in
     let h = l d .loop .inv in
     let a = s d .args in
     let i = l d .loop .i in
@@ -100,27 +109,32 @@ loop-again c =
     record {
       on = omega (arith, turn d);
       sums-long = r .row .kept .0 ∙ h .sums-long;
+      degrees-long = r .row .kept .1 .0 ∙ h .degrees-long;
       filled = rw add-one (λ (w : Fits d).
           rw (products-more (terms (a .na) (w .ka) (a .ca .now)) (terms (a .nb) (w .kb) (a .cb .now)) i
-          (at-key (getD (w .ka) i 0) (y d)) (next-first w i (turn d) (l d .loop .sums)))
-          (filled-after _ _ _ _ _ _ (h .filled w)
-          (added (row-fits w i (turn d) (l d .loop .sums) (h .filled w) (h .sums-long)))));
+          (at-key (getD (w .ka) i 0) (y d)) (next-first w i (turn d) (l d .loop .sums) (l d .loop .degrees)))
+          (filled-after _ _ _ _ _ _ _ _ (h .filled w)
+          (added (row-fits w i (turn d) (l d .loop .sums) (l d .loop .degrees) (h .filled w) (h .sums-long)
+          (h .degrees-long)))));
     }
 
 same-length : tie.Need-same-length Inv-loop μ-loop
 same-length c = c .before .loop .inv .sums-long
 
+same-length-2 : tie.Need-same-length-2 Inv-loop μ-loop
+same-length-2 c = c .before .loop .inv .degrees-long
+
 returns : tie.Need-returns Inv-loop μ-loop
 returns c =
     let l = c .before in
-    let s = l .before .before .before in
+    let s = l .before .before .before .before in
     let a = s .args in
     λ w.
     let firsts = terms (a .na) (w .ka) (a .ca .now) in
     let long = terms-length (a .na) (w .ka) (a .ca .now) (w .first-keys) (w .first-coefficients) in
     let all : take (l .loop .i) firsts ≡ firsts =
     take-all (l .loop .i) firsts (omega (arith, long, c .loop-test .left)) in
-    filled-last _ _ _ (rw all at (l .loop .inv .filled w))
+    filled-last _ _ _ _ (rw all at (l .loop .inv .filled w))
 
 pub fill-spec : {M : Type 1} → statement M
 fill-spec =
@@ -138,4 +152,5 @@ fill-spec =
     loop-less
     loop-again
     same-length
+    same-length-2
     returns)

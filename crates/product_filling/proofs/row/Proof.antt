@@ -1,7 +1,7 @@
 -- `row` adds the products of one term with each of a list.
 use mathlib.Core.Path.{_≡_, refl, _∙_, ap}
 use mathlib.Core.List.{List, [], _∷_, _++_}
-use Prim.Native.Nat.{ℕ, suc, _+_, _-_, _*_, _^_, _≤_, _<_}
+use Prim.Native.Nat.{ℕ, suc, _+_, _-_, _*_, _/_, _%_, _^_, _≤_, _<_}
 use native.Mathlib.Numerals.{add-one}
 use native.Mathlib.Omega.{arith}
 use borrow.Author.Needs.{needs}
@@ -16,9 +16,11 @@ use Rattle.algebra.specs.IntegerRing.{ℤR}
 use Rattle.polynomial.specs.Polynomial.{add-exponents, times}
 use Rattle.fixed.specs.MachineLaws.{fits-size}
 use Rattle.calculus.specs.Terms.{Terms, size}
+use Rattle.model_keys.specs.Keys.{wide-degree}
 use Rattle.product_table.specs.Table.{at-key, none, terms}
 use Rattle.product_table.specs.TermArrayLaws.{terms-length, terms-at}
 use Rattle.product_dense.specs.Grid.{place}
+use Rattle.product_dense.specs.DegreeLaws.{word-place, word-degree}
 use Rattle.product_filling.specs.Filling.{Row-fits, Filled}
 use Rattle.product_filling.specs.FillingLaws.{filled-none, filled-more, times-more, times-most}
 use Rattle.product_filling.proofs.row.Statement.{statement}
@@ -29,18 +31,20 @@ use Rattle.fixed.proofs.product.Reads as product-reads
 use Rattle.fixed.proofs.sum.Reads as sum-reads
 
 -- the first j products are added, in whatever grid they fit
-record Held (sums₀ : List ℤ) (at : ℕ) (c : ℤ) (cb : List ℤ) (ib : List ℕ) (count : ℕ) (sums : List ℤ) (j : ℕ)
-    : Type 0 where
+record Held (sums₀ : List ℤ) (degrees₀ : List ℕ) (at : ℕ) (c : ℤ) (cb : List ℤ) (ib : List ℕ) (count : ℕ)
+    (sums : List ℤ) (degrees : List ℕ) (j : ℕ) : Type 0 where
   on : j ≤ count
   sums-long : length sums ≡ length sums₀
-  filled : (w : Row-fits sums₀ at c cb ib count)
-      → Filled (w .sides) sums₀ (times ℤR (at-key (w .key) c) (take j (terms count (w .kb) cb))) sums
+  degrees-long : length degrees ≡ length degrees₀
+  filled : (w : Row-fits sums₀ degrees₀ at c cb ib count)
+      → Filled (w .sides) sums₀ (times ℤR (at-key (w .key) c) (take j (terms count (w .kb) cb))) sums degrees
 
 abbrev Inv-loop : tie.InvT-loop
-Inv-loop sums₀ at c cb ib count j₀ sums j = Held sums₀ at (toZ w64 c) cb ib count sums j
+Inv-loop sums₀ degrees₀ at c cb ib count j₀ sums degrees j =
+    Held sums₀ degrees₀ at (toZ w64 c) cb ib count sums degrees j
 
 abbrev μ-loop : tie.MeasureT-loop
-μ-loop sums₀ at c cb ib count j₀ sums j = count - j
+μ-loop sums₀ degrees₀ at c cb ib count j₀ sums degrees j = count - j
 
 -- in a turn: the next term, its place, and room for its product
 module _ (d : tie.After-y Inv-loop μ-loop) where
@@ -48,7 +52,7 @@ module _ (d : tie.After-y Inv-loop μ-loop) where
   l = d .before .before
 
   abbrev s : tie.Start Inv-loop μ-loop
-  s = l .before .before
+  s = l .before .before .before
 
   abbrev c : ℤ
   c = s .args .c
@@ -59,14 +63,19 @@ module _ (d : tie.After-y Inv-loop μ-loop) where
   abbrev y : ℤ
   y = getD (s .args .cb .now) j (pos 0)
 
+  abbrev v : ℕ
+  v = s .args .at + getD (s .args .ib .now) j 0
+
   abbrev p : ℕ
-  p = s .args .at + getD (s .args .ib .now) j 0
+  p = v / 2 ^ 8
 
   abbrev old : ℤ
   old = getD (l .loop .sums) p (pos 0)
 
   abbrev Fits : Type 0
-  Fits = Row-fits (s .args .sums .now) (s .args .at) c (s .args .cb .now) (s .args .ib .now) (s .args .count)
+  Fits =
+      Row-fits (s .args .sums .now) (s .args .degrees .now) (s .args .at) c (s .args .cb .now) (s .args .ib .now)
+      (s .args .count)
 
   turn : j < s .args .count
   turn = d .before .loop-test .taken
@@ -96,21 +105,34 @@ module _ (d : tie.After-y Inv-loop μ-loop) where
         ∙ ap (λ t. take j bs ++ (t ∷ []))
         (terms-at (a .count) (w .kb) (a .cb .now) j turn (w .keys-long) (w .coefficients-long))
 
-  filled : (w : Fits) → Filled (w .sides) (s .args .sums .now) (before w) (l .loop .sums)
+    there : p ≡ place (w .sides) (w .key + k)
+    there =
+        ap (λ x. x / 2 ^ 8) (w .words j turn)
+        ∙ word-place (w .sides .second) (w .sides .third) (w .sides .fourth) (w .key + k)
+
+    degree-there : v % 2 ^ 8 ≡ wide-degree (w .key + k)
+    degree-there =
+        ap (λ x. x % 2 ^ 8) (w .words j turn)
+        ∙ word-degree (w .sides .second) (w .sides .third) (w .sides .fourth) (w .key + k)
+
+  filled : (w : Fits) → Filled (w .sides) (s .args .sums .now) (before w) (l .loop .sums) (l .loop .degrees)
   filled = rw (fits-c) at (l .loop .inv .filled)
 
   -- where it goes
   abbrev w : Fits
   w = s .pre
 
-  there : p ≡ place (w .sides) (w .key + k w)
-  there = w .places j turn
-
   inside : p < w .sides .size
-  inside = rw there (w .gridded j turn .below)
+  inside = rw (there w) (w .gridded j turn .below)
 
   within-sums : p < length (l .loop .sums)
   within-sums = omega (arith, inside, w .sums-room, l .loop .inv .sums-long)
+
+  within-degrees : p < length (l .loop .degrees)
+  within-degrees = omega (arith, inside, w .degrees-room, l .loop .inv .degrees-long)
+
+  word-fits : v < 2 ^ 64
+  word-fits = omega (arith, inside, w .few-places)
 
   room : natAbs (c *ℤ y) + natAbs old < 2 ^ 63
   room =
@@ -133,7 +155,8 @@ loop-holds e =
     record {
       on = omega arith;
       sums-long = refl;
-      filled = λ w. filled-none (w .sides) _;
+      degrees-long = refl;
+      filled = λ w. filled-none (w .sides) _ _ (w .marked);
     }
 
 mul-y : tie.Need-mul-y Inv-loop μ-loop
@@ -142,14 +165,14 @@ mul-y c = search needs
 shared-slice-copy-out-y : tie.Need-shared-slice-copy-out-y Inv-loop μ-loop
 shared-slice-copy-out-y c = search needs
 
-mul-place : tie.Need-mul-place Inv-loop μ-loop
-mul-place c = search needs
+mul-word : tie.Need-mul-word Inv-loop μ-loop
+mul-word c = search needs
 
-shared-slice-read-place : tie.Need-shared-slice-read-place Inv-loop μ-loop
-shared-slice-read-place c = search needs
+shared-slice-read-word : tie.Need-shared-slice-read-word Inv-loop μ-loop
+shared-slice-read-word c = search needs
 
-add-place : tie.Need-add-place Inv-loop μ-loop
-add-place c = let h = within-sums (c .before) in search needs
+add-word : tie.Need-add-word Inv-loop μ-loop
+add-word c = record { fits = omega (arith, word-fits (c .before)) }
 
 product-requires : tie.Need-product-requires Inv-loop μ-loop
 product-requires e κs =
@@ -181,6 +204,12 @@ mul-sum e = let h = within-sums (e .before .before .before .before) in search ne
 slice-set-from-sum : tie.Need-slice-set-from-sum Inv-loop μ-loop
 slice-set-from-sum e = within-sums (e .before .before .before .before)
 
+cast-degrees : tie.Need-cast-degrees Inv-loop μ-loop
+cast-degrees e = search needs
+
+slice-write-degrees : tie.Need-slice-write-degrees Inv-loop μ-loop
+slice-write-degrees e = within-degrees (e .before .before .before .before)
+
 add-j : tie.Need-add-j Inv-loop μ-loop
 add-j c = search needs
 
@@ -193,27 +222,32 @@ loop-again e =
     let o = e .before in
     let d = o .before .before .before in
     let z = c d *ℤ y d in
-    let v : toZ w64 (ofZ w64 (e .sum .result)) ≡ z +ℤ old d =
+    let u : toZ w64 (ofZ w64 (e .sum .result)) ≡ z +ℤ old d =
     ap (λ x. toZ w64 (ofZ w64 x))
     (rw (product-is (o .before), toZ-ofZ (fits-z d), toZ-ofZ (fits-old o)) at (e .sum .ensures))
     ∙ toZ-ofZ (fits-sum d) in
     record {
       on = omega (arith, turn d);
       sums-long = length-set (l d .loop .sums) (p d) _ ∙ l d .loop .inv .sums-long;
+      degrees-long = length-set (l d .loop .degrees) (p d) _ ∙ l d .loop .inv .degrees-long;
       filled = rw (fits-c d, add-one) (λ w.
           rw (times-more (at-key (w .key) (c d)) (bs d w) (j d) (at-key (k d w) (y d)) (next d w))
-          (filled-more (w .sides) (s d .args .sums .now) (before d w) (l d .loop .sums) (filled d w)
-          (omega (arith, w .sums-room, l d .loop .inv .sums-long)) (w .key + k d w) z _
-          (w .gridded (j d) (turn d)) (p d) (w .places (j d) (turn d)) v));
+          (filled-more (w .sides) (s d .args .sums .now) (before d w) (l d .loop .sums) (l d .loop .degrees) (filled d w)
+          (omega (arith, w .sums-room, l d .loop .inv .sums-long))
+          (omega (arith, w .degrees-room, l d .loop .inv .degrees-long)) (w .key + k d w) z _
+          (w .gridded (j d) (turn d)) (p d) (there d w) u _ (degree-there d w)));
     }
 
 same-length : tie.Need-same-length Inv-loop μ-loop
 same-length e = e .before .loop .inv .sums-long
 
+same-length-2 : tie.Need-same-length-2 Inv-loop μ-loop
+same-length-2 e = e .before .loop .inv .degrees-long
+
 returns : tie.Need-returns Inv-loop μ-loop
 returns e =
     let l = e .before in
-    let s = l .before .before in
+    let s = l .before .before .before in
     let a = s .args in
     λ w.
     let bs = terms (a .count) (w .kb) (a .cb .now) in
@@ -230,17 +264,20 @@ row-spec =
     loop-holds
     mul-y
     shared-slice-copy-out-y
-    mul-place
-    shared-slice-read-place
-    add-place
+    mul-word
+    shared-slice-read-word
+    add-word
     product-requires
     mul-old
     slice-copy-out-old
     sum-requires
     mul-sum
     slice-set-from-sum
+    cast-degrees
+    slice-write-degrees
     add-j
     loop-less
     loop-again
     same-length
+    same-length-2
     returns)
