@@ -14,6 +14,7 @@ use Rattle.polynomial.specs.Polynomial.{Term}
 use Rattle.calculus.specs.Terms.{Terms, select, size}
 use Rattle.calculus.specs.Model.{most-terms}
 use Rattle.calculus.specs.SumLaws.{ℕ-addition, sum-++}
+use Rattle.model_keys.specs.Keys.{wide-degree}
 use Rattle.product_table.specs.Table.{at-key, terms}
 use Rattle.product_table.specs.TermArrayLaws.{terms-push}
 use Rattle.product_gathering.specs.declared.Gathered.{Gathered}
@@ -22,7 +23,7 @@ use Rattle.product_gathering.specs.Kept.{wide-within-order, wide-above-order, w
 use Rattle.product_gathering.specs.GatherLaws.{kept-append, rounding-append, swept-append, size-select, residuals-le}
 use Rattle.product_gathering.specs.GatherLaws.{kept-none, rounding-none, swept-none, counted-few, counted-many}
 use Rattle.product_rising.specs.Rising.{in-turn, steps-within, first-step, second-step, third-step}
-use Rattle.product_rising.specs.Rising.{row-terms, line-terms, plane-terms, Room, Row-ready, Line-ready}
+use Rattle.product_rising.specs.Rising.{row-terms, line-terms, plane-terms, Room, Bare, Row-ready, Line-ready}
 use Rattle.product_rising.specs.Rising.{Plane-ready, Scan-ready, Part, Scanned}
 
 -- ---- how large it can be
@@ -57,6 +58,11 @@ module _ (d : ℕ) (q : Terms) where
   unfolding wide-swept wide-above-order
   swept-within = size-select (λ k z. not (leb (degree-byte k) d)) q
 
+-- ---- a key without its degree, and a degree
+pub own-degree : (key degree : ℕ) → Bare key → degree < 2 ^ 8 → wide-degree (key + degree) ≡ degree
+unfolding wide-degree
+own-degree key degree b l = omega arith
+
 -- ---- steps
 pub steps-side : (side left : ℕ) → steps-within side left ≤ side
 unfolding steps-within
@@ -86,9 +92,9 @@ next-side a m n side h l =
     let k : (a + 1) * side ≤ n * side = mul-le-mul-right side (omega arith) in omega (arith, add-mul a 1 side)
 
 -- of a line
-module _ (sums : List ℤ) (fourth at n key left : ℕ) (h : Line-ready sums fourth at n key left)
+module _ (sums : List ℤ) (degrees : List ℕ) (fourth at n key left : ℕ) (h : Line-ready sums degrees fourth at n key left)
     (i : ℕ) (turn : i < n) where
-  pub row-ready : Row-ready sums ((at + i) * fourth) (steps-within fourth (left - i)) (key + third-step * i)
+  pub row-ready : Row-ready sums degrees ((at + i) * fourth) (steps-within fourth (left - i)) (key + third-step * i)
   row-ready =
       let m = steps-within fourth (left - i) in
       let few : m ≤ left - i + 1 = steps-left fourth (left - i) in
@@ -96,20 +102,22 @@ module _ (sums : List ℤ) (fourth at n key left : ℕ) (h : Line-ready sums fou
       next-side (at + i) m (at + n) fourth (omega arith) (steps-side fourth (left - i)) in
       record {
         places = omega (arith, next, h .places);
+        marks = omega (arith, next, h .marks);
+        bare = omega (arith, h .bare);
         keys = omega (arith, few, h .keys, h .low, turn);
         small =
             omega (
               arith,
               size-turn (λ j.
-                  row-terms sums ((at + j) * fourth) (steps-within fourth (left - j)) (key + third-step * j)) i n turn,
+                  row-terms sums degrees ((at + j) * fourth) (steps-within fourth (left - j)) (key + third-step * j)) i n turn,
               h .small,
             );
       }
 
 -- of a plane
-module _ (sums : List ℤ) (third fourth at n key left : ℕ) (h : Plane-ready sums third fourth at n key left)
+module _ (sums : List ℤ) (degrees : List ℕ) (third fourth at n key left : ℕ) (h : Plane-ready sums degrees third fourth at n key left)
     (i : ℕ) (turn : i < n) where
-  pub line-ready : Line-ready sums fourth ((at + i) * third) (steps-within third (left - i)) (key + second-step * i)
+  pub line-ready : Line-ready sums degrees fourth ((at + i) * third) (steps-within third (left - i)) (key + second-step * i)
       (left - i)
   line-ready =
       let m = steps-within third (left - i) in
@@ -120,6 +128,8 @@ module _ (sums : List ℤ) (third fourth at n key left : ℕ) (h : Plane-ready s
       let short : (at + n) * third ≤ 2 ^ 16 * 2 ^ 8 = mul-le-mul (h .below) (h .short-third) in
       record {
         places = omega (arith, inside, h .places);
+        marks = omega (arith, inside, h .marks);
+        bare = omega (arith, h .bare);
         below = omega (arith, next, short);
         keys = omega (arith, few, h .keys, h .low, turn);
         few = few;
@@ -128,16 +138,16 @@ module _ (sums : List ℤ) (third fourth at n key left : ℕ) (h : Plane-ready s
             omega (
               arith,
               size-turn (λ j.
-                  line-terms sums fourth ((at + j) * third) (steps-within third (left - j)) (key + second-step * j)
+                  line-terms sums degrees fourth ((at + j) * third) (steps-within third (left - j)) (key + second-step * j)
                   (left - j)) i n turn,
               h .small,
             );
       }
 
 -- of a grid
-module _ (sums : List ℤ) (first second third fourth most : ℕ) (h : Scan-ready sums first second third fourth most)
+module _ (sums : List ℤ) (degrees : List ℕ) (first second third fourth most : ℕ) (h : Scan-ready sums degrees first second third fourth most)
     (i : ℕ) (turn : i < steps-within first most) where
-  pub plane-ready : Plane-ready sums third fourth (i * second) (steps-within second (most - i)) (first-step * i)
+  pub plane-ready : Plane-ready sums degrees third fourth (i * second) (steps-within second (most - i)) (first-step * i)
       (most - i)
   plane-ready =
       let m = steps-within second (most - i) in
@@ -151,6 +161,8 @@ module _ (sums : List ℤ) (first second third fourth most : ℕ) (h : Scan-read
       mul-le-mul-right fourth (mul-le-mul-right third next) in
       record {
         places = omega (arith, inside, h .places);
+        marks = omega (arith, inside, h .marks);
+        bare = omega arith;
         below = omega (arith, near, h .short-second);
         short-third = h .short-third;
         keys = omega (arith, few, last, h .low);
@@ -160,7 +172,7 @@ module _ (sums : List ℤ) (first second third fourth most : ℕ) (h : Scan-read
             omega (
               arith,
               size-turn (λ j.
-                  plane-terms sums third fourth (j * second) (steps-within second (most - j)) (first-step * j)
+                  plane-terms sums degrees third fourth (j * second) (steps-within second (most - j)) (first-step * j)
                   (most - j)) i (steps-within first most) turn,
               h .small,
             );

@@ -1,35 +1,47 @@
 // What an order keeps of the sums in a grid: rounded, without zeros, in the order of their keys, and what it loses. A
-// place tells its key, so only the sums are read; and no place is looked at whose degree no product has.
-ghost use Prim.Native.Nat.{_<_};
+// place tells its exponents, and beside each sum stands the degree that its pairs of terms brought: that one keeps or
+// sweeps. No place is looked at whose degree no product has.
+ghost use Prim.Native.Nat.{_+_, _<_};
 ghost use mathlib.Core.List.{[], _∷_};
 ghost use mathlib.Core.Path.{_≡_};
 ghost use Rattle.product_table.specs.Table.{«at-key»};
 ghost use Rattle.product_rising.specs.Rising.{«steps-within», «row-terms», «line-terms», «plane-terms»};
-ghost use Rattle.product_rising.specs.Rising.{Room, Part, «Row-ready», «Line-ready», «Plane-ready», «Scan-ready»};
+ghost use Rattle.product_rising.specs.Rising.{Room, Bare, Part, «Row-ready», «Line-ready», «Plane-ready», «Scan-ready»};
 ghost use Rattle.product_rising.specs.Rising.{«grid-terms», Scanned};
 use product_gathering::Gathered;
 
 // The count that says that a product has more terms than a model can hold.
 const TOO_MANY: usize = model_types::MOST_TERMS + 1;
 
-// ---- what one more exponent of each variable adds to a wide key: that, and one to the degree
-const FIRST: u64 = (1 << 57) + 1;
+// ---- what one more exponent of each variable adds to a wide key without its degree
+const FIRST: u64 = 1 << 57;
 
-const SECOND: u64 = (1 << 50) + 1;
+const SECOND: u64 = 1 << 50;
 
-const THIRD: u64 = (1 << 43) + 1;
+const THIRD: u64 = 1 << 43;
 
-const FOURTH: u64 = (1 << 36) + 1;
+const FOURTH: u64 = 1 << 36;
 
 // ---- one sum
-// The sum z of one monomial: rounded and put behind the n that are kept, or swept. A sum of 0 is rounded to 0 and
-// leaves nothing, so nobody asks for it. Once there are too many, no more is put anywhere.
-fn push(keys: &mut [u64], coefficients: &mut [i64], n: usize, key: u64, z: i64, d: u64) -> Gathered
+// The sum z of one monomial, by its key without a degree and the degree: rounded and put behind the n that are kept, or
+// swept. A sum of 0 is rounded to 0 and leaves nothing, so nobody asks for it. Once there are too many, no more is put
+// anywhere.
+fn push(
+    keys: &mut [u64],
+    coefficients: &mut [i64],
+    n: usize,
+    key: u64,
+    degree: u8,
+    z: i64,
+    d: u64,
+) -> Gathered
     requires { ⌜ Room n (now keys) (now coefficients) ⌝ }
-    ensures { λ r. ⌜ Part d (at-key key z ∷ []) n (now (keys .entry)) (now (coefficients .entry))
+    requires { ⌜ Bare key ⌝ }
+    ensures { λ r. ⌜ Part d (at-key (key + degree) z ∷ []) n (now (keys .entry)) (now (coefficients .entry))
         (now (keys .exit)) (now (coefficients .exit)) r ⌝ }
 {
-    if d < model_keys::wide_degree(key) {
+    let own = degree as u64;
+    if d < own {
         return Gathered {
             count: n,
             rounding: 0,
@@ -53,7 +65,7 @@ fn push(keys: &mut [u64], coefficients: &mut [i64], n: usize, key: u64, z: i64, 
             swept: 0,
         };
     }
-    keys[n] = key;
+    keys[n] = key + own;
     coefficients[n] = c;
     Gathered {
         count: n + 1,
@@ -74,6 +86,7 @@ fn steps(side: usize, left: usize) -> usize
 // The sums of n exponents of variable 4.
 fn row(
     sums: &[i64],
+    degrees: &[u8],
     at: usize,
     n: usize,
     key: u64,
@@ -82,9 +95,9 @@ fn row(
     coefficients: &mut [i64],
     from: usize,
 ) -> Gathered
-    requires { ⌜ Row-ready (now sums) at n key ⌝ }
+    requires { ⌜ Row-ready (now sums) (now degrees) at n key ⌝ }
     requires { ⌜ Room from (now kept) (now coefficients) ⌝ }
-    ensures { λ r. ⌜ Part d (row-terms (now (sums .entry)) at n key) from
+    ensures { λ r. ⌜ Part d (row-terms (now (sums .entry)) (now (degrees .entry)) at n key) from
         (now (kept .entry)) (now (coefficients .entry)) (now (kept .exit)) (now (coefficients .exit)) r ⌝ }
 {
     let mut count = from;
@@ -95,7 +108,8 @@ fn row(
         let place = at + i;
         let z = sums[place];
         let more = FOURTH * i as u64;
-        let p = push(kept, coefficients, count, key + more, z, d);
+        let degree = degrees[place];
+        let p = push(kept, coefficients, count, key + more, degree, z, d);
         count = p.count;
         rounding += p.rounding;
         swept += p.swept;
@@ -111,6 +125,7 @@ fn row(
 // The rows of n exponents of variable 3.
 fn line(
     sums: &[i64],
+    degrees: &[u8],
     fourth: usize,
     at: usize,
     n: usize,
@@ -121,9 +136,9 @@ fn line(
     coefficients: &mut [i64],
     from: usize,
 ) -> Gathered
-    requires { ⌜ Line-ready (now sums) fourth at n key left ⌝ }
+    requires { ⌜ Line-ready (now sums) (now degrees) fourth at n key left ⌝ }
     requires { ⌜ Room from (now kept) (now coefficients) ⌝ }
-    ensures { λ r. ⌜ Part d (line-terms (now (sums .entry)) fourth at n key left) from
+    ensures { λ r. ⌜ Part d (line-terms (now (sums .entry)) (now (degrees .entry)) fourth at n key left) from
         (now (kept .entry)) (now (coefficients .entry)) (now (kept .exit)) (now (coefficients .exit)) r ⌝ }
 {
     let mut count = from;
@@ -135,7 +150,17 @@ fn line(
         let m = steps(fourth, rest);
         let place = (at + i) * fourth;
         let more = THIRD * i as u64;
-        let p = row(sums, place, m, key + more, d, kept, coefficients, count);
+        let p = row(
+            sums,
+            degrees,
+            place,
+            m,
+            key + more,
+            d,
+            kept,
+            coefficients,
+            count,
+        );
         count = p.count;
         rounding += p.rounding;
         swept += p.swept;
@@ -151,6 +176,7 @@ fn line(
 // The lines of n exponents of variable 2.
 fn plane(
     sums: &[i64],
+    degrees: &[u8],
     third: usize,
     fourth: usize,
     at: usize,
@@ -162,9 +188,9 @@ fn plane(
     coefficients: &mut [i64],
     from: usize,
 ) -> Gathered
-    requires { ⌜ Plane-ready (now sums) third fourth at n key left ⌝ }
+    requires { ⌜ Plane-ready (now sums) (now degrees) third fourth at n key left ⌝ }
     requires { ⌜ Room from (now kept) (now coefficients) ⌝ }
-    ensures { λ r. ⌜ Part d (plane-terms (now (sums .entry)) third fourth at n key left) from
+    ensures { λ r. ⌜ Part d (plane-terms (now (sums .entry)) (now (degrees .entry)) third fourth at n key left) from
         (now (kept .entry)) (now (coefficients .entry)) (now (kept .exit)) (now (coefficients .exit)) r ⌝ }
 {
     let mut count = from;
@@ -178,6 +204,7 @@ fn plane(
         let more = SECOND * i as u64;
         let p = line(
             sums,
+            degrees,
             fourth,
             place,
             m,
@@ -204,6 +231,7 @@ fn plane(
 // of what it loses.
 pub fn scan(
     sums: &[i64],
+    degrees: &[u8],
     first: usize,
     second: usize,
     third: usize,
@@ -213,9 +241,9 @@ pub fn scan(
     kept: &mut [u64],
     coefficients: &mut [i64],
 ) -> Gathered
-    requires { ⌜ Scan-ready (now sums) first second third fourth most ⌝ }
+    requires { ⌜ Scan-ready (now sums) (now degrees) first second third fourth most ⌝ }
     requires { ⌜ Room 0 (now kept) (now coefficients) ⌝ }
-    ensures { λ r. ⌜ Scanned d (grid-terms (now (sums .entry)) first second third fourth most)
+    ensures { λ r. ⌜ Scanned d (grid-terms (now (sums .entry)) (now (degrees .entry)) first second third fourth most)
         (now (kept .exit)) (now (coefficients .exit)) r ⌝ }
 {
     let n = steps(first, most);
@@ -230,6 +258,7 @@ pub fn scan(
         let key = FIRST * i as u64;
         let p = plane(
             sums,
+            degrees,
             third,
             fourth,
             place,

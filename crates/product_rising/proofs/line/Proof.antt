@@ -15,16 +15,16 @@ use Rattle.product_rising.proofs.row.Reads as row-reads
 use Rattle.product_rising.proofs.steps.Reads as steps-reads
 
 abbrev Inv-loop : tie.InvT-loop
-Inv-loop sums fourth at n key left d k₀ c₀ from m₀ r₀ w₀ i₀ kept coefficients count rounding swept i =
-    Held (λ j. row-terms sums ((at + j) * fourth) (steps-within fourth (left - j)) (key + third-step * j)) n d from
+Inv-loop sums degrees fourth at n key left d k₀ c₀ from m₀ r₀ w₀ i₀ kept coefficients count rounding swept i =
+    Held (λ j. row-terms sums degrees ((at + j) * fourth) (steps-within fourth (left - j)) (key + third-step * j)) n d from
     k₀ c₀ kept coefficients count rounding swept i
 
 abbrev μ-loop : tie.MeasureT-loop
-μ-loop sums fourth at n key left d k₀ c₀ from m₀ r₀ w₀ i₀ kept coefficients count rounding swept i =
+μ-loop sums degrees fourth at n key left d k₀ c₀ from m₀ r₀ w₀ i₀ kept coefficients count rounding swept i =
     n - i
 
 loop-holds : tie.Need-loop-holds Inv-loop μ-loop
-loop-holds c = held-none _ _ _ _ _ _ (c .before .pre .1)
+loop-holds c = held-none _ _ _ _ _ _ (c .before .before .pre .1)
 
 -- in a turn
 module _ (c : tie.After-steps Inv-loop μ-loop) where
@@ -32,19 +32,19 @@ module _ (c : tie.After-steps Inv-loop μ-loop) where
   l = c .before .before
 
   abbrev s : tie.Start Inv-loop μ-loop
-  s = l .before .before
+  s = l .before .before .before
 
   abbrev part : ℕ → Terms
   part j =
-      row-terms (s .args .sums .now) ((s .args .at + j) * s .args .fourth)
+      row-terms (s .args .sums .now) (s .args .degrees .now) ((s .args .at + j) * s .args .fourth)
       (steps-within (s .args .fourth) (s .args .left - j)) (s .args .key + third-step * j)
 
   turn : l .loop .i < s .args .n
   turn = c .before .loop-test .taken
 
-  ready : Row-ready (s .args .sums .now) ((s .args .at + l .loop .i) * s .args .fourth)
+  ready : Row-ready (s .args .sums .now) (s .args .degrees .now) ((s .args .at + l .loop .i) * s .args .fourth)
       (steps-within (s .args .fourth) (s .args .left - l .loop .i)) (s .args .key + third-step * l .loop .i)
-  ready = row-ready _ _ _ _ _ _ (s .pre .0) (l .loop .i) turn
+  ready = row-ready _ _ _ _ _ _ _ (s .pre .0) (l .loop .i) turn
 
 sub-rest : tie.Need-sub-rest Inv-loop μ-loop
 sub-rest c = search needs
@@ -77,7 +77,7 @@ module _ (p : tie.After-row Inv-loop μ-loop) where
   t = p .before .before .before
 
   done : Part (s t .args .d) (part t (l t .loop .i)) (l t .loop .count) (l t .loop .kept) (l t .loop .coefficients)
-      (p .row .last .1 .1 .1 .1 .1 .0) (p .row .last .1 .1 .1 .1 .1 .1 .0) (p .row .result)
+      (p .row .last .1 .1 .1 .1 .1 .1 .0) (p .row .last .1 .1 .1 .1 .1 .1 .1 .0) (p .row .result)
   done = rw (t .steps .ensures) at (p .row .ensures)
 
 add-rounding : tie.Need-add-rounding Inv-loop μ-loop
@@ -114,7 +114,7 @@ loop-again : tie.Need-loop-again Inv-loop μ-loop
 loop-again c =
     let p = c .before .before .before .before .before in
     held-more (part (t p)) _ _ _ _ _ _ _ _ _ _ _ (l (t p) .loop .inv) (turn (t p)) _ _ _ (done p)
-    (p .row .kept .1 .1 .1 .1 .1 .0) (p .row .kept .1 .1 .1 .1 .1 .1 .0)
+    (p .row .kept .1 .1 .1 .1 .1 .1 .0) (p .row .kept .1 .1 .1 .1 .1 .1 .1 .0)
 
 same-length : tie.Need-same-length Inv-loop μ-loop
 same-length c = search needs
@@ -126,7 +126,7 @@ returns : tie.Need-returns Inv-loop μ-loop
 returns c =
     let l = c .before in
     let h = l .loop .inv in
-    let e : l .loop .i ≡ l .before .before .args .n = omega (arith, c .loop-test .left, h .on) in
+    let e : l .loop .i ≡ l .before .before .before .args .n = omega (arith, c .loop-test .left, h .on) in
     rw e at (h .done)
 
 pub line-spec : {M : Type 1} → statement M

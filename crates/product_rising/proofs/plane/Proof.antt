@@ -15,17 +15,17 @@ use Rattle.product_rising.proofs.line.Reads as line-reads
 use Rattle.product_rising.proofs.steps.Reads as steps-reads
 
 abbrev Inv-loop : tie.InvT-loop
-Inv-loop sums third fourth at n key left d k₀ c₀ from m₀ r₀ w₀ i₀ kept coefficients count rounding swept i =
+Inv-loop sums degrees third fourth at n key left d k₀ c₀ from m₀ r₀ w₀ i₀ kept coefficients count rounding swept i =
     Held (λ j.
-    line-terms sums fourth ((at + j) * third) (steps-within third (left - j)) (key + second-step * j) (left - j))
+    line-terms sums degrees fourth ((at + j) * third) (steps-within third (left - j)) (key + second-step * j) (left - j))
     n d from k₀ c₀ kept coefficients count rounding swept i
 
 abbrev μ-loop : tie.MeasureT-loop
-μ-loop sums third fourth at n key left d k₀ c₀ from m₀ r₀ w₀ i₀ kept coefficients count rounding swept i =
+μ-loop sums degrees third fourth at n key left d k₀ c₀ from m₀ r₀ w₀ i₀ kept coefficients count rounding swept i =
     n - i
 
 loop-holds : tie.Need-loop-holds Inv-loop μ-loop
-loop-holds c = held-none _ _ _ _ _ _ (c .before .pre .1)
+loop-holds c = held-none _ _ _ _ _ _ (c .before .before .pre .1)
 
 -- in a turn
 module _ (c : tie.After-steps Inv-loop μ-loop) where
@@ -33,20 +33,20 @@ module _ (c : tie.After-steps Inv-loop μ-loop) where
   l = c .before .before
 
   abbrev s : tie.Start Inv-loop μ-loop
-  s = l .before .before
+  s = l .before .before .before
 
   abbrev part : ℕ → Terms
   part j =
-      line-terms (s .args .sums .now) (s .args .fourth) ((s .args .at + j) * s .args .third)
+      line-terms (s .args .sums .now) (s .args .degrees .now) (s .args .fourth) ((s .args .at + j) * s .args .third)
       (steps-within (s .args .third) (s .args .left - j)) (s .args .key + second-step * j) (s .args .left - j)
 
   turn : l .loop .i < s .args .n
   turn = c .before .loop-test .taken
 
-  ready : Line-ready (s .args .sums .now) (s .args .fourth) ((s .args .at + l .loop .i) * s .args .third)
+  ready : Line-ready (s .args .sums .now) (s .args .degrees .now) (s .args .fourth) ((s .args .at + l .loop .i) * s .args .third)
       (steps-within (s .args .third) (s .args .left - l .loop .i)) (s .args .key + second-step * l .loop .i)
       (s .args .left - l .loop .i)
-  ready = line-ready _ _ _ _ _ _ _ (s .pre .0) (l .loop .i) turn
+  ready = line-ready _ _ _ _ _ _ _ _ (s .pre .0) (l .loop .i) turn
 
 sub-rest : tie.Need-sub-rest Inv-loop μ-loop
 sub-rest c = search needs
@@ -79,7 +79,7 @@ module _ (p : tie.After-line Inv-loop μ-loop) where
   t = p .before .before .before
 
   done : Part (s t .args .d) (part t (l t .loop .i)) (l t .loop .count) (l t .loop .kept) (l t .loop .coefficients)
-      (p .line .last .1 .1 .1 .1 .1 .1 .1 .0) (p .line .last .1 .1 .1 .1 .1 .1 .1 .1 .0) (p .line .result)
+      (p .line .last .1 .1 .1 .1 .1 .1 .1 .1 .0) (p .line .last .1 .1 .1 .1 .1 .1 .1 .1 .1 .0) (p .line .result)
   done = rw (t .steps .ensures) at (p .line .ensures)
 
 add-rounding : tie.Need-add-rounding Inv-loop μ-loop
@@ -116,7 +116,7 @@ loop-again : tie.Need-loop-again Inv-loop μ-loop
 loop-again c =
     let p = c .before .before .before .before .before in
     held-more (part (t p)) _ _ _ _ _ _ _ _ _ _ _ (l (t p) .loop .inv) (turn (t p)) _ _ _ (done p)
-    (p .line .kept .1 .1 .1 .1 .1 .1 .1 .0) (p .line .kept .1 .1 .1 .1 .1 .1 .1 .1 .0)
+    (p .line .kept .1 .1 .1 .1 .1 .1 .1 .1 .0) (p .line .kept .1 .1 .1 .1 .1 .1 .1 .1 .1 .0)
 
 same-length : tie.Need-same-length Inv-loop μ-loop
 same-length c = search needs
@@ -128,7 +128,7 @@ returns : tie.Need-returns Inv-loop μ-loop
 returns c =
     let l = c .before in
     let h = l .loop .inv in
-    let e : l .loop .i ≡ l .before .before .args .n = omega (arith, c .loop-test .left, h .on) in
+    let e : l .loop .i ≡ l .before .before .before .args .n = omega (arith, c .loop-test .left, h .on) in
     rw e at (h .done)
 
 pub plane-spec : {M : Type 1} → statement M

@@ -1,7 +1,7 @@
 -- `push` keeps or sweeps one sum.
 use mathlib.Core.Path.{_≡_, sym, _∙_, ap}
 use mathlib.Core.List.{[], _∷_}
-use Prim.Native.Nat.{_<_, _≤_}
+use Prim.Native.Nat.{ℕ, _+_, _<_, _≤_}
 use native.Mathlib.Omega.{arith}
 use lib.IntN.{pos}
 use mir.Facts.{toZ-ofZ}
@@ -14,7 +14,7 @@ use Rattle.model_keys.specs.Keys.{wide-degree}
 use Rattle.product_table.specs.Table.{at-key}
 use Rattle.product_gathering.specs.KeptTermLaws.{low-rounding, low-swept, low-zero, low-nonzero}
 use Rattle.product_gathering.specs.KeptTermLaws.{high-rounding, high-swept, high-kept}
-use Rattle.product_rising.specs.RisingLaws.{part-nothing, part-late, part-put}
+use Rattle.product_rising.specs.RisingLaws.{own-degree, part-nothing, part-late, part-put}
 use borrow.Author.Needs.{needs}
 use Rattle.product_rising.proofs.push.Statement.{statement}
 use Rattle.product_rising.proofs.push.Tie as tie
@@ -22,12 +22,11 @@ use Rattle.product_rising.proofs.push.Reads as reads
 use Rattle.product_rising.proofs.push.Lts as lts
 use Rattle.fixed.proofs.magnitude.Reads as magnitude-reads
 use Rattle.fixed.proofs.round.Reads as round-reads
-use Rattle.model_keys.proofs.wide_degree.Reads as wide-degree-reads
 
 -- once it is rounded: the coefficient and what is left, as the definitions have them
 module _ (r : tie.After-round) where
   abbrev s : tie.Start
-  s = r .before .before .before .before
+  s = r .before .before .before
 
   rounded-is : r .round .result ≡ rounded (s .args .z)
   rounded-is = rw (toZ-ofZ (s .fits .z)) at (r .round .ensures)
@@ -38,14 +37,14 @@ module _ (r : tie.After-round) where
   residual-is : r .round .result .residual ≡ residual (s .args .z)
   residual-is = ap (λ (q : Rounded). q .residual) rounded-is
 
-  low : wide-degree (s .args .key) ≤ s .args .d
-  low = omega (arith, r .before .before .wide-degree .ensures, r .before .if1 .left)
+  abbrev k : ℕ
+  k = s .args .key + s .args .degree
+
+  low : wide-degree k ≤ s .args .d
+  low = omega (arith, own-degree (s .args .key) (s .args .degree) (s .pre .1) (omega arith), r .before .if1 .left)
 
 fits-c : (t : tie.After-struct-told) → SFits w64 (t .before .round .result .coefficient)
 fits-c t = record { sfits = t .struct-told .given .0 .1 }
-
-wide-degree-requires : tie.Need-wide-degree-requires
-wide-degree-requires c κs = search needs
 
 magnitude-requires : tie.Need-magnitude-requires
 magnitude-requires c κs = search needs
@@ -53,13 +52,13 @@ magnitude-requires c κs = search needs
 returns : tie.Need-returns
 unfolding most-terms
 returns c =
-    let s = c .before .before .before .before in
+    let s = c .before .before .before in
     let a = s .args in
-    let high : a .d < wide-degree (a .key) =
-    omega (arith, c .before .before .wide-degree .ensures, c .before .if1 .taken) in
-    part-nothing (a .d) _ (a .n) _ _ (s .pre) _ _ (high-rounding (a .d) (a .key) (a .z) high)
-    (rw (toZ-ofZ (s .fits .z)) at (c .magnitude .ensures) ∙ high-swept (a .d) (a .key) (a .z) high)
-    (high-kept (a .d) (a .key) (a .z) high)
+    let high : a .d < wide-degree (a .key + a .degree) =
+    omega (arith, own-degree (s .args .key) (s .args .degree) (s .pre .1) (omega arith), c .before .if1 .taken) in
+    part-nothing (a .d) _ (a .n) _ _ (s .pre .0) _ _ (high-rounding (a .d) (a .key + a .degree) (a .z) high)
+    (rw (toZ-ofZ (s .fits .z)) at (c .magnitude .ensures) ∙ high-swept (a .d) (a .key + a .degree) (a .z) high)
+    (high-kept (a .d) (a .key + a .degree) (a .z) high)
 
 round-requires : tie.Need-round-requires
 round-requires c κs = search needs
@@ -71,16 +70,21 @@ returns-2 c =
     let a = s r .args in
     let zero : round (a .z) ≡ pos 0 =
     sym (coefficient-is r) ∙ sym (toZ-ofZ (fits-c t)) ∙ ap (toZ w64) (c .if2 .taken) in
-    part-nothing (a .d) _ (a .n) _ _ (s r .pre) _ _ (residual-is r ∙ low-rounding (a .d) (a .key) (a .z) (low r))
-    (low-swept (a .d) (a .key) (a .z) (low r)) (low-zero (a .d) (a .key) (a .z) (low r) zero)
+    part-nothing (a .d) _ (a .n) _ _ (s r .pre .0) _ _ (residual-is r ∙ low-rounding (a .d) (k r) (a .z) (low r))
+    (low-swept (a .d) (k r) (a .z) (low r)) (low-zero (a .d) (k r) (a .z) (low r) zero)
 
 returns-3 : tie.Need-returns-3
 unfolding most-terms
 returns-3 c =
     let r = c .before .before .before in
     let a = s r .args in
-    part-late (a .d) _ (a .n) _ _ (s r .pre) _ _ (residual-is r ∙ low-rounding (a .d) (a .key) (a .z) (low r))
-    (low-swept (a .d) (a .key) (a .z) (low r)) (c .if3 .taken)
+    part-late (a .d) _ (a .n) _ _ (s r .pre .0) _ _ (residual-is r ∙ low-rounding (a .d) (k r) (a .z) (low r))
+    (low-swept (a .d) (k r) (a .z) (low r)) (c .if3 .taken)
+
+add-keys : tie.Need-add-keys
+add-keys c =
+    let s = c .before .before .before .before .before .before in
+    record { fits = omega (arith, s .pre .1) }
 
 mul-keys : tie.Need-mul-keys
 mul-keys c = search needs
@@ -88,8 +92,8 @@ mul-keys c = search needs
 slice-write-keys : tie.Need-slice-write-keys
 unfolding most-terms
 slice-write-keys c =
-    let s = c .before .before .before .before .before .before .before in
-    omega (arith, c .if3 .left, s .pre .kept-room)
+    let s = c .before .before .before .before .before .before in
+    omega (arith, c .if3 .left, s .pre .0 .kept-room)
 
 mul-c : tie.Need-mul-c
 mul-c c = search needs
@@ -97,11 +101,11 @@ mul-c c = search needs
 slice-set-from-c : tie.Need-slice-set-from-c
 unfolding most-terms
 slice-set-from-c c =
-    let s = c .before .before .before .before .before .before .before in
-    omega (arith, c .if3 .left, s .pre .coefficients-room)
+    let s = c .before .before .before .before .before .before in
+    omega (arith, c .if3 .left, s .pre .0 .coefficients-room)
 
-add-t13 : tie.Need-add-t13
-add-t13 c = search needs
+add-t15 : tie.Need-add-t15
+add-t15 c = search needs
 
 same-length : tie.Need-same-length
 same-length c = search needs
@@ -117,26 +121,26 @@ returns-4 c =
     let a = s r .args in
     let stays : round (a .z) ≡ pos 0 → ⊥ = λ e. c .before .if2 .left (ap (ofZ w64) (coefficient-is r ∙ e)) in
     rw (toZ-ofZ (fits-c t))
-    (part-put (a .d) _ (a .n) _ _ (s r .pre) _ _ (residual-is r ∙ low-rounding (a .d) (a .key) (a .z) (low r))
-    (low-swept (a .d) (a .key) (a .z) (low r)) (a .key) _ (omega (arith, c .if3 .left))
-    (low-nonzero (a .d) (a .key) (a .z) (low r) stays
-    ∙ ap (λ x. at-key (a .key) x ∷ []) (sym (coefficient-is r))))
+    (part-put (a .d) _ (a .n) _ _ (s r .pre .0) _ _ (residual-is r ∙ low-rounding (a .d) (k r) (a .z) (low r))
+    (low-swept (a .d) (k r) (a .z) (low r)) (k r) _ (omega (arith, c .if3 .left))
+    (low-nonzero (a .d) (k r) (a .z) (low r) stays
+    ∙ ap (λ x. at-key (k r) x ∷ []) (sym (coefficient-is r))))
 
 pub push-spec : {M : Type 1} → statement M
 push-spec =
     tie.close
     (tie.spec
-    wide-degree-requires
     magnitude-requires
     returns
     round-requires
     returns-2
     returns-3
+    add-keys
     mul-keys
     slice-write-keys
     mul-c
     slice-set-from-c
-    add-t13
+    add-t15
     same-length
     same-length-2
     returns-4)

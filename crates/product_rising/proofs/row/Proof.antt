@@ -18,16 +18,16 @@ use Rattle.product_rising.proofs.row.Lts as lts
 use Rattle.product_rising.proofs.push.Reads as push-reads
 
 abbrev Inv-loop : tie.InvT-loop
-Inv-loop sums at n key d k₀ c₀ from m₀ r₀ w₀ i₀ kept coefficients count rounding swept i =
-    Held (λ j. at-key (key + fourth-step * j) (getD sums (at + j) (pos 0)) ∷ []) n d from k₀ c₀
-    kept coefficients count rounding swept i
+Inv-loop sums degrees at n key d k₀ c₀ from m₀ r₀ w₀ i₀ kept coefficients count rounding swept i =
+    Held (λ j. at-key (key + fourth-step * j + getD degrees (at + j) 0) (getD sums (at + j) (pos 0)) ∷ []) n d from
+    k₀ c₀ kept coefficients count rounding swept i
 
 abbrev μ-loop : tie.MeasureT-loop
-μ-loop sums at n key d k₀ c₀ from m₀ r₀ w₀ i₀ kept coefficients count rounding swept i =
+μ-loop sums degrees at n key d k₀ c₀ from m₀ r₀ w₀ i₀ kept coefficients count rounding swept i =
     n - i
 
 loop-holds : tie.Need-loop-holds Inv-loop μ-loop
-loop-holds c = held-none _ _ _ _ _ _ (c .before .pre .1)
+loop-holds c = held-none _ _ _ _ _ _ (c .before .before .pre .1)
 
 add-place : tie.Need-add-place Inv-loop μ-loop
 add-place c = search needs
@@ -41,27 +41,35 @@ shared-slice-copy-out-z c = search needs
 mul-more : tie.Need-mul-more Inv-loop μ-loop
 mul-more c = search needs
 
+shared-slice-read-degree : tie.Need-shared-slice-read-degree Inv-loop μ-loop
+shared-slice-read-degree c = search needs
+
 add-push : tie.Need-add-push Inv-loop μ-loop
 add-push c = search needs
 
 push-requires : tie.Need-push-requires Inv-loop μ-loop
 push-requires c κs =
-    let l = c .before .before .before .before in
-    held-room _ _ _ _ _ _ _ _ _ _ _ _ (l .loop .inv) (l .before .before .pre .1)
+    let l = c .before .before .before .before .before in
+    let s = l .before .before .before in (
+      held-room _ _ _ _ _ _ _ _ _ _ _ _ (l .loop .inv) (s .pre .1),
+      omega (arith, s .pre .0 .bare),
+    )
 
 -- once a sum is pushed
 module _ (p : tie.After-push Inv-loop μ-loop) where
   abbrev v : tie.After-z Inv-loop μ-loop
-  v = p .before .before .before
+  v = p .before .before .before .before
 
   abbrev l : tie.At-loop Inv-loop μ-loop
   l = v .before .before
 
   abbrev s : tie.Start Inv-loop μ-loop
-  s = l .before .before
+  s = l .before .before .before
 
   abbrev part : ℕ → Terms
-  part j = at-key (s .args .key + fourth-step * j) (getD (s .args .sums .now) (s .args .at + j) (pos 0)) ∷ []
+  part j =
+      at-key (s .args .key + fourth-step * j + getD (s .args .degrees .now) (s .args .at + j) 0)
+      (getD (s .args .sums .now) (s .args .at + j) (pos 0)) ∷ []
 
   turn : l .loop .i < s .args .n
   turn = v .before .loop-test .taken
@@ -116,7 +124,7 @@ returns : tie.Need-returns Inv-loop μ-loop
 returns c =
     let l = c .before in
     let h = l .loop .inv in
-    let e : l .loop .i ≡ l .before .before .args .n = omega (arith, c .loop-test .left, h .on) in
+    let e : l .loop .i ≡ l .before .before .before .args .n = omega (arith, c .loop-test .left, h .on) in
     rw e at (h .done)
 
 pub row-spec : {M : Type 1} → statement M
@@ -130,6 +138,7 @@ row-spec =
     mul-z
     shared-slice-copy-out-z
     mul-more
+    shared-slice-read-degree
     add-push
     push-requires
     add-rounding

@@ -17,28 +17,28 @@ use Rattle.product_rising.proofs.plane.Reads as plane-reads
 use Rattle.product_rising.proofs.steps.Reads as steps-reads
 
 abbrev Inv-loop : tie.InvT-loop
-Inv-loop sums first second third fourth most d k₀ c₀ n m₀ r₀ w₀ i₀ kept coefficients count rounding swept i =
-    Held (λ j. plane-terms sums third fourth (j * second) (steps-within second (most - j)) (first-step * j) (most - j))
+Inv-loop sums degrees first second third fourth most d k₀ c₀ n m₀ r₀ w₀ i₀ kept coefficients count rounding swept i =
+    Held (λ j. plane-terms sums degrees third fourth (j * second) (steps-within second (most - j)) (first-step * j) (most - j))
     n d 0 k₀ c₀ kept coefficients count rounding swept i
 
 abbrev μ-loop : tie.MeasureT-loop
-μ-loop sums first second third fourth most d k₀ c₀ n m₀ r₀ w₀ i₀ kept coefficients count rounding swept i =
+μ-loop sums degrees first second third fourth most d k₀ c₀ n m₀ r₀ w₀ i₀ kept coefficients count rounding swept i =
     n - i
 
 steps-requires : tie.Need-steps-requires Inv-loop μ-loop
 steps-requires c κs = search needs
 
 loop-holds : tie.Need-loop-holds Inv-loop μ-loop
-loop-holds c = held-none _ _ _ _ _ _ (c .before .before .pre .1)
+loop-holds c = held-none _ _ _ _ _ _ (c .before .before .before .pre .1)
 
 -- in a turn
 module _ (l : tie.At-loop Inv-loop μ-loop) where
   abbrev s : tie.Start Inv-loop μ-loop
-  s = l .before .before .before
+  s = l .before .before .before .before
 
   abbrev part : ℕ → Terms
   part j =
-      plane-terms (s .args .sums .now) (s .args .third) (s .args .fourth) (j * s .args .second)
+      plane-terms (s .args .sums .now) (s .args .degrees .now) (s .args .third) (s .args .fourth) (j * s .args .second)
       (steps-within (s .args .second) (s .args .most - j)) (first-step * j) (s .args .most - j)
 
   number : l .before .steps .result ≡ steps-within (s .args .first) (s .args .most)
@@ -48,10 +48,10 @@ module _ (l : tie.At-loop Inv-loop μ-loop) where
     last : l .loop .i ≤ s .args .most
     last = omega (arith, turn, number, steps-left (s .args .first) (s .args .most))
 
-    ready : Plane-ready (s .args .sums .now) (s .args .third) (s .args .fourth) (l .loop .i * s .args .second)
+    ready : Plane-ready (s .args .sums .now) (s .args .degrees .now) (s .args .third) (s .args .fourth) (l .loop .i * s .args .second)
         (steps-within (s .args .second) (s .args .most - l .loop .i)) (first-step * l .loop .i)
         (s .args .most - l .loop .i)
-    ready = plane-ready _ _ _ _ _ _ (s .pre .0) (l .loop .i) (omega (arith, turn, number))
+    ready = plane-ready _ _ _ _ _ _ _ (s .pre .0) (l .loop .i) (omega (arith, turn, number))
 
 sub-rest : tie.Need-sub-rest Inv-loop μ-loop
 sub-rest c = last (c .before) (c .loop-test .taken)
@@ -87,7 +87,7 @@ module _ (p : tie.After-plane Inv-loop μ-loop) where
   turn = t .before .loop-test .taken
 
   done : Part (s l .args .d) (part l (l .loop .i)) (l .loop .count) (l .loop .kept) (l .loop .coefficients)
-      (p .plane .last .1 .1 .1 .1 .1 .1 .1 .1 .0) (p .plane .last .1 .1 .1 .1 .1 .1 .1 .1 .1 .0) (p .plane .result)
+      (p .plane .last .1 .1 .1 .1 .1 .1 .1 .1 .1 .0) (p .plane .last .1 .1 .1 .1 .1 .1 .1 .1 .1 .1 .0) (p .plane .result)
   done = rw (t .steps2 .ensures) at (p .plane .ensures)
 
   small : size (in-turn (part l) (l .before .steps .result)) < 2 ^ 63
@@ -127,7 +127,7 @@ loop-again : tie.Need-loop-again Inv-loop μ-loop
 loop-again c =
     let p = c .before .before .before .before .before in
     held-more (part (l p)) _ _ _ _ _ _ _ _ _ _ _ (l p .loop .inv) (turn p) _ _ _ (done p)
-    (p .plane .kept .1 .1 .1 .1 .1 .1 .1 .1 .0) (p .plane .kept .1 .1 .1 .1 .1 .1 .1 .1 .1 .0)
+    (p .plane .kept .1 .1 .1 .1 .1 .1 .1 .1 .1 .0) (p .plane .kept .1 .1 .1 .1 .1 .1 .1 .1 .1 .1 .0)
 
 same-length : tie.Need-same-length Inv-loop μ-loop
 same-length c = search needs
@@ -138,7 +138,7 @@ same-length-2 c = search needs
 -- once all are done
 all : (e : tie.After-loop Inv-loop μ-loop)
     → let l = e .before in
-    Part (s l .args .d) (grid-terms (s l .args .sums .now) (s l .args .first) (s l .args .second) (s l .args .third)
+    Part (s l .args .d) (grid-terms (s l .args .sums .now) (s l .args .degrees .now) (s l .args .first) (s l .args .second) (s l .args .third)
     (s l .args .fourth) (s l .args .most)) 0 (s l .args .kept .now) (s l .args .coefficients .now)
     (l .loop .kept) (l .loop .coefficients)
     (record { count = l .loop .count; rounding = l .loop .rounding; swept = l .loop .swept })
