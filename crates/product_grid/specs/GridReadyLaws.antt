@@ -9,16 +9,16 @@ use lib.ListN.{length, getD, replicate, length-replicate, getD-replicate, List·
 use Rattle.algebra.specs.IntegerRing.{ℤR}
 use Rattle.polynomial.specs.Polynomial.{product}
 use Rattle.calculus.specs.Terms.{Terms, size}
-use Rattle.product_table.specs.Table.{terms}
+use Rattle.product_table.specs.Table.{terms, lent-places}
 use Rattle.product_gathering.specs.declared.Gathered.{Gathered}
 use Rattle.product_gathering.specs.GatheringContracts.{Gathering}
 use Rattle.product_collector.specs.Collector.{accumulated-all}
 use Rattle.product_collector.specs.ProductsLaws.{size-product}
 use Rattle.product_dense.specs.declared.Sides.{Sides}
-use Rattle.product_dense.specs.Grid.{place}
+use Rattle.product_dense.specs.Grid.{word}
 use Rattle.product_dense.specs.Degrees.{Top-degree}
 use Rattle.product_dense.specs.DigitLaws.{digits-sum}
-use Rattle.product_dense.specs.DegreeLaws.{degree-most, degree-plus}
+use Rattle.product_dense.specs.DegreeLaws.{degree-most, degree-plus, word-plus}
 use Rattle.product_filling.specs.Filling.{All-fit, Summed-up}
 use Rattle.product_rising.specs.Rising.{Scan-ready, Scanned, grid-terms}
 use Rattle.product_grid.specs.GridContracts.{Grid-ready, Zeros}
@@ -32,6 +32,13 @@ pub fresh-zeros : (n size : ℕ) → Zeros size (replicate n (pos 0))
 fresh-zeros n size i h = elim (decLt i n) [
   | yes l ↦ getD-replicate n i (pos 0) (pos 0) l
   | no l ↦ List·getD-eq-default (replicate n (pos 0)) (pos 0) {n = i} (rw length-replicate (omega arith))
+]
+
+-- an array of zeros for degrees
+pub fresh-short : (n : ℕ) (i : ℕ) → getD {A = ℕ} (replicate n 0) i 0 < 2 ^ 8
+fresh-short n i = elim (decLt i n) [
+  | yes l ↦ rw (getD-replicate {A = ℕ} n i 0 0 l) (omega arith)
+  | no l ↦ rw (List·getD-eq-default {A = ℕ} (replicate n 0) 0 {n = i} (rw length-replicate (omega arith))) (omega arith)
 ]
 
 module _ {s : Sides} {ka : List ℕ} {ca : List ℤ} {na : ℕ} {kb : List ℕ} {cb : List ℤ} {nb : ℕ} {sums : List ℤ}
@@ -59,6 +66,7 @@ module _ {s : Sides} {ka : List ℕ} {ca : List ℤ} {na : ℕ} {kb : List ℕ} 
     gridded = q .gridded;
     places = q .places;
     small = q .small;
+    few-places = q .few-places;
     sums-room = omega (arith, q .sums-room, long);
     kept-room = q .kept-room;
     coefficients-room = q .coefficients-room;
@@ -66,23 +74,28 @@ module _ {s : Sides} {ka : List ℕ} {ca : List ℤ} {na : ℕ} {kb : List ℕ} 
 
   -- to fill the grid
   unfoldable pub all-fit : Zeros (s .size) sums → (ia ib : List ℕ) → na ≤ length ia → nb ≤ length ib
-      → ((i : ℕ) → i < na → getD ia i 0 ≡ place s (getD ka i 0))
-      → ((j : ℕ) → j < nb → getD ib j 0 ≡ place s (getD kb j 0))
-      → All-fit sums ca ia na cb ib nb
+      → ((i : ℕ) → i < na → getD ia i 0 ≡ word s (getD ka i 0))
+      → ((j : ℕ) → j < nb → getD ib j 0 ≡ word s (getD kb j 0))
+      → All-fit sums (replicate lent-places 0) ca ia na cb ib nb
   all-fit z ia ib la lb pa pb = record {
     sides = s;
     ka = ka;
     kb = kb;
     zeros = z;
+    short = fresh-short lent-places;
+    few-places = omega (arith, q .few-places);
     sums-room = q .sums-room;
+    degrees-room = rw length-replicate (q .few-places);
     first-keys = q .first-keys;
     first-coefficients = q .first-coefficients;
-    first-places = la;
+    first-words = la;
     second-keys = q .second-keys;
     second-coefficients = q .second-coefficients;
-    second-places = lb;
+    second-words = lb;
     gridded = q .gridded;
-    places = λ i j h l. ap₂ _+_ (pa i h) (pb j l) ∙ q .places i j h l;
+    words = λ i j h l.
+        ap₂ _+_ (pa i h) (pb j l)
+        ∙ word-plus (s .second) (s .third) (s .fourth) (q .first-digits i h) (q .second-digits j l) (q .places i j h l);
     small = small;
   }
 
@@ -109,22 +122,24 @@ module _ {s : Sides} {ka : List ℕ} {ca : List ℤ} {na : ℕ} {kb : List ℕ} 
         })
 
     -- once it is filled
-    module _ (filled : List ℤ) (f : Summed-up s p filled) (long : length filled ≡ length sums) where
-      pub scan-ready : Scan-ready filled (s .first) (s .second) (s .third) (s .fourth) (a + b)
+    module _ (filled : List ℤ) (degrees : List ℕ) (f : Summed-up s p filled degrees)
+        (long : length filled ≡ length sums) (wide : length degrees ≡ lent-places) where
+      pub scan-ready : Scan-ready filled degrees (s .first) (s .second) (s .third) (s .fourth) (a + b)
       scan-ready = record {
         places = omega (arith, q .whole, q .sums-room, long);
+        marks = omega (arith, q .whole, q .few-places, wide);
         short-second = omega (arith, q .narrow .short-second);
         short-third = omega (arith, q .narrow .short-third);
         low = most-low;
-        small = omega (arith, sums-small s p filled f (q .whole) (a + b) most-low reached, small);
+        small = omega (arith, sums-small s p filled degrees f (q .whole) (a + b) most-low reached, small);
       }
 
       pub scanned : (d : ℕ) {kept-after : List ℕ} {coefficients-after : List ℤ} {r : Gathered}
-          → Scanned d (grid-terms filled (s .first) (s .second) (s .third) (s .fourth) (a + b))
+          → Scanned d (grid-terms filled degrees (s .first) (s .second) (s .third) (s .fourth) (a + b))
           kept-after coefficients-after r
           → Gathering d (accumulated-all [] (product ℤR (terms na ka ca) (terms nb kb cb)))
           kept-after coefficients-after r
       scanned d w =
-          scanned-gathering d _ _ (sums-rising s p filled f (q .whole) (a + b) most-low reached)
-          (first-distinct s p filled f (q .whole) (a + b) most-low reached)
-          (same-sums s p filled f (q .whole) (a + b) most-low reached) w
+          scanned-gathering d _ _ (sums-rising s p filled degrees f (q .whole) (a + b) most-low reached)
+          (first-distinct s p filled degrees f (q .whole) (a + b) most-low reached)
+          (same-sums s p filled degrees f (q .whole) (a + b) most-low reached) w

@@ -1,5 +1,5 @@
 -- The sums in a grid, in the order of their keys, are the sums of all terms that were added.
-use mathlib.Core.Path.{_≡_, sym, _∙_, ap, ap₂}
+use mathlib.Core.Path.{_≡_, refl, sym, _∙_, ap, ap₂}
 use mathlib.Core.Logic.{_⊎_, inl, inr}
 use mathlib.Core.Bool.{Bool, true, false, not}
 use mathlib.Core.List.{List, [], _∷_}
@@ -18,6 +18,7 @@ use Rattle.calculus.specs.TermsLaws.{every-nil, every-cons}
 use Rattle.calculus.specs.CanonicalLaws.{coefficient-at, Same-coefficients, coefficient-nil, coefficient-cons, share}
 use Rattle.calculus.specs.CanonicalLaws.{share-here, share-elsewhere, absent-zero, rising-distinct}
 use Rattle.calculus.specs.ProductLaws.{size-same}
+use Rattle.model_keys.specs.Keys.{wide-degree}
 use Rattle.product_table.specs.Table.{at-key, terms}
 use Rattle.product_collector.specs.Collector.{accumulated-all}
 use Rattle.product_collector.specs.AccumulatedAllLaws.{distinct-accumulated-all, coefficient-accumulated-all}
@@ -103,19 +104,33 @@ standing s most k _ (more x z p g a) =
     go false f n (nowhere h) = nowhere (unfold absent in every-cons _ (at-key x z) p (n tt) h)
 
 -- ---- keys and exponents
+-- exponents with the key of their monomial
+abbrev full : (a b c d : ℕ) → ℕ
+full a b c d = key-of a b c d + (a + b + c + d)
+
 -- a key is that of its digits
 digits-key : (key a b c d : ℕ) → key ≡ (((a * 2 ^ 7 + b) * 2 ^ 7 + c) * 2 ^ 7 + d) * 2 ^ 36 + (a + b + c + d)
-    → key ≡ key-of a b c d
+    → key ≡ full a b c d
 digits-key key a b c d e = omega (arith, e)
 
 key-digits : (a b c d : ℕ)
-    → key-of a b c d ≡ (((a * 2 ^ 7 + b) * 2 ^ 7 + c) * 2 ^ 7 + d) * 2 ^ 36 + (a + b + c + d)
+    → full a b c d ≡ (((a * 2 ^ 7 + b) * 2 ^ 7 + c) * 2 ^ 7 + d) * 2 ^ 36 + (a + b + c + d)
 key-digits a b c d = omega arith
+
+last-byte : (w t : ℕ) → t < 2 ^ 8 → wide-degree (w * 2 ^ 36 + t) ≡ t
+unfolding wide-degree
+last-byte w t l = omega arith
+
+-- with whatever degree, it has the exponents of one monomial only
+same-exponents : (a b c d e f g h x y : ℕ) → x < 2 ^ 8 → y < 2 ^ 8 → f ≤ 30 → g ≤ 30 → h ≤ 30
+    → b ≤ 126 → c ≤ 126 → d ≤ 126
+    → key-of a b c d + x ≡ key-of e f g h + y → (a ≡ e) × (b ≡ f) × (c ≡ g) × (d ≡ h)
+same-exponents a b c d e f g h x y lx ly lf lg lh lb lc ld q = (omega arith, omega arith, omega arith, omega arith)
 
 module _ (s : Sides) (whole : s .first * s .second * s .third * s .fourth ≤ s .size) (most : ℕ) (low : most < 127) where
   -- those that are looked at are in the grid
   module _ (a b c d : ℕ) (v : Seen (s .first) (s .second) (s .third) (s .fourth) most a b c d) where
-    seen-digits : Digits 126 (key-of a b c d)
+    seen-digits : Digits 126 (full a b c d)
     seen-digits = record {
       a = a;
       b = b;
@@ -128,7 +143,7 @@ module _ (s : Sides) (whole : s .first * s .second * s .third * s .fourth ≤ s 
       is = key-digits a b c d;
     }
 
-    seen-gridded : Gridded s (key-of a b c d)
+    seen-gridded : Gridded s (full a b c d)
     unfolding seen-digits
     seen-gridded =
         digits-gridded seen-digits (omega arith) s whole (omega (arith, v .in-first, steps-side (s .first) most))
@@ -136,7 +151,40 @@ module _ (s : Sides) (whole : s .first * s .second * s .third * s .fourth ≤ s 
         (omega (arith, v .in-third, steps-side (s .third) (most - a - b)))
         (omega (arith, v .in-fourth, steps-side (s .fourth) (most - a - b - c)))
 
-    seen-place : place s (key-of a b c d) ≡ ((a * s .second + b) * s .third + c) * s .fourth + d
+    seen-low-b : b ≤ 126
+    unfolding seen-digits
+    seen-low-b = seen-digits .low-b
+
+    seen-low-c : c ≤ 126
+    unfolding seen-digits
+    seen-low-c = seen-digits .low-c
+
+    seen-low-d : d ≤ 126
+    unfolding seen-digits
+    seen-low-d = seen-digits .low-d
+
+    -- their degree is at most the most, so that a byte holds it
+    seen-low : a + b + c + d < 2 ^ 8
+    seen-low =
+        omega (
+          arith,
+          low,
+          v .in-first,
+          v .in-second,
+          v .in-third,
+          v .in-fourth,
+          steps-left (s .first) most,
+          steps-left (s .second) (most - a),
+          steps-left (s .third) (most - a - b),
+          steps-left (s .fourth) (most - a - b - c),
+        )
+
+    seen-degree : wide-degree (full a b c d) ≡ a + b + c + d
+    seen-degree =
+        ap wide-degree (key-digits a b c d)
+        ∙ last-byte (((a * 2 ^ 7 + b) * 2 ^ 7 + c) * 2 ^ 7 + d) (a + b + c + d) seen-low
+
+    seen-place : place s (full a b c d) ≡ ((a * s .second + b) * s .third + c) * s .fourth + d
     unfolding seen-digits
     seen-place = digits-place seen-digits (omega arith) (s .second) (s .third) (s .fourth)
 
@@ -158,36 +206,104 @@ module _ (s : Sides) (whole : s .first * s .second * s .third * s .fourth ≤ s 
         }
 
 -- ---- the sums in a grid
-module _ (s : Sides) (p : Terms) (sums : List ℤ) (h : Summed-up s p sums)
+module _ (s : Sides) (p : Terms) (sums : List ℤ) (degrees : List ℕ) (h : Summed-up s p sums degrees)
     (whole : s .first * s .second * s .third * s .fourth ≤ s .size) (most : ℕ) (low : most < 127)
     (all : Keyed (λ x z. Reached s most x) p) where
   abbrev zs : Terms
-  zs = grid-terms sums (s .first) (s .second) (s .third) (s .fourth) most
+  zs = grid-terms sums degrees (s .first) (s .second) (s .third) (s .fourth) most
 
-  pub sums-rising : T (rising (grid-terms sums (s .first) (s .second) (s .third) (s .fourth) most))
-  sums-rising = grid-rises sums (s .first) (s .second) (s .third) (s .fourth) most low
+  pub sums-rising : T (rising (grid-terms sums degrees (s .first) (s .second) (s .third) (s .fourth) most))
+  sums-rising = grid-rises sums degrees (h .marked .short) (s .first) (s .second) (s .third) (s .fourth) most low
 
   -- each has the coefficient of its monomial
+  module _ (a b c d : ℕ) (v : Seen (s .first) (s .second) (s .third) (s .fourth) most a b c d) where
+    abbrev at : ℕ
+    at = ((a * s .second + b) * s .third + c) * s .fourth + d
+
+    abbrev key : ℕ
+    key = full a b c d
+
+    there : place s (full a b c d) ≡ at
+    there = seen-place s whole most low a b c d v
+
+    sum-there : getD sums at (pos 0) ≡ coefficient-at p (key ∷ [])
+    sum-there =
+        ap (λ i. getD sums i (pos 0)) (sym there) ∙ h .sum key (seen-gridded s whole most low a b c d v)
+
+    own-degree : wide-degree key ≡ a + b + c + d
+    own-degree = seen-degree s whole most low a b c d v
+
+    -- a key of these exponents with another degree is no product's
+    other : (x : ℕ) → x ≡ key-of a b c d + getD degrees at 0 → getD sums at (pos 0) ≡ pos 0
+        → Standing s most (x ∷ []) p → coefficient-at p (x ∷ []) ≡ pos 0
+    other x e z (nowhere n) = absent-zero (x ∷ []) p n
+    other x e z (here y r f) =
+        let w : x ≡ y = cc in
+        let g = r .digits in
+        let q : key-of a b c d + getD degrees at 0 ≡ full (g .a) (g .b) (g .c) (g .d) =
+        sym e ∙ w ∙ digits-key y _ _ _ _ (g .is) in
+        let m : (a ≡ g .a) × (b ≡ g .b) × (c ≡ g .c) × (d ≡ g .d) =
+        same-exponents a b c d (g .a) (g .b) (g .c) (g .d) (getD degrees at 0) (g .a + g .b + g .c + g .d)
+        (h .marked .short at) (omega (arith, g .low-a, g .low-b, g .low-c, g .low-d)) (g .low-b) (g .low-c) (g .low-d)
+        (seen-low-b s whole most low a b c d v) (seen-low-c s whole most low a b c d v)
+        (seen-low-d s whole most low a b c d v) q in
+        let u : x ≡ key = omega (arith, e, q, m) in
+        ap (λ i. coefficient-at p (i ∷ [])) u ∙ sym sum-there ∙ z
+
+    given-there : getD sums at (pos 0) ≡ coefficient-at p ((key-of a b c d + getD degrees at 0) ∷ [])
+    given-there = go (h .marked .told key (seen-gridded s whole most low a b c d v))
+      where
+        go : (getD sums (place s key) (pos 0) ≡ pos 0) ⊎ (getD degrees (place s key) 0 ≡ wide-degree key)
+            → getD sums at (pos 0) ≡ coefficient-at p ((key-of a b c d + getD degrees at 0) ∷ [])
+        go (inl z) =
+            let w : getD sums at (pos 0) ≡ pos 0 = rw there at z in
+            w ∙ sym (other (key-of a b c d + getD degrees at 0) refl w (standing s most _ p all))
+        go (inr e) =
+            let w : getD degrees at 0 ≡ a + b + c + d = rw there at e ∙ own-degree in
+            sum-there ∙ ap (λ i. coefficient-at p ((key-of a b c d + i) ∷ [])) (sym w)
+
   sums-given : Keyed (λ x z. z ≡ coefficient-at p (x ∷ [])) zs
   sums-given =
-      grid-keyed sums (s .first) (s .second) (s .third) (s .fourth) most (λ x z. z ≡ coefficient-at p (x ∷ []))
-      (λ a b c d v.
-      ap (λ i. getD sums i (pos 0)) (sym (seen-place s whole most low a b c d v))
-      ∙ h .sum (key-of a b c d) (seen-gridded s whole most low a b c d v))
+      grid-keyed sums degrees (s .first) (s .second) (s .third) (s .fourth) most
+      (λ x z. z ≡ coefficient-at p (x ∷ [])) given-there
 
   -- and none of the terms is left out
+  module _ (x : ℕ) (r : Reached s most x) where
+    abbrev g : Digits 30 x
+    g = r .digits
+
+    seen : Seen (s .first) (s .second) (s .third) (s .fourth) most (r .digits .a) (r .digits .b) (r .digits .c)
+        (r .digits .d)
+    seen = reached-seen s whole most low x r
+
+    is : x ≡ full (r .digits .a) (r .digits .b) (r .digits .c) (r .digits .d)
+    is = digits-key x _ _ _ _ (g .is)
+
+    standing-seen : T (absent (x ∷ []) zs) → coefficient-at p (x ∷ []) ≡ pos 0
+    standing-seen n = go (h .marked .told x (r .gridded))
+      where
+        go : (getD sums (place s x) (pos 0) ≡ pos 0) ⊎ (getD degrees (place s x) 0 ≡ wide-degree x)
+            → coefficient-at p (x ∷ []) ≡ pos 0
+        go (inl z) = sym (h .sum x (r .gridded)) ∙ z
+        go (inr m) =
+            let w : getD degrees (at (g .a) (g .b) (g .c) (g .d) seen) 0 ≡ g .a + g .b + g .c + g .d =
+            ap (λ i. getD degrees i 0) (sym (there _ _ _ _ seen) ∙ ap (place s) (sym is))
+            ∙ m
+            ∙ ap wide-degree is
+            ∙ own-degree _ _ _ _ seen in
+            absurd (among-absent (x ∷ []) zs
+            (grid-among sums degrees (s .first) (s .second) (s .third) (s .fourth) most x _ _ _ _ seen
+            (omega (arith, is, w)))
+            n)
+
   all-seen : (k : List ℕ) → T (absent k zs) → coefficient-at p k ≡ pos 0
   all-seen k n = go (standing s most k p all)
     where
       go : Standing s most k p → coefficient-at p k ≡ pos 0
       go (nowhere a) = absent-zero k p a
-      go (here x r e) =
-          absurd (among-absent (x ∷ []) zs
-          (grid-among sums (s .first) (s .second) (s .third) (s .fourth) most x _ _ _ _
-          (reached-seen s whole most low x r) (digits-key x _ _ _ _ (r .digits .is)))
-          (rw e at n))
+      go (here x r e) = ap (coefficient-at p) e ∙ standing-seen x r (rw e at n)
 
-  pub sums-coefficients : Same-coefficients (grid-terms sums (s .first) (s .second) (s .third) (s .fourth) most) p
+  pub sums-coefficients : Same-coefficients (grid-terms sums degrees (s .first) (s .second) (s .third) (s .fourth) most) p
   sums-coefficients k = go (given (coefficient-at p) zs sums-given (rising-distinct zs sums-rising) k)
     where
       go : (coefficient-at zs k ≡ coefficient-at p k) ⊎ T (absent k zs) → coefficient-at zs k ≡ coefficient-at p k
@@ -202,7 +318,7 @@ module _ (s : Sides) (p : Terms) (sums : List ℤ) (h : Summed-up s p sums)
   unfolding distinct
   first-distinct = distinct-accumulated-all [] p tt
 
-  pub same-sums : Same-coefficients (grid-terms sums (s .first) (s .second) (s .third) (s .fourth) most)
+  pub same-sums : Same-coefficients (grid-terms sums degrees (s .first) (s .second) (s .third) (s .fourth) most)
       (accumulated-all [] p)
   unfolding distinct
   same-sums k =
@@ -210,7 +326,7 @@ module _ (s : Sides) (p : Terms) (sums : List ℤ) (h : Summed-up s p sums)
       ∙ sym (coefficient-accumulated-all [] p tt k ∙ rw (coefficient-nil k) (+ℤ-idl (coefficient-at p k)))
 
   -- they are no larger than the terms
-  pub sums-small : size (grid-terms sums (s .first) (s .second) (s .third) (s .fourth) most) ≤ size p
+  pub sums-small : size (grid-terms sums degrees (s .first) (s .second) (s .third) (s .fourth) most) ≤ size p
   sums-small =
       let f = size-same zs ws (rising-distinct zs sums-rising) first-distinct same-sums in
       omega (arith, f, size-accumulated-all [] p, size-nil)

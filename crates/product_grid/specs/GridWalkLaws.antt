@@ -2,7 +2,7 @@
 use mathlib.Core.Path.{_≡_, ap}
 use mathlib.Core.Bool.{Bool, true, false, not}
 use mathlib.Core.List.{List, [], _∷_, _++_}
-use Prim.Native.Nat.{ℕ, zero, suc, _+_, _-_, _*_, _<_, _≤_}
+use Prim.Native.Nat.{ℕ, zero, suc, _+_, _-_, _*_, _^_, _<_, _≤_}
 use native.Mathlib.Decide.{ℕ-discrete}
 use native.Mathlib.Omega.{arith}
 use lib.Dec.{T, lt→ltb}
@@ -57,15 +57,15 @@ unfolding rising
 rises-rising end _ _ (none l g) = tt
 rises-rising end _ _ (more l x z p g r) = rising-after end x p r
 
-module _ (sums : List ℤ) where
-  row-rises : (at n key : ℕ) → Rises (key + fourth-step * n) key (row-terms sums at n key)
+module _ (sums : List ℤ) (degrees : List ℕ) (short : (i : ℕ) → getD degrees i 0 < 2 ^ 8) where
+  row-rises : (at n key : ℕ) → Rises (key + fourth-step * n) key (row-terms sums degrees at n key)
   row-rises at n key =
       rises-lower _ key _ _ (omega arith)
       (rises-turns (λ i. key + fourth-step * i) _ n
-      (λ i h. more _ _ _ _ (omega arith) (none _ (omega arith))))
+      (λ i h. more _ _ _ _ (omega arith) (none _ (omega (arith, short (at + i))))))
 
   line-rises : (fourth at n key left : ℕ) → left < 127
-      → Rises (key + third-step * n) key (line-terms sums fourth at n key left)
+      → Rises (key + third-step * n) key (line-terms sums degrees fourth at n key left)
   line-rises fourth at n key left l =
       rises-lower _ key _ _ (omega arith)
       (rises-turns (λ i. key + third-step * i) _ n
@@ -74,7 +74,7 @@ module _ (sums : List ℤ) where
       (row-rises ((at + i) * fourth) (steps-within fourth (left - i)) (key + third-step * i))))
 
   plane-rises : (third fourth at n key left : ℕ) → left < 127
-      → Rises (key + second-step * n) key (plane-terms sums third fourth at n key left)
+      → Rises (key + second-step * n) key (plane-terms sums degrees third fourth at n key left)
   plane-rises third fourth at n key left l =
       rises-lower _ key _ _ (omega arith)
       (rises-turns (λ i. key + second-step * i) _ n
@@ -84,7 +84,7 @@ module _ (sums : List ℤ) where
       (omega arith))))
 
   pub grid-rises : (first second third fourth most : ℕ) → most < 127
-      → T (rising (grid-terms sums first second third fourth most))
+      → T (rising (grid-terms sums degrees first second third fourth most))
   grid-rises first second third fourth most l =
       rises-rising _ _ _
       (rises-turns (λ i. first-step * i) _ (steps-within first most)
@@ -141,7 +141,7 @@ among-absent k _ (here x z p e) h =
     go false y m = y
 among-absent k _ (later t p a) h = among-absent k p a (every-tail (λ j c. not (same k j)) t p h)
 
--- ---- exponents and their key and place
+-- ---- exponents, their key without a degree, and their place
 abbrev pub key-of : (a b c d : ℕ) → ℕ
 key-of a b c d = first-step * a + second-step * b + third-step * c + fourth-step * d
 
@@ -152,17 +152,19 @@ pub record Seen (first second third fourth most a b c d : ℕ) : Type 0 where
   pub in-third : c < steps-within third (most - a - b)
   pub in-fourth : d < steps-within fourth (most - a - b - c)
 
-module _ (sums : List ℤ) (first second third fourth most : ℕ) where
+module _ (sums : List ℤ) (degrees : List ℕ) (first second third fourth most : ℕ) where
   pub grid-keyed : (P : ℕ → ℤ → Type 0)
       → ((a b c d : ℕ) → Seen first second third fourth most a b c d
-      → P (key-of a b c d) (getD sums (((a * second + b) * third + c) * fourth + d) (pos 0)))
-      → Keyed P (grid-terms sums first second third fourth most)
+      → let i = ((a * second + b) * third + c) * fourth + d in
+      P (key-of a b c d + getD degrees i 0) (getD sums i (pos 0)))
+      → Keyed P (grid-terms sums degrees first second third fourth most)
   grid-keyed P f =
       keyed-turns P _ _ (λ a ha. keyed-turns P _ _ (λ b hb. keyed-turns P _ _ (λ c hc. keyed-turns P _ _ (λ d hd.
       more _ _ _ (f a b c d (record { in-first = ha; in-second = hb; in-third = hc; in-fourth = hd })) none))))
 
-  pub grid-among : (x a b c d : ℕ) → Seen first second third fourth most a b c d → x ≡ key-of a b c d
-      → Among (x ∷ []) (grid-terms sums first second third fourth most)
+  pub grid-among : (x a b c d : ℕ) → Seen first second third fourth most a b c d
+      → x ≡ key-of a b c d + getD degrees (((a * second + b) * third + c) * fourth + d) 0
+      → Among (x ∷ []) (grid-terms sums degrees first second third fourth most)
   grid-among x a b c d s e =
       among-turns _ _ _ a (s .in-first) (among-turns _ _ _ b (s .in-second) (among-turns _ _ _ c (s .in-third)
       (among-turns _ _ _ d (s .in-fourth) (here _ _ _ (ap (λ k. k ∷ []) e)))))

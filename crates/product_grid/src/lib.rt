@@ -10,8 +10,9 @@ use product_dense::Sides;
 use product_gathering::Gathered;
 
 // The terms that order d keeps of the products of each of the first na terms with each of the first nb, rising, with
-// the two shares of what it loses, in a grid of zeros. The places of two terms add up to that of their product, and no
-// product's degree is above the sum of the two largest.
+// the two shares of what it loses, in a grid of zeros. The places of two terms add up to that of their product, and their
+// degrees to its degree, which stands beside its sum; no product's degree is above the sum of the two largest. What
+// stands beside a sum of 0 counts nothing.
 pub fn gathered_empty(
     s: Sides,
     d: u64,
@@ -33,14 +34,16 @@ pub fn gathered_empty(
 {
     let mut ia = [0usize; model_types::MOST_TERMS];
     let mut ib = [0usize; model_types::MOST_TERMS];
-    product_dense::place_all(ka, na, s.second, s.third, s.fourth, &mut ia);
-    product_dense::place_all(kb, nb, s.second, s.third, s.fourth, &mut ib);
-    product_filling::fill(sums, ca, &ia, na, cb, &ib, nb);
+    let mut degrees = [0u8; product_table::PLACES];
+    product_dense::word_all(ka, na, s.second, s.third, s.fourth, &mut ia);
+    product_dense::word_all(kb, nb, s.second, s.third, s.fourth, &mut ib);
+    product_filling::fill(sums, &mut degrees, ca, &ia, na, cb, &ib, nb);
     let a = product_dense::degree_of(ka, na);
     let b = product_dense::degree_of(kb, nb);
     let most = a + b;
     product_rising::scan(
         sums,
+        &degrees,
         s.first,
         s.second,
         s.third,

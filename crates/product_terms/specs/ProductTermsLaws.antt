@@ -9,7 +9,7 @@ use lib.IntN.{ℤ, pos}
 use lib.ListN.{length, getD, replicate, length-replicate, getD-replicate, List·getD-eq-default}
 use Rattle.calculus.specs.Terms.{Terms}
 use Rattle.calculus.specs.Model.{most-terms, most-degree}
-use Rattle.product_table.specs.Table.{entries, most-entries}
+use Rattle.product_table.specs.Table.{entries, most-entries, lent-places}
 use Rattle.product_gathering.specs.declared.Gathered.{Gathered}
 use Rattle.product_gathering.specs.GatheringContracts.{Gathering}
 use Rattle.product_collector.specs.Collector.{accumulated-all}
@@ -122,9 +122,9 @@ module _ {ka : List ℕ} {ca : List ℤ} {na : ℕ} {kb : List ℕ} {cb : List �
         (s .second) (s .third) (s .fourth)
 
     pub grid-ready : {sums : List ℤ} {kept : List ℕ} {coefficients : List ℤ}
-        → s .size ≤ length sums → Kept-room kept coefficients
+        → s .size ≤ length sums → s .size ≤ lent-places → Kept-room kept coefficients
         → Grid-ready s ka ca na kb cb nb sums kept coefficients
-    grid-ready ls r = record {
+    grid-ready ls few r = record {
       whole = rw w (sides-whole (extents na ka) (extents nb kb));
       narrow = rw w (sides-narrow (extents na ka) (extents nb kb) first-low second-low);
       first-few = h .first-few;
@@ -138,6 +138,7 @@ module _ {ka : List ℕ} {ca : List ℤ} {na : ℕ} {kb : List ℕ} {cb : List �
       gridded = gridded;
       places = places;
       small = factors-size h;
+      few-places = few;
       sums-room = ls;
       kept-room = r .kept-room;
       coefficients-room = r .coefficients-room;

@@ -44,12 +44,16 @@ fn grid_for(ka: &[u64], ca: &[i64], na: usize, kb: &[u64], cb: &[i64], nb: usize
     product_dense::sides_of(e, h)
 }
 
-// Whether a grid of so many places is to be used for so many products, where there are so many places for sums.
+// Whether a grid of so many places is to be used for so many products, where there are so many places for sums; for
+// degrees there are as many as are ever lent.
 fn in_grid(size: usize, products: usize, sums: usize) -> bool
     requires { ⌜ products ≤ most-entries ⌝ }
-    ensures { λ r. ⌜ (r ≡ true → size ≤ sums) ⌝ }
+    ensures { λ r. ⌜ (r ≡ true → (size ≤ sums) × (size ≤ lent-places)) ⌝ }
 {
     if sums < size {
+        return false;
+    }
+    if product_table::PLACES < size {
         return false;
     }
     size <= GRID_EACH * products

@@ -12,11 +12,14 @@ use Rattle.product_terms.proofs.in_grid.Lts as lts
 returns : tie.Need-returns
 returns c = λ e. absurd (subst (λ (b : Bool). T (not b)) e tt)
 
+returns-2 : tie.Need-returns-2
+returns-2 c = λ e. absurd (subst (λ (b : Bool). T (not b)) e tt)
+
 mul-result : tie.Need-mul-result
 mul-result c = search needs
 
-returns-2 : tie.Need-returns-2
-returns-2 c = λ e. omega (arith, c .if1 .left)
+returns-3 : tie.Need-returns-3
+returns-3 c = λ e. (omega (arith, c .before .if1 .left), omega (arith, c .if2 .left))
 
 pub in-grid-spec : {M : Type 1} → statement M
-in-grid-spec = tie.close (tie.spec returns mul-result returns-2)
+in-grid-spec = tie.close (tie.spec returns returns-2 mul-result returns-3)

@@ -15,7 +15,8 @@ slice-aggregate-gathered-empty c = search needs
 gathered-empty-requires : tie.Need-gathered-empty-requires
 gathered-empty-requires c κs =
     let s = c .before .before .before .before .before .before in
-    (grid-ready (s .pre .0) _ (s .pre .1 .0) (s .pre .1 .1 .0) (s .pre .1 .1 .1), fresh-zeros lent-places _)
+    let few = s .pre .1 .1 .0 in
+    (grid-ready (s .pre .0) _ (s .pre .1 .0) few few (s .pre .1 .1 .1), fresh-zeros lent-places _)
 
 same-length : tie.Need-same-length
 same-length c = search needs

@@ -1,4 +1,5 @@
 -- `in_small_grid` makes a grid of zeros.
+use native.Mathlib.Omega.{arith}
 use borrow.Author.Needs.{needs}
 use Rattle.product_grid.specs.GridReadyLaws.{fresh-zeros}
 use Rattle.product_terms.specs.ProductTerms.{few-places}
@@ -15,7 +16,8 @@ slice-aggregate-gathered-empty c = search needs
 gathered-empty-requires : tie.Need-gathered-empty-requires
 gathered-empty-requires c κs =
     let s = c .before .before .before .before .before .before in
-    (grid-ready (s .pre .0) _ (s .pre .1 .0) (s .pre .1 .1 .0) (s .pre .1 .1 .1), fresh-zeros few-places _)
+    let few = s .pre .1 .1 .0 in
+    (grid-ready (s .pre .0) _ (s .pre .1 .0) few (omega (arith, few)) (s .pre .1 .1 .1), fresh-zeros few-places _)
 
 same-length : tie.Need-same-length
 same-length c = search needs

@@ -74,7 +74,7 @@ in-large-grid-requires c κs =
     let s = c .before .before .before .before .before .before .before .before .before .before .before .before in
     let t = c .before .before .before .before in
     let fits = t .before .in-grid .ensures (t .if3 .taken) in
-    (s .pre .0, (k .grid-for .ensures, (omega (arith, fits), s .pre .1)))
+    (s .pre .0, (k .grid-for .ensures, (omega (arith, fits .1), s .pre .1)))
 
 same-length-7 : tie.Need-same-length-7
 same-length-7 c = search needs
