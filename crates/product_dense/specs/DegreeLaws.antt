@@ -11,6 +11,16 @@ use Rattle.product_dense.specs.Grid.{place-by, word-by}
 use Rattle.product_dense.specs.Degrees.{Top-degree}
 use Rattle.product_dense.specs.DigitLaws.{Digits, digits-sum}
 
+-- ---- a degree is a byte
+pub degree-byte : (key : ℕ) → wide-degree key < 2 ^ 8
+unfolding wide-degree
+degree-byte key = omega arith
+
+pub top-byte : {keys : List ℕ} {count most : ℕ} → Top-degree keys count most → most < 2 ^ 8
+top-byte {keys} h =
+    let l = h .least 255 (λ i g. let b = degree-byte (getD keys i 0) in omega arith) in omega arith
+
+-- ---- the largest
 pub top-none : (keys : List ℕ) → Top-degree keys 0 0
 top-none keys = record { each = λ i h. absurd (omega arith); least = λ b f. omega arith }
 
@@ -23,11 +33,6 @@ top-more keys i most degree h e = record {
   ];
   least = λ b f. max-le (h .least b (λ j l. f j (omega arith))) (omega (arith, e, f i (omega arith)));
 }
-
--- ---- a degree is a byte
-pub degree-byte : (key : ℕ) → wide-degree key < 2 ^ 8
-unfolding wide-degree
-degree-byte key = omega arith
 
 -- ---- the degree of a key that has digits is their sum
 last-byte : (key w s : ℕ) → key ≡ w * 2 ^ 36 + s → s ≤ 60 → key % 256 ≡ s

@@ -19,40 +19,40 @@ const FOURTH: u64 = 1 << 36;
 
 const DIGIT: u64 = 1 << 7;
 
-fn first_of(key: u64) -> usize
+fn first_of(key: u64) -> u8
     ensures { λ r. ⌜ r ≡ first-of key ⌝ }
 {
-    (key / FIRST) as usize
+    (key / FIRST) as u8
 }
 
-fn second_of(key: u64) -> usize
+fn second_of(key: u64) -> u8
     ensures { λ r. ⌜ r ≡ second-of key ⌝ }
 {
-    (key / SECOND % DIGIT) as usize
+    (key / SECOND % DIGIT) as u8
 }
 
-fn third_of(key: u64) -> usize
+fn third_of(key: u64) -> u8
     ensures { λ r. ⌜ r ≡ third-of key ⌝ }
 {
-    (key / THIRD % DIGIT) as usize
+    (key / THIRD % DIGIT) as u8
 }
 
-fn fourth_of(key: u64) -> usize
+fn fourth_of(key: u64) -> u8
     ensures { λ r. ⌜ r ≡ fourth-of key ⌝ }
 {
-    (key / FOURTH % DIGIT) as usize
+    (key / FOURTH % DIGIT) as u8
 }
 
 // What a place counts in a word that has a degree in its last byte.
 pub const LAST_BYTE: usize = 1 << 8;
 
 // ---- the grid
-// The largest exponent of each variable.
+// The largest exponent of each variable, as bytes, of which the compiler compares many at once.
 pub struct Extents {
-    pub first: usize,
-    pub second: usize,
-    pub third: usize,
-    pub fourth: usize,
+    pub first: u8,
+    pub second: u8,
+    pub third: u8,
+    pub fourth: u8,
 }
 
 // How many exponents of each variable there can be in a product, and how many monomials.
@@ -64,7 +64,7 @@ pub struct Sides {
     pub size: usize,
 }
 
-fn larger(a: usize, b: usize) -> usize
+fn larger(a: u8, b: u8) -> u8
     ensures { λ r. ⌜ r ≡ max a b ⌝ }
 {
     if a < b { b } else { a }
@@ -107,10 +107,10 @@ pub fn sides_of(e: Extents, h: Extents) -> Sides
     requires { ⌜ Low h ⌝ }
     ensures { λ r. ⌜ r ≡ sides-for e h ⌝ }
 {
-    let first = e.first + h.first + 1;
-    let second = e.second + h.second + 1;
-    let third = e.third + h.third + 1;
-    let fourth = e.fourth + h.fourth + 1;
+    let first = e.first as usize + h.first as usize + 1;
+    let second = e.second as usize + h.second as usize + 1;
+    let third = e.third as usize + h.third as usize + 1;
+    let fourth = e.fourth as usize + h.fourth as usize + 1;
     let plane = first * second;
     let cube = plane * third;
     Sides {
@@ -127,10 +127,10 @@ fn place_of(key: u64, second: usize, third: usize, fourth: usize) -> usize
     requires { ⌜ Narrow second third fourth ⌝ }
     ensures { λ r. ⌜ r ≡ place-by second third fourth key ⌝ }
 {
-    let a = first_of(key);
-    let b = second_of(key);
-    let c = third_of(key);
-    let d = fourth_of(key);
+    let a = first_of(key) as usize;
+    let b = second_of(key) as usize;
+    let c = third_of(key) as usize;
+    let d = fourth_of(key) as usize;
     let line = a * second + b;
     let plane = line * third + c;
     plane * fourth + d
@@ -178,8 +178,8 @@ pub fn degree_of(keys: &[u64], count: usize) -> usize
     let mut i = 0;
     while i < count {
         let degree = model_keys::wide_degree(keys[i]);
-        most = larger(most, degree as usize);
+        most = larger(most, degree as u8);
         i += 1;
     }
-    most
+    most as usize
 }

@@ -34,9 +34,9 @@ pub fn gathered_empty(
 {
     let mut ia = [0usize; model_types::MOST_TERMS];
     let mut ib = [0usize; model_types::MOST_TERMS];
-    let mut degrees = [0u8; product_table::PLACES];
     product_dense::word_all(ka, na, s.second, s.third, s.fourth, &mut ia);
     product_dense::word_all(kb, nb, s.second, s.third, s.fourth, &mut ib);
+    let mut degrees = [0u8; product_table::PLACES];
     product_filling::fill(sums, &mut degrees, ca, &ia, na, cb, &ib, nb);
     let a = product_dense::degree_of(ka, na);
     let b = product_dense::degree_of(kb, nb);

@@ -3,8 +3,9 @@ use mathlib.Core.Path.{_≡_}
 use Prim.Native.Nat.{_-_, _≤_}
 use native.Mathlib.Omega.{arith}
 use borrow.Author.Needs.{needs}
+use lib.ListN.{getD}
 use Rattle.product_dense.specs.Degrees.{Top-degree}
-use Rattle.product_dense.specs.DegreeLaws.{top-none, top-more}
+use Rattle.product_dense.specs.DegreeLaws.{degree-byte, top-none, top-more, top-byte}
 use Rattle.product_dense.proofs.degree_of.Statement.{statement}
 use Rattle.product_dense.proofs.degree_of.Tie as tie
 use Rattle.product_dense.proofs.degree_of.Reads as reads
@@ -30,6 +31,12 @@ shared-slice-read-wide-degree c = search needs
 wide-degree-requires : tie.Need-wide-degree-requires Inv-loop μ-loop
 wide-degree-requires c κs = search needs
 
+cast-larger : tie.Need-cast-larger Inv-loop μ-loop
+cast-larger c =
+    let l = c .before .before .before in
+    let k = getD (l .before .before .args .keys .now) (l .loop .i) 0 in
+    omega (arith, c .wide-degree .ensures, degree-byte k)
+
 larger-requires : tie.Need-larger-requires Inv-loop μ-loop
 larger-requires c κs = search needs
 
@@ -47,6 +54,9 @@ loop-again c =
           (top-more _ _ _ _ (l .loop .inv .1) (c .before .wide-degree .ensures)),
     )
 
+cast-result : tie.Need-cast-result Inv-loop μ-loop
+cast-result c = omega (arith, top-byte (c .before .loop .inv .1))
+
 returns : tie.Need-returns Inv-loop μ-loop
 returns c =
     let l = c .before in
@@ -63,8 +73,10 @@ degree-of-spec =
     mul-wide-degree
     shared-slice-read-wide-degree
     wide-degree-requires
+    cast-larger
     larger-requires
     add-i
     loop-less
     loop-again
+    cast-result
     returns)

@@ -16,11 +16,20 @@ use Rattle.product_dense.proofs.third_of.Reads as third-of-reads
 first-of-requires : tie.Need-first-of-requires
 first-of-requires c κs = search needs
 
+cast-a : tie.Need-cast-a
+cast-a c = search needs
+
 second-of-requires : tie.Need-second-of-requires
 second-of-requires c κs = search needs
 
+cast-b : tie.Need-cast-b
+cast-b c = search needs
+
 third-of-requires : tie.Need-third-of-requires
 third-of-requires c κs = search needs
+
+cast-c : tie.Need-cast-c
+cast-c c = search needs
 
 fourth-of-requires : tie.Need-fourth-of-requires
 fourth-of-requires c κs = search needs
@@ -36,6 +45,9 @@ module _ (c : tie.After-fourth-of) where
       placing _ _ _ _ _ _ _ (rw (c .before .before .before .first-of .ensures) (omega arith))
       (rw (c .before .before .second-of .ensures) (omega arith)) (rw (c .before .third-of .ensures) (omega arith))
       (rw (c .fourth-of .ensures) (omega arith)) (s .pre)
+
+cast-d : tie.Need-cast-d
+cast-d c = search needs
 
 mul-line : tie.Need-mul-line
 mul-line c = record { fits = omega (arith, small c .line) }
@@ -71,9 +83,13 @@ place-of-spec =
     tie.close
     (tie.spec
     first-of-requires
+    cast-a
     second-of-requires
+    cast-b
     third-of-requires
+    cast-c
     fourth-of-requires
+    cast-d
     mul-line
     add-line
     mul-plane

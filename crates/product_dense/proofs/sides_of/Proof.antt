@@ -9,11 +9,23 @@ use Rattle.product_dense.proofs.sides_of.Tie as tie
 use Rattle.product_dense.proofs.sides_of.Reads as reads
 use Rattle.product_dense.proofs.sides_of.Lts as lts
 
+cast-first : tie.Need-cast-first
+cast-first c = search needs
+
+cast-first-2 : tie.Need-cast-first-2
+cast-first-2 c = search needs
+
 add-first : tie.Need-add-first
 add-first c = search needs
 
 add-first-2 : tie.Need-add-first-2
 add-first-2 c = search needs
+
+cast-second : tie.Need-cast-second
+cast-second c = search needs
+
+cast-second-2 : tie.Need-cast-second-2
+cast-second-2 c = search needs
 
 add-second : tie.Need-add-second
 add-second c = search needs
@@ -21,11 +33,23 @@ add-second c = search needs
 add-second-2 : tie.Need-add-second-2
 add-second-2 c = search needs
 
+cast-third : tie.Need-cast-third
+cast-third c = search needs
+
+cast-third-2 : tie.Need-cast-third-2
+cast-third-2 c = search needs
+
 add-third : tie.Need-add-third
 add-third c = search needs
 
 add-third-2 : tie.Need-add-third-2
 add-third-2 c = search needs
+
+cast-fourth : tie.Need-cast-fourth
+cast-fourth c = search needs
+
+cast-fourth-2 : tie.Need-cast-fourth-2
+cast-fourth-2 c = search needs
 
 add-fourth : tie.Need-add-fourth
 add-fourth c = search needs
@@ -56,12 +80,20 @@ pub sides-of-spec : {M : Type 1} → statement M
 sides-of-spec =
     tie.close
     (tie.spec
+    cast-first
+    cast-first-2
     add-first
     add-first-2
+    cast-second
+    cast-second-2
     add-second
     add-second-2
+    cast-third
+    cast-third-2
     add-third
     add-third-2
+    cast-fourth
+    cast-fourth-2
     add-fourth
     add-fourth-2
     mul-plane
