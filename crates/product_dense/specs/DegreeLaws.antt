@@ -62,7 +62,8 @@ degree-sum {k} {l} x y = bytes-sum (degree-most x) (degree-most y)
     bytes-sum h g = unfold wide-degree in omega (arith, h, g)
 
 -- a word in its two parts
-pub word-place : (second third fourth key : ℕ) → word-by second third fourth key / 2 ^ 8 ≡ place-by second third fourth key
+pub word-place : (second third fourth key : ℕ)
+    → word-by second third fourth key / 2 ^ 8 ≡ place-by second third fourth key
 unfolding word-by wide-degree
 word-place second third fourth key = omega arith
 

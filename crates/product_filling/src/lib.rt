@@ -1,5 +1,5 @@
-// The products of two lists of terms, each added at its place in a grid, which is told the pair's degree: no search, and
-// no key is looked at. What the grid and the keys are stands in what is asked.
+// The products of two lists of terms, each added at its place in a grid, which is told the pair's degree: no search,
+// and no key is looked at. What the grid and the keys are stands in what is asked.
 ghost use mathlib.Core.Path.{_≡_};
 ghost use Prim.Native.Nat.{ℕ, _<_, _≤_};
 ghost use lib.IntN.{pos};

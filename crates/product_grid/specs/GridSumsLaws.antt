@@ -303,7 +303,8 @@ module _ (s : Sides) (p : Terms) (sums : List ℤ) (degrees : List ℕ) (h : Sum
       go (nowhere a) = absent-zero k p a
       go (here x r e) = ap (coefficient-at p) e ∙ standing-seen x r (rw e at n)
 
-  pub sums-coefficients : Same-coefficients (grid-terms sums degrees (s .first) (s .second) (s .third) (s .fourth) most) p
+  pub sums-coefficients : Same-coefficients
+      (grid-terms sums degrees (s .first) (s .second) (s .third) (s .fourth) most) p
   sums-coefficients k = go (given (coefficient-at p) zs sums-given (rising-distinct zs sums-rising) k)
     where
       go : (coefficient-at zs k ≡ coefficient-at p k) ⊎ T (absent k zs) → coefficient-at zs k ≡ coefficient-at p k

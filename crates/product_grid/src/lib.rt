@@ -10,9 +10,9 @@ use product_dense::Sides;
 use product_gathering::Gathered;
 
 // The terms that order d keeps of the products of each of the first na terms with each of the first nb, rising, with
-// the two shares of what it loses, in a grid of zeros. The places of two terms add up to that of their product, and their
-// degrees to its degree, which stands beside its sum; no product's degree is above the sum of the two largest. What
-// stands beside a sum of 0 counts nothing.
+// the two shares of what it loses, in a grid of zeros. The places of two terms add up to that of their product, and
+// their degrees to its degree, which stands beside its sum; no product's degree is above the sum of the two largest.
+// What stands beside a sum of 0 counts nothing.
 pub fn gathered_empty(
     s: Sides,
     d: u64,

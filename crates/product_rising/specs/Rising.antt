@@ -51,7 +51,8 @@ line-terms sums degrees fourth at n key left =
 abbrev pub plane-terms : (sums : List ℤ) (degrees : List ℕ) (third fourth at n key left : ℕ) → Terms
 plane-terms sums degrees third fourth at n key left =
     in-turn (λ i.
-    line-terms sums degrees fourth ((at + i) * third) (steps-within third (left - i)) (key + second-step * i) (left - i)) n
+    line-terms sums degrees fourth ((at + i) * third) (steps-within third (left - i)) (key + second-step * i)
+    (left - i)) n
 
 -- all of degree at most `most`
 abbrev pub grid-terms : (sums : List ℤ) (degrees : List ℕ) (first second third fourth most : ℕ) → Terms

@@ -92,8 +92,8 @@ next-side a m n side h l =
     let k : (a + 1) * side ≤ n * side = mul-le-mul-right side (omega arith) in omega (arith, add-mul a 1 side)
 
 -- of a line
-module _ (sums : List ℤ) (degrees : List ℕ) (fourth at n key left : ℕ) (h : Line-ready sums degrees fourth at n key left)
-    (i : ℕ) (turn : i < n) where
+module _ (sums : List ℤ) (degrees : List ℕ) (fourth at n key left : ℕ)
+    (h : Line-ready sums degrees fourth at n key left) (i : ℕ) (turn : i < n) where
   pub row-ready : Row-ready sums degrees ((at + i) * fourth) (steps-within fourth (left - i)) (key + third-step * i)
   row-ready =
       let m = steps-within fourth (left - i) in
@@ -109,16 +109,17 @@ module _ (sums : List ℤ) (degrees : List ℕ) (fourth at n key left : ℕ) (h 
             omega (
               arith,
               size-turn (λ j.
-                  row-terms sums degrees ((at + j) * fourth) (steps-within fourth (left - j)) (key + third-step * j)) i n turn,
+                  row-terms sums degrees ((at + j) * fourth) (steps-within fourth (left - j))
+                  (key + third-step * j)) i n turn,
               h .small,
             );
       }
 
 -- of a plane
-module _ (sums : List ℤ) (degrees : List ℕ) (third fourth at n key left : ℕ) (h : Plane-ready sums degrees third fourth at n key left)
-    (i : ℕ) (turn : i < n) where
-  pub line-ready : Line-ready sums degrees fourth ((at + i) * third) (steps-within third (left - i)) (key + second-step * i)
-      (left - i)
+module _ (sums : List ℤ) (degrees : List ℕ) (third fourth at n key left : ℕ)
+    (h : Plane-ready sums degrees third fourth at n key left) (i : ℕ) (turn : i < n) where
+  pub line-ready : Line-ready sums degrees fourth ((at + i) * third) (steps-within third (left - i))
+      (key + second-step * i) (left - i)
   line-ready =
       let m = steps-within third (left - i) in
       let few : m ≤ left - i + 1 = steps-left third (left - i) in
@@ -138,15 +139,15 @@ module _ (sums : List ℤ) (degrees : List ℕ) (third fourth at n key left : �
             omega (
               arith,
               size-turn (λ j.
-                  line-terms sums degrees fourth ((at + j) * third) (steps-within third (left - j)) (key + second-step * j)
-                  (left - j)) i n turn,
+                  line-terms sums degrees fourth ((at + j) * third) (steps-within third (left - j))
+                  (key + second-step * j) (left - j)) i n turn,
               h .small,
             );
       }
 
 -- of a grid
-module _ (sums : List ℤ) (degrees : List ℕ) (first second third fourth most : ℕ) (h : Scan-ready sums degrees first second third fourth most)
-    (i : ℕ) (turn : i < steps-within first most) where
+module _ (sums : List ℤ) (degrees : List ℕ) (first second third fourth most : ℕ)
+    (h : Scan-ready sums degrees first second third fourth most) (i : ℕ) (turn : i < steps-within first most) where
   pub plane-ready : Plane-ready sums degrees third fourth (i * second) (steps-within second (most - i)) (first-step * i)
       (most - i)
   plane-ready =

@@ -6,8 +6,8 @@ ghost use mathlib.Core.List.{[], _∷_};
 ghost use mathlib.Core.Path.{_≡_};
 ghost use Rattle.product_table.specs.Table.{«at-key»};
 ghost use Rattle.product_rising.specs.Rising.{«steps-within», «row-terms», «line-terms», «plane-terms»};
-ghost use Rattle.product_rising.specs.Rising.{Room, Bare, Part, «Row-ready», «Line-ready», «Plane-ready», «Scan-ready»};
-ghost use Rattle.product_rising.specs.Rising.{«grid-terms», Scanned};
+ghost use Rattle.product_rising.specs.Rising.{Room, Bare, Part, «Row-ready», «Line-ready», «Plane-ready»};
+ghost use Rattle.product_rising.specs.Rising.{«Scan-ready», «grid-terms», Scanned};
 use product_gathering::Gathered;
 
 // The count that says that a product has more terms than a model can hold.

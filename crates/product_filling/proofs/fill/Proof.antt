@@ -55,8 +55,8 @@ module _ (d : tie.After-c Inv-loop μ-loop) where
 
   abbrev Fits : Type 0
   Fits =
-      All-fit (s .args .sums .now) (s .args .degrees .now) (s .args .ca .now) (s .args .ia .now) (s .args .na) (s .args .cb .now)
-      (s .args .ib .now) (s .args .nb)
+      All-fit (s .args .sums .now) (s .args .degrees .now) (s .args .ca .now) (s .args .ia .now) (s .args .na)
+      (s .args .cb .now) (s .args .ib .now) (s .args .nb)
 
   fits-y : toZ w64 (ofZ w64 y) ≡ y
   fits-y = toZ-ofZ (record { sfits = d .c .given })

@@ -232,8 +232,8 @@ loop-again e =
       degrees-long = length-set (l d .loop .degrees) (p d) _ ∙ l d .loop .inv .degrees-long;
       filled = rw (fits-c d, add-one) (λ w.
           rw (times-more (at-key (w .key) (c d)) (bs d w) (j d) (at-key (k d w) (y d)) (next d w))
-          (filled-more (w .sides) (s d .args .sums .now) (before d w) (l d .loop .sums) (l d .loop .degrees) (filled d w)
-          (omega (arith, w .sums-room, l d .loop .inv .sums-long))
+          (filled-more (w .sides) (s d .args .sums .now) (before d w) (l d .loop .sums) (l d .loop .degrees)
+          (filled d w) (omega (arith, w .sums-room, l d .loop .inv .sums-long))
           (omega (arith, w .degrees-room, l d .loop .inv .degrees-long)) (w .key + k d w) z _
           (w .gridded (j d) (turn d)) (p d) (there d w) u _ (degree-there d w)));
     }

@@ -54,8 +54,9 @@ module _ (two : tie.After-word-all2) where
   abbrev start : tie.Start
   start = one .before .before .before .before .before
 
-  fits : All-fit (start .args .sums .now) (replicate lent-places 0) (start .args .ca .now) (one .word-all .last .1 .1 .1 .1 .1 .0)
-      (start .args .na) (start .args .cb .now) (two .word-all2 .last .1 .1 .1 .1 .1 .0) (start .args .nb)
+  fits : All-fit (start .args .sums .now) (replicate lent-places 0) (start .args .ca .now)
+      (one .word-all .last .1 .1 .1 .1 .1 .0) (start .args .na) (start .args .cb .now)
+      (two .word-all2 .last .1 .1 .1 .1 .1 .0) (start .args .nb)
   unfolding most-terms
   fits =
       let q = start .pre .0 in
@@ -122,8 +123,8 @@ returns c =
     let w = c .before .before .before in
     let b = w .before .before .before .before .before in
     let f = b .before .before .before .before in
-    scanned (s f .pre .0) (b .before .degree-of .ensures) (b .degree-of2 .ensures) _ _ (summed f) (f .fill .kept .0) (wide f)
-    (s f .args .d) (w .scan .ensures)
+    scanned (s f .pre .0) (b .before .degree-of .ensures) (b .degree-of2 .ensures) _ _ (summed f) (f .fill .kept .0)
+    (wide f) (s f .args .d) (w .scan .ensures)
 
 pub gathered-empty-spec : {M : Type 1} → statement M
 gathered-empty-spec =

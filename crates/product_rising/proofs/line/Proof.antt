@@ -16,8 +16,8 @@ use Rattle.product_rising.proofs.steps.Reads as steps-reads
 
 abbrev Inv-loop : tie.InvT-loop
 Inv-loop sums degrees fourth at n key left d k₀ c₀ from m₀ r₀ w₀ i₀ kept coefficients count rounding swept i =
-    Held (λ j. row-terms sums degrees ((at + j) * fourth) (steps-within fourth (left - j)) (key + third-step * j)) n d from
-    k₀ c₀ kept coefficients count rounding swept i
+    Held (λ j. row-terms sums degrees ((at + j) * fourth) (steps-within fourth (left - j)) (key + third-step * j)) n d
+    from k₀ c₀ kept coefficients count rounding swept i
 
 abbrev μ-loop : tie.MeasureT-loop
 μ-loop sums degrees fourth at n key left d k₀ c₀ from m₀ r₀ w₀ i₀ kept coefficients count rounding swept i =

@@ -17,8 +17,8 @@ use Rattle.product_rising.proofs.steps.Reads as steps-reads
 abbrev Inv-loop : tie.InvT-loop
 Inv-loop sums degrees third fourth at n key left d k₀ c₀ from m₀ r₀ w₀ i₀ kept coefficients count rounding swept i =
     Held (λ j.
-    line-terms sums degrees fourth ((at + j) * third) (steps-within third (left - j)) (key + second-step * j) (left - j))
-    n d from k₀ c₀ kept coefficients count rounding swept i
+    line-terms sums degrees fourth ((at + j) * third) (steps-within third (left - j)) (key + second-step * j)
+    (left - j)) n d from k₀ c₀ kept coefficients count rounding swept i
 
 abbrev μ-loop : tie.MeasureT-loop
 μ-loop sums degrees third fourth at n key left d k₀ c₀ from m₀ r₀ w₀ i₀ kept coefficients count rounding swept i =
@@ -43,7 +43,8 @@ module _ (c : tie.After-steps Inv-loop μ-loop) where
   turn : l .loop .i < s .args .n
   turn = c .before .loop-test .taken
 
-  ready : Line-ready (s .args .sums .now) (s .args .degrees .now) (s .args .fourth) ((s .args .at + l .loop .i) * s .args .third)
+  ready : Line-ready (s .args .sums .now) (s .args .degrees .now) (s .args .fourth)
+      ((s .args .at + l .loop .i) * s .args .third)
       (steps-within (s .args .third) (s .args .left - l .loop .i)) (s .args .key + second-step * l .loop .i)
       (s .args .left - l .loop .i)
   ready = line-ready _ _ _ _ _ _ _ _ (s .pre .0) (l .loop .i) turn

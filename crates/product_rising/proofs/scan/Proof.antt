@@ -18,7 +18,8 @@ use Rattle.product_rising.proofs.steps.Reads as steps-reads
 
 abbrev Inv-loop : tie.InvT-loop
 Inv-loop sums degrees first second third fourth most d k₀ c₀ n m₀ r₀ w₀ i₀ kept coefficients count rounding swept i =
-    Held (λ j. plane-terms sums degrees third fourth (j * second) (steps-within second (most - j)) (first-step * j) (most - j))
+    Held (λ j.
+    plane-terms sums degrees third fourth (j * second) (steps-within second (most - j)) (first-step * j) (most - j))
     n d 0 k₀ c₀ kept coefficients count rounding swept i
 
 abbrev μ-loop : tie.MeasureT-loop
@@ -48,7 +49,8 @@ module _ (l : tie.At-loop Inv-loop μ-loop) where
     last : l .loop .i ≤ s .args .most
     last = omega (arith, turn, number, steps-left (s .args .first) (s .args .most))
 
-    ready : Plane-ready (s .args .sums .now) (s .args .degrees .now) (s .args .third) (s .args .fourth) (l .loop .i * s .args .second)
+    ready : Plane-ready (s .args .sums .now) (s .args .degrees .now) (s .args .third) (s .args .fourth)
+        (l .loop .i * s .args .second)
         (steps-within (s .args .second) (s .args .most - l .loop .i)) (first-step * l .loop .i)
         (s .args .most - l .loop .i)
     ready = plane-ready _ _ _ _ _ _ _ (s .pre .0) (l .loop .i) (omega (arith, turn, number))
@@ -87,7 +89,8 @@ module _ (p : tie.After-plane Inv-loop μ-loop) where
   turn = t .before .loop-test .taken
 
   done : Part (s l .args .d) (part l (l .loop .i)) (l .loop .count) (l .loop .kept) (l .loop .coefficients)
-      (p .plane .last .1 .1 .1 .1 .1 .1 .1 .1 .1 .0) (p .plane .last .1 .1 .1 .1 .1 .1 .1 .1 .1 .1 .0) (p .plane .result)
+      (p .plane .last .1 .1 .1 .1 .1 .1 .1 .1 .1 .0) (p .plane .last .1 .1 .1 .1 .1 .1 .1 .1 .1 .1 .0)
+      (p .plane .result)
   done = rw (t .steps2 .ensures) at (p .plane .ensures)
 
   small : size (in-turn (part l) (l .before .steps .result)) < 2 ^ 63
@@ -138,9 +141,9 @@ same-length-2 c = search needs
 -- once all are done
 all : (e : tie.After-loop Inv-loop μ-loop)
     → let l = e .before in
-    Part (s l .args .d) (grid-terms (s l .args .sums .now) (s l .args .degrees .now) (s l .args .first) (s l .args .second) (s l .args .third)
-    (s l .args .fourth) (s l .args .most)) 0 (s l .args .kept .now) (s l .args .coefficients .now)
-    (l .loop .kept) (l .loop .coefficients)
+    Part (s l .args .d) (grid-terms (s l .args .sums .now) (s l .args .degrees .now) (s l .args .first)
+    (s l .args .second) (s l .args .third) (s l .args .fourth) (s l .args .most)) 0
+    (s l .args .kept .now) (s l .args .coefficients .now) (l .loop .kept) (l .loop .coefficients)
     (record { count = l .loop .count; rounding = l .loop .rounding; swept = l .loop .swept })
 all e =
     let l = e .before in
