@@ -11,9 +11,12 @@ pub const LARGEST_DEGREE: u32 = 15;
 /// The largest number of terms.
 pub const MOST_TERMS: usize = 64;
 /// The largest number of variables.
-pub const MOST_VARIABLES: usize = 4;
+pub const MOST_VARIABLES: usize = 8;
+/// Up to so many variables a sheet's keys have 16 bits, and an integral is given
+/// with its remainder.
+pub const FEW_VARIABLES: usize = 4;
 
-/// Four exponents, variable 1 first. The order of arrays is the order of keys,
+/// Eight exponents, variable 1 first. The order of arrays is the order of keys,
 /// as variable 1 stands in the highest bits of a key. Exponents are bytes and
 /// not four bits, so that a product may pass 15 without running into its
 /// neighbour: y^17 and x z^16 stay different.
@@ -25,18 +28,23 @@ pub const ONE: Monomial = [0; MOST_VARIABLES];
 /// Coefficients by monomial. No coefficient is zero.
 pub type Polynomial = BTreeMap<Monomial, i128>;
 
-/// The exponents in a key.
-pub fn monomial_of_key(key: u16) -> Monomial {
-    let digit = |shift: u32| (key >> shift & 15) as u8;
-    [digit(12), digit(8), digit(4), digit(0)]
+/// The exponents in a key, variable 1 in its highest four bits.
+pub fn monomial_of_key(key: u32) -> Monomial {
+    std::array::from_fn(|place| (key >> (28 - 4 * place) & 15) as u8)
 }
 
 /// The key of exponents that fit four bits each.
-pub fn key_of_monomial(monomial: &Monomial) -> u16 {
+pub fn key_of_monomial(monomial: &Monomial) -> u32 {
     monomial.iter().fold(0, |key, &exponent| {
         assert!(exponent <= 15, "an exponent above 15 has no key");
-        key << 4 | u16::from(exponent)
+        key << 4 | u32::from(exponent)
     })
+}
+
+/// A key of 16 bits, as sheets of up to four variables have them, is the upper
+/// half of a key.
+pub fn key_of_half(half: u16) -> u32 {
+    u32::from(half) << 16
 }
 
 /// The total degree.

@@ -3,8 +3,8 @@
 //! Arguments are already tested here; what can still happen is a [`Cause`].
 
 use crate::model::{
-    degree, Model, Monomial, Polynomial, LARGEST_DEGREE, LARGEST_SPAN, MOST_TERMS, MOST_VARIABLES,
-    ONE, UNIT,
+    degree, Model, Monomial, Polynomial, FEW_VARIABLES, LARGEST_DEGREE, LARGEST_SPAN, MOST_TERMS,
+    MOST_VARIABLES, ONE, UNIT,
 };
 use crate::refusal::Refusal;
 use crate::shares::{Reported, Shares};
@@ -50,8 +50,8 @@ pub struct Exact {
     pub remainder: i128,
 }
 
-/// The integral over the box: its ends, and that of the polynomial part without
-/// any rounding.
+/// The integral over the box: its ends, and up to four variables that of the
+/// polynomial part without any rounding; above, this is 0.
 #[derive(Clone, Copy, Debug, Default, PartialEq, Eq)]
 pub struct Integral {
     pub ends: Ends,
@@ -345,9 +345,21 @@ pub fn range(f: &Model) -> Ends {
     ends
 }
 
-/// The integral over the box. All terms are summed over one denominator, and
-/// rounded once.
+/// The integral over the box: with its remainder up to four variables, term by
+/// term above.
 pub fn integral(f: &Model) -> Integral {
+    if f.n <= FEW_VARIABLES {
+        return integral_with_remainder(f);
+    }
+    Integral {
+        ends: integral_by_terms(f),
+        exact: Exact::default(),
+    }
+}
+
+/// All terms are summed over one denominator, and rounded once. There are at most
+/// four variables.
+fn integral_with_remainder(f: &Model) -> Integral {
     let volume = 1_i128 << f.n;
     let total: i128 = even_terms(f)
         .map(|(divisor, c)| {

@@ -1,7 +1,7 @@
 //! Stepping through a sheet record by record without copying it.
 
 use crate::refusal::Refusal;
-use crate::sheet::{self, STEP_LENGTH, TRAILER_LENGTH};
+use crate::sheet::{self, Mark, STEP_LENGTH, TRAILER_LENGTH};
 
 /// A record, as a part of the sheet.
 #[derive(Clone, Copy, Debug, PartialEq, Eq)]
@@ -22,6 +22,7 @@ impl<'sheet> Record<'sheet> {
 /// an empty rest hands out none as often as it is asked.
 #[derive(Clone, Debug)]
 pub struct RecordReader<'sheet> {
+    mark: Mark,
     models: &'sheet [u8],
     steps: &'sheet [u8],
 }
@@ -42,6 +43,7 @@ pub fn open(bytes: &[u8]) -> Opening<'_> {
         },
         Err(refusal) => Opening {
             reader: RecordReader {
+                mark: Mark::Few,
                 models: &[],
                 steps: &[],
             },
@@ -55,14 +57,18 @@ fn tested_parts(bytes: &[u8]) -> Result<RecordReader<'_>, Refusal> {
     let trailer = sheet::tested_trailer(bytes)?;
     let (models, rest) = bytes.split_at(trailer.offset);
     let steps = &rest[..rest.len() - TRAILER_LENGTH];
-    Ok(RecordReader { models, steps })
+    Ok(RecordReader {
+        mark: trailer.mark,
+        models,
+        steps,
+    })
 }
 
 impl<'sheet> Iterator for RecordReader<'sheet> {
     type Item = Record<'sheet>;
 
     fn next(&mut self) -> Option<Record<'sheet>> {
-        if let Some(length) = sheet::record_length(self.models) {
+        if let Some(length) = sheet::record_length(self.models, self.mark) {
             let (record, after) = self.models.split_at(length);
             self.models = after;
             return Some(Record::Model(record));

@@ -4,11 +4,12 @@
 /// other than 0.
 #[derive(Clone, Copy, Debug, PartialEq, Eq, PartialOrd, Ord)]
 pub enum Refusal {
-    /// 1: the length is below 16 or above 6,744.
+    /// 1: the length is below 16 or above 8,792.
     Length,
-    /// 2: the last two bytes are not the mark.
+    /// 2: the last two bytes are neither mark.
     Mark,
-    /// 3: n, d, model count or step count is outside its limits.
+    /// 3: n, d, model count or step count is outside its limits, or n does not fit
+    /// the mark.
     Limits,
     /// 4: offset + 8 × steps + 8 is not the length.
     Offset,

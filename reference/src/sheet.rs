@@ -1,18 +1,88 @@
 //! Reading a sheet: tests 1 to 6 in their order.
 
 use crate::book::{Book, Limits, SoundBook, Step};
-use crate::model::{Model, MOST_TERMS};
+use crate::model::{key_of_half, Model, FEW_VARIABLES, MOST_TERMS, MOST_VARIABLES};
 use crate::refusal::Refusal;
 use crate::stored::{StoredModel, StoredTerm};
+use std::ops::RangeInclusive;
 
 pub const SHORTEST_SHEET: usize = 16;
-pub const LONGEST_SHEET: usize = 6_744;
-pub const MARK: [u8; 2] = [0x4D, 0x4B];
+pub const LONGEST_SHEET: usize = 8_792;
 pub const TRAILER_LENGTH: usize = 8;
 pub const STEP_LENGTH: usize = 8;
 /// Radius and term count, before the terms.
 pub const MODEL_HEAD_LENGTH: usize = 5;
-pub const TERM_LENGTH: usize = 6;
+pub const COEFFICIENT_LENGTH: usize = 4;
+
+/// The last two bytes of a sheet: they say how many variables it may have, and
+/// how long the keys of its terms are.
+#[derive(Clone, Copy, Debug, PartialEq, Eq, PartialOrd, Ord)]
+pub enum Mark {
+    /// 1 to 4 variables, keys of 2 bytes.
+    Few,
+    /// 5 to 8 variables, keys of 4 bytes.
+    Many,
+}
+
+impl Mark {
+    pub const ALL: [Mark; 2] = [Mark::Few, Mark::Many];
+
+    pub fn bytes(self) -> [u8; 2] {
+        match self {
+            Mark::Few => [0x4D, 0x4B],
+            Mark::Many => [0x4D, 0x57],
+        }
+    }
+
+    /// The mark with these bytes, if there is one.
+    pub fn of_bytes(bytes: [u8; 2]) -> Option<Mark> {
+        Mark::ALL.into_iter().find(|mark| mark.bytes() == bytes)
+    }
+
+    /// The mark of a sound book.
+    pub fn of_variables(n: usize) -> Mark {
+        if n <= FEW_VARIABLES {
+            Mark::Few
+        } else {
+            Mark::Many
+        }
+    }
+
+    /// The numbers of variables that fit the mark.
+    pub fn variables(self) -> RangeInclusive<usize> {
+        match self {
+            Mark::Few => 1..=FEW_VARIABLES,
+            Mark::Many => FEW_VARIABLES + 1..=MOST_VARIABLES,
+        }
+    }
+
+    pub fn key_length(self) -> usize {
+        match self {
+            Mark::Few => 2,
+            Mark::Many => 4,
+        }
+    }
+
+    pub fn term_length(self) -> usize {
+        self.key_length() + COEFFICIENT_LENGTH
+    }
+
+    /// The key at the front of a term.
+    fn key(self, term: &[u8]) -> u32 {
+        match self {
+            Mark::Few => key_of_half(u16::from_le_bytes(array_at(term, 0))),
+            Mark::Many => u32::from_le_bytes(array_at(term, 0)),
+        }
+    }
+
+    /// The bytes of a key whose exponents fit the mark.
+    pub fn key_bytes(self, key: u32) -> Vec<u8> {
+        match self {
+            Mark::Few => ((key >> 16) as u16).to_le_bytes().to_vec(),
+            Mark::Many => key.to_le_bytes().to_vec(),
+        }
+    }
+}
 
 /// The answer of a read: a refused one gives a book of zeros.
 #[derive(Clone, Debug, PartialEq, Eq)]
@@ -39,7 +109,7 @@ pub fn read(sheet: &[u8]) -> ReadAnswer {
 pub fn sound_book(sheet: &[u8]) -> Result<SoundBook, Refusal> {
     let trailer = tested_trailer(sheet)?;
     let (model_bytes, rest) = sheet.split_at(trailer.offset);
-    let models = read_models(model_bytes, &trailer.limits)?;
+    let models = read_models(model_bytes, &trailer)?;
     let steps = read_steps(&rest[..trailer.limits.step_count * STEP_LENGTH]);
     trailer.limits.test_steps(&steps)?;
     Ok(SoundBook {
@@ -53,6 +123,7 @@ pub fn sound_book(sheet: &[u8]) -> Result<SoundBook, Refusal> {
 /// A trailer that passed tests 1 to 4.
 #[derive(Clone, Copy, Debug)]
 pub struct Trailer {
+    pub mark: Mark,
     pub limits: Limits,
     /// Where the first step stands.
     pub offset: usize,
@@ -66,9 +137,7 @@ pub fn tested_trailer(sheet: &[u8]) -> Result<Trailer, Refusal> {
     }
     let last: [u8; TRAILER_LENGTH] = array_at(sheet, length - TRAILER_LENGTH);
     let [n, d, model_count, step_count, low, high, mark @ ..] = last;
-    if mark != MARK {
-        return Err(Refusal::Mark);
-    }
+    let mark = Mark::of_bytes(mark).ok_or(Refusal::Mark)?;
     let limits = Limits {
         n: usize::from(n),
         order: u32::from(d),
@@ -76,48 +145,57 @@ pub fn tested_trailer(sheet: &[u8]) -> Result<Trailer, Refusal> {
         step_count: usize::from(step_count),
     };
     limits.test()?;
+    if !mark.variables().contains(&limits.n) {
+        return Err(Refusal::Limits);
+    }
     // Whole numbers wider than the field, so that the sum cannot wrap.
     let offset = usize::from(u16::from_le_bytes([low, high]));
     if offset + STEP_LENGTH * limits.step_count + TRAILER_LENGTH != length {
         return Err(Refusal::Offset);
     }
-    Ok(Trailer { limits, offset })
+    Ok(Trailer {
+        mark,
+        limits,
+        offset,
+    })
 }
 
 /// Walks the records forward up to the first step: test 5.
-fn read_models(bytes: &[u8], limits: &Limits) -> Result<Vec<Model>, Refusal> {
+fn read_models(bytes: &[u8], trailer: &Trailer) -> Result<Vec<Model>, Refusal> {
     let mut models = Vec::new();
     let mut rest = bytes;
-    for number in 0..limits.model_count {
-        let (model, after) = read_model(rest, limits).ok_or(Refusal::Model(number))?;
+    let model_count = trailer.limits.model_count;
+    for number in 0..model_count {
+        let (model, after) = read_model(rest, trailer).ok_or(Refusal::Model(number))?;
         models.push(model);
         rest = after;
     }
     if rest.is_empty() {
         Ok(models)
     } else {
-        Err(Refusal::Model(limits.model_count))
+        Err(Refusal::Model(model_count))
     }
 }
 
 /// The sound model at the front, and the bytes after its record.
-fn read_model<'a>(bytes: &'a [u8], limits: &Limits) -> Option<(Model, &'a [u8])> {
-    let length = record_length(bytes)?;
+fn read_model<'a>(bytes: &'a [u8], trailer: &Trailer) -> Option<(Model, &'a [u8])> {
+    let Trailer { mark, limits, .. } = trailer;
+    let length = record_length(bytes, *mark)?;
     let (record, after) = bytes.split_at_checked(length)?;
-    let stored = stored_model(record, limits.n)?;
+    let stored = stored_model(record, limits.n, *mark)?;
     Some((limits.sound_model(&stored)?, after))
 }
 
 /// The length of the record at the front, by its term count; none if its head
 /// does not fit.
-pub fn record_length(bytes: &[u8]) -> Option<usize> {
+pub fn record_length(bytes: &[u8], mark: Mark) -> Option<usize> {
     let head = bytes.get(..MODEL_HEAD_LENGTH)?;
     let count = usize::from(head[MODEL_HEAD_LENGTH - 1]);
-    Some(MODEL_HEAD_LENGTH + count * TERM_LENGTH)
+    Some(MODEL_HEAD_LENGTH + count * mark.term_length())
 }
 
 /// A whole record, taken as it stands; none if it has more terms than places.
-fn stored_model(record: &[u8], n: usize) -> Option<StoredModel> {
+fn stored_model(record: &[u8], n: usize, mark: Mark) -> Option<StoredModel> {
     let (head, terms) = record.split_at(MODEL_HEAD_LENGTH);
     let count = usize::from(head[MODEL_HEAD_LENGTH - 1]);
     if count > MOST_TERMS {
@@ -129,10 +207,12 @@ fn stored_model(record: &[u8], n: usize) -> Option<StoredModel> {
         radius: u64::from(u32::from_le_bytes(array_at(head, 0))),
         ..StoredModel::ZEROS
     };
-    for (place, bytes) in stored.terms.iter_mut().zip(terms.chunks(TERM_LENGTH)) {
+    let terms = terms.chunks(mark.term_length());
+    for (place, term) in stored.terms.iter_mut().zip(terms) {
+        let coefficient = array_at(term, mark.key_length());
         *place = StoredTerm {
-            key: u16::from_le_bytes(array_at(bytes, 0)),
-            coefficient: i64::from(i32::from_le_bytes(array_at(bytes, 2))),
+            key: mark.key(term),
+            coefficient: i64::from(i32::from_le_bytes(coefficient)),
         };
     }
     Some(stored)

@@ -9,7 +9,7 @@ use crate::model::{
 /// A term in memory.
 #[derive(Clone, Copy, Debug, Default, PartialEq, Eq)]
 pub struct StoredTerm {
-    pub key: u16,
+    pub key: u32,
     pub coefficient: i64,
 }
 

@@ -1,6 +1,6 @@
 //! The program's lines.
 
-use crate::model::monomial_of_key;
+use crate::model::{monomial_of_key, FEW_VARIABLES};
 use crate::operations::{Ends, Exact};
 use crate::run::{run_sheet, RunAnswer};
 use crate::stored::{StoredModel, StoredTerm};
@@ -19,11 +19,9 @@ pub fn lines(answer: &RunAnswer) -> String {
     text += &term_lines(&answer.model);
     text += &ends_line("range", answer.range);
     text += &ends_line("integral", answer.integral.ends);
-    let Exact {
-        quotient,
-        remainder,
-    } = answer.integral.exact;
-    text += &format!("exact {quotient} {remainder}\n");
+    if usize::from(answer.model.n) <= FEW_VARIABLES {
+        text += &exact_line(answer.integral.exact);
+    }
     text
 }
 
@@ -45,6 +43,10 @@ fn term_line(term: &StoredTerm, n: usize) -> String {
 
 fn ends_line(name: &str, ends: Ends) -> String {
     format!("{name} {} {}\n", ends.low, ends.high)
+}
+
+fn exact_line(exact: Exact) -> String {
+    format!("exact {} {}\n", exact.quotient, exact.remainder)
 }
 
 /// The bytes of a hex text. White space may stand between bytes.

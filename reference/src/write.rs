@@ -3,7 +3,7 @@
 use crate::book::{Book, SoundBook};
 use crate::model::{key_of_monomial, Model};
 use crate::refusal::Refusal;
-use crate::sheet::MARK;
+use crate::sheet::Mark;
 
 /// The answer of a write: a refused one gives the length 0.
 #[derive(Clone, Copy, Debug, PartialEq, Eq)]
@@ -36,11 +36,12 @@ fn try_write(book: &Book, buffer: &mut [u8]) -> Result<usize, Refusal> {
 
 /// The sheet of a sound book.
 pub fn sheet_bytes(book: &SoundBook) -> Vec<u8> {
+    let mark = Mark::of_variables(book.n);
     let mut sheet = Vec::new();
     for model in &book.models {
-        push_model(&mut sheet, model);
+        push_model(&mut sheet, model, mark);
     }
-    // At most 16 models of 389 bytes each, which two bytes can name.
+    // At most 16 models of 517 bytes each, which two bytes can name.
     let offset = sheet.len() as u16;
     for step in &book.steps {
         sheet.extend(step.to_bytes());
@@ -50,16 +51,16 @@ pub fn sheet_bytes(book: &SoundBook) -> Vec<u8> {
     sheet.push(book.models.len() as u8);
     sheet.push(book.steps.len() as u8);
     sheet.extend(offset.to_le_bytes());
-    sheet.extend(MARK);
+    sheet.extend(mark.bytes());
     sheet
 }
 
 /// The span bounds the radius and every coefficient, so that four bytes hold them.
-fn push_model(sheet: &mut Vec<u8>, model: &Model) {
+fn push_model(sheet: &mut Vec<u8>, model: &Model, mark: Mark) {
     sheet.extend((model.radius as u32).to_le_bytes());
     sheet.push(model.polynomial.len() as u8);
     for (monomial, &coefficient) in &model.polynomial {
-        sheet.extend(key_of_monomial(monomial).to_le_bytes());
+        sheet.extend(mark.key_bytes(key_of_monomial(monomial)));
         sheet.extend((coefficient as i32).to_le_bytes());
     }
 }

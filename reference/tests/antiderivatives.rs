@@ -14,7 +14,7 @@ use reference::exact::{
     check_result, ExactPolynomial, Fraction, InputFunction, SizeLimit, Violation,
 };
 use reference::generate::{self, functions, hostile, Draft, DraftModel, Random};
-use reference::model::{degree, Model, LARGEST_DEGREE, LARGEST_SPAN, UNIT as ONE};
+use reference::model::{degree, Model, Monomial, LARGEST_DEGREE, LARGEST_SPAN, UNIT as ONE};
 use reference::operations;
 use reference::run::{perform, run_sheet};
 use reference::sheet::sound_book;
@@ -26,7 +26,9 @@ fn gathered(n: u8, d: u8, i: u8, radius: u64, terms: &[(u16, i64)]) -> (u64, Vec
     let model = answer.model;
     assert_eq!(model.n, n);
     let terms = model.terms[..model.count].iter();
-    let terms = terms.map(|term| (term.key, term.coefficient)).collect();
+    let terms = terms
+        .map(|term| ((term.key >> 16) as u16, term.coefficient))
+        .collect();
     (model.radius, terms)
 }
 
@@ -444,7 +446,7 @@ impl Uses {
     }
 
     fn note_terms(&mut self, f: &Model, v: usize, order: u32) {
-        let k = |monomial: &[u8; 4]| i128::from(monomial[v - 1]) + 1;
+        let k = |monomial: &Monomial| i128::from(monomial[v - 1]) + 1;
         let kept = || f.polynomial.iter().filter(|(m, _)| degree(m) < order);
         self.above_order += usize::from(f.polynomial.keys().any(|m| degree(m) >= order));
         self.inexact += usize::from(kept().any(|(m, c)| c % k(m) != 0));

@@ -45,14 +45,14 @@ fn sheets_come_back_from_books() {
 fn named_sheets_come_back_from_books() {
     for sample in generate::named_sheets() {
         let answer = read(&sample.bytes);
-        let mut buffer = patterned(7_000);
+        let mut buffer = patterned(9_000);
         let written = write(&answer.book, &mut buffer);
         if answer.refusal.is_none() {
             assert_eq!(buffer[..written.length], sample.bytes, "{}", sample.name);
         } else {
             // A book of zeros has n = 0.
             assert_eq!(pair(written.refusal), Some((3, 0)));
-            assert_eq!(buffer, patterned(7_000));
+            assert_eq!(buffer, patterned(9_000));
         }
     }
 }
@@ -63,9 +63,9 @@ fn books_come_back_from_sheets() {
     let mut written_books = 0;
     for number in 0..3_000 {
         let book = books::book(32, number);
-        let mut buffer = patterned(7_000);
+        let mut buffer = patterned(9_000);
         let answer = write(&book, &mut buffer);
-        assert_eq!(buffer[answer.length..], patterned(7_000)[answer.length..]);
+        assert_eq!(buffer[answer.length..], patterned(9_000)[answer.length..]);
         match answer.refusal {
             Some(_) => assert_eq!(answer.length, 0),
             None => {
@@ -96,7 +96,7 @@ fn without_junk(book: &Book) -> Book {
 fn running_and_writing_test_a_book_alike() {
     for number in 0..2_000 {
         let book = books::book(33, number);
-        let mut buffer = patterned(7_000);
+        let mut buffer = patterned(9_000);
         let written = write(&book, &mut buffer);
         let run = run_book(&book);
         match written.refusal {
@@ -156,7 +156,7 @@ fn the_writer_tests_3_5_6_11() {
     assert_eq!(refusal_of(both_models), Some((5, 0)));
     assert_eq!(refusal_of(|book| book.models[1].n = 2), Some((5, 1)));
     assert_eq!(refusal_of(|book| book.n = 2), Some((5, 0)));
-    let degree = |book: &mut Book| book.models[1].terms[0].key = 0x3000;
+    let degree = |book: &mut Book| book.models[1].terms[0].key = 0x3000_0000;
     assert_eq!(refusal_of(degree), Some((5, 1)));
     let limits_and_model = |book: &mut Book| {
         book.d = 16;

@@ -2,7 +2,7 @@
 
 mod common;
 
-use common::{pair, stored};
+use common::{pair, point, stored};
 use reference::calls::{self, Call, CallAnswer};
 use reference::exact::check::encloses;
 use reference::exact::{ExactPolynomial, Fraction};
@@ -31,7 +31,7 @@ fn constants_and_variables() {
         stored(4, 0, &[(0x10, 1 << 20)])
     );
     assert_eq!(pair(calls::constant(0, i64::MIN).refusal), Some((3, 0)));
-    assert_eq!(pair(calls::constant(5, 0).refusal), Some((3, 0)));
+    assert_eq!(pair(calls::constant(9, 0).refusal), Some((3, 0)));
     assert_eq!(pair(calls::constant(1, LARGEST).refusal), None);
     assert_eq!(pair(calls::constant(1, -LARGEST).refusal), None);
     assert_eq!(pair(calls::constant(1, LARGEST + 1).refusal), Some((6, 0)));
@@ -101,7 +101,7 @@ fn tests_of_a_sweep_and_of_sums() {
 
 #[test]
 fn tests_of_an_evaluation_stand_in_order() {
-    let refusal = |f, point| pair(calls::evaluate(&f, &point).refusal);
+    let refusal = |f, first| pair(calls::evaluate(&f, &point(first)).refusal);
     let beyond = UNIT as i64 + 1;
     assert_eq!(refusal(broken(), [beyond, 1, 0, 0]), Some((5, 0)));
     assert_eq!(refusal(x(1), [beyond, 0, 0, 1]), Some((6, 0)));
@@ -114,7 +114,7 @@ fn tests_of_an_evaluation_stand_in_order() {
 #[test]
 fn evaluations_by_hand() {
     let f = stored(2, 3, &[(0, 10), (0x0100, 4), (0x1000, -2)]);
-    let ends = |point| calls::evaluate(&f, &point).ends;
+    let ends = |first| calls::evaluate(&f, &point(first)).ends;
     let unit = UNIT as i64;
     assert_eq!(ends([unit, unit, 0, 0]), Ends { low: 9, high: 15 });
     assert_eq!(ends([0, -unit, 0, 0]), Ends { low: 3, high: 9 });
@@ -132,10 +132,10 @@ fn evaluations_by_hand() {
 fn an_evaluation_can_pass_the_span() {
     // The term costs a radius of 1 on top of a full span.
     let f = stored(1, (1 << 30) - 1, &[(0x1000, 1)]);
-    let answer = calls::evaluate(&f, &[UNIT as i64 - 1, 0, 0, 0]);
+    let answer = calls::evaluate(&f, &point([UNIT as i64 - 1, 0, 0, 0]));
     assert_eq!(pair(answer.refusal), Some((7, 0)));
     assert_eq!(
-        pair(calls::evaluate(&f, &[UNIT as i64, 0, 0, 0]).refusal),
+        pair(calls::evaluate(&f, &point([UNIT as i64, 0, 0, 0])).refusal),
         None
     );
 }
@@ -151,7 +151,7 @@ fn every_field_is_tested_and_nothing_beyond_the_count() {
         accepts(&model)
     };
     assert!(with(|model| model.terms[3].coefficient = i64::MIN));
-    assert!(with(|model| model.terms[63].key = 0xFFFF));
+    assert!(with(|model| model.terms[63].key = 0xFFFF_0000));
     assert!(with(|model| model.count = 2));
     assert!(with(|model| model.count = 0));
     assert!(!with(|model| model.count = 4));
@@ -159,15 +159,15 @@ fn every_field_is_tested_and_nothing_beyond_the_count() {
     assert!(!with(|model| model.count = usize::MAX));
     assert!(!with(|model| model.n = 0));
     assert!(!with(|model| model.n = 1));
-    assert!(!with(|model| model.n = 5));
+    assert!(!with(|model| model.n = 9));
     assert!(!with(|model| model.radius = 1 << 30));
     assert!(!with(|model| model.radius = u64::MAX));
     assert!(!with(|model| model.terms[1].coefficient = 0));
     assert!(!with(|model| model.terms[1].coefficient = i64::MIN));
     assert!(!with(|model| model.terms[1].key = 0));
-    assert!(!with(|model| model.terms[1].key = 0x0010));
-    assert!(!with(|model| model.terms[2].key = 0xF100));
-    assert!(with(|model| model.terms[2].key = 0xF000));
+    assert!(!with(|model| model.terms[1].key = 0x0010_0000));
+    assert!(!with(|model| model.terms[2].key = 0xF100_0000));
+    assert!(with(|model| model.terms[2].key = 0xF000_0000));
     assert!(!with(|model| model.terms.swap(0, 1)));
 }
 

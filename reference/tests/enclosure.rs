@@ -319,12 +319,8 @@ fn outcomes_of_quotients_put_in_are_exact() {
     let (book, _) = ran(&Draft::new(1, 2, Vec::new(), steps));
     for (numerator, denominator) in [(1, 1), (-1, 1), (1, 3), (-2, 7), (0, 1)] {
         let x = Fraction::of(numerator, denominator);
-        let point = [
-            x.clone(),
-            Fraction::zero(),
-            Fraction::zero(),
-            Fraction::zero(),
-        ];
+        let mut point = functions::middle();
+        point[0] = x.clone();
         let found = outcome_at(&book, &[], &[], &point, &SizeLimit::default());
         // q = (x/4) / (1 + x/4) = x / (4 + x), and q / (4 + q) = x / (16 + 5 x).
         let expected = Fraction::of(numerator, 16 * denominator + 5 * numerator);

@@ -51,7 +51,7 @@ fn ranges_by_hand() {
 fn the_ends_are_reached() {
     for c in [7_i128, -7] {
         let mut model = Model::zero(2);
-        model.polynomial.insert([2, 4, 0, 0], c);
+        model.polynomial.insert([2, 4, 0, 0, 0, 0, 0, 0], c);
         let ends = operations::range(&model);
         let polynomial = ExactPolynomial::of_model(&model);
         let middle = polynomial.at(&functions::middle());

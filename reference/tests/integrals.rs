@@ -9,7 +9,7 @@ use reference::exact::check::is_exact;
 use reference::exact::{ExactPolynomial, Fraction};
 use reference::generate::integrands::LARGEST_REMAINDER;
 use reference::generate::{hostile, models, DraftModel, Random};
-use reference::model::{degree, monomial_of_key, Model, LARGEST_DEGREE, UNIT as ONE};
+use reference::model::{degree, key_of_half, monomial_of_key, Model, LARGEST_DEGREE, UNIT as ONE};
 use reference::operations::DENOMINATOR;
 use reference::operations::{integral, integral_by_terms, negate, Ends, Exact, Integral};
 use reference::stored::StoredModel;
@@ -84,6 +84,7 @@ fn the_largest_remainder() {
 fn even_keys() -> Vec<u16> {
     let keys = models::all_keys(4, 15).into_iter();
     keys.filter(|&key| monomial_of_key(key).iter().all(|k| k % 2 == 0))
+        .map(|key| (key >> 16) as u16)
         .collect()
 }
 
@@ -91,7 +92,7 @@ fn even_keys() -> Vec<u16> {
 #[test]
 fn the_denominator_serves_every_even_term() {
     let divide = |key: u16| -> i128 {
-        let exponents = monomial_of_key(key).map(|k| i128::from(k) + 1);
+        let exponents = monomial_of_key(key_of_half(key)).map(|k| i128::from(k) + 1);
         exponents.iter().product()
     };
     let keys = even_keys();
@@ -129,7 +130,7 @@ fn the_denominator_serves_every_even_term() {
 #[test]
 fn a_refusal_has_zeros() {
     let broken = StoredModel {
-        n: 5,
+        n: 9,
         ..stored(1, 0, &[(0x2000, 1)])
     };
     let answer = calls::integral(&broken);
@@ -214,12 +215,12 @@ fn the_exact_value_of_thirds() {
 #[test]
 fn generated_calls_reach_every_remainder() {
     let (mut negative, mut whole, mut large) = ([0; 5], [0; 5], [0; 5]);
-    for number in 0..60_000 {
+    for number in 0..120_000 {
         let Call::Integral { f } = hostile::call(122, number) else {
             continue;
         };
         let answer = calls::integral(&f);
-        if answer.refusal.is_none() && f.count > 0 {
+        if answer.refusal.is_none() && f.count > 0 && f.n <= 4 {
             let n = usize::from(f.n);
             let Exact {
                 quotient,

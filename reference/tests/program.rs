@@ -14,7 +14,7 @@ fn output(arguments: &[&str], input: &[u8]) -> Output {
         .spawn()
         .expect("the program starts");
     let mut stdin = program.stdin.take().expect("a pipe");
-    // The program stops reading after 6,745 bytes, which closes the pipe.
+    // The program stops reading after 8,793 bytes, which closes the pipe.
     let _ = stdin.write_all(input);
     drop(stdin);
     program.wait_with_output().expect("the program ends")
@@ -53,9 +53,9 @@ fn reads_hex() {
 #[test]
 fn refuses_inputs_that_are_empty_or_too_long() {
     assert_eq!(lines(&[], &[]), "refused 1 0\n");
-    assert_eq!(lines(&[], &[0x4B; 6_745]), "refused 1 0\n");
+    assert_eq!(lines(&[], &[0x4B; 8_793]), "refused 1 0\n");
     assert_eq!(lines(&[], &vec![0; 300_000]), "refused 1 0\n");
-    assert_eq!(lines(&[], &[0; 6_744]), "refused 2 0\n");
+    assert_eq!(lines(&[], &[0; 8_792]), "refused 2 0\n");
 }
 
 #[test]

@@ -15,7 +15,7 @@ fn assert_walk(draft: &Draft) {
     assert_eq!(opening.refusal, None);
     let mut reader = opening.reader;
     for model in &draft.models {
-        assert_eq!(reader.next(), Some(Record::Model(&model.record())));
+        assert_eq!(reader.next(), Some(Record::Model(&model.record(draft.n))));
     }
     for step in &draft.steps {
         assert_eq!(reader.next(), Some(Record::Step(&step.to_bytes())));

@@ -198,7 +198,8 @@ fn the_run_of_a_renamed_sheet_is_the_renamed_run() {
 }
 
 /// Both ends of an evaluation: of the model, and of the renamed model at the renamed point.
-fn evaluations(other: &Reordering, model: &StoredModel, point: [i64; 4]) -> [Ends; 2] {
+fn evaluations(other: &Reordering, model: &StoredModel, first: [i64; 4]) -> [Ends; 2] {
+    let point = point(first);
     let sound = model.sound(LARGEST_DEGREE).expect("a sound model");
     let renamed = StoredModel::store(&other.model(&sound));
     let moved = other.row(&point);

@@ -54,13 +54,15 @@ fn named_sheets_are_answered_as_expected() {
 }
 
 #[test]
-fn the_largest_sheet_is_6744_bytes() {
+fn the_largest_sheets_are_6744_and_8792_bytes() {
     let samples = generate::named_sheets();
     let length = |name: &str| {
         let found = samples.iter().find(|sample| sample.name == name);
         found.expect("a named sample").bytes.len()
     };
-    assert_eq!(length("the largest sheet"), 6_744);
+    assert_eq!(length("the largest sheet of four variables"), 6_744);
+    assert_eq!(length("the largest sheet, n = 5"), 8_792);
+    assert_eq!(length("the largest sheet, n = 8"), 8_792);
     assert_eq!(length("the smallest sheet"), 16);
 }
 
@@ -247,7 +249,7 @@ fn write_tally() -> Tally {
     let mut tally = Tally::default();
     for number in 0..4_000 {
         let book = books::book(28, number);
-        let room = [16, 500, 7_000][number as usize % 3];
+        let room = [16, 500, 9_000][number as usize % 3];
         tally.note(write(&book, &mut vec![0; room]).refusal);
     }
     tally

@@ -7,7 +7,7 @@ use super::outcome::{
 };
 use super::polynomial::{ExactPolynomial, SizeLimit};
 use crate::book::SoundBook;
-use crate::model::{Model, UNIT};
+use crate::model::{Model, FEW_VARIABLES, UNIT};
 use crate::operations::{Ends, Exact, DENOMINATOR};
 use crate::run::{self, RunResult};
 use crate::sheet;
@@ -36,7 +36,7 @@ pub enum Violation {
     /// The integral is outside its ends.
     Integral,
     /// The result's polynomial has another integral than q + r / D units, or r is
-    /// not from 0 to D - 1.
+    /// not from 0 to D - 1; above four variables, q or r is not 0.
     Exact,
     /// The outcome at the point and the outcome as a polynomial differ, which
     /// would be a fault of this check and not of a run.
@@ -136,12 +136,16 @@ fn check_integral(
     }
 }
 
-/// Whether q + r / D units are the integral of the model's polynomial, as fractions.
+/// Whether q + r / D units are the integral of the model's polynomial, as fractions;
+/// above four variables, whether both are 0.
 pub fn is_exact(model: &Model, exact: Exact) -> bool {
     let Exact {
         quotient,
         remainder,
     } = exact;
+    if model.n > FEW_VARIABLES {
+        return exact == Exact::default();
+    }
     let integral = ExactPolynomial::of_model(model).integral(model.n);
     let claimed = Fraction::of(quotient * DENOMINATOR + remainder, DENOMINATOR * UNIT);
     (0..DENOMINATOR).contains(&remainder) && claimed == integral

@@ -2,6 +2,7 @@
 
 use super::damage;
 use super::hostile;
+use super::models;
 use super::random::Random;
 use super::sound;
 use crate::book::{Book, Step};
@@ -74,14 +75,14 @@ fn spoil(random: &mut Random, book: &mut Book) {
     let model = random.size(0, book.model_count.clamp(1, 16) - 1);
     let step = random.size(0, book.step_count.clamp(1, 64) - 1);
     match random.below(11) {
-        0 => book.n = *random.pick(&[0, 1, 2, 3, 4, 5, 255]),
+        0 => book.n = *random.pick(&[0, 1, 2, 3, 4, 5, 6, 7, 8, 9, 255]),
         1 => book.d = *random.pick(&[0, 1, 16, 255]),
         2 => book.model_count = *random.pick(&[0, 16, 17, 1 << 32, usize::MAX]),
         3 => book.step_count = *random.pick(&[0, 64, 65, 1 << 32, usize::MAX]),
-        4 => book.models[model].n = *random.pick(&[0, 1, 2, 3, 4, 5]),
+        4 => book.models[model].n = random.byte(0, 9),
         5 => book.models[model] = StoredModel::ZEROS,
         6 => {
-            let n = random.byte(1, 4);
+            let n = models::any_n(random);
             book.models[model] = hostile::model(random, n, order);
         }
         7 => book.steps[step] = any_step(random),

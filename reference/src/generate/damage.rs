@@ -10,14 +10,16 @@ use crate::book::{
     Step, ADD, ANTIDERIVATIVE, CONSTANT, INPUT, MULTIPLY, NEGATE, QUOTIENT, SUBSTITUTE, SUBTRACT,
     SWEEP,
 };
-use crate::sheet::{LONGEST_SHEET, SHORTEST_SHEET, TRAILER_LENGTH};
+use crate::sheet::{Mark, LONGEST_SHEET, SHORTEST_SHEET, TRAILER_LENGTH};
 
-pub const KINDS: [Kind; 37] = [
+pub const KINDS: [Kind; 41] = [
     kind("1: too short", too_short),
     kind("1: too long", too_long),
     kind("2: another mark", other_mark),
     kind("2 and 3 together", mark_and_limits),
     kind("3: n", wrong_n),
+    kind("3: an n that fits the other mark", n_of_other_mark),
+    kind("3: the other mark", other_known_mark),
     kind("3: order", wrong_order),
     kind("3: model count", wrong_model_count),
     kind("3: step count", wrong_step_count),
@@ -26,6 +28,8 @@ pub const KINDS: [Kind; 37] = [
     kind("4: an offset that would wrap", wrapping_offset),
     kind("4: a byte more", byte_more),
     kind("4 and 5 together", offset_and_model),
+    kind("4: longer than keys of 2 bytes allow", padded_few),
+    kind("5: longer than keys of 2 bytes allow", records_too_long),
     kind("5: a digit below the n-th", hidden_digit),
     kind("5: keys out of order", unsorted_keys),
     kind("5: equal keys", equal_keys),
@@ -114,10 +118,37 @@ fn too_long(random: &mut Random) -> Made {
     (bytes, Expected::Refused(1, 0))
 }
 
+/// Neither mark: changing one byte of a mark may give the other one.
 fn spoil_mark(random: &mut Random, bytes: &mut [u8]) {
     let field = random.size(6, 7);
     let place = trailer_place(bytes, field);
-    bytes[place] ^= random.byte(1, 255);
+    let old = bytes[place];
+    while bytes[place] == old || mark_of(bytes).is_some() {
+        bytes[place] = random.byte(0, 255);
+    }
+}
+
+fn mark_of(bytes: &[u8]) -> Option<Mark> {
+    let place = trailer_place(bytes, 6);
+    Mark::of_bytes([bytes[place], bytes[place + 1]])
+}
+
+fn set_mark(bytes: &mut [u8], mark: Mark) {
+    let place = trailer_place(bytes, 6);
+    bytes[place..].copy_from_slice(&mark.bytes());
+}
+
+/// The numbers of variables that fit the mark of a sound sheet.
+fn fitting_n(bytes: &[u8]) -> (u8, u8) {
+    let fitting = mark_of(bytes).expect("a mark").variables();
+    (*fitting.start() as u8, *fitting.end() as u8)
+}
+
+fn other(mark: Mark) -> Mark {
+    match mark {
+        Mark::Few => Mark::Many,
+        Mark::Many => Mark::Few,
+    }
 }
 
 fn other_mark(random: &mut Random) -> Made {
@@ -149,7 +180,9 @@ fn outside(random: &mut Random, low: u8, high: u8) -> u8 {
 }
 
 fn spoil_limits(random: &mut Random, bytes: &mut [u8]) {
-    let (field, low, high) = *random.pick(&[(0, 1, 4), (1, 1, 15), (2, 0, 16), (3, 1, 64)]);
+    let (least, most) = fitting_n(bytes);
+    let limits = [(0, least, most), (1, 1, 15), (2, 0, 16), (3, 1, 64)];
+    let (field, low, high) = *random.pick(&limits);
     let value = outside(random, low, high);
     set_trailer(bytes, field, value);
 }
@@ -162,7 +195,29 @@ fn limits_spoiled(random: &mut Random, field: usize, low: u8, high: u8) -> Made 
 }
 
 fn wrong_n(random: &mut Random) -> Made {
-    limits_spoiled(random, 0, 1, 4)
+    let mut bytes = base(random).bytes();
+    let (least, most) = fitting_n(&bytes);
+    let value = match random.below(3) {
+        0 => 0,
+        _ => outside(random, least, most),
+    };
+    set_trailer(&mut bytes, 0, value);
+    (bytes, Expected::Refused(3, 0))
+}
+
+fn n_of_other_mark(random: &mut Random) -> Made {
+    let mut bytes = base(random).bytes();
+    let mark = mark_of(&bytes).expect("a mark");
+    let fitting: Vec<usize> = other(mark).variables().collect();
+    set_trailer(&mut bytes, 0, *random.pick(&fitting) as u8);
+    (bytes, Expected::Refused(3, 0))
+}
+
+fn other_known_mark(random: &mut Random) -> Made {
+    let mut bytes = base(random).bytes();
+    let mark = mark_of(&bytes).expect("a mark");
+    set_mark(&mut bytes, other(mark));
+    (bytes, Expected::Refused(3, 0))
 }
 
 fn wrong_order(random: &mut Random) -> Made {
@@ -226,7 +281,45 @@ fn offset_and_model(random: &mut Random) -> Made {
     (bytes, Expected::Refused(4, 0))
 }
 
+/// The longest sheet with keys of 2 bytes.
+const LONGEST_OF_FEW: usize = 6_744;
+
+/// A length that passes test 1, and that no accepted sheet with keys of 2 bytes has.
+fn length_above_few(random: &mut Random) -> usize {
+    match random.below(3) {
+        0 => LONGEST_OF_FEW + 1,
+        1 => LONGEST_SHEET,
+        _ => random.size(LONGEST_OF_FEW + 1, LONGEST_SHEET),
+    }
+}
+
+fn base_of_few(random: &mut Random) -> Draft {
+    let (n, d) = (random.byte(1, 4), random.byte(1, 15));
+    let shape = *random.pick(&BASES);
+    sound::accepted_of(random, n, d, shape)
+}
+
+/// The offset is as it was before.
+fn padded_few(random: &mut Random) -> Made {
+    let whole = base_of_few(random).bytes();
+    let length = length_above_few(random);
+    let mut bytes = random.bytes(length - whole.len());
+    bytes.extend(whole);
+    (bytes, Expected::Refused(4, 0))
+}
+
 // Refusal 5.
+
+/// The bytes that make the sheet too long stand behind its models.
+fn records_too_long(random: &mut Random) -> Made {
+    let draft = base_of_few(random);
+    let length = length_above_few(random);
+    let mut records = draft.model_bytes();
+    let beyond = length - draft.bytes().len();
+    records.extend(random.bytes(beyond));
+    let bytes = draft.bytes_with_records(&records);
+    (bytes, Expected::Refused(5, draft.models.len()))
+}
 
 /// A base with at least one model, and the number of one of them.
 fn base_with_model(random: &mut Random, n: u8, d: u8) -> (Draft, usize) {
@@ -251,7 +344,7 @@ fn base_with_terms(random: &mut Random, n: u8, d: u8) -> (Draft, usize) {
 }
 
 fn any_n_and_order(random: &mut Random) -> (u8, u8) {
-    (random.byte(1, 4), random.byte(1, 15))
+    (models::any_n(random), random.byte(1, 15))
 }
 
 fn broken_model(draft: &Draft, number: usize) -> Made {
@@ -259,15 +352,17 @@ fn broken_model(draft: &Draft, number: usize) -> Made {
 }
 
 fn hidden_digit(random: &mut Random) -> Made {
-    let n = random.byte(1, 3);
+    let n = *random.pick(&[1, 2, 3, 5, 6, 7]);
     let d = random.byte(2, 15);
     let (mut draft, number) = base_with_model(random, n, d);
-    let digit = 4 * random.below(4 - u64::from(n)) as u32;
+    // A key has digits for 4 or for 8 variables.
+    let last = if n < 4 { 4 } else { 8 };
+    let hidden = random.byte(n + 1, last);
     let mut keys = models::keys(random, n, d - 1, 3);
     let place = random.size(0, keys.len() - 1);
-    keys[place] |= 1 << digit;
-    let terms: Vec<(u16, i32)> = keys.iter().map(|&key| (key, 1)).collect();
-    draft.models[number] = DraftModel::new(0, &terms);
+    keys[place] |= models::variable_key(hidden);
+    let terms: Vec<(u32, i32)> = keys.iter().map(|&key| (key, 1)).collect();
+    draft.models[number] = DraftModel::wide(0, &terms);
     broken_model(&draft, number)
 }
 
@@ -302,7 +397,7 @@ fn zero_coefficient(random: &mut Random) -> Made {
 
 /// The highest power of variable 1 has the largest key, so that keys still rise.
 fn degree_above_order(random: &mut Random) -> Made {
-    let n = random.byte(1, 4);
+    let n = models::any_n(random);
     let d = random.byte(1, 14);
     let (mut draft, number) = base_with_terms(random, n, d);
     let degree = if random.one_in(2) {
@@ -312,31 +407,32 @@ fn degree_above_order(random: &mut Random) -> Made {
     };
     let terms = &mut draft.models[number].terms;
     let last = terms.len() - 1;
-    terms[last].0 = u16::from(degree) << 12;
+    terms[last].0 = u32::from(degree) << 28;
     broken_model(&draft, number)
 }
 
 fn degree_above_fifteen(random: &mut Random) -> Made {
-    let n = random.byte(2, 4);
+    let n = random.byte(2, 8);
     let (mut draft, number) = base_with_terms(random, n, 15);
     let terms = &mut draft.models[number].terms;
     let last = terms.len() - 1;
-    let second = u16::from(random.byte(1, 15));
-    terms[last].0 = 0xF000 | second << 8;
+    let second = u32::from(random.byte(1, 15));
+    terms[last].0 = 0xF000_0000 | second * models::variable_key(random.byte(2, n));
     broken_model(&draft, number)
 }
 
 /// The whole record is there, and every other rule is kept.
 fn count_above_64(random: &mut Random) -> Made {
-    let (mut draft, number) = base_with_model(random, 4, 15);
+    let n = random.byte(4, 8);
+    let (mut draft, number) = base_with_model(random, n, 15);
     let count = if random.one_in(2) {
         65
     } else {
         random.size(65, 255)
     };
-    let keys = models::keys(random, 4, 15, count);
-    let terms: Vec<(u16, i32)> = keys.iter().map(|&key| (key, 1)).collect();
-    draft.models[number] = DraftModel::new(0, &terms);
+    let keys = models::keys(random, n, 15, count);
+    let terms: Vec<(u32, i32)> = keys.iter().map(|&key| (key, 1)).collect();
+    draft.models[number] = DraftModel::wide(0, &terms);
     broken_model(&draft, number)
 }
 
@@ -347,7 +443,7 @@ fn count_byte(random: &mut Random) -> Made {
     let (draft, number) = base_with_model(random, n, d);
     let mut bytes = draft.bytes();
     let before = draft.models[..number].iter();
-    let place = before.map(|model| model.record().len()).sum::<usize>() + 4;
+    let place = before.map(|model| model.record(n).len()).sum::<usize>() + 4;
     let old = bytes[place];
     bytes[place] ^= random.byte(1, 255);
     let is_last = number + 1 == draft.models.len();
@@ -397,7 +493,7 @@ fn record_cut(random: &mut Random) -> Made {
     let (draft, _) = base_with_model(random, n, d);
     let last = draft.models.len() - 1;
     let records = draft.model_bytes();
-    let cut = random.size(1, draft.models[last].record().len());
+    let cut = random.size(1, draft.models[last].record(n).len());
     let bytes = draft.bytes_with_records(&records[..records.len() - cut]);
     (bytes, Expected::Refused(5, last))
 }

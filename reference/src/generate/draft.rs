@@ -1,28 +1,43 @@
 //! Sheets before they are bytes. A draft may break any rule: nothing is tested.
 
 use crate::book::Step;
-use crate::model::{key_of_monomial, monomial_of_key, Model};
+use crate::model::{key_of_half, key_of_monomial, monomial_of_key, Model};
 
 /// A model as its record will say it. The count byte follows the terms.
 #[derive(Clone, Debug, Default, PartialEq, Eq)]
 pub struct DraftModel {
     pub radius: u32,
-    pub terms: Vec<(u16, i32)>,
+    pub terms: Vec<(u32, i32)>,
 }
 
 impl DraftModel {
+    /// By keys of 16 bits, for the exponents of variables 1 to 4.
     pub fn new(radius: u32, terms: &[(u16, i32)]) -> DraftModel {
+        let terms = terms.iter().map(|&(half, c)| (key_of_half(half), c));
+        DraftModel {
+            radius,
+            terms: terms.collect(),
+        }
+    }
+
+    /// By keys of 32 bits, for the exponents of variables 1 to 8.
+    pub fn wide(radius: u32, terms: &[(u32, i32)]) -> DraftModel {
         DraftModel {
             radius,
             terms: terms.to_vec(),
         }
     }
 
-    pub fn record(&self) -> Vec<u8> {
+    /// The record on a sheet of n variables: above four, keys have 4 bytes.
+    pub fn record(&self, n: u8) -> Vec<u8> {
         let mut record = self.radius.to_le_bytes().to_vec();
         record.push(self.terms.len() as u8);
         for (key, coefficient) in &self.terms {
-            record.extend(key.to_le_bytes());
+            let [lowest, low, high, highest] = key.to_le_bytes();
+            if has_wide_keys(n) {
+                record.extend([lowest, low]);
+            }
+            record.extend([high, highest]);
             record.extend(coefficient.to_le_bytes());
         }
         record
@@ -58,6 +73,11 @@ impl DraftModel {
     }
 }
 
+/// Whether a sheet of n variables has keys of 4 bytes.
+fn has_wide_keys(n: u8) -> bool {
+    (5..=8).contains(&n)
+}
+
 /// A sheet before it is bytes.
 #[derive(Clone, Debug, PartialEq, Eq)]
 pub struct Draft {
@@ -85,7 +105,8 @@ impl Draft {
     }
 
     pub fn model_bytes(&self) -> Vec<u8> {
-        self.models.iter().flat_map(DraftModel::record).collect()
+        let records = self.models.iter();
+        records.flat_map(|model| model.record(self.n)).collect()
     }
 
     /// The sheet with other bytes in place of its model records; the offset
@@ -96,7 +117,8 @@ impl Draft {
         bytes.extend([self.n, self.d]);
         bytes.extend([self.models.len() as u8, self.steps.len() as u8]);
         bytes.extend((records.len() as u16).to_le_bytes());
-        bytes.extend([0x4D, 0x4B]);
+        let last = if has_wide_keys(self.n) { 0x57 } else { 0x4B };
+        bytes.extend([0x4D, last]);
         bytes
     }
 

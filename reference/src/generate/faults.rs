@@ -3,7 +3,7 @@
 
 use super::draft::{Draft, DraftModel};
 use super::models::{self, LARGEST_SPAN, UNIT};
-use super::quotients::{self, Operands};
+use super::quotients::{self, many_monomials, Operands};
 use super::random::Random;
 use super::sound::{self, Shape};
 use super::{Expected, Kind};
@@ -124,21 +124,21 @@ fn span_by_radius_product(random: &mut Random) -> Made {
     refused(random, draft, 7)
 }
 
-/// U/4 × (1 + x + x^2 + x^3) in the variable with the given shift of its digit.
-fn four_quarters(shift: u32) -> DraftModel {
-    let terms: Vec<(u16, i32)> = (0..4).map(|k| (k << shift, 1 << 18)).collect();
-    DraftModel::new(0, &terms)
+/// U/4 × (1 + x + x^2 + x^3) in the variable of the given key.
+fn four_quarters(x: u32) -> DraftModel {
+    let terms: Vec<(u32, i32)> = (0..4).map(|k| (k * x, 1 << 18)).collect();
+    DraftModel::wide(0, &terms)
 }
 
 /// (2^30 - 1) × x with four quarters put in: each quarter rounds up, and the
 /// rests together cost a radius of 1.
 fn span_by_substitution(random: &mut Random) -> Made {
-    let n = random.byte(1, 4);
+    let n = models::any_n(random);
     let mut draft = before_of(random, n, 3);
     let v = random.byte(1, n);
-    let shift = 16 - 4 * u32::from(v);
-    let f = draft.push_input(DraftModel::new(0, &[(1 << shift, (1 << 30) - 1)]));
-    let g = draft.push_input(four_quarters(shift));
+    let x = models::variable_key(v);
+    let f = draft.push_input(DraftModel::wide(0, &[(x, (1 << 30) - 1)]));
+    let g = draft.push_input(four_quarters(x));
     draft.push(Step::substitute(f, g, v));
     refused(random, draft, 7)
 }
@@ -146,12 +146,12 @@ fn span_by_substitution(random: &mut Random) -> Made {
 /// (2^30 - 1001) × x with radius 1001: the inner product has room for its two
 /// units of rounding, and only the radius of f passes the limit.
 fn span_by_last_radius(random: &mut Random) -> Made {
-    let n = random.byte(1, 4);
+    let n = models::any_n(random);
     let mut draft = before_of(random, n, 3);
     let v = random.byte(1, n);
-    let shift = 16 - 4 * u32::from(v);
-    let f = draft.push_input(DraftModel::new(1001, &[(1 << shift, (1 << 30) - 1001)]));
-    let g = draft.push_input(four_quarters(shift));
+    let x = models::variable_key(v);
+    let f = draft.push_input(DraftModel::wide(1001, &[(x, (1 << 30) - 1001)]));
+    let g = draft.push_input(four_quarters(x));
     draft.push(Step::substitute(f, g, v));
     refused(random, draft, 7)
 }
@@ -159,20 +159,16 @@ fn span_by_last_radius(random: &mut Random) -> Made {
 /// (2^30 - 10) × x^2 with 64 terms of U/64 put in: the first product passes
 /// the span with 64 terms, the second would have more than 64.
 fn span_before_terms(random: &mut Random) -> Made {
-    let mut draft = before_of(random, 4, 8);
-    let terms: Vec<(u16, i32)> = models::all_keys(4, 4)[..64]
+    let n = random.byte(4, 8);
+    let mut draft = before_of(random, n, 8);
+    let terms: Vec<(u32, i32)> = models::all_keys(n, 4)[..64]
         .iter()
         .map(|&key| (key, 1 << 14))
         .collect();
     let f = draft.push_input(DraftModel::new(0, &[(0x2000, (1 << 30) - 10)]));
-    let g = draft.push_input(DraftModel::new(0, &terms));
+    let g = draft.push_input(DraftModel::wide(0, &terms));
     draft.push(Step::substitute(f, g, 1));
     refused(random, draft, 7)
-}
-
-/// An n and a least order with more than 64 monomials.
-fn many_monomials(random: &mut Random) -> (u8, u8) {
-    *random.pick(&[(2, 10), (3, 6), (4, 4)])
 }
 
 /// 64 and `extra` terms with distinct keys, in two models.
@@ -232,12 +228,16 @@ fn terms_and_span(random: &mut Random) -> Made {
 }
 
 /// x (1 + y + ... + y^9) with all 21 monomials of degree up to 5 for x: 75
-/// monomials, all of degree up to 14.
+/// monomials, all of degree up to 14. x and y are the first and the last variable.
 fn terms_by_inner_product(random: &mut Random) -> Made {
-    let mut draft = before_of(random, 2, 14);
-    let terms: Vec<(u16, i32)> = (0..10).map(|k| (0x1000 + 0x100 * k, 1 << 23)).collect();
-    let f = draft.push_input(DraftModel::new(0, &terms));
-    let g = draft.push_input(full_model(2, 5, 1 << 15));
+    let n = random.byte(2, 8);
+    let mut draft = before_of(random, n, 14);
+    let (x, y) = (models::variable_key(1), models::variable_key(n));
+    let terms: Vec<(u32, i32)> = (0..10).map(|k| (x + k * y, 1 << 23)).collect();
+    let f = draft.push_input(DraftModel::wide(0, &terms));
+    let powers = (0..=5).flat_map(|i| (0..=5 - i).map(move |j| (i * x + j * y, 1 << 15)));
+    let terms: Vec<(u32, i32)> = powers.collect();
+    let g = draft.push_input(DraftModel::wide(0, &terms));
     draft.push(Step::substitute(f, g, 1));
     refused(random, draft, 8)
 }
@@ -245,13 +245,16 @@ fn terms_by_inner_product(random: &mut Random) -> Made {
 /// x plus 63 terms without x, with x/2 + x^2/4 put in: the product has two
 /// terms, and the sum 65.
 fn terms_by_inner_sum(random: &mut Random) -> Made {
-    let mut draft = before_of(random, 3, 10);
-    let without_x = models::all_keys(3, 10)
-        .into_iter()
-        .filter(|key| *key < 0x1000);
-    let mut terms: Vec<(u16, i32)> = without_x.take(63).map(|key| (key, 1)).collect();
-    terms.push((0x1000, 1 << 20));
-    let f = draft.push_input(DraftModel::new(0, &terms));
+    let n = random.byte(3, 8);
+    let mut draft = before_of(random, n, 10);
+    let x = models::variable_key(1);
+    // Enough for 63 without x: 66 in two variables, 84 in three.
+    let degree = if n == 3 { 10 } else { 6 };
+    let keys = models::all_keys(n, degree).into_iter();
+    let without_x = keys.filter(|&key| key < x).take(63);
+    let mut terms: Vec<(u32, i32)> = without_x.map(|key| (key, 1)).collect();
+    terms.push((x, 1 << 20));
+    let f = draft.push_input(DraftModel::wide(0, &terms));
     let g = draft.push_input(DraftModel::new(0, &[(0x1000, 1 << 19), (0x2000, 1 << 18)]));
     draft.push(Step::substitute(f, g, 1));
     refused(random, draft, 8)
@@ -301,15 +304,15 @@ fn inside_model(random: &mut Random, n: u8, d: u8) -> DraftModel {
 /// From one end of the box to one beyond the other: at 0 it is at the one end, and
 /// the even power takes it to the other.
 fn leaves_by_even_power(random: &mut Random) -> Made {
-    let n = random.byte(1, 4);
+    let n = models::any_n(random);
     let mut draft = before_of(random, n, 2);
     let v = random.byte(1, n);
     let f = draft.push(Step::variable(v));
-    let power = u16::from(2 * random.byte(1, draft.d / 2));
-    let key = power << (16 - 4 * u32::from(v));
+    let power = u32::from(2 * random.byte(1, draft.d / 2));
+    let key = power * models::variable_key(v);
     let sign = random.sign() as i32;
     let end = sign * UNIT as i32;
-    let g = DraftModel::new(0, &[(0, -end), (key, 2 * end + sign)]);
+    let g = DraftModel::wide(0, &[(0, -end), (key, 2 * end + sign)]);
     let g = draft.push_input(g);
     draft.push(Step::substitute(f, g, v));
     refused(random, draft, 9)
@@ -320,10 +323,10 @@ fn leaves_by_even_power(random: &mut Random) -> Made {
 fn leaves_by_growth(random: &mut Random) -> Made {
     let mut draft = before(random);
     let v = random.byte(1, draft.n);
-    let key = 1_u16 << (16 - 4 * u32::from(v));
+    let key = models::variable_key(v);
     let f = draft.push(Step::variable(v));
     let sign = random.sign() as i32;
-    let flow = DraftModel::new(0, &[(0, sign * UNIT as i32), (key, sign)]);
+    let flow = DraftModel::wide(0, &[(0, sign * UNIT as i32), (key, sign)]);
     let flow = draft.push_input(flow);
     let gathered = draft.push(Step::antiderivative(flow, v));
     draft.push(Step::substitute(f, gathered, v));

@@ -5,7 +5,11 @@ use super::models::{self, Scale, LARGEST_SPAN, UNIT};
 use super::quotients::{self, Operands};
 use super::random::Random;
 use crate::calls::Call;
+use crate::model::MOST_VARIABLES;
 use crate::stored::{StoredModel, StoredTerm};
+
+/// The largest n of a sound model.
+const MOST: u8 = MOST_VARIABLES as u8;
 
 /// How many kinds of single calls there are.
 pub const CALLS: u64 = 13;
@@ -20,7 +24,7 @@ pub fn call(seed: u64, number: u64) -> Call {
 fn call_of_kind(random: &mut Random, kind: u64) -> Call {
     match kind {
         0 => Call::Constant {
-            n: small_number(random, 1, 4),
+            n: small_number(random, 1, MOST),
             value: value(random),
         },
         1 => variable(random),
@@ -48,8 +52,8 @@ fn call_of_kind(random: &mut Random, kind: u64) -> Call {
 }
 
 fn variable(random: &mut Random) -> Call {
-    let n = small_number(random, 1, 4);
-    let i = small_number(random, 1, n.clamp(1, 4));
+    let n = small_number(random, 1, MOST);
+    let i = small_number(random, 1, n.clamp(1, MOST));
     Call::Variable { n, i }
 }
 
@@ -64,13 +68,13 @@ fn substitute(random: &mut Random) -> Call {
     let (f, mut g) = two(random, order);
     if random.one_in(2) {
         // Most models leave the box; this one has the best chance to stay.
-        let n = f.n.clamp(1, 4);
+        let n = f.n.clamp(1, MOST);
         let count = random.size(0, 12);
         let scale = *random.pick(&[Scale::Inside, Scale::Even]);
         let inside = models::of_scale(random, n, order.clamp(1, 15), count, scale);
         *g = stored(random, n, &inside);
     }
-    let i = small_number(random, 1, f.n.clamp(1, 4));
+    let i = small_number(random, 1, f.n.clamp(1, MOST));
     Call::Substitute { f, g, i, order }
 }
 
@@ -78,7 +82,7 @@ fn substitute(random: &mut Random) -> Call {
 /// raised exponent takes above the order.
 fn antiderivative(random: &mut Random) -> Call {
     let order = small_number(random, 1, 15);
-    let n = random.byte(1, 4);
+    let n = models::any_n(random);
     let mut f = model(random, n, order);
     if random.one_in(2) {
         let count = random.size(0, 64);
@@ -86,7 +90,7 @@ fn antiderivative(random: &mut Random) -> Call {
         let small = models::of_scale(random, n, order.clamp(1, 15), count, scale);
         f = stored(random, n, &small);
     }
-    let i = small_number(random, 1, f.n.clamp(1, 4));
+    let i = small_number(random, 1, f.n.clamp(1, MOST));
     Call::Antiderivative {
         f: Box::new(f),
         i,
@@ -99,7 +103,7 @@ fn evaluate(random: &mut Random) -> Call {
     let n = usize::from(f.n);
     let point = std::array::from_fn(|index| {
         let unused = index >= n;
-        if unused && !random.one_in(30) {
+        if unused && !random.one_in(60) {
             0
         } else {
             coordinate(random)
@@ -124,7 +128,7 @@ fn quotient(random: &mut Random) -> Call {
     for _ in 0..random.below(3) {
         let place = random.size(0, 3);
         match random.below(8) {
-            0 => models[place].n = random.byte(1, 4),
+            0 => models[place].n = models::any_n(random),
             1 => spoil(random, &mut models[place], order),
             2 => models[place] = model(random, operands.n, order),
             3 => models[place] = model(random, other_n(operands.n), order),
@@ -138,11 +142,11 @@ fn quotient(random: &mut Random) -> Call {
 
 /// Another n, so that models differ in it while each is sound.
 fn other_n(n: u8) -> u8 {
-    n % 4 + 1
+    n % MOST + 1
 }
 
 fn any_operands(random: &mut Random) -> Operands {
-    let (n, d) = (random.byte(1, 4), random.byte(1, 15));
+    let (n, d) = (models::any_n(random), random.byte(1, 15));
     let models = std::array::from_fn(|_| models::model(random, n, d, 12));
     Operands { n, d, models }
 }
@@ -183,15 +187,15 @@ fn coordinate(random: &mut Random) -> i64 {
 
 /// One model for a call without an order.
 fn one(random: &mut Random) -> Box<StoredModel> {
-    let n = random.byte(1, 4);
+    let n = models::any_n(random);
     Box::new(model(random, n, 15))
 }
 
 /// Two models, mostly of one n.
 fn two(random: &mut Random, order: u8) -> (Box<StoredModel>, Box<StoredModel>) {
-    let n = random.byte(1, 4);
+    let n = models::any_n(random);
     let other = if random.one_in(12) {
-        random.byte(1, 4)
+        models::any_n(random)
     } else {
         n
     };
@@ -246,7 +250,7 @@ pub fn noise(random: &mut Random) -> StoredModel {
     };
     for place in model.terms.iter_mut().filter(|_| !zeros) {
         *place = StoredTerm {
-            key: random.next_u64() as u16,
+            key: random.next_u64() as u32,
             coefficient: random.next_u64() as i64,
         };
     }
@@ -260,16 +264,16 @@ fn spoil(random: &mut Random, model: &mut StoredModel, order: u8) {
     let place = random.size(0, last);
     let largest = LARGEST_SPAN as u64;
     match random.below(12) {
-        0 => model.n = *random.pick(&[0, 5, 255]),
+        0 => model.n = *random.pick(&[0, MOST + 1, 255]),
         1 => model.count = *random.pick(&[65, 255, 256, 1 << 32, usize::MAX]),
         2 => model.radius = *random.pick(&[largest + 1, 1 << 32, 1 << 63, u64::MAX]),
         3 => model.terms[place].coefficient = 0,
         4 => model.terms[place].coefficient = *random.pick(&[i64::MIN, i64::MAX, 1 << 32]),
-        5 => model.terms[place].key ^= 1 << random.below(16),
+        5 => model.terms[place].key ^= 1 << random.below(32),
         6 => model.terms[place].key = model.terms[place.saturating_sub(1)].key,
         7 => model.terms.swap(place, place.saturating_sub(1)),
-        8 => model.terms[last].key = u16::from(order.min(14) + 1) << 12,
-        9 => model.terms[last].key = 0xF000 | 1 << (4 * random.below(3)),
+        8 => model.terms[last].key = u32::from(order.min(14) + 1) << 28,
+        9 => model.terms[last].key = 0xF000_0000 | 1 << (4 * random.below(7)),
         10 => model.radius = model.radius.max(largest + 1),
         _ => model.count = model.count.saturating_add(1).min(64),
     }

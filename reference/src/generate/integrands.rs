@@ -58,8 +58,8 @@ fn remainders(list: &mut Samples) {
 
 /// All 330 even monomials in four variables, in six models.
 fn every_even_term(list: &mut Samples) {
-    let even = |key: &u16| key & 0x1111 == 0;
-    let keys: Vec<u16> = models::all_keys(4, 15).into_iter().filter(even).collect();
+    let even = |key: &u32| key & 0x1111_1111 == 0;
+    let keys: Vec<u32> = models::all_keys(4, 15).into_iter().filter(even).collect();
     for (number, part) in keys.chunks(55).enumerate() {
         let coefficient = |place: i32| {
             if place % 3 == 0 {
@@ -68,8 +68,10 @@ fn every_even_term(list: &mut Samples) {
                 1_000 * place + 1
             }
         };
-        let terms: Vec<(u16, i32)> = part.iter().copied().zip((0..).map(coefficient)).collect();
-        list.accept(&format!("even monomials, part {number}"), &of(4, 0, &terms));
+        let terms: Vec<(u32, i32)> = part.iter().copied().zip((0..).map(coefficient)).collect();
+        let model = DraftModel::wide(0, &terms);
+        let draft = Draft::new(4, 15, vec![model], vec![input(0)]);
+        list.accept(&format!("even monomials, part {number}"), &draft);
     }
 }
 

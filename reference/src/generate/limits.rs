@@ -23,22 +23,25 @@ pub fn samples() -> Vec<Sample> {
 }
 
 /// 16 models of 64 terms and 64 steps.
-fn largest() -> Draft {
-    let keys = &models::all_keys(4, 4)[..64];
-    let terms: Vec<(u16, i32)> = keys.iter().map(|&key| (key, 1)).collect();
-    let models = vec![DraftModel::new(3, &terms); 16];
+pub fn largest(n: u8) -> Draft {
+    let keys = &models::all_keys(n, 4)[..64];
+    let terms: Vec<(u32, i32)> = keys.iter().map(|&key| (key, 1)).collect();
+    let models = vec![DraftModel::wide(3, &terms); 16];
     let steps = (0..64).map(|number| input(number % 16)).collect();
-    Draft::new(4, 15, models, steps)
+    Draft::new(n, 15, models, steps)
 }
 
 fn lengths(list: &mut Samples) {
     let smallest = one_variable(1, &[], &[Step::constant(0)]);
     list.accept("the smallest sheet", &smallest);
-    list.accept("the largest sheet", &largest());
+    list.accept("the largest sheet of four variables", &largest(4));
+    for n in 5..=8 {
+        list.accept(&format!("the largest sheet, n = {n}"), &largest(n));
+    }
     list.refuse_bytes("no bytes", Vec::new(), (1, 0));
     list.refuse_bytes("15 bytes", smallest.bytes()[1..].to_vec(), (1, 0));
     let mut longer = vec![0];
-    longer.extend(largest().bytes());
+    longer.extend(largest(8).bytes());
     list.refuse_bytes("one byte above the largest", longer, (1, 0));
 }
 
@@ -150,8 +153,8 @@ fn orders_of_products(list: &mut Samples) {
 
 fn term_counts(list: &mut Samples) {
     let keys = models::all_keys(2, 10);
-    let terms: Vec<(u16, i32)> = keys.iter().map(|&key| (key, 7)).collect();
-    let model = |from: usize, to: usize| DraftModel::new(0, &terms[from..to]);
+    let terms: Vec<(u32, i32)> = keys.iter().map(|&key| (key, 7)).collect();
+    let model = |from: usize, to: usize| DraftModel::wide(0, &terms[from..to]);
     let one = |f: DraftModel| Draft::new(2, 10, vec![f], vec![input(0)]);
     let two =
         |f: DraftModel, g: DraftModel, code: u8| with_inputs(2, 10, &[f, g], Step::two(code, 0, 1));
@@ -184,9 +187,9 @@ fn row_by_column(rows: u16, columns: u16, coefficient: i32) -> Draft {
 /// A sum of 65 terms with a span above the limit.
 fn many_and_large() -> Draft {
     let keys = models::all_keys(2, 10);
-    let terms: Vec<(u16, i32)> = keys[..64].iter().map(|&key| (key, 1 << 24)).collect();
-    let last = DraftModel::new(9, &[(keys[64], 5)]);
-    let models = [DraftModel::new(0, &terms), last];
+    let terms: Vec<(u32, i32)> = keys[..64].iter().map(|&key| (key, 1 << 24)).collect();
+    let last = DraftModel::wide(9, &[(keys[64], 5)]);
+    let models = [DraftModel::wide(0, &terms), last];
     with_inputs(2, 10, &models, Step::two(ADD, 0, 1))
 }
 
@@ -207,7 +210,7 @@ fn constants_and_thresholds(list: &mut Samples) {
 
 fn variables(list: &mut Samples) {
     let variable = |n: u8, v: u8| Draft::new(n, 1, Vec::new(), vec![Step::variable(v)]);
-    for n in 1..=4 {
+    for n in 1..=8 {
         list.accept(&format!("variable {n} of {n}"), &variable(n, n));
         let name = format!("variable {} of {n}", n + 1);
         list.refuse(&name, &variable(n, n + 1), (6, 0));

@@ -104,7 +104,7 @@ fn parted(random: &mut Random, size: i64) -> Vec<i64> {
 }
 
 /// A key of n exponents whose degree is from the low to the high one.
-fn key(random: &mut Random, n: u8, low: u8, high: u8) -> u16 {
+fn key(random: &mut Random, n: u8, low: u8, high: u8) -> u32 {
     loop {
         let key = models::key(random, n, high);
         if models::degree(key) >= low {
@@ -130,12 +130,12 @@ fn factor(random: &mut Random, sizes: &Sizes, n: u8, d: u8, other: u8, units: i6
         terms.push((swept, (sizes.swept * random.sign()) as i32));
     }
     terms.sort_unstable();
-    DraftModel::new(sizes.carried as u32, &terms)
+    DraftModel::wide(sizes.carried as u32, &terms)
 }
 
 /// A few accepted steps, n and order with room for what follows.
 fn before(random: &mut Random, least_n: u8) -> Draft {
-    let n = random.byte(least_n, 4);
+    let n = random.byte(least_n, 8);
     let d = random.byte(2, 15);
     sound::accepted_of(random, n, d, SMALL)
 }
@@ -160,7 +160,7 @@ fn product(random: &mut Random) -> Made {
     let other = random.byte(1, d - 1);
     let mix = Mix::any(random);
     let sizes = sizes(random, mix, 3);
-    let single = DraftModel::new(0, &[(key(random, n, other, other), random.sign() as i32)]);
+    let single = DraftModel::wide(0, &[(key(random, n, other, other), random.sign() as i32)]);
     let factor = factor(random, &sizes, n, d, other, 2);
     let a = draft.push_input(single);
     let b = draft.push_input(factor);
@@ -180,13 +180,13 @@ fn substitution(random: &mut Random) -> Made {
     // The monomial has the variable's exponent 0, and then 1.
     let rest = loop {
         let rest = key(random, n, other, other);
-        if rest & (variable(v) * 15) == 0 {
+        if rest & (models::variable_key(v) * 15) == 0 {
             break rest;
         }
     };
     let mix = Mix::any(random);
     let sizes = sizes(random, mix, 1);
-    let mut terms = vec![(rest + variable(v), random.sign() as i32)];
+    let mut terms = vec![(rest + models::variable_key(v), random.sign() as i32)];
     if random.one_in(2) {
         terms.insert(0, (0, random.between(1, UNIT) as i32));
     }
@@ -195,14 +195,9 @@ fn substitution(random: &mut Random) -> Made {
     } else {
         0
     };
-    let a = draft.push_input(DraftModel::new(radius as u32, &terms));
+    let a = draft.push_input(DraftModel::wide(radius as u32, &terms));
     let factor = factor(random, &sizes, n, d, other, 0);
     let b = draft.push_input(factor);
     draft.push(Step::substitute(a, b, v));
     ended(random, draft)
-}
-
-/// The key of a variable, from 1.
-fn variable(v: u8) -> u16 {
-    0x1000 >> (4 * (v - 1))
 }

@@ -2,6 +2,7 @@
 
 use super::draft::DraftModel;
 use super::random::Random;
+use crate::model::{key_of_monomial, monomial_of_key, MOST_VARIABLES, ONE};
 use std::collections::BTreeSet;
 
 pub const UNIT: i64 = 1 << 20;
@@ -41,21 +42,34 @@ pub const SCALES: [Scale; 8] = [
     Scale::Even,
 ];
 
+/// Any number of variables: as many sheets have each mark.
+pub fn any_n(random: &mut Random) -> u8 {
+    random.byte(1, MOST_VARIABLES as u8)
+}
+
+/// The key of a variable, from 1.
+pub fn variable_key(v: u8) -> u32 {
+    1 << (32 - 4 * u32::from(v))
+}
+
 /// A random key of n exponents with total degree at most `degree`.
-pub fn key(random: &mut Random, n: u8, degree: u8) -> u16 {
-    let mut exponents = [0_u16; 4];
+pub fn key(random: &mut Random, n: u8, degree: u8) -> u32 {
+    key_from(random, 1, n, degree)
+}
+
+/// A random key with exponents of variables `first` to n only.
+fn key_from(random: &mut Random, first: u8, n: u8, degree: u8) -> u32 {
+    let mut exponents = ONE;
     // One factor at a time: low degrees come as often as high ones.
     for _ in 0..random.byte(0, degree) {
-        exponents[random.size(0, usize::from(n) - 1)] += 1;
+        exponents[usize::from(random.byte(first, n)) - 1] += 1;
     }
-    exponents
-        .iter()
-        .fold(0, |key, exponent| key << 4 | exponent)
+    key_of_monomial(&exponents)
 }
 
 /// The total degree of a key's monomial.
-pub fn degree(key: u16) -> u8 {
-    (0..4).map(|i| (key >> (4 * i) & 15) as u8).sum()
+pub fn degree(key: u32) -> u8 {
+    monomial_of_key(key).iter().sum()
 }
 
 /// How many monomials of n variables have a degree of at most `degree`.
@@ -64,18 +78,36 @@ pub fn monomial_count(n: u8, degree: u8) -> usize {
 }
 
 /// All keys of n exponents with total degree at most `degree`, rising.
-pub fn all_keys(n: u8, degree: u8) -> Vec<u16> {
-    let hidden = 0xFFFF_u16.checked_shr(4 * u32::from(n)).unwrap_or(0);
-    let allowed = |key: &u16| key & hidden == 0 && self::degree(*key) <= degree;
-    (0..=u16::MAX).filter(allowed).collect()
+pub fn all_keys(n: u8, degree: u8) -> Vec<u32> {
+    let mut keys = Vec::new();
+    push_keys(&mut keys, 0, 1, n, degree);
+    keys
 }
 
-/// Rising random keys, as many as asked for or as there are.
-pub fn keys(random: &mut Random, n: u8, degree: u8, count: usize) -> Vec<u16> {
+/// Every choice of exponents of variables v to n, behind those already in the key.
+fn push_keys(keys: &mut Vec<u32>, key: u32, v: u8, n: u8, degree: u8) {
+    if v > n {
+        keys.push(key);
+        return;
+    }
+    for exponent in 0..=degree {
+        let key = key + u32::from(exponent) * variable_key(v);
+        push_keys(keys, key, v + 1, n, degree - exponent);
+    }
+}
+
+/// Rising random keys, as many as asked for or as there are. Now and then a few
+/// have variables 5 to 8 alone, or the last one.
+pub fn keys(random: &mut Random, n: u8, degree: u8, count: usize) -> Vec<u32> {
+    let first = if n > 4 && count <= 8 {
+        *random.pick(&[1, 1, 1, 5, 5, n])
+    } else {
+        1
+    };
     let mut chosen = BTreeSet::new();
     for _ in 0..4 * count {
         if chosen.len() < count {
-            chosen.insert(key(random, n, degree));
+            chosen.insert(key_from(random, first, n, degree));
         }
     }
     if chosen.len() < count {

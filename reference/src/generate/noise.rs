@@ -2,7 +2,8 @@
 
 use super::random::Random;
 use super::sound;
-use super::{Expected, Kind};
+use super::{models, Expected, Kind};
+use crate::sheet::Mark;
 
 pub const KINDS: [Kind; 4] = [
     Kind {
@@ -26,11 +27,12 @@ pub const KINDS: [Kind; 4] = [
 type Made = (Vec<u8>, Expected);
 
 fn length(random: &mut Random) -> usize {
-    match random.below(4) {
+    match random.below(5) {
         0 => random.size(0, 40),
         1 => random.size(16, 600),
         2 => random.size(6_700, 6_760),
-        _ => random.size(0, 8_000),
+        3 => random.size(8_750, 8_810),
+        _ => random.size(0, 9_000),
     }
 }
 
@@ -42,7 +44,8 @@ fn any_bytes(random: &mut Random) -> Made {
 fn marked_bytes(random: &mut Random) -> Made {
     let count = length(random).max(16);
     let mut bytes = random.bytes(count);
-    bytes[count - 2..].copy_from_slice(&[0x4D, 0x4B]);
+    let mark = *random.pick(&Mark::ALL);
+    bytes[count - 2..].copy_from_slice(&mark.bytes());
     (bytes, Expected::Unknown)
 }
 
@@ -61,10 +64,11 @@ fn fitting_bytes(random: &mut Random) -> Made {
         let place = random.size(0, bytes.len() - 1);
         bytes[place] = random.byte(0, 255);
     }
-    bytes.extend([random.byte(1, 4), random.byte(1, 15)]);
+    let n = models::any_n(random);
+    bytes.extend([n, random.byte(1, 15)]);
     bytes.extend([models as u8, steps as u8]);
     bytes.extend((offset as u16).to_le_bytes());
-    bytes.extend([0x4D, 0x4B]);
+    bytes.extend(Mark::of_variables(n.into()).bytes());
     (bytes, Expected::Unknown)
 }
 

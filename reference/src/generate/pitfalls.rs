@@ -327,13 +327,13 @@ fn antiderivatives(list: &mut Samples) {
     // A full span of 64 odd units in four variables: each costs a radius of 1.
     let keys = models::all_keys(4, 15)
         .into_iter()
-        .filter(|&key| key >= 0x1000);
-    let mut terms: Vec<(u16, i32)> = keys.take(64).map(|key| (key, 1)).collect();
+        .filter(|&key| key >= models::variable_key(1));
+    let mut terms: Vec<(u32, i32)> = keys.take(64).map(|key| (key, 1)).collect();
     terms[0].1 = LARGEST - 63;
     for d in [1, 2, 15] {
         let kept = terms.iter().filter(|(key, _)| models::degree(*key) <= d);
-        let kept: Vec<(u16, i32)> = kept.copied().collect();
-        let full = DraftModel::new(0, &kept);
+        let kept: Vec<(u32, i32)> = kept.copied().collect();
+        let full = DraftModel::wide(0, &kept);
         for v in 1..=4 {
             let draft = with_inputs(
                 4,

@@ -102,12 +102,12 @@ fn operands(
 }
 
 fn any_n_and_order(random: &mut Random) -> (u8, u8) {
-    (random.byte(1, 4), random.byte(1, 15))
+    (models::any_n(random), random.byte(1, 15))
 }
 
 /// An n and a least order with more than 64 monomials.
-fn many_monomials(random: &mut Random) -> (u8, u8) {
-    *random.pick(&[(2, 10), (3, 6), (4, 4)])
+pub fn many_monomials(random: &mut Random) -> (u8, u8) {
+    *random.pick(&[(2, 10), (3, 6), (4, 4), (5, 4), (6, 4), (7, 4), (8, 4)])
 }
 
 /// All monomials up to a degree, each with the same coefficient.
@@ -162,7 +162,7 @@ fn even_divisor(random: &mut Random, n: u8, d: u8, most_terms: usize) -> DraftMo
     for key in keys.into_iter().map(|key| 2 * key).filter(|&key| key != 0) {
         terms.push((key, (sign * random.between(1, 2 * middle)) as i32));
     }
-    DraftModel::new(random.below(900) as u32, &terms)
+    DraftModel::wide(random.below(900) as u32, &terms)
 }
 
 /// A model whose constant coefficient outweighs everything else.
@@ -242,8 +242,8 @@ fn mu_at_unit(random: &mut Random) -> Operands {
     let (n, d) = any_n_and_order(random);
     let f = small(random, n, d, 6);
     let g = if random.one_in(2) {
-        let key = 0x1000 >> (4 * random.below(u64::from(n)));
-        DraftModel::new(0, &[(0, 1 << 20), (key, (random.sign() * UNIT) as i32)])
+        let key = models::variable_key(random.byte(1, n));
+        DraftModel::wide(0, &[(0, 1 << 20), (key, (random.sign() * UNIT) as i32)])
     } else {
         DraftModel::new(1 << 20, &[(0, 1 << 20)])
     };
@@ -253,13 +253,13 @@ fn mu_at_unit(random: &mut Random) -> Operands {
 /// g = 1 + c × x^k with k even and c from 1 on, or from -1 on down, and w = 1: x^k
 /// takes 1 - w × g to -c or c.
 fn mu_by_even_power(random: &mut Random) -> Operands {
-    let (n, d) = (random.byte(1, 4), random.byte(2, 15));
+    let (n, d) = (models::any_n(random), random.byte(2, 15));
     let f = small(random, n, d, 6);
-    let power = u16::from(2 * random.byte(1, d / 2));
-    let key = (power << 12) >> (4 * random.below(u64::from(n)));
+    let power = u32::from(2 * random.byte(1, d / 2));
+    let key = power * models::variable_key(random.byte(1, n));
     let size = *random.pick(&[UNIT, UNIT + 1, 3 * UNIT]);
     let c = (random.sign() * size) as i32;
-    let g = DraftModel::new(0, &[(0, 1 << 20), (key, c)]);
+    let g = DraftModel::wide(0, &[(0, 1 << 20), (key, c)]);
     operands(random, n, d, f, g, constant(0), constant(UNIT))
 }
 
@@ -365,8 +365,8 @@ fn terms_by_one_minus(random: &mut Random) -> Operands {
     let mut keys = models::keys(random, n, d, 65);
     keys.retain(|&key| key != 0);
     keys.truncate(64);
-    let terms: Vec<(u16, i32)> = keys.iter().map(|&key| (key, 1 << 14)).collect();
-    let many = DraftModel::new(0, &terms);
+    let terms: Vec<(u32, i32)> = keys.iter().map(|&key| (key, 1 << 14)).collect();
+    let many = DraftModel::wide(0, &terms);
     let (g, w) = if random.one_in(2) {
         (many, constant(UNIT))
     } else {
@@ -387,8 +387,8 @@ fn span_by_one_minus(random: &mut Random) -> Operands {
     let large = if random.one_in(2) {
         constant(-size)
     } else {
-        let key = 0x1000 >> (4 * random.below(u64::from(n)));
-        DraftModel::new(0, &[(key, (random.sign() * size) as i32)])
+        let key = models::variable_key(random.byte(1, n));
+        DraftModel::wide(0, &[(key, (random.sign() * size) as i32)])
     };
     let (g, w) = if random.one_in(2) {
         (large, constant(UNIT))

@@ -92,7 +92,7 @@ fn grown(
 
 /// n, order and models, without steps.
 fn start(random: &mut Random, shape: Shape) -> Draft {
-    let n = random.byte(1, 4);
+    let n = models::any_n(random);
     let d = random.byte(1, 15);
     start_of(random, n, d, shape)
 }

@@ -3,6 +3,7 @@
 
 use reference::book::{SoundBook, Step, INPUT};
 use reference::generate::{Draft, DraftModel};
+use reference::model::{key_of_half, MOST_VARIABLES};
 use reference::refusal::Refusal;
 use reference::run::{run, RunResult};
 use reference::sheet::sound_book;
@@ -31,7 +32,7 @@ pub fn input(number: u8) -> Step {
     Step::one(INPUT, number)
 }
 
-/// A model in memory.
+/// A model in memory, by keys of 16 bits.
 pub fn stored(n: u8, radius: u64, terms: &[(u16, i64)]) -> StoredModel {
     let mut model = StoredModel {
         n,
@@ -39,10 +40,16 @@ pub fn stored(n: u8, radius: u64, terms: &[(u16, i64)]) -> StoredModel {
         radius,
         ..StoredModel::ZEROS
     };
-    for (place, &(key, coefficient)) in model.terms.iter_mut().zip(terms) {
+    for (place, &(half, coefficient)) in model.terms.iter_mut().zip(terms) {
+        let key = key_of_half(half);
         *place = StoredTerm { key, coefficient };
     }
     model
+}
+
+/// A point by its first four coordinates; the others are 0.
+pub fn point(first: [i64; 4]) -> [i64; MOST_VARIABLES] {
+    std::array::from_fn(|place| first.get(place).copied().unwrap_or(0))
 }
 
 pub fn pair(refusal: Option<Refusal>) -> Option<(u8, usize)> {
