@@ -374,6 +374,24 @@ impl Call {
         }
     }
 
+    /// The n that the call is handed, or that of its first model.
+    pub fn variables(&self) -> u8 {
+        match self {
+            Call::Constant { n, .. } | Call::Variable { n, .. } => *n,
+            Call::Negate { f }
+            | Call::Add { f, .. }
+            | Call::Subtract { f, .. }
+            | Call::Multiply { f, .. }
+            | Call::Substitute { f, .. }
+            | Call::Sweep { f, .. }
+            | Call::Quotient { f, .. }
+            | Call::Antiderivative { f, .. }
+            | Call::Range { f }
+            | Call::Integral { f }
+            | Call::Evaluate { f, .. } => f.n,
+        }
+    }
+
     /// Makes the call.
     pub fn answer(&self) -> CallAnswer {
         match self {

@@ -245,38 +245,77 @@ fn quotients_stand_in_the_middle() {
     assert!(uses.of_a_quotient > 100 && uses.over_a_quotient > 30);
 }
 
-fn write_tally() -> Tally {
-    let mut tally = Tally::default();
-    for number in 0..4_000 {
-        let book = books::book(28, number);
-        let room = [16, 500, 9_000][number as usize % 3];
-        tally.note(write(&book, &mut vec![0; room]).refusal);
-    }
-    tally
+/// By the mark that n names: 0 for 1 to 4 variables, 1 for 5 to 8; none of another n.
+fn mark_of(n: u8) -> Option<usize> {
+    (1..=8).contains(&n).then_some(usize::from(n > 4))
 }
 
+/// By the mark of a sheet; none of one that has neither.
+fn mark_of_sheet(bytes: &[u8]) -> Option<usize> {
+    let last = bytes.last_chunk()?;
+    let mark = sheet::Mark::of_bytes(*last)?;
+    Some(usize::from(mark == sheet::Mark::Many))
+}
+
+const MARKS: [&str; 2] = ["up to four variables", "above four"];
+
+fn write_tallies() -> [Tally; 2] {
+    let mut tallies: [Tally; 2] = Default::default();
+    for number in 0..8_000 {
+        let book = books::book(28, number);
+        let room = [16, 500, 9_000][number as usize % 3];
+        if let Some(mark) = mark_of(book.n) {
+            tallies[mark].note(write(&book, &mut vec![0; room]).refusal);
+        }
+    }
+    tallies
+}
+
+/// Each refusal by sheets of each mark, at many places; 2 is that of neither mark.
 #[test]
 fn every_refusal_is_reached() {
-    let mut sheets = Tally::default();
-    for number in 0..12_000 {
-        sheets.note(run_sheet(&generate::sheet(27, number).bytes).refusal);
+    let mut sheets: [Tally; 2] = Default::default();
+    let mut unmarked = Tally::default();
+    for number in 0..24_000 {
+        let bytes = generate::sheet(27, number).bytes;
+        let tally = match mark_of_sheet(&bytes) {
+            Some(mark) => &mut sheets[mark],
+            None => &mut unmarked,
+        };
+        tally.note(run_sheet(&bytes).refusal);
     }
-    sheets.print("sheets");
-    sheets.assert_reached((0..=9).chain([12]), 100);
-    for number in (5..=9).chain([12]) {
-        let places = sheets.places[&number].len();
-        assert!(places > 15, "{number} is reached at {places} places only");
+    unmarked.print("sheets of neither mark");
+    unmarked.assert_reached([1, 2], 100);
+    for (tally, name) in sheets.iter().zip(MARKS) {
+        tally.print(&format!("sheets, {name}"));
+        tally.assert_reached([0, 1, 3, 4, 5, 6, 7, 8, 9, 12], 100);
+        assert!(!tally.counts.contains_key(&2));
+        for number in (5..=9).chain([12]) {
+            let places = tally.places[&number].len();
+            assert!(places > 15, "{number} is reached at {places} places only");
+        }
     }
 
-    let mut calls = Tally::default();
-    for number in 0..60_000 {
-        calls.note(hostile::call(27, number).answer().refusal());
+    let mut calls: [Tally; 2] = Default::default();
+    let mut handed = Tally::default();
+    for number in 0..120_000 {
+        let call = hostile::call(27, number);
+        let tally = match mark_of(call.variables()) {
+            Some(mark) => &mut calls[mark],
+            None => &mut handed,
+        };
+        tally.note(call.answer().refusal());
     }
-    calls.print("single calls");
-    calls.assert_reached([0, 3, 5, 6, 7, 8, 9, 10, 12], 100);
-    assert_eq!(calls.places[&5], BTreeSet::from([0, 1, 2, 3]));
+    handed.print("single calls of another n");
+    handed.assert_reached([3, 5], 100);
+    for (tally, name) in calls.iter().zip(MARKS) {
+        tally.print(&format!("single calls, {name}"));
+        tally.assert_reached([0, 3, 5, 6, 7, 8, 9, 10, 12], 100);
+        assert_eq!(tally.places[&5], BTreeSet::from([0, 1, 2, 3]));
+    }
 
-    let writes = write_tally();
-    writes.print("writes");
-    writes.assert_reached([0, 3, 5, 6, 11], 50);
+    for (tally, name) in write_tallies().iter().zip(MARKS) {
+        tally.print(&format!("writes, {name}"));
+        tally.assert_reached([0, 3, 5, 6, 11], 50);
+    }
 }

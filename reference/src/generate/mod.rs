@@ -7,6 +7,7 @@
 pub mod books;
 pub mod damage;
 pub mod draft;
+pub mod eight_variables;
 pub mod faults;
 pub mod functions;
 pub mod hostile;
@@ -75,6 +76,7 @@ pub fn named_sheets() -> Vec<Sample> {
         pitfalls::samples(),
         radii::samples(),
         integrands::samples(),
+        eight_variables::samples(),
     ]
     .concat()
 }

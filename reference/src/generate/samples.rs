@@ -14,8 +14,11 @@ pub struct Samples(Vec<Sample>);
 
 impl Samples {
     pub fn accept(&mut self, name: &str, draft: &Draft) {
-        let sample = Sample::new(name, draft.bytes(), Expected::Accepted);
-        self.0.push(sample);
+        self.accept_bytes(name, draft.bytes());
+    }
+
+    pub fn accept_bytes(&mut self, name: &str, bytes: Vec<u8>) {
+        self.0.push(Sample::new(name, bytes, Expected::Accepted));
     }
 
     /// Refused with a number and a place.
