@@ -1,6 +1,6 @@
 //! One case fed to both implementations.
 
-use crate::case::Case;
+use crate::case::{Case, Variables};
 use crate::integrals::Integrals;
 use crate::renamed::Renamed;
 use crate::rows::Rows;
@@ -16,6 +16,8 @@ use reference::stored::StoredModel;
 pub struct Seen {
     /// The number and place of the refusal.
     pub refusal: Option<(u8, usize)>,
+    /// How many variables the case has.
+    pub variables: Variables,
     /// Whether the case was no call at all.
     pub misused: bool,
     /// How much of the enclosure was tried.
@@ -48,6 +50,7 @@ impl Seen {
     pub fn of(refusal: Option<(u8, usize)>) -> Seen {
         Seen {
             refusal,
+            variables: Variables::default(),
             misused: false,
             tried: Tried::default(),
             rows: Rows::default(),
@@ -72,7 +75,11 @@ pub fn compare(case: &Case) -> Result<Seen, String> {
         Case::Stepped(sheet, room) => stepping::compare(sheet, *room),
         Case::Renamed(sheet, other) => renamed::compare(sheet, other),
     };
-    found.map_err(|difference| format!("{}: {difference}\n{}", case.kind(), case.line()))
+    let counted = found.map(|seen| Seen {
+        variables: case.variables(),
+        ..seen
+    });
+    counted.map_err(|difference| format!("{}: {difference}\n{}", case.kind(), case.line()))
 }
 
 /// What the wrapper hands out for a single call that is accepted.

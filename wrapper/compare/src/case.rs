@@ -3,8 +3,9 @@
 use crate::shaped::Shape;
 use reference::book::{Book, Step};
 use reference::calls::Call;
-use reference::model::MOST_TERMS;
+use reference::model::{FEW_VARIABLES, MOST_TERMS, MOST_VARIABLES};
 use reference::renaming::Reordering;
+use reference::sheet::Mark;
 use reference::stored::{StoredModel, StoredTerm};
 use reference::text::bytes_of_hex;
 
@@ -29,7 +30,65 @@ pub enum Case {
     Renamed(Vec<u8>, Reordering),
 }
 
+/// How many variables a case has, by which cases are counted: those of each mark apart.
+#[derive(Clone, Copy, Debug, Default, PartialEq, Eq, PartialOrd, Ord)]
+pub enum Variables {
+    UpToFour,
+    AboveFour,
+    /// A sheet with neither mark, or an n that no model has.
+    #[default]
+    Neither,
+}
+
+impl Variables {
+    /// Those of a mark.
+    pub const OF_MARKS: [Variables; 2] = [Variables::UpToFour, Variables::AboveFour];
+    pub const ALL: [Variables; 3] = [
+        Variables::UpToFour,
+        Variables::AboveFour,
+        Variables::Neither,
+    ];
+
+    /// By the mark, whatever n is.
+    pub fn of_sheet(sheet: &[u8]) -> Variables {
+        let last = sheet.last_chunk().copied();
+        match last.and_then(Mark::of_bytes) {
+            Some(Mark::Few) => Variables::UpToFour,
+            Some(Mark::Many) => Variables::AboveFour,
+            None => Variables::Neither,
+        }
+    }
+
+    fn of_n(n: u8) -> Variables {
+        match usize::from(n) {
+            1..=FEW_VARIABLES => Variables::UpToFour,
+            n if n > FEW_VARIABLES && n <= MOST_VARIABLES => Variables::AboveFour,
+            _ => Variables::Neither,
+        }
+    }
+
+    pub fn name(self) -> &'static str {
+        match self {
+            Variables::UpToFour => "up to four variables",
+            Variables::AboveFour => "above four variables",
+            Variables::Neither => "neither",
+        }
+    }
+}
+
 impl Case {
+    /// By a sheet's mark, a book's n, or the n that a call is handed or its first model has.
+    pub fn variables(&self) -> Variables {
+        match self {
+            Case::Call(call) | Case::Shaped(call, _) => Variables::of_n(call.variables()),
+            Case::Sheet(sheet)
+            | Case::Rewrite(sheet, _)
+            | Case::Stepped(sheet, _)
+            | Case::Renamed(sheet, _) => Variables::of_sheet(sheet),
+            Case::Book(book, _) | Case::RunBook(book) => Variables::of_n(book.n),
+        }
+    }
+
     /// The kind by which cases are counted.
     pub fn kind(&self) -> &'static str {
         match self {
@@ -309,8 +368,8 @@ fn take_reordering(bytes: &mut Bytes) -> Option<Reordering> {
     Reordering::new(&places)
 }
 
-fn take_point(bytes: &mut Bytes) -> Option<[i64; 4]> {
-    let mut point = [0; 4];
+fn take_point(bytes: &mut Bytes) -> Option<[i64; MOST_VARIABLES]> {
+    let mut point = [0; MOST_VARIABLES];
     for x in &mut point {
         *x = bytes.number()? as i64;
     }
@@ -325,7 +384,7 @@ fn take_model(bytes: &mut Bytes) -> Option<Box<StoredModel>> {
         terms: [StoredTerm::default(); MOST_TERMS],
     });
     for term in &mut model.terms {
-        term.key = bytes.take().map(u16::from_le_bytes)?;
+        term.key = bytes.take().map(u32::from_le_bytes)?;
         term.coefficient = bytes.number()? as i64;
     }
     Some(model)

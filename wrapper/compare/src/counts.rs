@@ -1,6 +1,7 @@
 //! How often each kind of case was compared and each refusal reached.
 
 use crate::agree::{Seen, Tried};
+use crate::case::Variables;
 use crate::integrals::Integrals;
 use crate::renamed::Renamed;
 use crate::rows::Rows;
@@ -8,7 +9,7 @@ use std::collections::BTreeMap;
 
 /// The refusals of documents 01 and 02.
 const REFUSALS: std::ops::RangeInclusive<u8> = 1..=12;
-/// Those that a kind of case has to reach.
+/// Those that a kind of case has to reach, up to four variables and above.
 const REACHED: [(&str, &[u8]); 7] = [
     ("antiderivative", &[3, 5, 6]),
     ("quotient", &[3, 5, 7, 8, 10, 12]),
@@ -19,6 +20,9 @@ const REACHED: [(&str, &[u8]); 7] = [
     ("book run", &[3, 5, 6, 7, 8, 9, 12]),
 ];
 
+/// Those that sheets have to reach at so many places, up to four variables and above.
+const AT_MANY_PLACES: [u8; 6] = [5, 6, 7, 8, 9, 12];
+const MANY_PLACES: usize = 16;
 /// Those of a sheet that is read.
 const REFUSED_RUNS: [u8; 4] = [7, 8, 9, 12];
 /// The kinds of case whose runs have to reach every mix of shares.
@@ -33,36 +37,54 @@ const MOST_LISTED: usize = 17;
 #[derive(Default)]
 pub struct Counts {
     kinds: BTreeMap<&'static str, Kind>,
-    tried: Tried,
+    tried: BTreeMap<Variables, Tried>,
 }
 
 /// What was seen of one kind of case.
 #[derive(Default)]
 struct Kind {
     cases: u64,
-    accepted: u64,
     /// A case that is no call: a slice was too short, or a code unknown.
     misused: u64,
-    /// By number: how often at each place.
-    refused: BTreeMap<u8, BTreeMap<usize, u64>>,
+    answers: BTreeMap<Variables, Answers>,
     rows: Rows,
     integrals: Integrals,
     renamed: Renamed,
 }
 
+/// The answers of cases that are alike in how many variables they have.
+#[derive(Clone, Default)]
+struct Answers {
+    accepted: u64,
+    /// By number: how often at each place.
+    refused: BTreeMap<u8, BTreeMap<usize, u64>>,
+}
+
+/// Where a refusal has to be reached: 2 is that of a sheet with neither mark, and all others come of both.
+fn owed(number: u8) -> &'static [Variables] {
+    match number {
+        2 => &[Variables::Neither],
+        _ => &Variables::OF_MARKS,
+    }
+}
+
 impl Counts {
     pub fn note(&mut self, kind: &'static str, seen: &Seen) {
-        self.try_add(seen.tried);
+        self.try_add(seen.variables, &seen.tried);
         let kind = self.kinds.entry(kind).or_default();
         kind.cases += 1;
         kind.rows.add(&seen.rows);
         kind.integrals.add(&seen.integrals);
         kind.renamed.add(&seen.renamed);
+        if seen.misused {
+            kind.misused += 1;
+            return;
+        }
+        let answers = kind.answers.entry(seen.variables).or_default();
         match seen.refusal {
-            _ if seen.misused => kind.misused += 1,
-            None => kind.accepted += 1,
+            None => answers.accepted += 1,
             Some((number, place)) => {
-                let places = kind.refused.entry(number).or_default();
+                let places = answers.refused.entry(number).or_default();
                 *places.entry(place).or_default() += 1;
             }
         }
@@ -72,17 +94,20 @@ impl Counts {
         self.kinds.entry(kind).or_default().cases += 1;
     }
 
-    fn try_add(&mut self, tried: Tried) {
-        self.tried.points += tried.points;
-        self.tried.points_of_quotients += tried.points_of_quotients;
-        self.tried.points_of_antiderivatives += tried.points_of_antiderivatives;
-        self.tried.points_not_promised += tried.points_not_promised;
-        self.tried.points_too_large += tried.points_too_large;
-        self.tried.integrals += tried.integrals;
+    fn try_add(&mut self, variables: Variables, tried: &Tried) {
+        let mine = self.tried.entry(variables).or_default();
+        mine.points += tried.points;
+        mine.points_of_quotients += tried.points_of_quotients;
+        mine.points_of_antiderivatives += tried.points_of_antiderivatives;
+        mine.points_not_promised += tried.points_not_promised;
+        mine.points_too_large += tried.points_too_large;
+        mine.integrals += tried.integrals;
     }
 
     pub fn add(&mut self, other: Counts) {
-        self.try_add(other.tried);
+        for (variables, tried) in &other.tried {
+            self.try_add(*variables, tried);
+        }
         for (name, kind) in other.kinds {
             self.kinds.entry(name).or_default().add(kind);
         }
@@ -94,10 +119,9 @@ impl Counts {
 
     /// The refusals, shares and exact integrals that no case reached, each with its kind of case.
     pub fn unreached(&self) -> Vec<String> {
-        let refusals = self.unreached_refusals().into_iter();
-        let mut missing: Vec<String> = refusals
-            .map(|(kind, number)| format!("{kind}: refusal {number}"))
-            .collect();
+        let mut missing = self.unreached_refusals();
+        missing.extend(self.unreached_places());
+        missing.extend(self.untried());
         let mut miss = |name: &str, found: Option<Vec<String>>| {
             let found = found.unwrap_or_else(|| vec!["any".into()]).into_iter();
             missing.extend(found.map(|what| format!("{name}: {what}")));
@@ -113,39 +137,74 @@ impl Counts {
         missing
     }
 
-    /// What no renamed sheet reached: each refusal of a run, each code, each kind of reordering.
+    /// What no renamed sheet reached: each refusal of a run and an accepted one, up to four variables and above; each
+    /// code, each kind of reordering.
     pub fn unreached_renamed(&self, name: &str) -> Vec<String> {
         let Some(kind) = self.kinds.get(name) else {
             return vec!["any renamed sheet".into()];
         };
         let mut missing = kind.renamed.unreached();
-        let numbers = REFUSED_RUNS.iter();
-        let absent = numbers.filter(|number| !kind.refused.contains_key(number));
-        missing.extend(absent.map(|number| format!("refusal {number}")));
-        if kind.accepted == 0 {
-            missing.push("an accepted sheet".into());
+        for variables in Variables::OF_MARKS {
+            let Answers { accepted, refused } = kind.answers(variables);
+            let numbers = REFUSED_RUNS.iter();
+            let absent = numbers.filter(|number| !refused.contains_key(number));
+            missing.extend(absent.map(|number| format!("refusal {number}, {}", variables.name())));
+            if accepted == 0 {
+                missing.push(format!("an accepted sheet, {}", variables.name()));
+            }
         }
         missing
     }
 
-    fn unreached_refusals(&self) -> Vec<(&'static str, u8)> {
-        let reached = |kind: &Kind, number| kind.refused.contains_key(&number);
-        let by_any = |number: &u8| self.kinds.values().any(|kind| reached(kind, *number));
-        let by_kind = |name, number: &u8| {
-            let kind = self.kinds.get(name);
-            kind.is_some_and(|kind| reached(kind, *number))
-        };
-        let of_kinds = REACHED.into_iter().flat_map(|(name, numbers)| {
-            let missing = numbers.iter().filter(move |number| !by_kind(name, number));
-            missing.map(move |&number| (name, number))
-        });
-        let of_all = REFUSALS.filter(|number| !by_any(number));
-        of_kinds
-            .chain(of_all.map(|number| ("all", number)))
-            .collect()
+    /// The refusals that a kind of case did not reach, and those that none did.
+    fn unreached_refusals(&self) -> Vec<String> {
+        let mut all = Kind::default();
+        self.kinds.values().for_each(|kind| all.add_answers(kind));
+        let none = Kind::default();
+        let mut missing = Vec::new();
+        for (name, numbers) in REACHED {
+            let kind = self.kinds.get(name).unwrap_or(&none);
+            missing.extend(kind.unreached(name, numbers));
+        }
+        missing.extend(all.unreached("all", &REFUSALS.collect::<Vec<_>>()));
+        missing
     }
 
-    /// A line for each kind, and one for all; below it a line for each refusal: how often, and how often at each place.
+    /// Where no point or no integral of an exact outcome was tried.
+    fn untried(&self) -> Vec<String> {
+        let mut missing = Vec::new();
+        for variables in Variables::OF_MARKS {
+            let tried = self.tried.get(&variables).copied().unwrap_or_default();
+            for (what, times) in [("points", tried.points), ("integrals", tried.integrals)] {
+                if times == 0 {
+                    missing.push(format!("enclosure: {what}, {}", variables.name()));
+                }
+            }
+        }
+        missing
+    }
+
+    /// The refusals that sheets reached at few places.
+    fn unreached_places(&self) -> Vec<String> {
+        let mut missing = Vec::new();
+        let Some(kind) = self.kinds.get("sheet") else {
+            return missing;
+        };
+        for number in AT_MANY_PLACES {
+            for &variables in owed(number) {
+                let refused = kind.answers(variables).refused;
+                let places = refused.get(&number).map_or(0, BTreeMap::len);
+                if places < MANY_PLACES {
+                    let name = variables.name();
+                    missing.push(format!("sheet: refusal {number} at many places, {name}"));
+                }
+            }
+        }
+        missing
+    }
+
+    /// A line for each kind, and one for all; below it, up to four variables and above, a line for each refusal: how
+    /// often, and how often at each place.
     pub fn print(&self) {
         let mut all = Kind::default();
         for (name, kind) in &self.kinds {
@@ -153,54 +212,93 @@ impl Counts {
             kind.rows.print();
             kind.integrals.print();
             kind.renamed.print();
-            all.add(kind.clone_counts());
+            all.add_answers(kind);
         }
         all.print("all");
-        println!(
-            "enclosure tried with exact fractions: {} points ({} too large, {} not promised), {} of them with a \
-             quotient, {} with an antiderivative; {} integrals",
-            self.tried.points,
-            self.tried.points_too_large,
-            self.tried.points_not_promised,
-            self.tried.points_of_quotients,
-            self.tried.points_of_antiderivatives,
-            self.tried.integrals
-        );
+        for variables in Variables::OF_MARKS {
+            let tried = self.tried.get(&variables).copied().unwrap_or_default();
+            println!(
+                "enclosure tried with exact fractions, {}: {} points ({} too large, {} not promised), {} of them with \
+                 a quotient, {} with an antiderivative; {} integrals",
+                variables.name(),
+                tried.points,
+                tried.points_too_large,
+                tried.points_not_promised,
+                tried.points_of_quotients,
+                tried.points_of_antiderivatives,
+                tried.integrals
+            );
+        }
     }
 }
 
 impl Kind {
     fn add(&mut self, other: Kind) {
-        self.cases += other.cases;
-        self.accepted += other.accepted;
-        self.misused += other.misused;
+        self.add_answers(&other);
         self.rows.add(&other.rows);
         self.integrals.add(&other.integrals);
         self.renamed.add(&other.renamed);
-        for (number, places) in other.refused {
-            let mine = self.refused.entry(number).or_default();
+    }
+
+    /// Without the rows, integrals and what was renamed.
+    fn add_answers(&mut self, other: &Kind) {
+        self.cases += other.cases;
+        self.misused += other.misused;
+        for (variables, answers) in &other.answers {
+            self.answers.entry(*variables).or_default().add(answers);
+        }
+    }
+
+    fn answers(&self, variables: Variables) -> Answers {
+        self.answers.get(&variables).cloned().unwrap_or_default()
+    }
+
+    /// The refusals that were not reached wherever they have to be.
+    fn unreached(&self, name: &str, numbers: &[u8]) -> Vec<String> {
+        let mut missing = Vec::new();
+        for &number in numbers {
+            for &variables in owed(number) {
+                if !self.answers(variables).refused.contains_key(&number) {
+                    missing.push(format!("{name}: refusal {number}, {}", variables.name()));
+                }
+            }
+        }
+        missing
+    }
+
+    fn print(&self, name: &str) {
+        let accepted: u64 = self.answers.values().map(|answers| answers.accepted).sum();
+        println!("{name}: {} cases, {accepted} accepted", self.cases);
+        if self.misused > 0 {
+            println!("    misused: {}", self.misused);
+        }
+        for variables in Variables::ALL {
+            if let Some(answers) = self.answers.get(&variables) {
+                answers.print(variables.name());
+            }
+        }
+    }
+}
+
+impl Answers {
+    fn add(&mut self, other: &Answers) {
+        self.accepted += other.accepted;
+        for (number, places) in &other.refused {
+            let mine = self.refused.entry(*number).or_default();
             for (place, times) in places {
-                *mine.entry(place).or_default() += times;
+                *mine.entry(*place).or_default() += times;
             }
         }
     }
 
-    fn clone_counts(&self) -> Kind {
-        Kind {
-            refused: self.refused.clone(),
-            rows: Rows::default(),
-            ..*self
-        }
-    }
-
     fn print(&self, name: &str) {
-        println!("{name}: {} cases, {} accepted", self.cases, self.accepted);
-        if self.misused > 0 {
-            println!("    misused: {}", self.misused);
-        }
+        println!("    {name}: {} accepted", self.accepted);
         for (number, places) in &self.refused {
             let times: u64 = places.values().sum();
-            println!("    refused {number}: {times} times, {}", by_place(places));
+            println!(
+                "        refused {number}: {times} times, {}",
+                by_place(places)
+            );
         }
     }
 }

@@ -10,7 +10,7 @@ use reference::stored::StoredModel;
 
 /// A call of any kind that a limit may refuse.
 pub fn call(random: &mut Random) -> Call {
-    let n = random.byte(1, 4);
+    let n = models::any_n(random);
     match random.below(16) {
         0 | 1 => sum(random, n),
         2..=4 => product(random, n),
@@ -35,7 +35,7 @@ fn sum(random: &mut Random, n: u8) -> Call {
     let keys = rising_keys(random, n, 15, count);
     let (left, right) = keys.split_at(first.min(keys.len()));
     let shared = random.size(0, 2).min(left.len());
-    let mut other: Vec<u16> = right.iter().chain(&left[..shared]).copied().collect();
+    let mut other: Vec<u32> = right.iter().chain(&left[..shared]).copied().collect();
     other.sort_unstable();
     other.truncate(MOST_TERMS);
     let most = LARGEST_SPAN - MOST_TERMS as i64;
@@ -86,7 +86,7 @@ fn substitution(random: &mut Random, n: u8) -> Call {
     let i = random.byte(1, n);
     let count = random.size(1, 16);
     let mut keys = rising_keys(random, n, order, count);
-    keys.push(u16::from(order) << (16 - 4 * u16::from(i)));
+    keys.push(u32::from(order) * models::variable_key(i));
     keys.sort_unstable();
     keys.dedup();
     let shift = random.byte(0, 12);
@@ -172,9 +172,9 @@ fn constant(random: &mut Random, n: u8, value: i64) -> Box<StoredModel> {
 /// 1 and a variable, or 1 with a radius: mu is the distance.
 fn with_distance(random: &mut Random, n: u8, distance: i64) -> Box<StoredModel> {
     let size = distance.max(0);
-    let variable = 0x1000 >> (4 * random.below(u64::from(n)));
+    let variable = models::variable_key(random.byte(1, n));
     let draft = if size > 0 && random.one_in(2) {
-        DraftModel::new(
+        DraftModel::wide(
             0,
             &[(0, UNIT as i32), (variable, (random.sign() * size) as i32)],
         )
@@ -217,7 +217,7 @@ fn integrand(random: &mut Random, n: u8) -> Box<StoredModel> {
     }
     let count = *random.pick(&[1, 2, 15, 64]);
     let halves = rising_keys(random, n, 7, count);
-    let keys: Vec<u16> = halves.into_iter().map(|key| 2 * key).collect();
+    let keys: Vec<u32> = halves.into_iter().map(|key| 2 * key).collect();
     let span = match random.below(3) {
         0 => (keys.len() as i64) * 3,
         1 => about(random, UNIT).max(keys.len() as i64),
@@ -234,7 +234,7 @@ fn at_span(random: &mut Random, n: u8, order: u8) -> Box<StoredModel> {
     with_span(random, n, &keys, span)
 }
 
-fn rising_keys(random: &mut Random, n: u8, degree: u8, count: usize) -> Vec<u16> {
+fn rising_keys(random: &mut Random, n: u8, degree: u8, count: usize) -> Vec<u32> {
     models::keys(random, n, degree, count)
 }
 
@@ -244,7 +244,7 @@ fn about(random: &mut Random, number: i64) -> i64 {
 
 /// A model of these keys whose span is exactly this, which leaves at least 1 for each coefficient. What is left is the
 /// radius, or goes into the last coefficient.
-fn with_span(random: &mut Random, n: u8, keys: &[u16], span: i64) -> Box<StoredModel> {
+fn with_span(random: &mut Random, n: u8, keys: &[u32], span: i64) -> Box<StoredModel> {
     let keys = &keys[..keys.len().min(MOST_TERMS)];
     let mut left = span;
     let mut terms = Vec::new();

@@ -1,7 +1,7 @@
 //! The program itself: a process for each sheet, which reads it from its standard input.
 
 use crate::agree::{pair, same, Seen};
-use crate::case::Case;
+use crate::case::{Case, Variables};
 use reference::generate;
 use reference::run::run_sheet;
 use reference::text;
@@ -27,7 +27,11 @@ pub fn compare(path: &str, sheet: &[u8]) -> Result<Seen, String> {
         let line = Case::Sheet(sheet.to_vec()).line();
         format!("the program: {difference}\n{line}")
     })?;
-    Ok(Seen::of(expected.refusal.map(pair)))
+    let seen = Seen::of(expected.refusal.map(pair));
+    Ok(Seen {
+        variables: Variables::of_sheet(sheet),
+        ..seen
+    })
 }
 
 /// What the program writes; it says nothing on standard error and ends with status 0.

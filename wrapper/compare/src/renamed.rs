@@ -2,7 +2,7 @@
 //! and of the program, and it is the second implementation's.
 
 use crate::agree::{pair, same, Seen};
-use crate::case::Case;
+use crate::case::{Case, Variables};
 use crate::integrals::Integrals;
 use crate::program;
 use crate::rows::Rows;
@@ -10,7 +10,7 @@ use crate::sheets::{parts, to_book, traced, translated};
 use crate::stored;
 use hechroung::{Model, Summary};
 use reference::generate::reorderings;
-use reference::model::{key_of_monomial, monomial_of_key};
+use reference::model::{key_of_monomial, monomial_of_key, MOST_VARIABLES};
 use reference::renaming::Reordering;
 use reference::run::ReportAnswer;
 use reference::sheet;
@@ -27,6 +27,8 @@ pub struct Renamed {
     others: u64,
     /// Answers with other keys than before.
     moved: u64,
+    /// Reorderings that change something, by n from 1.
+    by_n: [u64; MOST_VARIABLES],
     /// Steps by their code.
     steps: [u64; CODES],
 }
@@ -45,6 +47,9 @@ impl Renamed {
             &mut renamed.others
         };
         *counted = 1;
+        if renamed.unchanged == 0 {
+            renamed.by_n[other.variables() - 1] = 1;
+        }
         for step in sheet::sound_book(bytes)
             .into_iter()
             .flat_map(|book| book.steps)
@@ -60,6 +65,9 @@ impl Renamed {
         self.others += other.others;
         self.moved += other.moved;
         for (mine, theirs) in self.steps.iter_mut().zip(other.steps) {
+            *mine += theirs;
+        }
+        for (mine, theirs) in self.by_n.iter_mut().zip(other.by_n) {
             *mine += theirs;
         }
     }
@@ -80,6 +88,10 @@ impl Renamed {
                 missing.push(name.into());
             }
         }
+        // One variable has no other order.
+        let others = self.by_n.iter().zip(1..).skip(1);
+        let absent = others.filter(|(&times, _)| times == 0);
+        missing.extend(absent.map(|(_, n)| format!("a reordering of {n} variables")));
         let codes = self.steps.iter().enumerate();
         let absent = codes.filter(|(_, &times)| times == 0);
         missing.extend(absent.map(|(code, _)| format!("a step of code {code}")));
@@ -93,6 +105,12 @@ impl Renamed {
         println!(
             "    reorderings that change nothing: {}, their own inverse: {}, others: {}; answers with other keys: {}",
             self.unchanged, self.own_inverse, self.others, self.moved
+        );
+        let each = self.by_n.iter().zip(1..);
+        let each = each.map(|(times, n)| format!("{n}: {times}"));
+        println!(
+            "    reorderings that change something, by n {}",
+            each.collect::<Vec<_>>().join(", ")
         );
         let codes = self.steps.iter().enumerate();
         let each = codes.map(|(code, times)| format!("{code}: {times}"));
@@ -111,7 +129,10 @@ pub fn compare_both(path: &str, bytes: &[u8], other: &Reordering) -> Result<Seen
         let [before, after] =
             [bytes.to_vec(), renamed(bytes, other)?].map(|sheet| program::written(path, &sheet));
         same(&after?, &other.lines(&before?))?;
-        Ok(seen)
+        Ok(Seen {
+            variables: Variables::of_sheet(bytes),
+            ..seen
+        })
     });
     found.map_err(|difference| {
         let line = Case::Renamed(bytes.to_vec(), other.clone()).line();
@@ -159,7 +180,7 @@ fn renamed(bytes: &[u8], other: &Reordering) -> Result<Vec<u8>, String> {
 /// Another key for each term, in key order again; everything else stays.
 fn renamed_summary(summary: &Summary, other: &Reordering) -> Summary {
     let key = |key| key_of_monomial(&other.monomial(&monomial_of_key(key)));
-    let mut terms: Vec<(u16, i64)> = summary.model.terms().map(|(k, c)| (key(k), c)).collect();
+    let mut terms: Vec<(u32, i64)> = summary.model.terms().map(|(k, c)| (key(k), c)).collect();
     terms.sort_unstable();
     let mut model = Model {
         keys: Model::ZERO.keys,

@@ -6,7 +6,7 @@ use crate::shaped::Shape;
 use hechroung::LONGEST_RECORD;
 use reference::book::Book;
 use reference::generate::{self, books, hostile, Random};
-use reference::sheet::{self, LONGEST_SHEET};
+use reference::sheet::{self, Mark, LONGEST_SHEET};
 
 /// The case of a number.
 pub fn case(seed: u64, number: u64) -> Case {
@@ -77,6 +77,7 @@ fn buffer_length(random: &mut Random, needed: usize) -> usize {
 /// The length that a book's counts name, if they name one.
 fn length_of(book: &Book) -> usize {
     let models = book.models.iter().take(book.model_count);
-    let terms: usize = models.map(|model| 5 + 6 * model.count.min(64)).sum();
+    let term = Mark::of_variables(book.n.into()).term_length();
+    let terms: usize = models.map(|model| 5 + term * model.count.min(64)).sum();
     terms + 8 * book.step_count.min(64) + 8
 }
