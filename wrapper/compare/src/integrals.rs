@@ -4,7 +4,7 @@
 use crate::agree::{sound, wide_exact};
 use hechroung::{Exact, Model, DENOMINATOR};
 use reference::exact::check::is_exact;
-use reference::model::{FEW_VARIABLES, MOST_VARIABLES};
+use reference::model::{Monomial, FEW_VARIABLES, MOST_VARIABLES};
 use reference::operations::integral_by_terms;
 
 /// What of an exact integral is counted.
@@ -18,17 +18,20 @@ const NAMES: [&str; 4] = [
 const NAMES_BY_TERMS: [&str; 3] = ["below 0", "not rounded", "rounded"];
 const BY_TERMS: usize = MOST_VARIABLES - FEW_VARIABLES;
 
-/// How often an accepted answer had which integral, by n from 1, and from 5 where terms are rounded by themselves. Those
-/// of polynomials without even terms, which are 0, are counted apart.
+/// How often an accepted answer had which integral, by n from 1, and from 5 where terms are rounded by themselves.
+/// Those of polynomials without even terms, which are 0, are counted apart.
 #[derive(Clone, Copy, Default)]
 pub struct Integrals {
     of_zero: u64,
+    /// Polynomials that are not constant, and without variables 1 to 4.
+    of_the_last: u64,
     by_n: [[u64; NAMES.len()]; FEW_VARIABLES],
     by_terms: [[u64; NAMES_BY_TERMS.len()]; BY_TERMS],
 }
 
 impl Integrals {
-    /// Checks that the model's polynomial has this integral, as an equation of fractions.
+    /// Checks that the model's polynomial has this integral, as an equation of fractions; above four variables, that
+    /// both parts are 0.
     pub fn checked(model: &Model, exact: Exact) -> Result<Integrals, String> {
         if !is_exact(&sound(model), wide_exact(exact)) {
             return Err(format!("{exact:?} is not the integral of {model:?}"));
@@ -60,6 +63,12 @@ impl Integrals {
     fn note_terms(&mut self, model: &Model) {
         let mut polynomial = sound(model);
         polynomial.radius = 0;
+        let has = |part: fn(&Monomial) -> &[u8]| {
+            let mut terms = polynomial.polynomial.keys();
+            terms.any(|monomial| part(monomial).iter().any(|&exponent| exponent > 0))
+        };
+        let of_the_last = has(|m| &m[FEW_VARIABLES..]) && !has(|m| &m[..FEW_VARIABLES]);
+        self.of_the_last = u64::from(of_the_last);
         let ends = integral_by_terms(&polynomial);
         if (ends.low, ends.high) == (0, 0) {
             self.of_zero = 1;
@@ -72,6 +81,7 @@ impl Integrals {
 
     pub fn add(&mut self, other: &Integrals) {
         self.of_zero += other.of_zero;
+        self.of_the_last += other.of_the_last;
         let mine = self.by_n.as_flattened_mut().iter_mut();
         let mine = mine.chain(self.by_terms.as_flattened_mut());
         let theirs = other.by_n.as_flattened().iter();
@@ -97,6 +107,9 @@ impl Integrals {
     /// What no answer had.
     pub fn unreached(&self) -> Vec<String> {
         let mut missing = Vec::new();
+        if self.of_the_last == 0 {
+            missing.push("an integral of variables 5 to 8 alone".into());
+        }
         for (row, n) in self.rows().into_iter().zip(1..) {
             let absent = row.into_iter().filter(|&(_, times)| times == 0);
             missing.extend(absent.map(|(name, _)| format!("an integral {name}, n = {n}")));
@@ -108,7 +121,10 @@ impl Integrals {
         if self.is_empty() {
             return;
         }
-        println!("    integrals of 0: {}", self.of_zero);
+        println!(
+            "    integrals of 0: {}, of variables 5 to 8 alone: {}",
+            self.of_zero, self.of_the_last
+        );
         for (row, n) in self.rows().into_iter().zip(1..) {
             let each = row
                 .into_iter()

@@ -8,8 +8,8 @@
 //!                               so many generated sheets, each with its variables renamed, by the library and by the
 //!                               program at the path
 //!
-//! The exit status is 0 only if all answers agree and every refusal, every mix of shares and every kind of integral that
-//! can be reached was reached, refusals and enclosures up to four variables and above.
+//! The exit status is 0 only if all answers agree and every refusal, every mix of shares and every kind of integral
+//! that can be reached was reached, refusals and enclosures up to four variables and above.
 
 #![forbid(unsafe_code)]
 
