@@ -417,7 +417,7 @@ fn degree_above_fifteen(random: &mut Random) -> Made {
     let terms = &mut draft.models[number].terms;
     let last = terms.len() - 1;
     let second = u32::from(random.byte(1, 15));
-    terms[last].0 = 0xF000_0000 | second * models::variable_key(random.byte(2, n));
+    terms[last].0 = 0xF000_0000 + second * models::variable_key(random.byte(2, n));
     broken_model(&draft, number)
 }
 
