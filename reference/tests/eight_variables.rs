@@ -4,19 +4,20 @@
 mod common;
 
 use common::{input, pair, HALF, UNIT};
-use reference::book::{Book, Step, ADD, MULTIPLY, NEGATE, SUBTRACT};
+use reference::book::{Book, SoundBook, Step, ADD, ANTIDERIVATIVE, MULTIPLY, NEGATE, SUBSTITUTE};
+use reference::book::{SUBTRACT, VARIABLE};
 use reference::calls;
 use reference::exact::{check_result, check_sheet, Violation};
 use reference::generate::{self, functions, reorderings, sound, Draft, DraftModel, Random};
-use reference::model::{monomial_of_key, Model, ONE as NO_EXPONENTS};
-use reference::operations::{Exact, Integral};
+use reference::model::{monomial_of_key, Model, Monomial, ONE as NO_EXPONENTS};
+use reference::operations::{Exact, Integral, DENOMINATOR};
 use reference::records::{open, Record};
 use reference::renaming::Reordering;
 use reference::run::{report_sheet, run, run_book, run_sheet};
 use reference::sheet::{read, sound_book, Mark};
 use reference::stored::{StoredModel, StoredTerm};
 use reference::text::{bytes_of_hex, lines_of_sheet};
-use reference::write::write;
+use reference::write::{sheet_bytes, write};
 use std::collections::BTreeMap;
 
 fn model(radius: u32, terms: &[(u32, i32)]) -> DraftModel {
@@ -524,6 +525,76 @@ fn a_false_claim_is_seen() {
         check(|claim| claim.exact.remainder = 1),
         Some(Violation::Exact)
     );
+}
+
+/// The same sheet in the last variables: variable i is variable i + 4, and the first four do not occur.
+fn moved(book: &SoundBook) -> SoundBook {
+    let monomial = |old: &Monomial| std::array::from_fn(|i| if i < 4 { 0 } else { old[i - 4] });
+    let model = |old: &Model| Model {
+        n: old.n + 4,
+        polynomial: old
+            .polynomial
+            .iter()
+            .map(|(m, &c)| (monomial(m), c))
+            .collect(),
+        radius: old.radius,
+    };
+    let step = |old: &Step| Step {
+        v: match old.code {
+            VARIABLE | SUBSTITUTE | ANTIDERIVATIVE => old.v + 4,
+            _ => old.v,
+        },
+        ..*old
+    };
+    SoundBook {
+        n: book.n + 4,
+        order: book.order,
+        models: book.models.iter().map(model).collect(),
+        steps: book.steps.iter().map(step).collect(),
+    }
+}
+
+/// Up to four variables nothing is new: a sheet and the same in the last variables have the same answer, with keys 16
+/// bits lower. Of an integral that has 16 times the exact value both ends are rounded outward.
+#[test]
+fn the_last_variables_run_like_the_first() {
+    let (mut accepted, mut refused) = (0, 0);
+    for number in 0..6_000 {
+        let Ok(book) = sound_book(&generate::sheet(145, number).bytes) else {
+            continue;
+        };
+        if book.n > 4 {
+            continue;
+        }
+        let first = report_sheet(&sheet_bytes(&book));
+        let last = report_sheet(&sheet_bytes(&moved(&book)));
+        assert_eq!(first.shares, last.shares);
+        let (first, last) = (first.answer, last.answer);
+        assert_eq!(first.refusal, last.refusal);
+        if first.refusal.is_some() {
+            assert_eq!(first, last);
+            refused += 1;
+            continue;
+        }
+        let mut shifted = first.model;
+        shifted.n += 4;
+        shifted.terms.iter_mut().for_each(|term| term.key >>= 16);
+        assert_eq!(last.model, shifted);
+        assert_eq!(last.range, first.range);
+        let Exact {
+            quotient,
+            remainder,
+        } = first.integral.exact;
+        let exact = 16 * (quotient * DENOMINATOR + remainder);
+        let of_radius = i128::from(shifted.radius) << shifted.n;
+        let low = (last.integral.ends.low + of_radius) * DENOMINATOR;
+        let high = (last.integral.ends.high - of_radius) * DENOMINATOR;
+        assert!(low <= exact && exact <= high);
+        assert!(high - low <= shifted.count as i128 * DENOMINATOR);
+        accepted += 1;
+    }
+    println!("{accepted} accepted, {refused} refused");
+    assert!(accepted > 800 && refused > 300);
 }
 
 /// Whether the model has terms, and those of variables 5 to 8 alone.
