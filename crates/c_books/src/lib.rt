@@ -5,6 +5,7 @@ ghost use Prim.Native.Nat.{_<_};
 ghost use lib.ListN.{length};
 ghost use Rattle.c_books.specs.HandedBooks.{«step-places», «handed-steps», «model-places», «handed-models»};
 ghost use Rattle.c_books.specs.HandedBooks.{«model-at», «handed-book»};
+use model_types::Key;
 use model_types::Model;
 use sheet_book::Book;
 use sheet_book::Step;
@@ -69,7 +70,7 @@ pub fn model_at(
     ns: &[u8],
     counts: &[usize],
     radii: &[u64],
-    keys: &[u16],
+    keys: &[Key],
     coefficients: &[i64],
     k: usize,
 ) -> Model
@@ -91,7 +92,7 @@ pub fn handed_models(
     ns: &[u8],
     counts: &[usize],
     radii: &[u64],
-    keys: &[u16],
+    keys: &[Key],
     coefficients: &[i64],
 ) -> [Model; sheet_book::MOST_MODELS]
     ensures { λ r. ⌜ r ≡ handed-models (now (ns .entry)) (now (counts .entry)) (now (radii .entry))
@@ -124,7 +125,7 @@ pub fn handed_book(
     ns: &[u8],
     counts: &[usize],
     radii: &[u64],
-    keys: &[u16],
+    keys: &[Key],
     coefficients: &[i64],
     fields: &[u8],
     values: &[i64],

@@ -6,12 +6,12 @@ use Prim.Native.Nat.{ℕ, _^_, _≤_, _<_}
 use native.Mathlib.Omega.{arith}
 use lib.Dec.{T, eqb, leb, leb→le}
 use lib.IntN.{ℤ}
-use Rattle.fixed.specs.DivisionLaws.{remainder-lt}
 use Rattle.calculus.specs.Model as C
 use Rattle.calculus.specs.Model.{most-degree, most-terms, sound}
 use Rattle.calculus.specs.Refusal.{bad-model, Result, done, stopped, require-at, _followed-by_}
 use Rattle.calculus.specs.Operations as Op
-use Rattle.calculus.specs.Operations.{Ends, zero-ends, zero-mixed, common-denominator, integral-parts, exact-part}
+use Rattle.calculus.specs.Operations.{Ends, zero-ends, zero-mixed, common-denominator, exact-part}
+use Rattle.model.specs.OperationLaws.{exact-remainder}
 use Rattle.calculus.specs.Operations.{whole-integral}
 use Rattle.calculus.specs.Calls.{call-range, call-integral, call-evaluate}
 use Rattle.calculus.specs.TestLaws.{and-right}
@@ -40,8 +40,8 @@ alone-answer (stopped r i) = refl
 
 -- ---- the remainder of an answer fits a signed word
 pub exact-small : (m : C.Model) → exact-part m .remainder < 2 ^ 63
-unfolding exact-part common-denominator
-exact-small m = omega (arith, remainder-lt (integral-parts m) common-denominator (omega arith))
+unfolding common-denominator
+exact-small m = omega (arith, exact-remainder m)
 
 small-alone : (a : Result Ends) → integral-answer (alone a) .remainder < 2 ^ 63
 unfolding alone integral-answer _followed-by_ zero-mixed

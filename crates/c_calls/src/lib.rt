@@ -8,6 +8,7 @@ ghost use Rattle.model_slices.specs.HandedModels.{«answer-numbers»};
 ghost use Rattle.c_calls.specs.CallCodes.{«model-call», «ends-call», «call-fits», «ends-call-fits»};
 ghost use Rattle.c_calls.specs.CallCodes.{«called-state», «stored-answer», «ends-alone», «ends-state»};
 ghost use Rattle.c_calls.specs.CallCodes.{«stored-integral»};
+use model_types::Key;
 use model::Answer;
 use model::Bounds;
 use model::Integral;
@@ -88,7 +89,7 @@ pub fn ends_call(code: u8, xs: [i64; model_types::MOST_VARS as usize], f: Model)
 // An answer goes into the slices; its number.
 pub fn store_answer(
     a: Answer,
-    keys: &mut [u16],
+    keys: &mut [Key],
     coefficients: &mut [i64],
     numbers: &mut [u64],
 ) -> u8

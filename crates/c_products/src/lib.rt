@@ -10,6 +10,7 @@ ghost use Rattle.model_types.specs.ModelStruct.{view, answer};
 ghost use Rattle.model_slices.specs.HandedModels.{handed, lent, over, «answer-numbers»};
 ghost use Rattle.model.specs.OperationContracts.{«kept-accounted», «Kept-ready»};
 ghost use Rattle.c_calls.specs.CallCodes.{«called-state», «stored-answer»};
+use model_types::Key;
 use model_slices::Kept;
 use model_types::Verdict;
 
@@ -33,7 +34,7 @@ fn store(
     k: Kept,
     kept: &[u64],
     sums: &[i64],
-    keys: &mut [u16],
+    keys: &mut [Key],
     coefficients: &mut [i64],
     numbers: &mut [u64],
 ) -> u8
@@ -66,14 +67,14 @@ pub fn multiply(
     n1: u8,
     count1: usize,
     radius1: u64,
-    keys1: &[u16],
+    keys1: &[Key],
     coefficients1: &[i64],
     n2: u8,
     count2: usize,
     radius2: u64,
-    keys2: &[u16],
+    keys2: &[Key],
     coefficients2: &[i64],
-    keys: &mut [u16],
+    keys: &mut [Key],
     coefficients: &mut [i64],
     numbers: &mut [u64],
 ) -> u8

@@ -5,6 +5,7 @@ ghost use lib.ListN.{length};
 ghost use Rattle.model_types.specs.ModelStruct.{answer};
 ghost use Rattle.c_books.specs.HandedBooks.{«model-places»};
 ghost use Rattle.c_quotients.specs.HandedQuotients.{«quotient-models», «quotient-fits», «handed-quotient»};
+use model_types::Key;
 use model::Answer;
 
 // The models of a quotient.
@@ -26,7 +27,7 @@ pub fn handed_quotient(
     ns: &[u8],
     counts: &[usize],
     radii: &[u64],
-    keys: &[u16],
+    keys: &[Key],
     coefficients: &[i64],
 ) -> Answer
     requires { ⌜ quotient-models ≤ model-places (length (now ns)) (length (now counts)) (length (now radii))

@@ -12,7 +12,7 @@ use Rattle.calculus.specs.Calls.{call-constant, call-variable, call-nega
 use Rattle.calculus.specs.Calls.{call-evaluate, call-antiderivative, call-add, call-subtract, call-multiply}
 use Rattle.calculus.specs.Calls.{call-substitute, call-sound, returned-model, returned-ends, returned-integral}
 use Rattle.calculus.specs.Computing.{calls}
-use Rattle.calculus.specs.Forms.{at-key, model, ends, minus, mixed, line, forms}
+use Rattle.calculus.specs.Forms.{at-key, at-long-key, model, ends, minus, mixed, line, forms}
 use Rattle.calculus.specs.Edges.{one-term, terms-from}
 
 -- what a call hands back
@@ -113,11 +113,12 @@ unfoldable pub call-edges : List Call-edge
 call-edges =
     -- 3 before 6
     refuses 1 (call-constant 0 (pos 1073741825)) 3 0
-    ∷ refuses 1 (call-variable 5 6) 3 0
+    ∷ refuses 1 (call-variable 9 10) 3 0
     -- 6
     ∷ refuses 2 (call-constant 4 (minus 1073741825)) 6 0
     ∷ refuses 2 (call-variable 2 3) 6 0
     ∷ gives 2 (call-variable 4 4) (one-term 4 0x0001 (pos 1048576))
+    ∷ gives 2 (call-variable 8 8) (model 8 0 (at-long-key 8 0x00000001 (pos 1048576) ∷ []))
     -- 5 before 6
     ∷ refuses 3 (call-sweep (minus 1) bad) 5 0
     ∷ refuses 3 (call-sweep (minus 1) line) 6 0
@@ -134,7 +135,7 @@ call-edges =
     ∷ refuses 5 (call-substitute 16 1 bad bad) 3 0
     -- 5 at place 0, then 5 at place 1, then 10
     ∷ refuses 6 (call-add bad bad) 5 0
-    ∷ refuses 6 (call-add line (model 5 0 [])) 5 1
+    ∷ refuses 6 (call-add line (model 9 0 [])) 5 1
     ∷ refuses 6 (call-add line two-variables) 10 0
     ∷ refuses 6 (call-subtract two-variables line) 10 0
     ∷ refuses 6 (call-multiply 2 line two-variables) 10 0

@@ -15,7 +15,7 @@ use Rattle.calculus.specs.Model.{Model, zero-model, Point, In-box, Withi
 use Rattle.calculus.specs.Tests.{variable-sound}
 use Rattle.calculus.specs.Refusal.{leaves-box, uncertified, Answer, accepted, done}
 use Rattle.calculus.specs.Operations as Op
-use Rattle.calculus.specs.Operations.{range, integral, range-in-box}
+use Rattle.calculus.specs.Operations.{range, has-exact, integral, range-in-box}
 use Rattle.calculus.specs.Book.{Step, input, constant, variable, negate, add, subtract, multiply, substitute}
 use Rattle.calculus.specs.Book.{sweep, quotient, antiderivative, Book, model-sound, step-sound, model-of}
 use Rattle.calculus.specs.Book.{result-of, run-step, run-steps, Summary, summary, last, run-sound, run}
@@ -268,7 +268,8 @@ unfolding summary
 summary-integral b s r = subst (λ (t : Summary). t .integral ≡ integral (t .model)) (r .is-summary) refl
 
 -- the denominator serves the result
-pub result-served : (b : Book) (s : Summary) → Passes b → run-sound b ≡ done s → Served (s .model)
+pub result-served : (b : Book) (s : Summary) → Passes b → run-sound b ≡ done s → T (has-exact (s .model .vars))
+    → Served (s .model)
 unfolding model-sound
 result-served b s p h = sound-served (b .order) (s .model) (order-high b p)
     (and-right (eqb (s .model .vars) (b .vars)) _ (result-sound b p s h))

@@ -44,7 +44,9 @@ unfolding
     O.bare O.defect O.deviation O.largest-end O.largest-value O.quotient-radius O.certified O.quotient
     O.raised O.divided O.is-inexact O.growth-rounding O.growth-swept O.antiderivative
     O.is-small O.sweep
-    O.common-denominator O.integral-parts O.exact-part O.one-if-any O.integral
+    O.integral-sum O.term-by-term
+    O.common-denominator O.has-exact O.integral-parts O.mixed-part O.zero-mixed O.exact-part O.one-if-any O.exact-ends
+    O.integral
 operations = tt
 
 -- the run of a book

@@ -8,7 +8,7 @@ use native.Mathlib.Nat as NatL
 use lib.Dec.{T, eqb, leb, eqb→eq, leb→le, nleb→lt}
 use Rattle.polynomial.specs.Integral.{even, first, rest, all-even, divisor}
 use Rattle.calculus.specs.Monomial.{degree}
-use Rattle.calculus.specs.Model.{most-vars, most-degree}
+use Rattle.calculus.specs.Model.{most-degree}
 use Rattle.calculus.specs.Operations.{common-denominator}
 use Rattle.calculus.specs.TestLaws.{and-left, and-right}
 
@@ -112,9 +112,9 @@ serves (suc (suc (suc (suc zero)))) h = serves-four
 serves (suc (suc (suc (suc (suc n))))) h = absurd (omega arith)
 
 -- THEOREM: it is a multiple of the product of (exponent + 1) over the variables
-pub denominator-serves : (n : ℕ) (k : List ℕ) → n ≤ most-vars → degree k ≤ most-degree → T (all-even n k)
+pub denominator-serves : (n : ℕ) (k : List ℕ) → n ≤ 4 → degree k ≤ most-degree → T (all-even n k)
     → divisor n k * (common-denominator / divisor n k) ≡ common-denominator
-unfolding most-vars most-degree
+unfolding most-degree
 denominator-serves n k h l v =
     let e : common-denominator % (1 * divisor n k) ≡ 0 = divides-each n 7 1 k (serves n h) v l in
     let o : 1 * divisor n k ≡ divisor n k = omega arith in

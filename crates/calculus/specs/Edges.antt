@@ -127,9 +127,9 @@ edges =
     (stopped bad-model 1)
     -- a model in one variable may not stand in a book of two
     ∷ row 14 (book 2 2 (model 1 0 [] ∷ []) (input 0 ∷ [])) (stopped bad-model 0)
-    -- n is 1 to 4, the order 1 to 15
-    ∷ row 15 (book 5 15 [] (variable 1 ∷ [])) (stopped bad-limits 0)
-    ∷ row 15 (book 4 16 [] (variable 1 ∷ [])) (stopped bad-limits 0)
+    -- n is 1 to 8, the order 1 to 15
+    ∷ row 15 (book 9 15 [] (variable 1 ∷ [])) (stopped bad-limits 0)
+    ∷ row 15 (book 8 16 [] (variable 1 ∷ [])) (stopped bad-limits 0)
     -- 3 before 5 before 6
     ∷ row 16 (book 1 1 (one-term 1 0x2000 (pos 1) ∷ []) []) (stopped bad-limits 0)
     ∷ row 16 (book 1 1 (one-term 1 0x2000 (pos 1) ∷ []) (negate 0 ∷ [])) (stopped bad-model 0)

@@ -5,7 +5,7 @@ use mathlib.Core.Bool.{Bool, true, false, not}
 use mathlib.Core.List.{List, [], _∷_}
 use Prim.Native.Nat.{ℕ, zero, suc, _+_, _*_, _/_, _^_, _≤_, _<_}
 use native.Mathlib.Omega.{arith}
-use lib.Dec.{T, eqb, eqb→eq}
+use lib.Dec.{T, eqb, eqb→eq, leb→le}
 use lib.IntN.{ℤ, pos, negℤ, _+ℤ_, _-ℤ_, _*ℤ_}
 use lib.Signed.{_≤ℤ_}
 use Rattle.algebra.specs.Integer.{is, is-eq, is-add, is-mul, is-nat, plus, minus}
@@ -26,22 +26,21 @@ use Rattle.polynomial.specs.IntegralLaws.{divisor-pos}
 use Rattle.fixed.specs.Division.{floor, ceiling, remainder}
 use Rattle.fixed.specs.DivisionLaws.{floor-le, division, remainder-lt}
 use Rattle.calculus.specs.Terms.{Terms, every, sum-over}
-use Rattle.calculus.specs.Model.{Model, Point, In-box, most-vars, most-degree, fits, sound}
-use Rattle.calculus.specs.Operations.{common-denominator, integral-parts, exact-part, one-if-any, integral-sum}
-use Rattle.calculus.specs.Operations.{Ends, integral, term-by-term}
+use Rattle.calculus.specs.Model.{Model, Point, In-box, most-degree, fits, sound}
+use Rattle.calculus.specs.Operations.{common-denominator, has-exact, integral-parts, mixed-part, one-if-any, integral-sum}
+use Rattle.calculus.specs.Operations.{Ends, exact-ends, integral, term-by-term, Mixed, zero-mixed, exact-part}
 use Rattle.calculus.specs.Outcome.{ℚ-Polynomial, value-of, exact-integral}
 use Rattle.calculus.specs.Claim.{Lies}
 use Rattle.calculus.specs.TestLaws.{and-left, and-right}
 use Rattle.calculus.specs.SumLaws.{ℤ-addition, if-ℤ, if-ℚ, if-so, sum-select}
 use Rattle.calculus.specs.TermsLaws.{every-implies}
 use Rattle.calculus.specs.FitsLaws.{fits-by, fits-length, fits-degree}
-use Rattle.calculus.specs.SoundLaws.{sound-vars, sound-parts}
-use Rattle.calculus.specs.BookLaws.{between-high}
+use Rattle.calculus.specs.SoundLaws.{sound-parts}
 use Rattle.calculus.specs.UnitLaws.{natural, natural-*, natural-nonneg}
 use Rattle.calculus.specs.ValueLaws.{Near}
 use Rattle.calculus.specs.ChainLaws.{_≤≤_, _≡≤_, _≤≡_}
 use Rattle.calculus.specs.IntegralEndsLaws.{whole-polynomial, polynomial-integral, term-moment, moment-is}
-use Rattle.calculus.specs.IntegralEndsLaws.{down-below, up-above, widened-ends, widened-encloses}
+use Rattle.calculus.specs.IntegralEndsLaws.{down-below, up-above, widened-ends, widened-encloses, term-by-term-encloses}
 use Rattle.calculus.specs.DenominatorLaws.{denominator-serves}
 open Ring ℚR using (*-one, *-assoc, *-comm)
 
@@ -52,7 +51,7 @@ unfolding common-denominator
 denominator-inverse = ap (λ n. n *ℚ reciprocal common-denominator) (sym (nat-whole common-denominator))
     ∙ ℚF .nat-reciprocal common-denominator (omega arith)
 
-module _ (n : ℕ) (few : n ≤ most-vars) where
+module _ (n : ℕ) (few : n ≤ 4) where
   -- the parts of a term
   parts-of : List ℕ → ℤ → ℤ
   parts-of k c = if-ℤ (all-even n k) (c *ℤ pos (2 ^ n * (common-denominator / divisor n k)))
@@ -94,13 +93,14 @@ module _ (n : ℕ) (few : n ≤ most-vars) where
 
 -- ---- a model whose terms it serves
 pub record Served (m : Model) : Type 0 where
-  pub few : m .vars ≤ most-vars
+  pub few : m .vars ≤ 4
   pub fitting : T (every (λ k c. fits (m .vars) most-degree k) (m .terms))
 
--- a sound model is one
-pub sound-served : (d : ℕ) (m : Model) → d ≤ most-degree → T (sound d m) → Served m
-sound-served d m h t = record {
-  few = between-high 1 most-vars (m .vars) (sound-vars d m t);
+-- a sound model in up to four variables is one
+pub sound-served : (d : ℕ) (m : Model) → d ≤ most-degree → T (sound d m) → T (has-exact (m .vars)) → Served m
+unfolding has-exact
+sound-served d m h t e = record {
+  few = leb→le (m .vars) 4 e;
   fitting = every-implies (λ k c. fits (m .vars) d k) (λ k c. fits (m .vars) most-degree k)
       (λ k c f. let l = fits-degree (m .vars) d k f in
       fits-by (m .vars) most-degree k (fits-length (m .vars) d k f) (omega arith)) (m .terms)
@@ -153,9 +153,9 @@ module _ (m : Model) (s : Served m) where
   parts-below l h = ≤-whole _ _ (parts-are ∙ *-comm _ _ ≡≤ *-mono ℚO (natural-nonneg D) h ≤≡ sym (whole-* l (pos D)))
 
   -- THEOREM: q + r / D is the integral of the model's polynomial, in units; r is from 0 to D - 1
-  pub exact-is : whole (exact-part m .quotient) +ℚ natural (exact-part m .remainder) *ℚ reciprocal common-denominator
+  pub exact-is : whole (mixed-part m .quotient) +ℚ natural (mixed-part m .remainder) *ℚ reciprocal common-denominator
       ≡ polynomial-integral m
-  unfolding exact-part
+  unfolding mixed-part
   exact-is = ap (λ z. z +ℚ natural r *ℚ reciprocal D) (sym (over-D (whole q)))
       ∙ ring 4 ℚR (λ d q u r. d ⊠ q ⊠ u ⊞ r ⊠ u) (λ d q u r. (q ⊠ d ⊞ r) ⊠ u) refl
       (natural D) (whole q) (reciprocal D) (natural r)
@@ -168,8 +168,8 @@ module _ (m : Model) (s : Served m) where
       sum : whole q *ℚ natural D +ℚ natural r ≡ whole (integral-parts m)
       sum = ap (λ z. z +ℚ natural r) (sym (whole-* q (pos D))) ∙ sym (whole-+ (q *ℤ pos D) (pos r)) ∙ ap whole split
 
-  pub remainder-small : exact-part m .remainder < common-denominator
-  unfolding exact-part
+  pub remainder-small : mixed-part m .remainder < common-denominator
+  unfolding mixed-part
   remainder-small = remainder-lt (integral-parts m) D D-pos
 
   -- ---- the ends
@@ -187,15 +187,15 @@ module _ (m : Model) (s : Served m) where
       go false e = of-le (is (integral-parts m)) (is-mul (is-add (is q) (is-nat 1)) (is-nat D))
           (omega (arith, division (integral-parts m) D D-pos, remainder-lt (integral-parts m) D D-pos))
 
-  ends-are : integral m ≡ widened-ends m q one-more
-  unfolding integral exact-part widened-ends one-more
+  ends-are : exact-ends m ≡ widened-ends m q one-more
+  unfolding exact-ends mixed-part widened-ends one-more
   ends-are = ap (λ h. record { low = q -ℤ pos (2 ^ m .vars * m .radius); high = h })
       (ring 3 ℤR (λ q w o. q ⊞ w ⊞ o) (λ q w o. q ⊞ o ⊞ w) refl
       q (pos (2 ^ m .vars * m .radius)) (pos (one-if-any r)))
 
-  pub integral-encloses : (p : ℚ-Polynomial) → ((x : Point) → In-box (m .vars) x → Near m x (value-of p x))
-      → Lies (exact-integral (m .vars) p) (integral m)
-  integral-encloses p h = subst (Lies (exact-integral (m .vars) p)) (sym ends-are)
+  exact-encloses : (p : ℚ-Polynomial) → ((x : Point) → In-box (m .vars) x → Near m x (value-of p x))
+      → Lies (exact-integral (m .vars) p) (exact-ends m)
+  exact-encloses p h = subst (Lies (exact-integral (m .vars) p)) (sym ends-are)
       (widened-encloses m p h q one-more (below-E q (floor-le (integral-parts m) D D-pos)) (above-E one-more covered))
 
   -- THEOREM: they lie inside the ends of the term-by-term rule
@@ -237,8 +237,49 @@ module _ (m : Model) (s : Served m) where
         e tt,
       ))
 
-  pub integral-inside : (term-by-term m .low ≤ℤ integral m .low) × (integral m .high ≤ℤ term-by-term m .high)
+  exact-inside : (term-by-term m .low ≤ℤ exact-ends m .low) × (exact-ends m .high ≤ℤ term-by-term m .high)
   unfolding term-by-term widened-ends
-  integral-inside = subst
+  exact-inside = subst
       (λ (e : Ends). (term-by-term m .low ≤ℤ e .low) × (e .high ≤ℤ term-by-term m .high)) (sym ends-are)
       (ℤO .≤-add (negℤ (pos (2 ^ m .vars * m .radius))) down-le, ℤO .≤-add (pos (2 ^ m .vars * m .radius)) up-ge)
+
+-- ---- the ends of any model: these, or above four variables those of the term-by-term rule
+-- the two cases
+pub by-exact : (P : Ends → Type 0) (m : Model) → (T (has-exact (m .vars)) → P (exact-ends m))
+    → (T (not (has-exact (m .vars))) → P (term-by-term m)) → P (integral m)
+unfolding integral
+by-exact P m f g = go (has-exact (m .vars)) f g
+  where
+    go : (b : Bool) → (T b → P (exact-ends m)) → (T (not b) → P (term-by-term m))
+        → P (elim b as (λ b. Ends) [ true ↦ exact-ends m | false ↦ term-by-term m ])
+    go true f g = f tt
+    go false f g = g tt
+
+-- THEOREM: they enclose the integral of what is within the model
+pub integral-encloses : (m : Model) → (T (has-exact (m .vars)) → Served m) → (p : ℚ-Polynomial)
+    → ((x : Point) → In-box (m .vars) x → Near m x (value-of p x)) → Lies (exact-integral (m .vars) p) (integral m)
+integral-encloses m s p h = by-exact (Lies (exact-integral (m .vars) p)) m
+    (λ e. exact-encloses m (s e) p h) (λ e. term-by-term-encloses m p h)
+
+-- THEOREM: and lie inside those of the term-by-term rule
+pub integral-inside : (m : Model) → (T (has-exact (m .vars)) → Served m)
+    → (term-by-term m .low ≤ℤ integral m .low) × (integral m .high ≤ℤ term-by-term m .high)
+integral-inside m s = by-exact (λ e. (term-by-term m .low ≤ℤ e .low) × (e .high ≤ℤ term-by-term m .high)) m
+    (λ e. exact-inside m (s e)) (λ e. (ℤO .≤-refl _, ℤO .≤-refl _))
+
+-- ---- q and r: of a model in up to four variables; above, 0
+pub exact-known : (m : Model) → T (has-exact (m .vars)) → exact-part m ≡ mixed-part m
+unfolding exact-part
+exact-known m t = go (has-exact (m .vars)) t
+  where
+    go : (b : Bool) → T b → elim b as (λ b. Mixed) [ true ↦ mixed-part m | false ↦ zero-mixed ] ≡ mixed-part m
+    go true t = refl
+    go false t = absurd t
+
+pub exact-none : (m : Model) → T (not (has-exact (m .vars))) → exact-part m ≡ zero-mixed
+unfolding exact-part
+exact-none m t = go (has-exact (m .vars)) t
+  where
+    go : (b : Bool) → T (not b) → elim b as (λ b. Mixed) [ true ↦ mixed-part m | false ↦ zero-mixed ] ≡ zero-mixed
+    go true t = absurd t
+    go false t = refl

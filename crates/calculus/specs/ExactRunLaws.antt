@@ -1,6 +1,7 @@
 -- What q and r say of a model, of the answer of an integral's call and of the answer of a run: U times the integral of
 -- the model's polynomial over the box.
 use mathlib.Core.Path.{_≡_, refl, sym, _∙_, ap, ap₂, subst}
+use mathlib.Core.Bool.{not}
 use mathlib.Core.List.{List, [], _∷_}
 use Prim.Native.Nat.{ℕ, _<_}
 use native.Mathlib.Omega.{arith}
@@ -15,7 +16,8 @@ use Rattle.fixed.specs.Fixed.{U}
 use Rattle.calculus.specs.Terms.{Terms, term}
 use Rattle.calculus.specs.Model.{Model, most-degree, polynomial, sound}
 use Rattle.calculus.specs.Refusal.{bad-model, done}
-use Rattle.calculus.specs.Operations.{common-denominator, Mixed, exact-part, Integral, whole-integral}
+use Rattle.calculus.specs.Operations.{common-denominator, has-exact, Mixed, zero-mixed, mixed-part, exact-part}
+use Rattle.calculus.specs.Operations.{Integral, whole-integral}
 use Rattle.calculus.specs.Calls.{call-integral}
 use Rattle.calculus.specs.Book.{Book, Summary, summary, run, run-sound}
 use Rattle.calculus.specs.Outcome.{exact-integral}
@@ -23,7 +25,7 @@ use Rattle.calculus.specs.RefusalLaws.{Passed, passed-at}
 use Rattle.calculus.specs.BookLaws.{Passes, Done, run-done, Ran, sound-ran}
 use Rattle.calculus.specs.UnitLaws.{natural, U-times}
 use Rattle.calculus.specs.IntegralEndsLaws.{whole-polynomial, polynomial-integral}
-use Rattle.calculus.specs.ExactIntegralLaws.{Served, sound-served, exact-is, remainder-small}
+use Rattle.calculus.specs.ExactIntegralLaws.{Served, sound-served, exact-is, remainder-small, exact-known, exact-none}
 use Rattle.calculus.specs.ClaimProof.{result-served}
 
 -- q + r / 212,837,625 is the integral of a model's polynomial in units, and r is from 0 to 212,837,624
@@ -45,13 +47,24 @@ unfolding exact-integral polynomial
 in-units m = sym (integral-scale ℚF (m .vars) (natural U) (polynomial m))
     ∙ ap (I.integral ℚF (m .vars)) (scaled (m .terms))
 
--- THEOREM: of a sound model, of an answered call and of an accepted book
-pub model-exact : (m : Model) → Served m → Exact-value m (exact-part m)
-model-exact m s = record { is-integral = exact-is m s ∙ sym (in-units m); in-limits = remainder-small m s }
+-- what is promised of them: up to four variables this, above that both are 0
+pub record Exact-answer (m : Model) (x : Mixed) : Type 0 where
+  pub known : T (has-exact (m .vars)) → Exact-value m x
+  pub none : T (not (has-exact (m .vars))) → x ≡ zero-mixed
 
-pub call-exact : (f : Model) (x : Integral) → call-integral f ≡ done x → Exact-value f (x .exact)
+-- THEOREM: of a sound model, of an answered call and of an accepted book
+served-exact : (m : Model) → Served m → Exact-value m (mixed-part m)
+served-exact m s = record { is-integral = exact-is m s ∙ sym (in-units m); in-limits = remainder-small m s }
+
+pub model-exact : (m : Model) → (T (has-exact (m .vars)) → Served m) → Exact-answer m (exact-part m)
+model-exact m s = record {
+  known = λ e. subst (Exact-value m) (sym (exact-known m e)) (served-exact m (s e));
+  none = exact-none m;
+}
+
+pub call-exact : (f : Model) (x : Integral) → call-integral f ≡ done x → Exact-answer f (x .exact)
 unfolding call-integral whole-integral
-call-exact f x h = subst (λ (y : Integral). Exact-value f (y .exact)) same
+call-exact f x h = subst (λ (y : Integral). Exact-answer f (y .exact)) same
     (model-exact f (sound-served most-degree f (omega arith) (passed .test)))
   where
     passed : Passed (sound most-degree f) (done (whole-integral f)) x
@@ -60,9 +73,9 @@ call-exact f x h = subst (λ (y : Integral). Exact-value f (y .exact)) same
     same : whole-integral f ≡ x
     same = let e : done (whole-integral f) ≡ done x = passed .result in cc
 
-pub sound-run-exact : (b : Book) (s : Summary) → Passes b → run-sound b ≡ done s → Exact-value (s .model) (s .exact)
+pub sound-run-exact : (b : Book) (s : Summary) → Passes b → run-sound b ≡ done s → Exact-answer (s .model) (s .exact)
 unfolding summary
-sound-run-exact b s p h = subst (Exact-value (s .model)) same (model-exact (s .model) (result-served b s p h))
+sound-run-exact b s p h = subst (Exact-answer (s .model)) same (model-exact (s .model) (result-served b s p h))
   where
     ran : Ran b s
     ran = sound-ran b s h
@@ -70,5 +83,5 @@ sound-run-exact b s p h = subst (Exact-value (s .model)) same (model-exact (s .m
     same : exact-part (s .model) ≡ s .exact
     same = subst (λ (t : Summary). exact-part (t .model) ≡ t .exact) (ran .is-summary) refl
 
-pub run-exact : (b : Book) (s : Summary) → run b ≡ done s → Exact-value (s .model) (s .exact)
+pub run-exact : (b : Book) (s : Summary) → run b ≡ done s → Exact-answer (s .model) (s .exact)
 run-exact b s h = sound-run-exact b s (run-done b s h .passes) (run-done b s h .result)

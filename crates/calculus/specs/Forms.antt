@@ -1,6 +1,6 @@
 -- Short forms for tables of samples and edge cases.
 use mathlib.Core.List.{List, [], _∷_}
-use Prim.Native.Nat.{ℕ}
+use Prim.Native.Nat.{ℕ, _*_}
 use lib.IntN.{ℤ, pos, negℤ}
 use Rattle.polynomial.specs.Polynomial.{Term}
 use Rattle.calculus.specs.Key.{key-width, key-exponents}
@@ -11,8 +11,12 @@ use Rattle.calculus.specs.Operations.{Ends, Mixed}
 use Rattle.calculus.specs.Book.{Step, Book, Summary}
 
 -- the coefficient c at a key of n variables
+unfoldable pub at-long-key : (n key : ℕ) → ℤ → Term ℤ
+at-long-key n key c = record { coefficient = c; exponents = key-exponents key-width n key }
+
+-- at a key of 16 bits, which are the first of 32
 unfoldable pub at-key : (n key : ℕ) → ℤ → Term ℤ
-at-key n key c = record { coefficient = c; exponents = key-exponents key-width n key }
+at-key n key = at-long-key n (key * 65536)
 
 -- a model
 unfoldable pub model : (n radius : ℕ) → Terms → Model
@@ -44,5 +48,5 @@ line = model 1 0 (at-key 1 0x0000 (pos 5) ∷ at-key 1 0x1000 (pos 3) ∷ [])
 
 -- all of them, for facts that compute
 unfoldable pub forms : Unit {0}
-unfolding at-key model book ends minus mixed gives line
+unfolding at-long-key at-key model book ends minus mixed gives line
 forms = tt

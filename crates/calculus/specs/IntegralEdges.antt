@@ -9,7 +9,7 @@ use Rattle.calculus.specs.Operations.{Ends, Mixed, Integral, integral-su
 use Rattle.calculus.specs.Calls.{call-integral}
 use Rattle.calculus.specs.Book.{run, returned-summary}
 use Rattle.calculus.specs.Computing.{calls}
-use Rattle.calculus.specs.Forms.{at-key, model, book, ends, minus, mixed, forms}
+use Rattle.calculus.specs.Forms.{at-key, at-long-key, model, book, ends, minus, mixed, forms}
 use Rattle.calculus.specs.Edges.{one-term, terms-from}
 use Rattle.calculus.specs.CallEdges.{back}
 
@@ -61,6 +61,13 @@ integral-edges =
     (ends (pos 17179869184) (pos 17179869184)) (mixed (pos 17179869184) 0)
     ∷ integrates (model 4 1073741823 (at-key 4 0x0000 (minus 1) ∷ []))
     (ends (minus 17179869184) (pos 17179869152)) (mixed (minus 16) 0)
+    -- above four variables each term is rounded by itself, and q and r are 0: -32/3; 32/3 + 32/3; radii
+    ∷ integrates (model 5 0 (at-long-key 5 0x20000000 (minus 1) ∷ [])) (ends (minus 11) (minus 10)) (mixed (pos 0) 0)
+    ∷ integrates (model 5 0 (at-long-key 5 0x02000000 (pos 1) ∷ at-long-key 5 0x20000000 (pos 1) ∷ []))
+    (ends (pos 20) (pos 22)) (mixed (pos 0) 0)
+    ∷ integrates (model 8 1 (at-long-key 8 0x00000002 (pos 3) ∷ [])) (ends (pos 0) (pos 512)) (mixed (pos 0) 0)
+    ∷ integrates (model 8 1073741823 (at-long-key 8 0x00000000 (pos 1) ∷ []))
+    (ends (minus 274877906432) (pos 274877906944)) (mixed (pos 0) 0)
     -- all 330 even monomials of degree at most 15 in four variables
     ∷ integrates
     (ones (0x0000 ∷ 0x0002 ∷ 0x0004 ∷ 0x0006 ∷ 0x0008 ∷ 0x000A ∷ 0x000C ∷ 0x000E ∷ 0x0020 ∷ 0x0022 ∷ 0x0024 ∷

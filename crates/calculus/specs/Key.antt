@@ -23,9 +23,9 @@ unfoldable pub fits-digits : (base w n : ℕ) → ℕ → Bool
 fits-digits base w n z = ltb z (base ^ w) && eqb (z % base ^ (w - n)) 0
 
 -- ---- a key has four bits for an exponent
--- the number of exponents in a key of 16 bits
+-- the number of exponents in a key of 32 bits
 unfoldable pub key-width : ℕ
-key-width = 4
+key-width = 8
 
 -- every key is below this
 unfoldable pub key-limit : ℕ

@@ -30,9 +30,9 @@ unfoldable pub one-model : ℕ → Model
 one-model n = record { vars = n; radius = 0; terms = term (pos U) (zeros n) ∷ [] }
 
 -- ---- soundness
--- n is at most 4
+-- n is at most 8
 unfoldable pub most-vars : ℕ
-most-vars = 4
+most-vars = 8
 
 -- the total degree is at most 15
 unfoldable pub most-degree : ℕ

@@ -68,12 +68,12 @@ by-fits P n z = go (key-fits key-width n z)
     go true f g = f tt
     go false f g = g tt
 
--- a number of 16 bits is a key, and a key has 16 bits
-pub word-key : (z : ℕ) → z < 2 ^ 16 → z < key-limit
+-- a number of 32 bits is a key, and a key has 32 bits
+pub word-key : (z : ℕ) → z < 2 ^ 32 → z < key-limit
 unfolding key-width key-limit
 word-key z h = h
 
-pub key-word : (z : ℕ) → z < key-limit → z < 2 ^ 16
+pub key-word : (z : ℕ) → z < key-limit → z < 2 ^ 32
 unfolding key-width key-limit
 key-word z h = h
 
@@ -86,6 +86,13 @@ fits-all z h = both (ltb z key-limit) _ (lt→ltb z key-limit h) (rw (NatL.mod-o
 pub fits-below : (n z : ℕ) → T (key-fits key-width n z) → z < key-limit
 unfolding key-limit fits-digits
 fits-below n z h = ltb→lt z key-limit (and-left (ltb z key-limit) _ h)
+
+-- a key of up to four variables: behind the first four digits there are zeros
+pub fits-short : (n z : ℕ) → n ≤ 4 → T (key-fits key-width n z) → z % 65536 ≡ 0
+unfolding fits-digits key-width
+fits-short n z l f =
+    sym (NatL.mod-mod-of-dvd 65536 z (subst (λ i. 16 ^ 4 ∣ 16 ^ i) (omega arith) (power-divides 16 positive 4 (4 - n))))
+    ∙ ap (λ y. y % 65536) (eqb→eq (z % 16 ^ (8 - n)) 0 (and-right (ltb z (16 ^ 8)) _ f))
 
 -- the key of the monomial of a key
 pub key-monomial : (n z : ℕ) → n ≤ key-width → z < key-limit → key key-width (monomial-of n z) ≡ z
@@ -178,6 +185,11 @@ fits-monomial n d z l h = same-tests (fits n d (monomial-of n z)) _
     (subst (λ i. T (leb i d)) (sym (degree-monomial n z l f)) (and-right (key-fits key-width n z) _ t)))
     (λ f. absurd (T-not (key-fits key-width n z) f (and-left (key-fits key-width n z) _ t))))
 
+-- the first digit is at most the sum of all
+first-digit : (w n z : ℕ) → z / 16 ^ w ≤ degree (decode 16 (suc w) (suc n) z)
+unfolding decode degree
+first-digit w n z = omega arith
+
 -- and where one of degree at most 15 fits, so does its key
 pub fits-key : (n d z : ℕ) → n ≤ key-width → d < 16 → T (fits n d (monomial-of n z)) → T (key-fits key-width n z)
 fits-key n d z l s = by-fits (λ k. T (fits n d k) → T (key-fits key-width n z)) n z (λ f t. f)
@@ -185,8 +197,8 @@ fits-key n d z l s = by-fits (λ k. T (fits n d k) → T (key-fits key-width n z
     (fits-all z (small (all-digits n d z t .1))))
   where
     small : degree (key-exponents key-width key-width z) ≤ d → z < key-limit
-    small h = unfold key-limit key-width decode degree in
-        let q : z / 16 ^ (key-width - 1) < 16 = omega arith in NatL.div-lt-iff-lt-mul (lit< tt) .0 q
+    small h = unfold key-limit key-width in
+        let q : z / 16 ^ 7 < 16 = omega (arith, s, h, first-digit 7 7 z) in NatL.div-lt-iff-lt-mul (lit< tt) .0 q
 
 module _ (n y z : ℕ) (l : n ≤ key-width) (f : T (key-fits key-width n y)) (g : T (key-fits key-width n z)) where
   pub less-monomials : less (monomial-of n y) (monomial-of n z) ≡ ltb y z

@@ -202,6 +202,10 @@ term-by-term m = record {
 unfoldable pub common-denominator : ℕ
 common-denominator = 212837625
 
+-- whether it serves models in n variables: above four the term-by-term rule stays (request 9)
+unfoldable pub has-exact : (n : ℕ) → Bool
+has-exact n = leb n 4
+
 -- the polynomial part's integral times that: a term with any odd exponent gives 0, others c × 2^n × that divided by the
 -- product of (exponent + 1), which leaves nothing
 unfoldable pub integral-parts : Model → ℤ
@@ -219,22 +223,30 @@ unfoldable pub zero-mixed : Mixed
 zero-mixed = record { quotient = pos 0; remainder = 0 }
 
 -- the polynomial part's integral, in units: q is rounded down, r from 0 to 212,837,624
-unfoldable pub exact-part : Model → Mixed
-exact-part m = record {
+unfoldable pub mixed-part : Model → Mixed
+mixed-part m = record {
   quotient = floor (integral-parts m) common-denominator;
   remainder = remainder (integral-parts m) common-denominator;
 }
+
+-- above four variables q and r are 0
+unfoldable pub exact-part : Model → Mixed
+exact-part m = elim (has-exact (m .vars)) [ true ↦ mixed-part m | false ↦ zero-mixed ]
 
 -- 1 if r is not 0
 unfoldable pub one-if-any : ℕ → ℕ
 one-if-any r = elim (eqb r 0) [ true ↦ 0 | false ↦ 1 ]
 
 -- low: q - 2^n × e; high: q + 2^n × e, plus 1 if r is not 0
-unfoldable pub integral : Model → Ends
-integral m = record {
-  low = exact-part m .quotient -ℤ pos (2 ^ m .vars * m .radius);
-  high = exact-part m .quotient +ℤ pos (2 ^ m .vars * m .radius) +ℤ pos (one-if-any (exact-part m .remainder));
+unfoldable pub exact-ends : Model → Ends
+exact-ends m = record {
+  low = mixed-part m .quotient -ℤ pos (2 ^ m .vars * m .radius);
+  high = mixed-part m .quotient +ℤ pos (2 ^ m .vars * m .radius) +ℤ pos (one-if-any (mixed-part m .remainder));
 }
+
+-- above four variables the ends of the term-by-term rule
+unfoldable pub integral : Model → Ends
+integral m = elim (has-exact (m .vars)) [ true ↦ exact-ends m | false ↦ term-by-term m ]
 
 -- what a call answers: the ends, and the polynomial part's integral with its remainder
 pub record Integral : Type 0 where

@@ -9,6 +9,7 @@ ghost use Rattle.c_books.specs.HandedBooks.{«step-places», «handed-steps», 
 ghost use Rattle.c_books.specs.HandedBooks.{«handed-book»};
 ghost use Rattle.exports.specs.WriteCalls.{«book-fits», «written-state», «stored-written»};
 ghost use Rattle.exports.specs.WriteCalls.{«write-state», «called-write», «called-rewrite»};
+use model_types::Key;
 use super::MISUSED;
 use model_types::Verdict;
 use sheet_book::Written;
@@ -57,7 +58,7 @@ pub extern "C" fn hechroung_write(
     ns: &[u8],
     counts: &[usize],
     radii: &[u64],
-    keys: &[u16],
+    keys: &[Key],
     coefficients: &[i64],
     fields: &[u8],
     values: &[i64],

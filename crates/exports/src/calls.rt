@@ -6,6 +6,7 @@ ghost use Rattle.model_types.specs.ModelStruct.{view};
 ghost use Rattle.model_slices.specs.HandedModels.{handed, «model-room»};
 ghost use Rattle.c_calls.specs.CallCodes.{«model-call», «ends-call», «call-fits», «ends-call-fits»};
 ghost use Rattle.c_calls.specs.CallCodes.{«called-state», called, «ends-state», «called-ends»};
+use model_types::Key;
 use super::MISUSED;
 
 // The code of a product, which is made from the slices.
@@ -22,14 +23,14 @@ pub extern "C" fn hechroung_call(
     n1: u8,
     count1: usize,
     radius1: u64,
-    keys1: &[u16],
+    keys1: &[Key],
     coefficients1: &[i64],
     n2: u8,
     count2: usize,
     radius2: u64,
-    keys2: &[u16],
+    keys2: &[Key],
     coefficients2: &[i64],
-    keys: &mut [u16],
+    keys: &mut [Key],
     coefficients: &mut [i64],
     numbers: &mut [u64],
 ) -> u8
@@ -91,19 +92,23 @@ pub extern "C" fn hechroung_ends(
     n: u8,
     count: usize,
     radius: u64,
-    keys: &[u16],
+    keys: &[Key],
     coefficients: &[i64],
     x1: i64,
     x2: i64,
     x3: i64,
     x4: i64,
+    x5: i64,
+    x6: i64,
+    x7: i64,
+    x8: i64,
     ends: &mut [i64],
 ) -> u8
     ensures { λ r. ⌜ ends-state r (now (ends .exit))
         ≡ called-ends
         (ends-call-fits code count (length (now (keys .entry))) (length (now (coefficients .entry)))
         (length (now (ends .entry))))
-        (ends-call code (x1 ∷ x2 ∷ x3 ∷ x4 ∷ [])
+        (ends-call code (x1 ∷ x2 ∷ x3 ∷ x4 ∷ x5 ∷ x6 ∷ x7 ∷ x8 ∷ [])
         (view (handed n count radius (now (keys .entry)) (now (coefficients .entry)))))
         (now (ends .entry)) ⌝ }
 {
@@ -112,6 +117,6 @@ pub extern "C" fn hechroung_ends(
         return MISUSED;
     }
     let f = model_slices::taken(n, count, radius, keys, coefficients);
-    let b = c_calls::ends_call(code, [x1, x2, x3, x4], f);
+    let b = c_calls::ends_call(code, [x1, x2, x3, x4, x5, x6, x7, x8], f);
     c_calls::store_ends(b, ends)
 }

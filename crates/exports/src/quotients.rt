@@ -5,6 +5,7 @@ ghost use Rattle.model_slices.specs.HandedModels.{«model-room»};
 ghost use Rattle.c_books.specs.HandedBooks.{«model-places»};
 ghost use Rattle.c_calls.specs.CallCodes.{«called-state», called};
 ghost use Rattle.c_quotients.specs.HandedQuotients.{«quotient-fits», «handed-quotient»};
+use model_types::Key;
 use super::MISUSED;
 
 // f / g, checked from a proposal h, w: the refusal's number, 0 without one, or MISUSED. The four models are handed over
@@ -16,9 +17,9 @@ pub extern "C" fn hechroung_quotient(
     ns: &[u8],
     counts: &[usize],
     radii: &[u64],
-    keys: &[u16],
+    keys: &[Key],
     coefficients: &[i64],
-    outkeys: &mut [u16],
+    outkeys: &mut [Key],
     outcoefficients: &mut [i64],
     outnumbers: &mut [u64],
 ) -> u8

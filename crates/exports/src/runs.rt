@@ -14,6 +14,7 @@ ghost use Rattle.c_books.specs.HandedBooks.{«step-places», «handed-steps», 
 ghost use Rattle.c_books.specs.HandedBooks.{«handed-book»};
 ghost use Rattle.exports.specs.WriteCalls.{«book-fits»};
 ghost use Rattle.exports.specs.SheetCalls.{«six-ends», «run-state», «stored-summary», «called-run»};
+use model_types::Key;
 use super::MISUSED;
 use super::books::book_fits;
 use sheet::Ends;
@@ -45,7 +46,7 @@ fn store_ends(range: Ends, integral: Ends, exact: Exact, ends: &mut [i64])
 // What a run answers goes into the slices; the refusal's number.
 pub fn store_summary(
     s: Summary,
-    keys: &mut [u16],
+    keys: &mut [Key],
     coefficients: &mut [i64],
     numbers: &mut [u64],
     ends: &mut [i64],
@@ -73,7 +74,7 @@ pub fn store_summary(
 #[no_mangle]
 pub extern "C" fn hechroung_run(
     sheet: &[u8],
-    keys: &mut [u16],
+    keys: &mut [Key],
     coefficients: &mut [i64],
     numbers: &mut [u64],
     ends: &mut [i64],
@@ -105,11 +106,11 @@ pub extern "C" fn hechroung_run_book(
     ns: &[u8],
     counts: &[usize],
     radii: &[u64],
-    bookkeys: &[u16],
+    bookkeys: &[Key],
     bookcoefficients: &[i64],
     fields: &[u8],
     values: &[i64],
-    keys: &mut [u16],
+    keys: &mut [Key],
     coefficients: &mut [i64],
     numbers: &mut [u64],
     ends: &mut [i64],

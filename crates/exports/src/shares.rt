@@ -16,6 +16,7 @@ ghost use Rattle.c_shares.specs.HandedShares.{«report-room»};
 ghost use Rattle.exports.specs.WriteCalls.{«book-fits»};
 ghost use Rattle.exports.specs.SheetCalls.{«run-state»};
 ghost use Rattle.exports.specs.ShareCalls.{«report-state», «stored-report», «called-report»};
+use model_types::Key;
 use super::MISUSED;
 use super::books::book_fits;
 use super::runs::store_summary;
@@ -24,7 +25,7 @@ use sheet::Report;
 // What a run with its rows answers goes into the slices; the refusal's number.
 fn store_report(
     r: Report,
-    keys: &mut [u16],
+    keys: &mut [Key],
     coefficients: &mut [i64],
     numbers: &mut [u64],
     ends: &mut [i64],
@@ -48,7 +49,7 @@ fn store_report(
 #[no_mangle]
 pub extern "C" fn hechroung_shares(
     sheet: &[u8],
-    keys: &mut [u16],
+    keys: &mut [Key],
     coefficients: &mut [i64],
     numbers: &mut [u64],
     ends: &mut [i64],
@@ -86,11 +87,11 @@ pub extern "C" fn hechroung_shares_book(
     ns: &[u8],
     counts: &[usize],
     radii: &[u64],
-    bookkeys: &[u16],
+    bookkeys: &[Key],
     bookcoefficients: &[i64],
     fields: &[u8],
     values: &[i64],
-    keys: &mut [u16],
+    keys: &mut [Key],
     coefficients: &mut [i64],
     numbers: &mut [u64],
     ends: &mut [i64],

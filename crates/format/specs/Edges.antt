@@ -7,7 +7,7 @@ use lib.IntN.{pos, negsuc, negℤ}
 use lib.ListN.{replicate, length}
 use Rattle.fixed.specs.Fixed.{U}
 use Rattle.calculus.specs.Refusal.{uncertified, done, stopped}
-use Rattle.calculus.specs.Forms.{at-key, model, ends, mixed, gives}
+use Rattle.calculus.specs.Forms.{at-key, at-long-key, model, ends, mixed, gives}
 use Rattle.format.specs.Bytes.{join}
 use Rattle.format.specs.HeldBook.{Held-model, Held-book}
 use Rattle.format.specs.Format.{longest, returned-book, opened, run-sheet, written}
@@ -36,7 +36,14 @@ edges =
     ∷ edge 2 0 ("01 00 00 00 00 00 00 00" ∷ "01 02 00 01 00 00 4D 4A" ∷ [])
     -- n, d and the counts just outside their limits; the wrong offset that comes with some of them is not yet seen
     ∷ edge 3 0 ("01 00 00 00 00 00 00 00" ∷ "00 02 00 01 00 00 4D 4B" ∷ [])
+    ∷ edge 3 0 ("01 00 00 00 00 00 00 00" ∷ "00 02 00 01 00 00 4D 57" ∷ [])
+    ∷ edge 3 0 ("01 00 00 00 00 00 00 00" ∷ "09 02 00 01 00 00 4D 57" ∷ [])
+    -- n of 1 to 4 with the one mark, n of 5 to 8 with the other
+    ∷ edge 0 0 ("01 00 00 00 00 00 00 00" ∷ "04 02 00 01 00 00 4D 4B" ∷ [])
     ∷ edge 3 0 ("01 00 00 00 00 00 00 00" ∷ "05 02 00 01 00 00 4D 4B" ∷ [])
+    ∷ edge 3 0 ("01 00 00 00 00 00 00 00" ∷ "04 02 00 01 00 00 4D 57" ∷ [])
+    ∷ edge 0 0 ("01 00 00 00 00 00 00 00" ∷ "05 02 00 01 00 00 4D 57" ∷ [])
+    ∷ edge 0 0 ("01 00 00 00 00 00 00 00" ∷ "08 02 00 01 00 00 4D 57" ∷ [])
     ∷ edge 3 0 ("01 00 00 00 00 00 00 00" ∷ "01 00 00 01 00 00 4D 4B" ∷ [])
     ∷ edge 3 0 ("01 00 00 00 00 00 00 00" ∷ "01 10 00 01 00 00 4D 4B" ∷ [])
     ∷ edge 3 0 ("01 00 00 00 00 00 00 00" ∷ "01 02 11 01 00 00 4D 4B" ∷ [])
@@ -147,6 +154,15 @@ pub edge-antiderivatives : (run-sheet (hex ("02 00 00 00 02 00 00 05 00 00 00 00
 unfolding reads sheet-forms
 edge-antiderivatives = (refl, refl)
 
+-- ---- long keys
+-- x1 + 3 x8^2 in eight variables, order 2: keys of four bytes, ends by the term-by-term rule, q and r 0
+pub edge-eight : run-sheet (hex ("00 00 00 00 02 02 00 00 00 03 00 00 00 00 00 00 10 01 00 00 00" ∷
+    "00 00 00 00 00 00 00 00" ∷ "08 02 01 01 15 00 4D 57" ∷ []))
+    ≡ gives (model 8 0 (at-long-key 8 0x00000002 (pos 3) ∷ at-long-key 8 0x10000000 (pos 1) ∷ []))
+    (ends (negℤ (pos 1)) (pos 4)) (ends (pos 256) (pos 256)) (mixed (pos 0) 0)
+unfolding reads sheet-forms
+edge-eight = refl
+
 -- ---- records
 -- the records of a sheet whose run would be refused: two models and three steps, and no trailer
 pub edge-records : opened (hex ("02 00 00 00 00" ∷ "00 00 00 40 00" ∷ "00 00 00 00 00 00 00 00" ∷
@@ -175,7 +191,7 @@ unfoldable pub square-book : Held-book
 square-book = record {
   n = 1;
   d = 2;
-  models = record { n = 1; radius = 0; terms = record { key = 0x2000; coefficient = negsuc 0 } ∷ [] } ∷ [];
+  models = record { n = 1; radius = 0; terms = record { key = 0x20000000; coefficient = negsuc 0 } ∷ [] } ∷ [];
   steps = record { code = 0; a = 0; b = 0; v = 0; value = pos 0 } ∷ [];
 }
 
@@ -203,10 +219,10 @@ unfoldable pub numbers-from : (a k : ℕ) → List ℕ
 numbers-from a zero = []
 numbers-from a (suc k) = a ∷ numbers-from (suc a) k
 
--- 64 terms in the last two of four variables
+-- 64 terms in the last two of eight variables
 unfoldable pub largest-model : Held-model
 largest-model = record {
-  n = 4;
+  n = 8;
   radius = 0;
   terms = map (λ z. record { key = z; coefficient = pos 1 })
       (join (map (λ i. numbers-from (16 * i) 8) (numbers-from 0 8)));
@@ -215,7 +231,7 @@ largest-model = record {
 -- 16 of them and 64 steps
 unfoldable pub largest-book : Held-book
 largest-book = record {
-  n = 4;
+  n = 8;
   d = 15;
   models = replicate 16 largest-model;
   steps = replicate 64 (record { code = 0; a = 0; b = 0; v = 0; value = pos 0 });

@@ -1,8 +1,8 @@
 -- The bytes of a sheet: reading by tests 1 to 6, stepping through its records, writing, and its run.
-use mathlib.Core.Bool.{Bool, _&&_}
+use mathlib.Core.Bool.{Bool, cond, _&&_, _||_}
 use mathlib.Core.List.{List, [], _∷_, _++_, map}
 use mathlib.Core.Option.{Option}
-use Prim.Native.Nat.{ℕ, zero, suc, _+_, _-_, _*_}
+use Prim.Native.Nat.{ℕ, zero, suc, _+_, _-_, _*_, _/_}
 use lib.Dec.{eqb, leb}
 use lib.ListN.{length, take, drop, getElem?}
 use Rattle.calculus.specs.Model.{between}
@@ -19,9 +19,17 @@ use Rattle.format.specs.HeldBook.{held-model-sound, held-step-sound, hel
 abbrev pub head-length : ℕ
 head-length = 5
 
+-- keys are short with n of 1 to 4, long with n of 5 to 8
+unfoldable pub short-keys : (n : ℕ) → Bool
+short-keys n = leb n 4
+
+-- of a key: the first half of its 32 bits where it is short, since the other exponents are 0
+unfoldable pub key-length : (n : ℕ) → ℕ
+key-length n = cond (short-keys n) 2 4
+
 -- of a term: key and coefficient
-abbrev pub term-length : ℕ
-term-length = 6
+unfoldable pub term-length : (n : ℕ) → ℕ
+term-length n = key-length n + 4
 
 -- of a step
 abbrev pub step-length : ℕ
@@ -31,23 +39,27 @@ step-length = 8
 abbrev pub trailer-length : ℕ
 trailer-length = 8
 
--- ---- models: radius (4 bytes), term count (1), then per term the key (2) and the coefficient (4)
+-- ---- models: radius (4 bytes), term count (1), then per term the key (2, or 4) and the coefficient (4)
+-- the key at the head
+unfoldable pub read-key : (n : ℕ) → List ℕ → ℕ
+read-key n s = cond (short-keys n) (u16 s * 65536) (u32 s)
+
 -- the term at the head
-unfoldable pub read-term : List ℕ → Held-term
-read-term s = record { key = u16 s; coefficient = signed (u32 (drop 2 s)) }
+unfoldable pub read-term : (n : ℕ) → List ℕ → Held-term
+read-term n s = record { key = read-key n s; coefficient = signed (u32 (drop (key-length n) s)) }
 
 -- c terms
-unfoldable pub read-terms : (c : ℕ) → List ℕ → List Held-term
-read-terms zero s = []
-read-terms (suc c) s = read-term s ∷ read-terms c (drop term-length s)
+unfoldable pub read-terms : (n c : ℕ) → List ℕ → List Held-term
+read-terms n zero s = []
+read-terms n (suc c) s = read-term n s ∷ read-terms n c (drop (term-length n) s)
 
 -- the model at the head
 unfoldable pub read-model : (n : ℕ) → List ℕ → Held-model
-read-model n s = record { n = n; radius = u32 s; terms = read-terms (byte 4 s) (drop head-length s) }
+read-model n s = record { n = n; radius = u32 s; terms = read-terms n (byte 4 s) (drop head-length s) }
 
 -- the length of its record
-unfoldable pub model-length : List ℕ → ℕ
-model-length s = head-length + term-length * byte 4 s
+unfoldable pub model-length : (n : ℕ) → List ℕ → ℕ
+model-length n s = head-length + term-length n * byte 4 s
 
 -- test 5 of c more models, after those read before: the first whose record does not fit or that breaks a rule decides,
 -- and after the last record nothing may be left
@@ -56,8 +68,8 @@ read-models book before zero [] = done before
 read-models book before zero (b ∷ s) = stopped bad-model (length before)
 read-models book before (suc c) s =
     let m : Held-model = read-model (book .vars) s in
-    require-at (length before) (leb (model-length s) (length s) && held-model-sound book m) bad-model
-    (read-models book (before ++ (m ∷ [])) c (drop (model-length s) s))
+    require-at (length before) (leb (model-length (book .vars) s) (length s) && held-model-sound book m) bad-model
+    (read-models book (before ++ (m ∷ [])) c (drop (model-length (book .vars) s) s))
 
 -- ---- steps: code, a, b, v (a byte each), value (4)
 -- the step at the head
@@ -70,8 +82,20 @@ unfoldable pub read-steps : (c : ℕ) → List ℕ → List Held-step
 read-steps zero s = []
 read-steps (suc c) s = read-step s ∷ read-steps c (drop step-length s)
 
--- ---- trailer: n, d, model count, step count (a byte each), offset of the first step (2), hex 4D 4B
--- what it says: n, d, the counts, the offset, and whether the mark stands
+-- ---- trailer: n, d, model count, step count (a byte each), offset of the first step (2), hex 4D 4B or 4D 57
+-- the last byte of the mark of short keys
+abbrev pub short-mark : ℕ
+short-mark = 0x4B
+
+-- of long ones
+abbrev pub long-mark : ℕ
+long-mark = 0x57
+
+-- that of n variables
+unfoldable pub mark-of : (n : ℕ) → ℕ
+mark-of n = cond (short-keys n) short-mark long-mark
+
+-- what it says: n, d, the counts, the offset, whether one of the marks stands, and its last byte
 pub record Trailer : Type 0 where
   pub n : ℕ
   pub d : ℕ
@@ -79,6 +103,7 @@ pub record Trailer : Type 0 where
   pub steps : ℕ
   pub offset : ℕ
   pub marked : Bool
+  pub mark : ℕ
 
 -- the last bytes
 unfoldable pub trailer-of : List ℕ → List ℕ
@@ -92,7 +117,8 @@ read-trailer t = record {
   models = byte 2 t;
   steps = byte 3 t;
   offset = u16 (drop 4 t);
-  marked = eqb (byte 6 t) 0x4D && eqb (byte 7 t) 0x4B;
+  marked = eqb (byte 6 t) 0x4D && (eqb (byte 7 t) short-mark || eqb (byte 7 t) long-mark);
+  mark = byte 7 t;
 }
 
 -- ---- reading
@@ -102,14 +128,18 @@ shortest = 16
 
 -- the largest sheet
 unfoldable pub longest : ℕ
-longest = 6744
+longest = 8792
+
+-- test 3: the limits, and n fits the mark
+unfoldable pub trailer-sound : Trailer → Bool
+trailer-sound t = limits-sound (outline (t .n) (t .d) (t .models) (t .steps)) && eqb (t .mark) (mark-of (t .n))
 
 -- tests 3 to 6 of a sheet with a trailer
 unfoldable pub read-records : List ℕ → Trailer → Result Held-book
 read-records s t =
     let book : Book = outline (t .n) (t .d) (t .models) (t .steps) in
     let steps : List Held-step = read-steps (t .steps) (drop (t .offset) s) in
-    require-at 0 (limits-sound book) bad-limits
+    require-at 0 (trailer-sound t) bad-limits
     (require-at 0 (eqb (t .offset + step-length * t .steps + trailer-length) (length s)) bad-offset
     (read-models book [] (t .models) (take (t .offset) s)
     followed-by (λ models. require-each 0 (held-step-sound book) steps bad-step
@@ -136,9 +166,9 @@ sheet-rows s = reported (read s followed-by (λ h. done (rows-sound (view-book h
 
 -- ---- stepping through a sheet
 -- the bytes of c models
-unfoldable pub model-records : (c : ℕ) → List ℕ → List (List ℕ)
-model-records zero s = []
-model-records (suc c) s = take (model-length s) s ∷ model-records c (drop (model-length s) s)
+unfoldable pub model-records : (n c : ℕ) → List ℕ → List (List ℕ)
+model-records n zero s = []
+model-records n (suc c) s = take (model-length n s) s ∷ model-records n c (drop (model-length n s) s)
 
 -- the bytes of c steps
 unfoldable pub step-records : (c : ℕ) → List ℕ → List (List ℕ)
@@ -149,7 +179,7 @@ step-records (suc c) s = take step-length s ∷ step-records c (drop step-length
 unfoldable pub records : List ℕ → List (List ℕ)
 records s =
     let t : Trailer = read-trailer (trailer-of s) in
-    model-records (t .models) s ++ step-records (t .steps) (drop (t .offset) s)
+    model-records (t .n) (t .models) s ++ step-records (t .steps) (drop (t .offset) s)
 
 -- opening makes tests 1 to 6; the records are then handed out in order, and after these none
 unfoldable pub opened : List ℕ → Result (List (List ℕ))
@@ -164,13 +194,17 @@ unfoldable pub handed-out : List ℕ → (i : ℕ) → Option (List ℕ)
 handed-out s i = getElem? (returned-records s .value) i
 
 -- ---- writing
+-- a key
+unfoldable pub key-bytes : (n : ℕ) → ℕ → List ℕ
+key-bytes n k = cond (short-keys n) (u16-bytes (k / 65536)) (u32-bytes k)
+
 -- a term
-unfoldable pub term-bytes : Held-term → List ℕ
-term-bytes t = u16-bytes (t .key) ++ u32-bytes (bits (t .coefficient))
+unfoldable pub term-bytes : (n : ℕ) → Held-term → List ℕ
+term-bytes n t = key-bytes n (t .key) ++ u32-bytes (bits (t .coefficient))
 
 -- a model
 unfoldable pub model-bytes : Held-model → List ℕ
-model-bytes m = u32-bytes (m .radius) ++ (length (m .terms) ∷ join (map term-bytes (m .terms)))
+model-bytes m = u32-bytes (m .radius) ++ (length (m .terms) ∷ join (map (term-bytes (m .n)) (m .terms)))
 
 -- a step
 unfoldable pub step-bytes : Held-step → List ℕ
@@ -184,7 +218,7 @@ models-bytes h = join (map model-bytes (h .models))
 unfoldable pub trailer-bytes : Held-book → List ℕ
 trailer-bytes h =
     h .n ∷ h .d ∷ length (h .models) ∷ length (h .steps)
-    ∷ (u16-bytes (length (models-bytes h)) ++ (0x4D ∷ 0x4B ∷ []))
+    ∷ (u16-bytes (length (models-bytes h)) ++ (0x4D ∷ mark-of (h .n) ∷ []))
 
 -- the sheet of a book
 unfoldable pub sheet-bytes : Held-book → List ℕ

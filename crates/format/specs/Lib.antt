@@ -10,6 +10,7 @@ pub mod Edges
 pub mod Computing
 -- Laws: numbers in bytes, and what the tests of a held book promise.
 pub mod BytesLaws
+pub mod KeyBytesLaws
 pub mod HeldBookLaws
 pub mod StepFieldLaws
 pub mod SmallLaws

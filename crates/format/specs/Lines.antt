@@ -9,7 +9,7 @@ use lib.IntN.{ℤ, pos, negsuc}
 use lib.ListN.{take}
 use Rattle.polynomial.specs.Polynomial.{Term}
 use Rattle.calculus.specs.Refusal.{number, Result, done, stopped}
-use Rattle.calculus.specs.Operations.{Ends, Mixed}
+use Rattle.calculus.specs.Operations.{Ends, has-exact, Mixed}
 use Rattle.calculus.specs.Book.{Summary}
 use Rattle.format.specs.Bytes.{join}
 use Rattle.format.specs.Format.{longest, run-sheet}
@@ -51,6 +51,10 @@ ends-line word e = line (word ∷ signed-decimal (e .low) ∷ signed-decimal (e 
 unfoldable pub exact-line : Mixed → List ℕ
 exact-line x = line (text "exact" ∷ signed-decimal (x .quotient) ∷ decimal (x .remainder) ∷ [])
 
+-- above four variables there is none
+unfoldable pub exact-lines : (n : ℕ) → Mixed → List ℕ
+exact-lines n x = elim (has-exact n) [ true ↦ exact-line x | false ↦ [] ]
+
 -- `radius` and the radius
 unfoldable pub radius-line : ℕ → List ℕ
 radius-line e = line (text "radius" ∷ decimal e ∷ [])
@@ -65,7 +69,7 @@ lines (done s) =
     radius-line (s .model .radius)
     ++ (join (map term-line (s .model .terms))
     ++ (ends-line (text "range") (s .range)
-    ++ (ends-line (text "integral") (s .integral) ++ exact-line (s .exact))))
+    ++ (ends-line (text "integral") (s .integral) ++ exact-lines (s .model .vars) (s .exact))))
 lines (stopped r i) = refusal-line (number r) i
 
 -- what the program prints: of its input it reads at most one byte more than the largest sheet has

@@ -3,14 +3,18 @@ use mathlib.Core.Path.{_≡_, refl, sym, _∙_, ap, ap₂, subst}
 use mathlib.Core.List.{List, [], _∷_, _++_, map, append-assoc}
 use Prim.Native.Nat.{ℕ, zero, suc, _+_, _≤_, _<_}
 use native.Mathlib.Omega.{arith}
+use lib.Dec.{T}
 use lib.IntN.{pos}
 use lib.ListN.{length, getD, take, drop, length-append, length-map, take-append-drop, List·getD-append, List·getD-map}
 use lib.Seq.{take-at, take-suc, take-length, take-append-le, take-append-add}
 use lib.Seq.{drop-append-add, drop-cons, getD-append-add}
-use Rattle.calculus.specs.Refusal.{done}
+use Rattle.calculus.specs.Refusal.{done, all-from}
+use Rattle.calculus.specs.Book.{Book}
+use Rattle.calculus.specs.TestLaws.{and-left, and-right}
 use Rattle.format.specs.Bytes.{All-bytes, join}
 use Rattle.format.specs.BytesLaws.{join-++}
-use Rattle.format.specs.HeldBook.{Held-model, Held-step, Held-book}
+use Rattle.format.specs.HeldBook.{Held-model, Held-step, Held-book, outline, outline-of, held-model-sound}
+use Rattle.format.specs.SmallLaws.{model-facts}
 use Rattle.format.specs.Format.{step-length, trailer-length, model-length}
 use Rattle.format.specs.Format.{trailer-of, read-trailer, read, records}
 use Rattle.format.specs.Format.{model-bytes, step-bytes, models-bytes}
@@ -50,6 +54,15 @@ pub getD-any : {A : Type 0} (l : List A) (i : ℕ) (d c : A) → i < length l �
 getD-any [] i d c h = absurd (omega arith)
 getD-any (x ∷ l) zero d c h = refl
 getD-any (x ∷ l) (suc i) d c h = getD-any l i d c (omega arith)
+
+-- models that pass have the n of their book
+models-vars : (b : Book) (i : ℕ) (ms : List Held-model) (d : Held-model) (j : ℕ)
+    → T (all-from i (λ i. held-model-sound b) ms) → j < length ms → getD ms j d .n ≡ b .vars
+unfolding all-from
+models-vars b i [] d j h l = absurd (omega arith)
+models-vars b i (m ∷ ms) d zero h l = model-facts b m (and-left (held-model-sound b m) _ h) .same-n
+models-vars b i (m ∷ ms) d (suc j) h l =
+    models-vars b (suc i) ms d j (and-right (held-model-sound b m) _ h) (omega arith)
 
 -- ---- of a sheet that is read
 module _ (s : List ℕ) (h : Held-book) (y : All-bytes s) (e : read s ≡ done h) where
@@ -104,13 +117,24 @@ module _ (s : List ℕ) (h : Held-book) (y : All-bytes s) (e : read s ≡ done h
       ∙ getD-any A i [] (model-bytes some-model) (subst (λ k. i < k) (sym (length-map (h .models) model-bytes)) l)
       ∙ List·getD-map model-bytes (h .models) i some-model
 
+  -- a model has the n of the book
+  model-vars : (i : ℕ) → i < length (h .models) → getD (h .models) i some-model .n ≡ h .n
+  unfolding outline-of outline
+  model-vars i l = models-vars (outline-of h) 0 (h .models) some-model i (read-passes s h e .models) l
+
+  -- which the trailer says
+  pub trailer-vars : read-trailer (trailer-of s) .n ≡ h .n
+  unfolding said
+  trailer-vars = ap (λ x. read-trailer (trailer-of x) .n) (sym (read-sheet s h e y))
+      ∙ ap (λ t. t .n) (sheet-trailer h (read-passes s h e))
+
   -- a model's record is found by its term count,
   pub model-here : (i : ℕ) → i < length (h .models)
-      → take (model-length (drop (record-place s i) s)) (drop (record-place s i) s) ≡ getD (records s) i []
+      → take (model-length (h .n) (drop (record-place s i) s)) (drop (record-place s i) s) ≡ getD (records s) i []
   model-here i l =
-      ap (λ x. take (model-length x) x)
+      ap (λ x. take (model-length (h .n) x) x)
       (here i (omega (arith, records-count s h y e)) ∙ ap (λ r. r ++ rest) (model-in i l))
-      ∙ take-at (model-bytes m) rest _ (sym (model-length-back m rest))
+      ∙ take-at (model-bytes m) rest _ (sym (model-length-back (h .n) m rest (model-vars i l)))
       ∙ sym (model-in i l)
     where
       rest : List ℕ
@@ -121,10 +145,10 @@ module _ (s : List ℕ) (h : Held-book) (y : All-bytes s) (e : read s ≡ done h
 
   -- and is as long as that says
   pub model-size : (i : ℕ) → i < length (h .models)
-      → model-length (drop (record-place s i) s) ≡ length (getD (records s) i [])
+      → model-length (h .n) (drop (record-place s i) s) ≡ length (getD (records s) i [])
   model-size i l =
-      ap model-length (here i (omega (arith, records-count s h y e)) ∙ ap (λ r. r ++ rest) (model-in i l))
-      ∙ model-length-back (getD (h .models) i some-model) rest
+      ap (model-length (h .n)) (here i (omega (arith, records-count s h y e)) ∙ ap (λ r. r ++ rest) (model-in i l))
+      ∙ model-length-back (h .n) (getD (h .models) i some-model) rest (model-vars i l)
       ∙ ap length (sym (model-in i l))
     where
       rest : List ℕ

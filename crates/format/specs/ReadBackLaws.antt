@@ -1,9 +1,10 @@
 -- What is written is read again.
 use mathlib.Core.Path.{_≡_, refl, sym, _∙_, ap, ap₂, subst}
-use mathlib.Core.Bool.{true}
+use mathlib.Core.Bool.{Bool, true, false, cond, _||_}
 use mathlib.Core.List.{List, [], _∷_, _++_, map, append-assoc, append-nil}
-use Prim.Native.Nat.{ℕ, suc, _+_, _-_, _*_, _^_, _<_, _≤_}
+use Prim.Native.Nat.{ℕ, suc, _+_, _-_, _*_, _%_, _^_, _<_, _≤_}
 use native.Mathlib.Omega.{arith}
+use native.Mathlib.Nat as NatL
 use lib.Dec.{T, eqb, leb, le→leb, eqb-refl}
 use lib.IntN.{ℤ, natAbs}
 use lib.ListN.{length, take, drop, length-append, length-replicate}
@@ -24,29 +25,37 @@ use Rattle.format.specs.Bytes.{join, u32, u16-bytes, u32-bytes, signed, 
 use Rattle.format.specs.HeldBook.{Held-term, Held-model, Held-step, Held-book, view-held-term}
 use Rattle.format.specs.HeldBook.{outline, outline-of}
 use Rattle.format.specs.HeldBook.{held-model-sound, held-step-sound, Held-passes}
-use Rattle.format.specs.Format.{head-length, term-length, step-length, trailer-length}
-use Rattle.format.specs.Format.{read-term, read-terms, read-model, model-length, read-models}
+use Rattle.format.specs.Format.{head-length, short-keys, key-length, term-length, step-length, trailer-length}
+use Rattle.format.specs.Format.{read-key, read-term, read-terms, read-model, model-length, read-models}
 use Rattle.format.specs.Format.{read-step, read-steps}
-use Rattle.format.specs.Format.{Trailer, trailer-of, read-trailer, shortest, longest, read-records, read}
-use Rattle.format.specs.Format.{term-bytes, model-bytes, step-bytes, models-bytes, trailer-bytes, sheet-bytes}
+use Rattle.format.specs.Format.{Trailer, short-mark, long-mark, mark-of, trailer-sound, trailer-of, read-trailer, shortest, longest, read-records, read}
+use Rattle.format.specs.Format.{key-bytes, term-bytes, model-bytes, step-bytes, models-bytes, trailer-bytes, sheet-bytes}
 use Rattle.format.specs.Format.{write}
 use Rattle.format.specs.BytesLaws.{read-u16, read-u32, signed-bits, bits-below}
+use Rattle.format.specs.KeyBytesLaws.{term-parts, term-most, length-key, key-back, key-rest}
 use Rattle.format.specs.HeldBookLaws.{In-limits, in-limits, Held-done, held-tested-done}
 use Rattle.format.specs.SmallLaws.{Model-facts, model-facts, Term-facts, term-facts, Step-facts, step-facts}
 
 -- ---- lengths
-pub length-terms : (ts : List Held-term) → length (join (map term-bytes ts)) ≡ term-length * length ts
-unfolding join term-bytes u16-bytes u32-bytes
-length-terms [] = refl
-length-terms (t ∷ ts) = omega (arith, length-terms ts)
+pub length-term : (n : ℕ) (t : Held-term) → length (term-bytes n t) ≡ term-length n
+unfolding term-bytes u32-bytes
+length-term n t = length-append (key-bytes n (t .key)) (u32-bytes (bits (t .coefficient)))
+    ∙ ap (λ k. k + 4) (length-key n (t .key)) ∙ sym (term-parts n)
 
-pub length-term : (t : Held-term) → length (term-bytes t) ≡ term-length
-unfolding term-bytes u16-bytes u32-bytes
-length-term t = refl
+pub length-terms : (n : ℕ) (ts : List Held-term) → length (join (map (term-bytes n) ts)) ≡ term-length n * length ts
+unfolding join
+length-terms n [] = sym (NatL.mul-zero (term-length n))
+length-terms n (t ∷ ts) = omega (
+  arith,
+  length-append (term-bytes n t) (join (map (term-bytes n) ts)),
+  length-term n t,
+  length-terms n ts,
+  NatL.mul-suc (term-length n) (length ts),
+)
 
-pub length-model : (m : Held-model) → length (model-bytes m) ≡ head-length + term-length * length (m .terms)
+pub length-model : (m : Held-model) → length (model-bytes m) ≡ head-length + term-length (m .n) * length (m .terms)
 unfolding model-bytes u32-bytes
-length-model m = omega (arith, length-terms (m .terms))
+length-model m = omega (arith, length-terms (m .n) (m .terms))
 
 pub length-steps : (l : List Held-step) → length (join (map step-bytes l)) ≡ step-length * length l
 unfolding join step-bytes u32-bytes
@@ -57,35 +66,50 @@ pub length-trailer : (h : Held-book) → length (trailer-bytes h) ≡ trailer-le
 unfolding trailer-bytes u16-bytes
 length-trailer h = refl
 
+-- ---- the mark is one of the two
+pub mark-known : (n : ℕ) → (eqb (mark-of n) short-mark || eqb (mark-of n) long-mark) ≡ true
+unfolding mark-of
+mark-known n = go (short-keys n)
+  where
+    go : (b : Bool) → (eqb (cond b short-mark long-mark) short-mark || eqb (cond b short-mark long-mark) long-mark) ≡ true
+    go true = refl
+    go false = refl
+
 -- ---- terms
 term-is : (t : Held-term) (k : ℕ) (z : ℤ) → k ≡ t .key → z ≡ t .coefficient → record { key = k; coefficient = z } ≡ t
 term-is t k z p q = rw (p, q)
 
-term-back : (t : Held-term) (r : List ℕ) → t .key < key-limit → natAbs (t .coefficient) ≤ span-limit
-    → read-term (term-bytes t ++ r) ≡ t
-unfolding read-term term-bytes u16-bytes
-term-back t r h k = term-is t _ _ (read-u16 (t .key) _ (key-word (t .key) h))
-    (ap signed (read-u32 (bits (t .coefficient)) r (bits-below _ small)) ∙ signed-bits _ small)
+term-back : (n : ℕ) (t : Held-term) (r : List ℕ) → t .key < key-limit → (T (short-keys n) → t .key % 65536 ≡ 0)
+    → natAbs (t .coefficient) ≤ span-limit → read-term n (term-bytes n t ++ r) ≡ t
+unfolding read-term term-bytes
+term-back n t r h z k = term-is t _ _ (ap (read-key n) assoc ∙ key-back n (t .key) _ (key-word (t .key) h) z)
+    (ap (λ s. signed (u32 (drop (key-length n) s))) assoc
+    ∙ ap (λ s. signed (u32 s)) (key-rest n (t .key) (u32-bytes (bits (t .coefficient)) ++ r))
+    ∙ ap signed (read-u32 (bits (t .coefficient)) r (bits-below _ small)) ∙ signed-bits _ small)
   where
+    assoc : key-bytes n (t .key) ++ u32-bytes (bits (t .coefficient)) ++ r
+        ≡ key-bytes n (t .key) ++ (u32-bytes (bits (t .coefficient)) ++ r)
+    assoc = append-assoc (key-bytes n (t .key)) _ r
+
     small : natAbs (t .coefficient) < 2 ^ 31
     small = omega (arith, span-four-bytes)
 
 terms-back : (n d : ℕ) (ts : List Held-term) (r : List ℕ) → n ≤ key-width → d ≤ 15
     → T (every (λ k c. fits n d k) (map (view-held-term n) ts)) → size (map (view-held-term n) ts) ≤ span-limit
-    → read-terms (length ts) (join (map term-bytes ts) ++ r) ≡ ts
+    → read-terms n (length ts) (join (map (term-bytes n) ts) ++ r) ≡ ts
 unfolding read-terms join
 terms-back n d [] r ln ld h z = refl
 terms-back n d (t ∷ ts) r ln ld h z = ap₂ _∷_
-    (ap read-term assoc ∙ term-back t (later ++ r) (f .key) (omega (arith, f .coefficient)))
-    (ap (λ s. read-terms (length ts) (drop term-length s)) assoc
-    ∙ ap (read-terms (length ts)) (drop-at (term-bytes t) (later ++ r) term-length (length-term t))
+    (ap (read-term n) assoc ∙ term-back n t (later ++ r) (f .key) (f .short) (omega (arith, f .coefficient)))
+    (ap (λ s. read-terms n (length ts) (drop (term-length n) s)) assoc
+    ∙ ap (read-terms n (length ts)) (drop-at (term-bytes n t) (later ++ r) (term-length n) (length-term n t))
     ∙ terms-back n d ts r ln ld (f .fitting-rest) (omega (arith, f .size-rest)))
   where
     later : List ℕ
-    later = join (map term-bytes ts)
+    later = join (map (term-bytes n) ts)
 
-    assoc : term-bytes t ++ later ++ r ≡ term-bytes t ++ (later ++ r)
-    assoc = append-assoc (term-bytes t) later r
+    assoc : term-bytes n t ++ later ++ r ≡ term-bytes n t ++ (later ++ r)
+    assoc = append-assoc (term-bytes n t) later r
 
     f : Term-facts n d t ts
     f = term-facts n d t ts ln ld h
@@ -96,16 +120,23 @@ model-is : (m : Held-model) (n e : ℕ) (ts : List Held-term) → n ≡ m .n →
 model-is m n e ts p q r = rw (p, q, r)
 
 -- the count stands behind the radius
-pub model-length-back : (m : Held-model) (r : List ℕ) → model-length (model-bytes m ++ r) ≡ length (model-bytes m)
+pub model-length-back : (n : ℕ) (m : Held-model) (r : List ℕ) → m .n ≡ n
+    → model-length n (model-bytes m ++ r) ≡ length (model-bytes m)
 unfolding model-length model-bytes u32-bytes
-model-length-back m r = omega (arith, length-terms (m .terms))
+model-length-back n m r e = omega (
+  arith,
+  length-terms (m .n) (m .terms),
+  ap (λ i. term-length i * length (m .terms)) e,
+)
 
-model-fits : (m : Held-model) (r : List ℕ) → T (leb (model-length (model-bytes m ++ r)) (length (model-bytes m ++ r)))
-model-fits m r = le→leb (model-length (model-bytes m ++ r)) (length (model-bytes m ++ r))
-    (omega (arith, model-length-back m r, length-append (model-bytes m) r))
+model-fits : (n : ℕ) (m : Held-model) (r : List ℕ) → m .n ≡ n
+    → T (leb (model-length n (model-bytes m ++ r)) (length (model-bytes m ++ r)))
+model-fits n m r e = le→leb (model-length n (model-bytes m ++ r)) (length (model-bytes m ++ r))
+    (omega (arith, model-length-back n m r e, length-append (model-bytes m) r))
 
-pub model-rest : (m : Held-model) (r : List ℕ) → drop (model-length (model-bytes m ++ r)) (model-bytes m ++ r) ≡ r
-model-rest m r = drop-at (model-bytes m) r _ (sym (model-length-back m r))
+pub model-rest : (n : ℕ) (m : Held-model) (r : List ℕ) → m .n ≡ n
+    → drop (model-length n (model-bytes m ++ r)) (model-bytes m ++ r) ≡ r
+model-rest n m r e = drop-at (model-bytes m) r _ (sym (model-length-back n m r e))
 
 model-back : (b : Book) (m : Held-model) (r : List ℕ) → b .vars ≤ key-width → b .order ≤ 15 → T (held-model-sound b m)
     → read-model (b .vars) (model-bytes m ++ r) ≡ m
@@ -113,7 +144,9 @@ unfolding read-model model-bytes
 model-back b m r ln ld h = model-is m _ _ _ (sym (f .same-n))
     (ap u32 (append-assoc (u32-bytes (m .radius)) _ r)
     ∙ read-u32 (m .radius) _ (omega (arith, f .small-span, span-four-bytes)))
-    (unfold u32-bytes in terms-back (b .vars) (b .order) (m .terms) r ln ld (f .fitting) (omega (arith, f .small-span)))
+    (unfold u32-bytes in
+    (ap (λ i. read-terms (b .vars) (length (m .terms)) (join (map (term-bytes i) (m .terms)) ++ r)) (f .same-n)
+    ∙ terms-back (b .vars) (b .order) (m .terms) r ln ld (f .fitting) (omega (arith, f .small-span))))
   where
     f : Model-facts (b .vars) (b .order) m
     f = model-facts b m h
@@ -125,9 +158,9 @@ unfolding read-models join all-from
 models-back b i before [] ln ld h = ap done (sym (append-nil before))
 models-back b i before (m ∷ ms) ln ld h =
     require-at-passed (length before) _ bad-model _
-    (both (leb (model-length s) (length s)) _ (model-fits m later)
+    (both (leb (model-length (b .vars) s) (length s)) _ (model-fits (b .vars) m later same)
     (subst (λ x. T (held-model-sound b x)) (sym back) (and-left (held-model-sound b m) _ h)))
-    ∙ ap₂ (λ x l. read-models b (before ++ (x ∷ [])) (length ms) l) back (model-rest m later)
+    ∙ ap₂ (λ x l. read-models b (before ++ (x ∷ [])) (length ms) l) back (model-rest (b .vars) m later same)
     ∙ models-back b (suc i) (before ++ (m ∷ [])) ms ln ld (and-right (held-model-sound b m) _ h)
     ∙ ap done (append-assoc before (m ∷ []) ms)
   where
@@ -136,6 +169,9 @@ models-back b i before (m ∷ ms) ln ld h =
 
     s : List ℕ
     s = model-bytes m ++ later
+
+    same : m .n ≡ b .vars
+    same = model-facts b m (and-left (held-model-sound b m) _ h) .same-n
 
     back : read-model (b .vars) s ≡ m
     back = model-back b m later ln ld (and-left (held-model-sound b m) _ h)
@@ -197,7 +233,7 @@ module _ (h : Held-book) (p : Held-passes h) where
   R = trailer-bytes h
 
   models-bounded : (b : Book) (i : ℕ) (ms : List Held-model) → T (all-from i (λ i. held-model-sound b) ms)
-      → length (join (map model-bytes ms)) ≤ 389 * length ms
+      → length (join (map model-bytes ms)) ≤ 517 * length ms
   unfolding join all-from
   models-bounded b i [] t = omega arith
   models-bounded b i (m ∷ ms) t = omega (
@@ -205,6 +241,7 @@ module _ (h : Held-book) (p : Held-passes h) where
     models-bounded b (suc i) ms (and-right (held-model-sound b m) _ t),
     model-facts b m (and-left (held-model-sound b m) _ t) .count,
     length-model m,
+    NatL.mul-le-mul-right (length (m .terms)) (term-most (m .n)),
     length-append (model-bytes m) (join (map model-bytes ms)),
   )
 
@@ -218,7 +255,7 @@ module _ (h : Held-book) (p : Held-passes h) where
     length-steps (h .steps),
   )
 
-  pub models-short : length P ≤ 6224
+  pub models-short : length P ≤ 8272
   unfolding models-bytes
   models-short = omega (arith, limits .models, models-bounded o 0 (h .models) (p .models))
 
@@ -248,18 +285,20 @@ module _ (h : Held-book) (p : Held-passes h) where
     steps = length (h .steps);
     offset = length P;
     marked = true;
+    mark = mark-of (h .n);
   }
 
   trailer-said : read-trailer R ≡ said
   unfolding read-trailer trailer-bytes u16-bytes said
-  trailer-said = ap {B = Trailer} (λ x. record {
+  trailer-said = ap₂ {C = Trailer} (λ b x. record {
     n = h .n;
     d = h .d;
     models = length (h .models);
     steps = length (h .steps);
     offset = x;
-    marked = true;
-  }) (read-u16 (length P) (0x4D ∷ 0x4B ∷ []) (omega (arith, models-short)))
+    marked = b;
+    mark = mark-of (h .n);
+  }) (mark-known (h .n)) (read-u16 (length P) (0x4D ∷ mark-of (h .n) ∷ []) (omega (arith, models-short)))
 
   pub sheet-trailer : read-trailer (trailer-of (sheet-bytes h)) ≡ said
   sheet-trailer = ap read-trailer trailer-back ∙ trailer-said
@@ -275,9 +314,13 @@ module _ (h : Held-book) (p : Held-passes h) where
       ∙ steps-back o 0 (h .steps) R (outline-small .0) (outline-small .1)
       (omega (arith, limits .steps-high)) (p .steps)
 
+  said-sound : T (trailer-sound said)
+  unfolding trailer-sound said outline-of
+  said-sound = both (limits-sound o) _ (p .limits) (eqb-refl (mark-of (h .n)))
+
   records-back : read-records (sheet-bytes h) said ≡ done h
   unfolding read-records said outline-of _followed-by_
-  records-back = require-at-passed 0 (limits-sound o) bad-limits _ (p .limits)
+  records-back = require-at-passed 0 (trailer-sound said) bad-limits _ said-sound
       ∙ require-at-passed 0
       (eqb (length P + step-length * length (h .steps) + trailer-length) (length (sheet-bytes h))) bad-offset _
       (subst (λ x. T (eqb x (length (sheet-bytes h)))) sheet-length (eqb-refl (length (sheet-bytes h))))

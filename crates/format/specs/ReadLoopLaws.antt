@@ -1,9 +1,10 @@
 -- Reading by loops that walk forward: numbers at a place, terms and steps by their numbers, tests that fail.
-use mathlib.Core.Path.{_≡_, refl, _∙_, ap}
+use mathlib.Core.Path.{_≡_, refl, sym, _∙_, ap}
 use mathlib.Core.Bool.{Bool, true, false, _&&_}
 use mathlib.Core.List.{List}
 use Prim.Native.Nat.{ℕ, zero, suc, _+_, _*_, _≤_, _<_}
 use native.Mathlib.Omega.{arith}
+use native.Mathlib.Nat as NatL
 use lib.ListN.{getD, drop}
 use lib.Seq.{getD-drop}
 use Rattle.calculus.specs.Refusal.{Refusal, Result, stopped, require-at}
@@ -24,13 +25,13 @@ unfolding u32
 u32-at at s = rw (byte-at at 0 s, byte-at at 1 s, byte-at at 2 s, byte-at at 3 s)
 
 -- ---- the terms and steps, by their numbers
-pub read-term-at : (c i : ℕ) (s : List ℕ) (t : Held-term) → i < c
-    → getD (read-terms c s) i t ≡ read-term (drop (term-length * i) s)
+pub read-term-at : (n c i : ℕ) (s : List ℕ) (t : Held-term) → i < c
+    → getD (read-terms n c s) i t ≡ read-term n (drop (term-length n * i) s)
 unfolding read-terms
-read-term-at zero i s t h = absurd (omega arith)
-read-term-at (suc c) zero s t h = refl
-read-term-at (suc c) (suc i) s t h = read-term-at c i (drop term-length s) t (omega arith)
-    ∙ ap read-term (drop-more term-length i s)
+read-term-at n zero i s t h = absurd (omega arith)
+read-term-at n (suc c) zero s t h = ap (λ i. read-term n (drop i s)) (sym (NatL.mul-zero (term-length n)))
+read-term-at n (suc c) (suc i) s t h = read-term-at n c i (drop (term-length n) s) t (omega arith)
+    ∙ ap (read-term n) (drop-more (term-length n) i s)
 
 pub read-step-at : (c i : ℕ) (s : List ℕ) (t : Held-step) → i < c
     → getD (read-steps c s) i t ≡ read-step (drop (step-length * i) s)
@@ -41,9 +42,9 @@ read-step-at (suc c) (suc i) s t h = read-step-at c i (drop step-length s) t (om
     ∙ ap read-step (drop-more step-length i s)
 
 -- ---- the loop over models, which are read up to the first step
-pub model-at-least : (s : List ℕ) → head-length ≤ model-length s
+pub model-at-least : (n : ℕ) (s : List ℕ) → head-length ≤ model-length n s
 unfolding model-length
-model-at-least s = omega arith
+model-at-least n s = omega arith
 
 -- a test that fails
 pub refused : {A : Type 0} (i : ℕ) (t : Bool) (r : Refusal) (a : Result A) → t ≡ false

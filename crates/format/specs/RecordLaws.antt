@@ -1,16 +1,21 @@
 -- The records that are handed out: those of the book that was read, and with the trailer the whole sheet.
 use mathlib.Core.Path.{_≡_, refl, sym, _∙_, ap, ap₂, subst}
 use mathlib.Core.List.{List, [], _∷_, _++_, map, append-assoc}
-use Prim.Native.Nat.{ℕ, _+_}
+use Prim.Native.Nat.{ℕ, suc, _+_}
+use lib.Dec.{T}
 use lib.ListN.{length, take, drop, length-append, length-map}
 use lib.Seq.{drop-at, take-at}
-use Rattle.calculus.specs.Refusal.{done, _followed-by_}
+use Rattle.calculus.specs.Refusal.{done, _followed-by_, all-from}
+use Rattle.calculus.specs.Book.{Book}
+use Rattle.calculus.specs.TestLaws.{and-left, and-right}
 use Rattle.format.specs.Bytes.{All-bytes, join}
-use Rattle.format.specs.HeldBook.{Held-model, Held-step, Held-book, Held-passes}
+use Rattle.format.specs.HeldBook.{Held-model, Held-step, Held-book, outline, outline-of}
+use Rattle.format.specs.HeldBook.{held-model-sound, Held-passes}
 use Rattle.format.specs.Format.{step-length, model-length, trailer-of, read}
 use Rattle.format.specs.Format.{model-records, step-records, records, opened}
 use Rattle.format.specs.Format.{model-bytes, step-bytes, models-bytes, trailer-bytes, sheet-bytes}
 use Rattle.format.specs.BytesLaws.{join-++}
+use Rattle.format.specs.SmallLaws.{model-facts}
 use Rattle.format.specs.ReadBackLaws.{length-step, model-length-back, model-rest, trailer-back}
 use Rattle.format.specs.ReadBackLaws.{said, sheet-trailer}
 use Rattle.format.specs.WriteBackLaws.{read-passes, read-sheet}
@@ -19,16 +24,20 @@ use Rattle.format.specs.WriteBackLaws.{read-passes, read-sheet}
 unfoldable pub book-records : Held-book → List (List ℕ)
 book-records h = map model-bytes (h .models) ++ map step-bytes (h .steps)
 
-models-handed : (ms : List Held-model) (r : List ℕ)
-    → model-records (length ms) (join (map model-bytes ms) ++ r) ≡ map model-bytes ms
-unfolding model-records join
-models-handed [] r = refl
-models-handed (m ∷ ms) r = ap₂ _∷_
-    (ap (λ s. take (model-length s) s) assoc
-    ∙ take-at (model-bytes m) (later ++ r) _ (sym (model-length-back m (later ++ r))))
-    (ap (λ s. model-records (length ms) (drop (model-length s) s)) assoc
-    ∙ ap (model-records (length ms)) (model-rest m (later ++ r)) ∙ models-handed ms r)
+models-handed : (b : Book) (i : ℕ) (ms : List Held-model) (r : List ℕ) → T (all-from i (λ i. held-model-sound b) ms)
+    → model-records (b .vars) (length ms) (join (map model-bytes ms) ++ r) ≡ map model-bytes ms
+unfolding model-records join all-from
+models-handed b i [] r h = refl
+models-handed b i (m ∷ ms) r h = ap₂ _∷_
+    (ap (λ s. take (model-length (b .vars) s) s) assoc
+    ∙ take-at (model-bytes m) (later ++ r) _ (sym (model-length-back (b .vars) m (later ++ r) same)))
+    (ap (λ s. model-records (b .vars) (length ms) (drop (model-length (b .vars) s) s)) assoc
+    ∙ ap (model-records (b .vars) (length ms)) (model-rest (b .vars) m (later ++ r) same)
+    ∙ models-handed b (suc i) ms r (and-right (held-model-sound b m) _ h))
   where
+    same : m .n ≡ b .vars
+    same = model-facts b m (and-left (held-model-sound b m) _ h) .same-n
+
     later : List ℕ
     later = join (map model-bytes ms)
 
@@ -59,11 +68,11 @@ module _ (h : Held-book) (p : Held-passes h) where
   Q = join (map step-bytes (h .steps))
 
   sheet-records : records (sheet-bytes h) ≡ book-records h
-  unfolding records book-records sheet-bytes said models-bytes
+  unfolding records book-records sheet-bytes said models-bytes outline-of outline
   sheet-records =
-      ap (λ t. model-records (t .models) (sheet-bytes h) ++ step-records (t .steps) (drop (t .offset) (sheet-bytes h)))
+      ap (λ t. model-records (t .n) (t .models) (sheet-bytes h) ++ step-records (t .steps) (drop (t .offset) (sheet-bytes h)))
       (sheet-trailer h p)
-      ∙ ap₂ _++_ (models-handed (h .models) (Q ++ trailer-bytes h))
+      ∙ ap₂ _++_ (models-handed (outline-of h) 0 (h .models) (Q ++ trailer-bytes h) (p .models))
       (ap (step-records (length (h .steps))) (drop-at P (Q ++ trailer-bytes h) (length P) refl)
       ∙ steps-handed (h .steps) (trailer-bytes h))
 

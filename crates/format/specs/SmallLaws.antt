@@ -2,7 +2,7 @@
 use mathlib.Core.Path.{_≡_, subst}
 use mathlib.Core.Bool.{Bool, true, false, cond, _&&_, _||_}
 use mathlib.Core.List.{List, _∷_, map}
-use Prim.Native.Nat.{ℕ, _+_, _^_, _<_, _≤_}
+use Prim.Native.Nat.{ℕ, _+_, _%_, _^_, _<_, _≤_}
 use native.Mathlib.Omega.{arith}
 use lib.Dec.{T, eqb, leb, ltb, leb→le, eqb→eq, ltb→lt}
 use lib.IntN.{ℤ, natAbs}
@@ -10,17 +10,18 @@ use lib.Signed.{nonNeg}
 use lib.ListN.{length, length-map}
 use Rattle.fixed.specs.Fixed.{span-limit}
 use Rattle.fixed.specs.FixedLaws.{span-four-bytes}
-use Rattle.calculus.specs.Key.{key-width, key-limit, monomial-of}
+use Rattle.calculus.specs.Key.{key-width, key-limit, key-fits, monomial-of}
 use Rattle.calculus.specs.Terms.{every, sum-over, size}
 use Rattle.calculus.specs.Model.{most-terms, span, fits}
 use Rattle.calculus.specs.Tests.{constant-sound, variable-sound, threshold-sound}
 use Rattle.calculus.specs.Book.{last-code, Book, model-sound}
 use Rattle.calculus.specs.TestLaws.{and-left, and-right}
-use Rattle.calculus.specs.MonomialKeyLaws.{fits-below, fits-key}
+use Rattle.calculus.specs.MonomialKeyLaws.{fits-below, fits-key, fits-short}
 use Rattle.calculus.specs.SoundLaws.{Sound, sound-parts}
 use Rattle.calculus.specs.BookLaws.{between-high}
 use Rattle.format.specs.HeldBook.{Held-term, Held-model, Held-step, view-held-term, view-model}
 use Rattle.format.specs.HeldBook.{held-model-sound, held-step-sound}
+use Rattle.format.specs.Format.{short-keys}
 use Rattle.format.specs.Fields.{limit-a, limit-b, names-variable, v-sound, earlier, value-sound}
 use Rattle.format.specs.StepFieldLaws.{Fields, fields-of}
 
@@ -50,6 +51,7 @@ model-facts b m h = record {
 
 pub record Term-facts (n d : ℕ) (t : Held-term) (ts : List Held-term) : Type 0 where
   pub key : t .key < key-limit
+  pub short : T (short-keys n) → t .key % 65536 ≡ 0
   pub coefficient : natAbs (t .coefficient) ≤ size (map (view-held-term n) (t ∷ ts))
   pub size-rest : size (map (view-held-term n) ts) ≤ size (map (view-held-term n) (t ∷ ts))
   pub fitting-rest : T (every (λ k c. fits n d k) (map (view-held-term n) ts))
@@ -58,12 +60,15 @@ pub term-facts : (n d : ℕ) (t : Held-term) (ts : List Held-term) → n ≤ key
     → T (every (λ k c. fits n d k) (map (view-held-term n) (t ∷ ts))) → Term-facts n d t ts
 unfolding every size sum-over view-held-term
 term-facts n d t ts l u h = record {
-  key = fits-below n (t .key)
-      (fits-key n d (t .key) l (omega arith) (and-left (fits n d (monomial-of n (t .key))) _ h));
+  key = fits-below n (t .key) key-fitting;
+  short = λ e. unfold short-keys in fits-short n (t .key) (leb→le n 4 e) key-fitting;
   coefficient = omega arith;
   size-rest = omega arith;
   fitting-rest = and-right (fits n d (monomial-of n (t .key))) _ h;
 }
+  where
+    key-fitting : T (key-fits key-width n (t .key))
+    key-fitting = fits-key n d (t .key) l (omega arith) (and-left (fits n d (monomial-of n (t .key))) _ h)
 
 -- ---- the numbers of a step that passes
 pub record Step-facts (s : Held-step) : Type 0 where

@@ -4,6 +4,7 @@ use mathlib.Core.Bool.{Bool, _&&_}
 use mathlib.Core.List.{List, [], _∷_, _++_, map, append-assoc, append-nil}
 use Prim.Native.Nat.{ℕ, zero, suc, _+_, _-_, _*_, _≤_}
 use native.Mathlib.Omega.{arith}
+use native.Mathlib.Nat as NatL
 use lib.Dec.{T, eqb, leb, le→leb, leb→le, eqb→eq}
 use lib.ListN.{length, take, drop, length-drop, take-append-drop, drop-of-length-le}
 use lib.Seq.{drop-cons, drop-drop, length-take-le}
@@ -18,56 +19,61 @@ use Rattle.calculus.specs.BookLaws.{between-low}
 use Rattle.format.specs.Bytes.{byte, All-bytes, join, u16, u32, u16-bytes, u32-bytes}
 use Rattle.format.specs.HeldBook.{Held-term, Held-model, Held-step, Held-book, outline, outline-of}
 use Rattle.format.specs.HeldBook.{held-model-sound, held-step-sound, Held-passes}
-use Rattle.format.specs.Format.{head-length, term-length, step-length, trailer-length}
-use Rattle.format.specs.Format.{read-term, read-terms, read-model, model-length, read-models}
+use Rattle.format.specs.Format.{head-length, key-length, term-length, step-length, trailer-length}
+use Rattle.format.specs.Format.{read-key, read-term, read-terms, read-model, model-length, read-models}
 use Rattle.format.specs.Format.{read-step, read-steps}
-use Rattle.format.specs.Format.{Trailer, trailer-of, read-trailer, shortest, longest, read-records, read}
-use Rattle.format.specs.Format.{term-bytes, model-bytes, step-bytes, models-bytes, trailer-bytes, sheet-bytes}
+use Rattle.format.specs.Format.{Trailer, short-mark, long-mark, mark-of, trailer-sound, trailer-of, read-trailer, shortest, longest, read-records, read}
+use Rattle.format.specs.Format.{key-bytes, term-bytes, model-bytes, step-bytes, models-bytes, trailer-bytes, sheet-bytes}
 use Rattle.format.specs.Format.{write}
 use Rattle.format.specs.BytesLaws.{bytes-drop, bytes-take, drop-more, u32-below, bits-signed, four}
 use Rattle.format.specs.BytesLaws.{write-u16, write-u32}
+use Rattle.format.specs.KeyBytesLaws.{term-parts, key-forth}
 use Rattle.format.specs.HeldBookLaws.{held-tested-passes}
 
 -- ---- terms
-term-forth : (s : List ℕ) → All-bytes s → term-length ≤ length s
-    → term-bytes (read-term s) ++ drop term-length s ≡ s
+term-forth : (n : ℕ) (s : List ℕ) → All-bytes s → term-length n ≤ length s
+    → term-bytes n (read-term n s) ++ drop (term-length n) s ≡ s
 unfolding term-bytes read-term
-term-forth s h l =
-    append-assoc (u16-bytes (u16 s)) _ (drop term-length s)
-    ∙ ap (λ r. u16-bytes (u16 s) ++ r)
-    (ap₂ (λ x r. u32-bytes x ++ r) (bits-signed (u32 (drop 2 s)) (u32-below _ later)) (sym (drop-drop 4 2 s))
-    ∙ write-u32 (drop 2 s) later (simp length-drop (omega arith)))
-    ∙ write-u16 s h (omega arith)
+term-forth n s h l =
+    append-assoc (key-bytes n (read-key n s)) _ (drop (term-length n) s)
+    ∙ ap (λ r. key-bytes n (read-key n s) ++ r)
+    (ap₂ (λ x r. u32-bytes x ++ r) (bits-signed (u32 (drop (key-length n) s)) (u32-below _ later))
+    (ap (λ i. drop i s) (term-parts n) ∙ sym (drop-drop 4 (key-length n) s))
+    ∙ write-u32 (drop (key-length n) s) later (simp length-drop (omega (arith, l, term-parts n))))
+    ∙ key-forth n s h (omega (arith, l, term-parts n))
   where
-    later : All-bytes (drop 2 s)
-    later = bytes-drop 2 s h
+    later : All-bytes (drop (key-length n) s)
+    later = bytes-drop (key-length n) s h
 
-terms-forth : (c : ℕ) (s : List ℕ) → All-bytes s → term-length * c ≤ length s
-    → join (map term-bytes (read-terms c s)) ++ drop (term-length * c) s ≡ s
+terms-forth : (n c : ℕ) (s : List ℕ) → All-bytes s → term-length n * c ≤ length s
+    → join (map (term-bytes n) (read-terms n c s)) ++ drop (term-length n * c) s ≡ s
 unfolding join read-terms
-terms-forth zero s h l = refl
-terms-forth (suc c) s h l =
-    append-assoc (term-bytes (read-term s)) _ (drop (term-length * suc c) s)
-    ∙ ap (λ r. term-bytes (read-term s) ++ r)
-    (ap (λ r. join (map term-bytes (read-terms c (drop term-length s))) ++ r) (sym (drop-more term-length c s))
-    ∙ terms-forth c (drop term-length s) (bytes-drop term-length s h) (simp length-drop (omega arith)))
-    ∙ term-forth s h (omega arith)
+terms-forth n zero s h l = ap (λ i. drop i s) (NatL.mul-zero (term-length n))
+terms-forth n (suc c) s h l =
+    append-assoc (term-bytes n (read-term n s)) _ (drop (term-length n * suc c) s)
+    ∙ ap (λ r. term-bytes n (read-term n s) ++ r)
+    (ap (λ r. join (map (term-bytes n) (read-terms n c (drop (term-length n) s))) ++ r)
+    (sym (drop-more (term-length n) c s))
+    ∙ terms-forth n c (drop (term-length n) s) (bytes-drop (term-length n) s h)
+    (simp length-drop (omega (arith, l, NatL.mul-suc (term-length n) c))))
+    ∙ term-forth n s h (omega (arith, l, NatL.mul-suc (term-length n) c))
 
-pub length-read-terms : (c : ℕ) (s : List ℕ) → length (read-terms c s) ≡ c
+pub length-read-terms : (n c : ℕ) (s : List ℕ) → length (read-terms n c s) ≡ c
 unfolding read-terms
-length-read-terms zero s = refl
-length-read-terms (suc c) s = ap suc (length-read-terms c (drop term-length s))
+length-read-terms n zero s = refl
+length-read-terms n (suc c) s = ap suc (length-read-terms n c (drop (term-length n) s))
 
 -- ---- models
-model-forth : (n : ℕ) (s : List ℕ) → All-bytes s → model-length s ≤ length s
-    → model-bytes (read-model n s) ++ drop (model-length s) s ≡ s
+model-forth : (n : ℕ) (s : List ℕ) → All-bytes s → model-length n s ≤ length s
+    → model-bytes (read-model n s) ++ drop (model-length n s) s ≡ s
 unfolding model-bytes read-model model-length
 model-forth n s h l =
-    append-assoc (u32-bytes (u32 s)) (length ts ∷ join (map term-bytes ts)) (drop (head-length + term-length * c) s)
+    append-assoc (u32-bytes (u32 s)) (length ts ∷ join (map (term-bytes n) ts)) (drop (head-length + term-length n * c) s)
     ∙ ap (λ r. u32-bytes (u32 s) ++ r)
-    (ap₂ (λ x r. x ∷ join (map term-bytes ts) ++ r) (length-read-terms c (drop head-length s))
-    (sym (drop-drop (term-length * c) head-length s))
-    ∙ ap (λ r. c ∷ r) (terms-forth c (drop head-length s) (bytes-drop head-length s h) (simp length-drop (omega arith)))
+    (ap₂ (λ x r. x ∷ join (map (term-bytes n) ts) ++ r) (length-read-terms n c (drop head-length s))
+    (sym (drop-drop (term-length n * c) head-length s))
+    ∙ ap (λ r. c ∷ r) (terms-forth n c (drop head-length s) (bytes-drop head-length s h)
+    (simp length-drop (omega (arith, l))))
     ∙ sym (drop-cons s 4 0 (omega arith)))
     ∙ write-u32 s h (omega arith)
   where
@@ -75,7 +81,7 @@ model-forth n s h l =
     c = byte 4 s
 
     ts : List Held-term
-    ts = read-terms (byte 4 s) (drop head-length s)
+    ts = read-terms n (byte 4 s) (drop head-length s)
 
 -- what a reading of c models has found, after those before
 record Found (b : Book) (i c : ℕ) (before ms : List Held-model) (s : List ℕ) : Type 0 where
@@ -86,17 +92,17 @@ record Found (b : Book) (i c : ℕ) (before ms : List Held-model) (s : List ℕ)
   sound : T (all-from i (λ i. held-model-sound b) more)
 
 one-more : (b : Book) (i c : ℕ) (before ms : List Held-model) (s : List ℕ)
-    → T (leb (model-length s) (length s) && held-model-sound b (read-model (b .vars) s))
-    → Found b (suc i) c (before ++ (read-model (b .vars) s ∷ [])) ms (drop (model-length s) s)
+    → T (leb (model-length (b .vars) s) (length s) && held-model-sound b (read-model (b .vars) s))
+    → Found b (suc i) c (before ++ (read-model (b .vars) s ∷ [])) ms (drop (model-length (b .vars) s) s)
     → Found b i (suc c) before ms s
 unfolding join all-from
 one-more b i c before ms s p r = record {
   more = m ∷ r .more;
   all = r .all ∙ append-assoc before (m ∷ []) (r .more);
   many = ap suc (r .many);
-  same = λ y. ap (λ x. model-bytes m ++ x) (r .same (bytes-drop (model-length s) s y))
-      ∙ model-forth (b .vars) s y (leb→le (model-length s) (length s) (and-left (leb (model-length s) (length s)) _ p));
-  sound = both (held-model-sound b m) _ (and-right (leb (model-length s) (length s)) _ p) (r .sound);
+  same = λ y. ap (λ x. model-bytes m ++ x) (r .same (bytes-drop (model-length (b .vars) s) s y))
+      ∙ model-forth (b .vars) s y (leb→le (model-length (b .vars) s) (length s) (and-left (leb (model-length (b .vars) s) (length s)) _ p));
+  sound = both (held-model-sound b m) _ (and-right (leb (model-length (b .vars) s) (length s)) _ p) (r .sound);
 }
   where
     m : Held-model
@@ -114,7 +120,7 @@ models-forth b i zero before ms [] h = record {
 }
 models-forth b i zero before ms (x ∷ s) h = let z : _≡_ {A = ℕ} 0 1 = cc in absurd (omega arith)
 models-forth b i (suc c) before ms s h =
-    let p = passed-at (length before) (leb (model-length s) (length s) && held-model-sound b (read-model (b .vars) s))
+    let p = passed-at (length before) (leb (model-length (b .vars) s) (length s) && held-model-sound b (read-model (b .vars) s))
     bad-model _ ms h in
     one-more b i c before ms s (p .test) (models-forth b (suc i) c _ ms _ (p .result))
 
@@ -148,15 +154,15 @@ length-read-steps zero s = refl
 length-read-steps (suc c) s = ap suc (length-read-steps c (drop step-length s))
 
 -- ---- the trailer
-trailer-forth : (t : List ℕ) → All-bytes t → length t ≡ trailer-length → byte 6 t ≡ 0x4D → byte 7 t ≡ 0x4B
-    → byte 0 t ∷ byte 1 t ∷ byte 2 t ∷ byte 3 t ∷ (u16-bytes (u16 (drop 4 t)) ++ (0x4D ∷ 0x4B ∷ [])) ≡ t
-trailer-forth t h l p q =
+trailer-forth : (t : List ℕ) → All-bytes t → length t ≡ trailer-length → (m : ℕ) → byte 6 t ≡ 0x4D → byte 7 t ≡ m
+    → byte 0 t ∷ byte 1 t ∷ byte 2 t ∷ byte 3 t ∷ (u16-bytes (u16 (drop 4 t)) ++ (0x4D ∷ m ∷ [])) ≡ t
+trailer-forth t h l m p q =
     ap (λ r. byte 0 t ∷ byte 1 t ∷ byte 2 t ∷ byte 3 t ∷ r)
     (ap (λ r. u16-bytes (u16 (drop 4 t)) ++ r) mark
     ∙ write-u16 (drop 4 t) (bytes-drop 4 t h) (simp length-drop (omega arith)))
     ∙ sym (four t (omega arith))
   where
-    mark : 0x4D ∷ 0x4B ∷ [] ≡ drop 2 (drop 4 t)
+    mark : 0x4D ∷ m ∷ [] ≡ drop 2 (drop 4 t)
     mark = ap₂ (λ x y. x ∷ y ∷ []) (sym p) (sym q)
         ∙ ap (λ r. byte 6 t ∷ byte 7 t ∷ r) (sym (drop-of-length-le t {i = 8} (omega arith)))
         ∙ ap (λ r. byte 6 t ∷ r) (sym (drop-cons t 7 0 (omega arith)))
@@ -204,9 +210,17 @@ module _ (s : List ℕ) (h : Held-book) (e : read s ≡ done h) where
   abbrev whole : Bool
   whole = eqb (t .offset + step-length * t .steps + trailer-length) (length s)
 
-  test₃ : Passed (limits-sound o) (require-at 0 whole bad-offset rest₄) h
+  test₃ : Passed (trailer-sound t) (require-at 0 whole bad-offset rest₄) h
   unfolding read-records
-  test₃ = passed-at 0 (limits-sound o) bad-limits _ h (test₂ .result)
+  test₃ = passed-at 0 (trailer-sound t) bad-limits _ h (test₂ .result)
+
+  limits-pass : T (limits-sound o)
+  unfolding trailer-sound
+  limits-pass = and-left (limits-sound o) _ (test₃ .test)
+
+  mark-passes : T (eqb (t .mark) (mark-of (t .n)))
+  unfolding trailer-sound
+  mark-passes = and-right (limits-sound o) _ (test₃ .test)
 
   test₄ : Passed whole rest₄ h
   test₄ = passed-at 0 whole bad-offset _ h (test₃ .result)
@@ -233,7 +247,7 @@ module _ (s : List ℕ) (h : Held-book) (e : read s ≡ done h) where
 
   book-passes : Held-passes (book ms)
   book-passes = record {
-    limits = subst (λ b. T (limits-sound b)) same-outline (test₃ .test);
+    limits = subst (λ b. T (limits-sound b)) same-outline limits-pass;
     models = subst (λ b. T (all-from 0 (λ i. held-model-sound b) ms)) same-outline
         (subst (λ l. T (all-from 0 (λ i. held-model-sound o) l)) (sym (found .all)) (found .sound));
     steps = subst (λ b. T (all-from 0 (held-step-sound b) steps)) same-outline (test₆ .test);
@@ -266,13 +280,13 @@ module _ (s : List ℕ) (h : Held-book) (e : read s ≡ done h) where
     trailer-same : trailer-bytes (book ms) ≡ trailer-of s
     unfolding trailer-bytes read-trailer
     trailer-same =
-        ap₂ (λ m k. t .n ∷ t .d ∷ m ∷ k ∷ (u16-bytes (length (models-bytes (book ms))) ++ (0x4D ∷ 0x4B ∷ [])))
+        ap₂ (λ m k. t .n ∷ t .d ∷ m ∷ k ∷ (u16-bytes (length (models-bytes (book ms))) ++ (0x4D ∷ mark-of (t .n) ∷ [])))
         (ap length (found .all) ∙ found .many) (length-read-steps (t .steps) (drop (t .offset) s))
-        ∙ ap (λ x. t .n ∷ t .d ∷ t .models ∷ t .steps ∷ (u16-bytes x ++ (0x4D ∷ 0x4B ∷ [])))
+        ∙ ap (λ x. t .n ∷ t .d ∷ t .models ∷ t .steps ∷ (u16-bytes x ++ (0x4D ∷ mark-of (t .n) ∷ [])))
         (ap length models-same ∙ length-take-le (t .offset) s (omega (arith, offset-is)))
         ∙ trailer-forth (trailer-of s) (unfold trailer-of in bytes-drop (length s - trailer-length) s y) trailer-whole
-        (eqb→eq _ 0x4D (and-left (eqb (byte 6 (trailer-of s)) 0x4D) _ (test₂ .test)))
-        (eqb→eq _ 0x4B (and-right (eqb (byte 6 (trailer-of s)) 0x4D) _ (test₂ .test)))
+        (mark-of (t .n)) (eqb→eq _ 0x4D (and-left (eqb (byte 6 (trailer-of s)) 0x4D) _ (test₂ .test)))
+        (eqb→eq (t .mark) (mark-of (t .n)) mark-passes)
 
     sheet-same : sheet-bytes (book ms) ≡ s
     unfolding sheet-bytes

@@ -1,5 +1,6 @@
 -- Every entry of a sheet that is written is a byte.
 use mathlib.Core.Path.{_≡_, subst}
+use mathlib.Core.Bool.{Bool, true, false, cond}
 use mathlib.Core.List.{List, [], _∷_, _++_, map}
 use Prim.Native.Nat.{ℕ, zero, suc, _+_, _/_, _%_, _<_, _≤_}
 use native.Mathlib.Omega.{arith}
@@ -13,6 +14,7 @@ use Rattle.calculus.specs.Refusal.{all-from}
 use Rattle.format.specs.Bytes.{byte, All-bytes, join, u16-bytes, u32-bytes}
 use Rattle.format.specs.HeldBook.{Held-term, Held-model, Held-step, Held-book, outline-of}
 use Rattle.format.specs.HeldBook.{held-model-sound, held-step-sound, Held-passes}
+use Rattle.format.specs.Format.{short-keys, short-mark, long-mark, mark-of, key-bytes}
 use Rattle.format.specs.Format.{term-bytes, model-bytes, step-bytes, models-bytes, trailer-bytes, sheet-bytes}
 use Rattle.format.specs.Format.{write}
 use Rattle.format.specs.SmallLaws.{model-facts, Step-facts, step-facts}
@@ -44,18 +46,26 @@ four-bytes : (x : ℕ) → All-bytes (u32-bytes x)
 unfolding u32-bytes
 four-bytes x = digit x more digit (x / 256) more digit (x / 256 / 256) more digit (x / 256 / 256 / 256) more none-bytes
 
-terms-all : (ts : List Held-term) → All-bytes (join (map term-bytes ts))
+key-all : (n k : ℕ) → All-bytes (key-bytes n k)
+unfolding key-bytes
+key-all n k = go (short-keys n)
+  where
+    go : (b : Bool) → All-bytes (cond b (u16-bytes (k / 65536)) (u32-bytes k))
+    go true = two-bytes (k / 65536)
+    go false = four-bytes k
+
+terms-all : (n : ℕ) (ts : List Held-term) → All-bytes (join (map (term-bytes n) ts))
 unfolding join term-bytes
-terms-all [] = none-bytes
-terms-all (t ∷ ts) = both-bytes (term-bytes t) _
-    (both-bytes (u16-bytes (t .key)) _ (two-bytes (t .key)) (four-bytes _)) (terms-all ts)
+terms-all n [] = none-bytes
+terms-all n (t ∷ ts) = both-bytes (term-bytes n t) _
+    (both-bytes (key-bytes n (t .key)) _ (key-all n (t .key)) (four-bytes _)) (terms-all n ts)
 
 models-all : (b : Book) (i : ℕ) (ms : List Held-model) → T (all-from i (λ i. held-model-sound b) ms)
     → All-bytes (join (map model-bytes ms))
 unfolding join model-bytes all-from
 models-all b i [] h = none-bytes
 models-all b i (m ∷ ms) h = both-bytes (model-bytes m) _
-    (both-bytes (u32-bytes (m .radius)) _ (four-bytes (m .radius)) (count more terms-all (m .terms)))
+    (both-bytes (u32-bytes (m .radius)) _ (four-bytes (m .radius)) (count more terms-all (m .n) (m .terms)))
     (models-all b (suc i) ms (and-right (held-model-sound b m) _ h))
   where
     count : length (m .terms) < 256
@@ -75,6 +85,14 @@ steps-all b i (s ∷ l) lm ln li h = both-bytes (step-bytes s) _
     code : s .code < 256
     code = omega (arith, f .code)
 
+mark-byte : (n : ℕ) → mark-of n < 256
+unfolding mark-of
+mark-byte n = go (short-keys n)
+  where
+    go : (b : Bool) → cond b short-mark long-mark < 256
+    go true = omega arith
+    go false = omega arith
+
 module _ (h : Held-book) (p : Held-passes h) where
   small : (x : ℕ) → x ≤ 64 → x < 256
   small x l = omega arith
@@ -89,7 +107,7 @@ module _ (h : Held-book) (p : Held-passes h) where
       more small (length (h .models)) (omega (arith, limits h p .models))
       more small (length (h .steps)) (limits h p .steps-high)
       more both-bytes (u16-bytes (length (models-bytes h))) _ (two-bytes _)
-      (omega arith more omega arith more none-bytes)))
+      (omega arith more mark-byte (h .n) more none-bytes)))
 
 -- THEOREM: what is written is bytes
 pub written-bytes : (h : Held-book) (buffer s : List ℕ) → write h buffer ≡ done s → All-bytes s

@@ -3,7 +3,7 @@ pub use Rattle.model_soundness.specs.SoundPassLaws.{Passed, passed-first, passe
 pub use Rattle.model_types.specs.ResultLaws.{sound-order, Holds, held-vars, held-view, held-sound, Got, got}
 pub use Rattle.model_keys.specs.KeyExponentLaws.{monomial-place}
 pub use Rattle.model_range.specs.RangeSizeLaws.{below-within, above-within}
-pub use Rattle.model_integral.specs.IntegralPartsLaws.{volume-le, quotient-within, one-at-most}
+pub use Rattle.model_integral.specs.IntegralPartsLaws.{ends-within, exact-within, exact-remainder}
 pub use Rattle.model_call_tests.specs.CallStructLaws.{vars-view}
 pub use Rattle.product_calls.specs.SliceContracts.{lent-room, fewer-room, free-room}
 pub use Rattle.model_multiplication.specs.FactorRoomLaws.{factors-room}

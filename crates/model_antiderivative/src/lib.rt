@@ -10,6 +10,7 @@ ghost use Rattle.model_types.specs.ModelStruct.{view, pack};
 ghost use Rattle.model_types.specs.SharesStruct.{accounted};
 ghost use Rattle.model_antiderivative.specs.Antiderivatives.{«key-stays», «key-coefficient», «key-growth»};
 ghost use Rattle.model_antiderivative.specs.Antiderivatives.{«key-rounding», Integrand};
+use model_keys::Key;
 use model_types::Accounted;
 use model_types::Answer;
 use model_types::Model;
@@ -17,7 +18,7 @@ use model_types::Term;
 use model_types::Verdict;
 
 // k, by which a term is divided: the exponent of variable i after it has risen.
-fn new_exponent(i: u8, key: u16) -> u64
+fn new_exponent(i: u8, key: Key) -> u64
     requires { ⌜ Slot i ⌝ }
     ensures { λ r. ⌜ r ≡ key-exponent i key + 1 ⌝ }
 {
@@ -25,14 +26,14 @@ fn new_exponent(i: u8, key: u16) -> u64
 }
 
 // Whether a term's new degree is at most d.
-fn stays(d: u8, key: u16) -> bool
+fn stays(d: u8, key: Key) -> bool
     ensures { λ r. ⌜ r ≡ key-stays d key ⌝ }
 {
-    model_keys::degree(key) < d as u16
+    model_keys::degree(key) < d as u32
 }
 
 // A term's new coefficient, 0 for one that is swept.
-fn divided(d: u8, i: u8, key: u16, coefficient: i64) -> i64
+fn divided(d: u8, i: u8, key: Key, coefficient: i64) -> i64
     requires { ⌜ Slot i ⌝ }
     requires { ⌜ natAbs coefficient < 2 ^ 63 ⌝ }
     ensures { λ r. ⌜ r ≡ key-coefficient d i key coefficient ⌝ }
@@ -44,7 +45,7 @@ fn divided(d: u8, i: u8, key: u16, coefficient: i64) -> i64
 }
 
 // What a term adds to the radius: 1 where it stays and does not divide, all of it rounded up where it is swept.
-fn growth(d: u8, i: u8, key: u16, coefficient: i64) -> u64
+fn growth(d: u8, i: u8, key: Key, coefficient: i64) -> u64
     requires { ⌜ Slot i ⌝ }
     ensures { λ r. ⌜ r ≡ key-growth d i key coefficient ⌝ }
 {
@@ -60,7 +61,7 @@ fn growth(d: u8, i: u8, key: u16, coefficient: i64) -> u64
 }
 
 // What a term adds by rounding alone: nothing where it is swept.
-fn growth_by_rounding(d: u8, i: u8, key: u16, coefficient: i64) -> u64
+fn growth_by_rounding(d: u8, i: u8, key: Key, coefficient: i64) -> u64
     requires { ⌜ Slot i ⌝ }
     ensures { λ r. ⌜ r ≡ key-rounding d i key coefficient ⌝ }
 {

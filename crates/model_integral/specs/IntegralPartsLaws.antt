@@ -1,25 +1,28 @@
 -- How many parts an integral has, and how large its quotient is.
 use mathlib.Core.Bool.{Bool, true, false}
-use mathlib.Core.Path.{_≡_, refl, sym, subst}
+use mathlib.Core.Path.{_≡_, refl, sym, ap, subst}
 use mathlib.Core.List.{List, [], _∷_}
 use Prim.Native.Nat.{ℕ, _+_, _*_, _/_, _^_, _≤_, _<_}
 use native.Mathlib.Omega.{arith}
 use native.Mathlib.Nat as NatL
-use borrow.Author.Tests.{ne-eqb}
+use borrow.Author.Tests.{ne-eqb, le-leb, lt-leb}
 use lib.Dec.{eqb, lit<}
-use lib.IntN.{ℤ, pos, natAbs, _*ℤ_}
-use Rattle.algebra.specs.Integer.{is, natAbs-mul, natAbs-bound, natAbs-apart}
+use lib.IntN.{ℤ, pos, natAbs, negℤ, _+ℤ_, _-ℤ_, _*ℤ_}
+use Rattle.algebra.specs.Integer.{is, natAbs-mul, natAbs-bound, natAbs-apart, natAbs-add, natAbs-neg}
 use Rattle.polynomial.specs.Integral.{all-even, divisor}
 use Rattle.fixed.specs.Computing.{numbers}
-use Rattle.fixed.specs.Division.{floor}
+use Rattle.fixed.specs.Division.{floor, ceiling, remainder}
 use Rattle.fixed.specs.DivisionLaws.{division, remainder-lt}
 use Rattle.fixed.specs.Fixed.{span-limit}
-use Rattle.calculus.specs.Key.{key-width}
 use Rattle.calculus.specs.Terms.{Terms, select, sum-over, sum-ℕ, size}
 use Rattle.calculus.specs.Model.{Model, span}
-use Rattle.calculus.specs.Operations.{common-denominator, integral-parts, one-if-any}
+use Rattle.calculus.specs.Operations.{common-denominator, has-exact, integral-parts, mixed-part, zero-mixed, exact-part}
+use Rattle.calculus.specs.ExactIntegralLaws.{by-exact}
+use Rattle.model_integral_terms.specs.Rounding.{rule}
+use Rattle.model_integral_terms.specs.IntegralSizeLaws.{integral-within}
+use Rattle.calculus.specs.Operations.{Ends, Mixed, integral-sum, one-if-any, exact-ends, term-by-term, integral, Integral, whole-integral}
 use Rattle.model_types.specs.ModelStructLaws.{sum-abs, sum-select-le}
-use Rattle.model_integral.specs.IntegralParts.{most-parts}
+use Rattle.model_integral.specs.IntegralParts.{most-parts, exact-integral}
 
 -- ---- the denominator and the span, by their numbers
 pub denominator-pos : 0 < common-denominator
@@ -32,8 +35,7 @@ unfolding numbers most-parts common-denominator
 parts-fit = lit< tt
 
 -- ---- the volume of the box
-pub volume-le : (n : ℕ) → n ≤ key-width → 2 ^ n ≤ 16
-unfolding key-width
+pub volume-le : (n : ℕ) → n ≤ 4 → 2 ^ n ≤ 16
 volume-le n l = NatL.pow-le-pow-right {n = 2} (lit< tt) {i = n} {j = 4} l
 
 -- ---- the parts
@@ -66,7 +68,7 @@ parts-within m = omega (
 )
 
 -- a size within the span, times the volume and the denominator
-pub scaled-within : (n a : ℕ) → n ≤ key-width → a ≤ span-limit → a * (2 ^ n * common-denominator) ≤ most-parts
+pub scaled-within : (n a : ℕ) → n ≤ 4 → a ≤ span-limit → a * (2 ^ n * common-denominator) ≤ most-parts
 unfolding most-parts
 scaled-within n a l h = NatL.mul-le-mul h (NatL.mul-le-mul-right common-denominator (volume-le n l))
 
@@ -111,3 +113,70 @@ one-at-most r = go (eqb r 0)
     go : (b : Bool) → elim b as (λ b. ℕ) [ true ↦ 0 | false ↦ 1 ] ≤ 1
     go true = omega arith
     go false = omega arith
+
+-- ---- by the number of variables
+module _ (m : Model) where
+  chosen : Bool → Integral
+  chosen b = record {
+    ends = elim b as (λ b. Ends) [ true ↦ exact-ends m | false ↦ term-by-term m ];
+    exact = elim b as (λ b. Mixed) [ true ↦ mixed-part m | false ↦ zero-mixed ];
+  }
+
+  pub whole-exact : m .vars ≤ 4 → exact-integral m ≡ whole-integral m
+  unfolding whole-integral exact-integral exact-part integral has-exact chosen
+  whole-exact h = ap chosen (sym (le-leb (m .vars) 4 h))
+
+  pub whole-terms : 4 < m .vars → record { ends = term-by-term m; exact = zero-mixed } ≡ whole-integral m
+  unfolding whole-integral exact-part integral has-exact chosen
+  whole-terms h = ap chosen (sym (lt-leb (m .vars) 4 h))
+
+-- ---- how large the ends are, and the quotient
+natAbs-sub : (z : ℤ) (n : ℕ) → natAbs (z -ℤ pos n) ≤ natAbs z + n
+natAbs-sub z n = omega (arith, natAbs-add z (negℤ (pos n)), natAbs-neg (pos n))
+
+pub ends-within : (m : Model)
+    → (natAbs (integral m .low) ≤ span m * 2 ^ m .vars) × (natAbs (integral m .high) ≤ span m * 2 ^ m .vars + 1)
+ends-within m = by-exact
+    (λ e. (natAbs (e .low) ≤ span m * 2 ^ m .vars) × (natAbs (e .high) ≤ span m * 2 ^ m .vars + 1)) m
+    (λ t. exact) (λ t. rounded)
+  where
+    exact : (natAbs (exact-ends m .low) ≤ span m * 2 ^ m .vars) × (natAbs (exact-ends m .high) ≤ span m * 2 ^ m .vars + 1)
+    exact = unfold exact-ends mixed-part in
+        (let q : ℤ = floor (integral-parts m) common-denominator in
+        let w : ℕ = 2 ^ m .vars * m .radius in
+        let r : ℕ = remainder (integral-parts m) common-denominator in
+        let b = quotient-within m in (
+          omega (arith, b, natAbs-sub q w),
+          omega (
+            arith,
+            b,
+            natAbs-add q (pos w),
+            natAbs-add (q +ℤ pos w) (pos (one-if-any r)),
+            one-at-most r,
+          ),
+        ))
+
+    rounded : (natAbs (term-by-term m .low) ≤ span m * 2 ^ m .vars)
+        × (natAbs (term-by-term m .high) ≤ span m * 2 ^ m .vars + 1)
+    rounded = unfold term-by-term rule in
+        (let w : ℕ = 2 ^ m .vars * m .radius in (
+          omega (arith, integral-within false m, natAbs-sub (integral-sum floor m) w),
+          omega (arith, integral-within true m, natAbs-add (integral-sum ceiling m) (pos w)),
+        ))
+
+pub exact-within : (m : Model) → natAbs (exact-part m .quotient) ≤ span m * 2 ^ m .vars
+unfolding exact-part
+exact-within m = go (has-exact (m .vars))
+  where
+    go : (b : Bool) → natAbs (elim b as (λ b. Mixed) [ true ↦ mixed-part m | false ↦ zero-mixed ] .quotient)
+        ≤ span m * 2 ^ m .vars
+    go true = unfold mixed-part in (let b = quotient-within m in omega (arith, b))
+    go false = unfold zero-mixed in omega arith
+
+pub exact-remainder : (m : Model) → exact-part m .remainder < common-denominator
+unfolding exact-part
+exact-remainder m = go (has-exact (m .vars))
+  where
+    go : (b : Bool) → elim b as (λ b. Mixed) [ true ↦ mixed-part m | false ↦ zero-mixed ] .remainder < common-denominator
+    go true = unfold mixed-part in remainder-lt (integral-parts m) common-denominator denominator-pos
+    go false = unfold zero-mixed in denominator-pos

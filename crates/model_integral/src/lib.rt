@@ -4,36 +4,22 @@ ghost use Prim.Native.Nat.{_*_, _/_, _^_, _<_, _≤_};
 ghost use lib.Dec.{T};
 ghost use lib.IntN.{pos, natAbs, _*ℤ_};
 ghost use Rattle.fixed.specs.Division.{floor, remainder};
-ghost use Rattle.calculus.specs.Key.{«key-width»};
 ghost use Rattle.calculus.specs.Model.{«most-degree», sound};
 ghost use Rattle.calculus.specs.Refusal.{done};
 ghost use Rattle.calculus.specs.Operations.{«common-denominator», «integral-parts», «one-if-any», «whole-integral»};
 ghost use Rattle.model_keys.specs.Keys.{«key-divisor»};
 ghost use Rattle.model_types.specs.ModelStruct.{view, «integral-answer»};
-ghost use Rattle.model_integral.specs.IntegralParts.{«most-parts»};
+ghost use Rattle.model_integral.specs.IntegralParts.{«most-parts», «exact-integral»};
+use model_keys::Key;
 
 // The common denominator: a multiple of the product of (exponent + 1) of every even term.
 const DENOMINATOR: u64 = 212837625;
 
-// 2^n, the volume of the box.
-fn volume(n: u8) -> u64
-    requires { ⌜ (1 ≤ n) × (n ≤ key-width) ⌝ }
-    ensures { λ r. ⌜ r ≡ 2 ^ n ⌝ }
-{
-    if n == 1 {
-        return 2;
-    }
-    if n == 2 {
-        return 4;
-    }
-    if n == 3 {
-        return 8;
-    }
-    16
-}
+// It serves up to so many variables.
+const MOST_EXACT: u8 = 4;
 
 // The integral of one term with even exponents, for a box of volume `scale`, in parts of the denominator.
-fn parts(scale: u64, key: u16, coefficient: i64) -> i64
+fn parts(scale: u64, key: Key, coefficient: i64) -> i64
     requires { ⌜ (scale ≤ 16) × (natAbs coefficient * (16 * common-denominator) < 2 ^ 63) ⌝ }
     ensures { λ r. ⌜ r ≡ coefficient *ℤ pos (scale * (common-denominator / key-divisor key)) ⌝ }
 {
@@ -44,10 +30,11 @@ fn parts(scale: u64, key: u16, coefficient: i64) -> i64
 // The sum of the terms' integrals, in parts of the denominator: nothing is rounded.
 fn integral_parts(m: model_types::Model) -> i64
     requires { ⌜ T (sound most-degree (view m)) ⌝ }
+    requires { ⌜ m .n ≤ 4 ⌝ }
     ensures { λ r. ⌜ r ≡ integral-parts (view m) ⌝ }
 {
     let count = m.count;
-    let scale = volume(m.n);
+    let scale = model_integral_terms::volume(m.n);
     let mut total: i64 = 0;
     let mut i = 0;
     while i < count {
@@ -76,15 +63,17 @@ fn one_if_any(remainder: u64) -> u64
     if remainder == 0 { 0 } else { 1 }
 }
 
-// The integral over the box: the quotient is rounded down, and the ends are 2^n times the radius around it.
-pub fn integral_of(m: model_types::Model) -> model_types::Integral
+// The integral over the box in up to four variables: the quotient is rounded down, and the ends are 2^n times the
+// radius around it.
+fn exact_of(m: model_types::Model) -> model_types::Integral
     requires { ⌜ T (sound most-degree (view m)) ⌝ }
-    ensures { λ r. ⌜ r ≡ integral-answer (done (whole-integral (view m))) ⌝ }
+    requires { ⌜ m .n ≤ 4 ⌝ }
+    ensures { λ r. ⌜ r ≡ integral-answer (done (exact-integral (view m))) ⌝ }
 {
     let total = integral_parts(m);
     let quotient = fixed::floor_divided(total, DENOMINATOR);
     let remainder = rest(total, quotient);
-    let around = fixed::signed(volume(m.n) * m.radius);
+    let around = fixed::signed(model_integral_terms::volume(m.n) * m.radius);
     let above = fixed::signed(one_if_any(remainder));
     let low = fixed::difference(quotient, around);
     let high = fixed::sum(fixed::sum(quotient, around), above);
@@ -93,6 +82,24 @@ pub fn integral_of(m: model_types::Model) -> model_types::Integral
         high: high,
         quotient: quotient,
         remainder: remainder,
+        verdict: model_types::Verdict::Accepted,
+    }
+}
+
+// The integral over the box: above four variables by the term-by-term rule, and without the polynomial part's own.
+pub fn integral_of(m: model_types::Model) -> model_types::Integral
+    requires { ⌜ T (sound most-degree (view m)) ⌝ }
+    ensures { λ r. ⌜ r ≡ integral-answer (done (whole-integral (view m))) ⌝ }
+{
+    if m.n <= MOST_EXACT {
+        return exact_of(m);
+    }
+    let b = model_integral_terms::ends_of(m);
+    model_types::Integral {
+        low: b.low,
+        high: b.high,
+        quotient: 0,
+        remainder: 0,
         verdict: model_types::Verdict::Accepted,
     }
 }

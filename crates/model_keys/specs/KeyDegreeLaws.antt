@@ -149,14 +149,14 @@ word-degree w z few h =
         fitting = unfold fits-digits in
             both (ltb z (16 ^ (2 * w))) _ (lt→ltb z (16 ^ (2 * w)) h) (rw (NatL.sub-self (2 * w), NatL.mod-one z) tt)
 
--- of every key, by the masks of its two bytes
-pub key-word-degree : (z : ℕ) → z < key-limit → (bitAnd z 0x0F0F + bitAnd z 0xF0F0 / 16) % 255 ≡ key-degree z
+-- of every key, by the masks of its four bytes
+pub key-word-degree : (z : ℕ) → z < key-limit → (bitAnd z 0x0F0F0F0F + bitAnd z 0xF0F0F0F0 / 16) % 255 ≡ key-degree z
 unfolding digit-pairs bytes key-limit key-width key-degree
-key-word-degree z = word-degree 2 z (lit≤ tt)
+key-word-degree z = word-degree 4 z (lit≤ tt)
 
 -- ---- facts
--- the largest key of 16 bits, and of 32 bits with eight exponents
-largest-degree : key-degree 0xFFFF ≡ 60
+-- the largest key of 32 bits with eight exponents
+largest-degree : key-degree 0xFFFFFFFF ≡ 120
 unfolding key-degree key-width decode degree
 largest-degree = refl
 

@@ -1,5 +1,5 @@
 -- Which keys have even exponents only, and by what an integral divides: digit by digit, by the word, and by monomials.
-use mathlib.Core.Path.{_≡_, refl, sym, _∙_, ap, ap₂}
+use mathlib.Core.Path.{_≡_, refl, sym, _∙_, ap, ap₂, subst}
 use mathlib.Core.Bool.{Bool, true, false, _&&_, Bool·not-not}
 use mathlib.Core.List.{List, [], _∷_, _++_}
 use Prim.Native.Nat.{ℕ, zero, suc, _+_, _-_, _*_, _/_, _%_, _^_, _≤_, _<_}
@@ -7,15 +7,16 @@ use native.Mathlib.Numerals.{add-one}
 use native.Mathlib.Omega.{arith}
 use native.Mathlib.Nat as NatL
 use borrow.Author.Tests.{ne-eqb}
-use lib.Bits.{bitAnd, and-block, and-mask}
+use lib.Bits.{bitAnd, and-block, and-mask, and-zero-r}
 use lib.Dec.{T, eqb, eqb·suc-zero, lit<}
 use lib.ListN.{length}
-use lib.Pow.{pow-pos}
+use lib.Pow.{pow-pos, pow-add}
 use Rattle.polynomial.specs.Integral.{even, first, rest, all-even, divisor}
 use Rattle.calculus.specs.Monomial.{zeros}
 use Rattle.calculus.specs.Key.{decode, key-width, key-exponents, key-fits, monomial-of}
 use Rattle.calculus.specs.MonomialKeyLaws.{key-all, monomial-digits, monomial-length}
 use Rattle.model_keys.specs.Keys.{key-even, key-divisor}
+use Rattle.model_keys.specs.KeyShiftLaws.{digit-bits}
 
 -- ---- digit by digit
 -- even: no remainder by 2
@@ -26,26 +27,6 @@ even-mod (suc zero) = refl
 even-mod (suc (suc n)) =
     let e : n % 2 ≡ suc (suc n) % 2 = omega arith in Bool·not-not (even n) ∙ even-mod n ∙ ap (λ i. eqb i 0) e
 
-all-even-key : (z : ℕ) → key-even z
-    ≡ even (z / 4096) && even (z % 4096 / 256) && even (z % 4096 % 256 / 16) && even (z % 4096 % 256 % 16)
-unfolding all-even first rest decode key-width
-all-even-key z = four (even (z / 4096)) (even (z % 4096 / 256)) (even (z % 4096 % 256 / 16)) _
-    ∙ ap (λ d. even (z / 4096) && even (z % 4096 / 256) && even (z % 4096 % 256 / 16) && even d)
-    (NatL.div-one (z % 4096 % 256 % 16))
-  where
-    four : (a b c d : Bool) → elim a as (λ x. Bool) [
-      | true ↦ elim b as (λ x. Bool) [
-        | true ↦ elim c as (λ x. Bool) [ true ↦ elim d as (λ x. Bool) [ true ↦ true | false ↦ false ] | false ↦ false ]
-        | false ↦ false
-      ]
-      | false ↦ false
-    ] ≡ a && b && c && d
-    four true true true true = refl
-    four true true true false = refl
-    four true true false d = refl
-    four true false c d = refl
-    four false b c d = refl
-
 -- ---- as one test of the word: the lowest bits of all digits
 -- the bit of the first digit, and those of the others
 first-bit : (k z s : ℕ) → s < 2 ^ k → bitAnd z (1 * 2 ^ k + s) ≡ z / 2 ^ k % 2 * 2 ^ k + bitAnd (z % 2 ^ k) s
@@ -53,37 +34,40 @@ first-bit k z s h = ap (λ y. bitAnd y (1 * 2 ^ k + s)) (sym (NatL.div-add-mod' 
     ∙ and-block k (z / 2 ^ k) 1 (z % 2 ^ k) s (NatL.mod-lt z (pow-pos k)) h
     ∙ ap (λ d. d * 2 ^ k + bitAnd (z % 2 ^ k) s) (and-mask (z / 2 ^ k) 1)
 
-lowest-bits : (z : ℕ) → bitAnd z 0x1111
-    ≡ z / 4096 % 2 * 4096
-    + (z % 4096 / 256 % 2 * 256 + (z % 4096 % 256 / 16 % 2 * 16 + z % 4096 % 256 % 16 % 2))
-lowest-bits z = first-bit 12 z 0x111 (lit< tt)
-    ∙ ap (λ y. z / 4096 % 2 * 4096 + y) (first-bit 8 (z % 4096) 0x11 (lit< tt)
-    ∙ ap (λ y. z % 4096 / 256 % 2 * 256 + y) (first-bit 4 (z % 4096 % 256) 1 (lit< tt)
-    ∙ ap (λ y. z % 4096 % 256 / 16 % 2 * 16 + y) (and-mask (z % 4096 % 256 % 16) 1)))
+-- a 1 for each of w digits
+unfoldable pub ones : (w : ℕ) → ℕ
+ones zero = 0
+ones (suc w) = 1 * 2 ^ (4 * w) + ones w
+
+ones-lt : (w : ℕ) → ones w < 2 ^ (4 * w)
+unfolding ones
+ones-lt zero = omega arith
+ones-lt (suc w) = subst (λ i. 1 * 2 ^ (4 * w) + ones w < 2 ^ i) (sym (NatL.mul-suc 4 w))
+    (rw (pow-add 2 (4 * w) 4) (omega (arith, ones-lt w)))
 
 -- together they are 0 only where each is
-some : (z : ℕ) → 1 ≤ z → eqb z 0 ≡ false
-some z h = ne-eqb z 0 (λ e. omega (arith, h, e))
+none-of-two : (a b p : ℕ) → 1 ≤ p → eqb (a * p + b) 0 ≡ eqb a 0 && eqb b 0
+none-of-two zero b p h = ap (λ x. eqb x 0) (let e : zero * p + b ≡ b = omega arith in e)
+none-of-two (suc a) b p h = rw (eqb·suc-zero a) (ne-eqb (suc a * p + b) 0
+    (λ e. let l : 1 * p ≤ suc a * p = NatL.mul-le-mul-right p (omega arith) in omega (arith, h, e, l)))
 
-no-bits : (a b c d : ℕ) → eqb (a * 4096 + (b * 256 + (c * 16 + d))) 0 ≡ eqb a 0 && eqb b 0 && eqb c 0 && eqb d 0
-no-bits (suc a) b c d = rw (eqb·suc-zero a) (some (suc a * 4096 + (b * 256 + (c * 16 + d))) (omega arith))
-no-bits zero (suc b) c d = rw (eqb·suc-zero b) (some (zero * 4096 + (suc b * 256 + (c * 16 + d))) (omega arith))
-no-bits zero zero (suc c) d = rw (eqb·suc-zero c) (some (zero * 4096 + (zero * 256 + (suc c * 16 + d))) (omega arith))
-no-bits zero zero zero (suc d) =
-    rw (eqb·suc-zero d) (some (zero * 4096 + (zero * 256 + (zero * 16 + suc d))) (omega arith))
-no-bits zero zero zero zero = refl
+and-as-elim : (a b : Bool) → (a && b) ≡ elim a as (λ x. Bool) [ true ↦ b | false ↦ false ]
+and-as-elim true b = refl
+and-as-elim false b = refl
 
-pub word-even : (z : ℕ) → eqb (bitAnd z 0x1111) 0 ≡ key-even z
-word-even z = ap (λ y. eqb y 0) (lowest-bits z)
-    ∙ no-bits (z / 4096 % 2) (z % 4096 / 256 % 2) (z % 4096 % 256 / 16 % 2) (z % 4096 % 256 % 16 % 2)
-    ∙ sym (all-even-key z ∙ ap₂ _&&_ (ap₂ _&&_ (ap₂ _&&_ (even-mod _) (even-mod _)) (even-mod _)) (even-mod _))
+digits-even : (w z : ℕ) → eqb (bitAnd z (ones w)) 0 ≡ all-even w (decode 16 w w z)
+unfolding ones all-even first rest decode
+digits-even zero z = ap (λ x. eqb x 0) (and-zero-r z)
+digits-even (suc w) z =
+    ap (λ x. eqb x 0) (first-bit (4 * w) z (ones w) (ones-lt w))
+    ∙ none-of-two (z / 2 ^ (4 * w) % 2) (bitAnd (z % 2 ^ (4 * w)) (ones w)) (2 ^ (4 * w)) (pow-pos (4 * w))
+    ∙ ap₂ _&&_ (sym (even-mod (z / 2 ^ (4 * w)))) (digits-even w (z % 2 ^ (4 * w)))
+    ∙ ap (λ p. even (z / p) && all-even w (decode 16 w w (z % p))) (sym (digit-bits w))
+    ∙ and-as-elim (even (z / 16 ^ w)) (all-even w (decode 16 w w (z % 16 ^ w)))
 
-pub divisor-key : (z : ℕ) → key-divisor z
-    ≡ (z / 4096 + 1) * ((z % 4096 / 256 + 1) * ((z % 4096 % 256 / 16 + 1) * (z % 4096 % 256 % 16 + 1)))
-unfolding divisor first rest decode key-width
-divisor-key z = ap₂ _*_ (sym (add-one (z / 4096))) (ap₂ _*_ (sym (add-one (z % 4096 / 256)))
-    (ap₂ _*_ (sym (add-one (z % 4096 % 256 / 16)))
-    (NatL.mul-one _ ∙ ap suc (NatL.div-one (z % 4096 % 256 % 16)) ∙ sym (add-one (z % 4096 % 256 % 16)))))
+pub word-even : (z : ℕ) → eqb (bitAnd z 0x11111111) 0 ≡ key-even z
+unfolding ones key-width
+word-even z = digits-even 8 z
 
 -- ---- by monomials
 -- zeros are even and add no factor

@@ -1,155 +1,165 @@
 // Keys of monomials: all arithmetic of their digits. A key holds the exponents of a monomial as the digits of one
 // number, that of variable 1 the highest, four bits each; a wide key has seven bits for each, and the degree.
 ghost use mathlib.Core.Path.{_≡_};
-ghost use Prim.Native.Nat.{_≤_};
+ghost use Prim.Native.Nat.{_+_, _-_, _*_, _/_, _%_, _≤_, _<_};
 ghost use Rattle.calculus.specs.Key.{«key-width», «key-fits», «key-degree», Below};
 ghost use Rattle.model_keys.specs.Keys.{Slot, «key-exponent», «key-without», Raisable, «key-raised»};
 ghost use Rattle.model_keys.specs.Keys.{«key-even», «key-divisor»};
+ghost use Rattle.model_keys.specs.KeyHalvesLaws.{«half-divisor», «half-wide»};
 ghost use Rattle.model_keys.specs.Keys.{widened, «wide-exponents», «wide-degree», narrowed};
 
-// ---- what one of the first three exponents counts in a key; the fourth counts 1
-const FIRST: u16 = 1 << 12;
-
-const SECOND: u16 = 1 << 8;
-
-const THIRD: u16 = 1 << 4;
+// A key as it is stored: eight exponents of four bits, that of variable 1 the highest.
+pub type Key = u32;
 
 // ---- one exponent
+// How many bits stand behind the exponent of variable i.
+fn behind(i: u8) -> u32
+    requires { ⌜ i ≤ key-width ⌝ }
+    ensures { λ r. ⌜ r ≡ 4 * (key-width - i) ⌝ }
+{
+    32 - 4 * i as u32
+}
+
 // The exponent of variable i.
-pub fn exponent_of(key: u16, i: u8) -> u16
+pub fn exponent_of(key: Key, i: u8) -> u32
     requires { ⌜ Slot i ⌝ }
     ensures { λ r. ⌜ r ≡ key-exponent i key ⌝ }
 {
-    if i == 1 {
-        return key / FIRST;
-    }
-    if i == 2 {
-        return key % FIRST / SECOND;
-    }
-    if i == 3 {
-        return key % SECOND / THIRD;
-    }
-    key % THIRD
+    let bits = behind(i);
+    (key >> bits) % 16
 }
 
 // The key with the exponent of variable i made 0.
-pub fn without(key: u16, i: u8) -> u16
+pub fn without(key: Key, i: u8) -> Key
     requires { ⌜ Slot i ⌝ }
     ensures { λ r. ⌜ r ≡ key-without i key ⌝ }
 {
-    if i == 1 {
-        return key % FIRST;
-    }
-    if i == 2 {
-        return key / FIRST * FIRST + key % SECOND;
-    }
-    if i == 3 {
-        return key / SECOND * SECOND + key % THIRD;
-    }
-    key / THIRD * THIRD
+    let bits = behind(i);
+    let exponent = (key >> bits) % 16;
+    key - (exponent << bits)
 }
 
 // The key with the exponent of variable i one higher. Of the key 0 it makes the key of the variable.
-pub fn raised(key: u16, i: u8) -> u16
+pub fn raised(key: Key, i: u8) -> Key
     requires { ⌜ Raisable i key ⌝ }
     ensures { λ r. ⌜ r ≡ key-raised i key ⌝ }
 {
-    if i == 1 {
-        return key + FIRST;
-    }
-    if i == 2 {
-        return key + SECOND;
-    }
-    if i == 3 {
-        return key + THIRD;
-    }
-    key + 1
+    let bits = behind(i);
+    let one = 1 << bits;
+    key + one
 }
 
 // ---- all exponents
 // Whether the exponents of variables above n are 0.
-pub fn key_fits(n: u8, key: u16) -> bool
+pub fn key_fits(n: u8, key: Key) -> bool
     requires { ⌜ 1 ≤ n ⌝ }
     ensures { λ r. ⌜ r ≡ key-fits key-width n key ⌝ }
 {
-    if n == 1 {
-        return key % FIRST == 0;
+    if 8 <= n {
+        return true;
     }
-    if n == 2 {
-        return key % SECOND == 0;
-    }
-    if n == 3 {
-        return key % THIRD == 0;
-    }
-    true
+    let bits = behind(n);
+    let others = (1 << bits) - 1;
+    key & others == 0
 }
 
-// The lower and the higher exponents of both bytes.
-const LOWER_DIGITS: u16 = 0x0F0F;
+// The lower and the higher exponents of all bytes.
+const LOWER_DIGITS: Key = 0x0F0F0F0F;
 
-const HIGHER_DIGITS: u16 = 0xF0F0;
+const HIGHER_DIGITS: Key = 0xF0F0F0F0;
 
 // Modulo 255 a number is the sum of its bytes where that is below 255, since 256 is 1.
-const BYTE_SUM: u16 = 255;
+const BYTE_SUM: u32 = 255;
 
 // The total degree: the two exponents of each byte are added, all bytes at once, and then the bytes.
-pub fn degree(key: u16) -> u16
+pub fn degree(key: Key) -> u32
     ensures { λ r. ⌜ r ≡ key-degree key ⌝ }
 {
     let lower = key & LOWER_DIGITS;
     let higher = key & HIGHER_DIGITS;
-    (lower + higher / THIRD) % BYTE_SUM
+    (lower + higher / 16) % BYTE_SUM
 }
 
 // The lowest bits of all exponents.
-const LOWEST_BITS: u16 = 0x1111;
+const LOWEST_BITS: Key = 0x11111111;
 
 // Whether all exponents are even.
-pub fn all_even(key: u16) -> bool
+pub fn all_even(key: Key) -> bool
     ensures { λ r. ⌜ r ≡ key-even key ⌝ }
 {
     key & LOWEST_BITS == 0
 }
 
-// The product of (exponent + 1).
-pub fn divisor(key: u16) -> u64
-    ensures { λ r. ⌜ r ≡ key-divisor key ⌝ }
+// ---- the two halves of a key, four exponents each, and what one of the first three of them counts
+const HALF: u32 = 1 << 16;
+
+const FIRST: u32 = 1 << 12;
+
+const SECOND: u32 = 1 << 8;
+
+const THIRD: u32 = 1 << 4;
+
+// The product of (exponent + 1) over one half.
+fn half_divisor(half: u32) -> u64
+    requires { ⌜ half < 65536 ⌝ }
+    ensures { λ r. ⌜ r ≡ half-divisor half ⌝ }
 {
-    let low = key % FIRST;
+    let low = half % FIRST;
     let lower = low % SECOND;
-    let first = (key / FIRST) as u64;
+    let first = (half / FIRST) as u64;
     let second = (low / SECOND) as u64;
     let third = (lower / THIRD) as u64;
     let fourth = (lower % THIRD) as u64;
     (first + 1) * ((second + 1) * ((third + 1) * (fourth + 1)))
 }
 
+// The product of (exponent + 1).
+pub fn divisor(key: Key) -> u64
+    ensures { λ r. ⌜ r ≡ key-divisor key ⌝ }
+{
+    let high = half_divisor(key / HALF);
+    let low = half_divisor(key % HALF);
+    high * low
+}
+
 // ---- wide keys: seven bits an exponent, variable 1 the highest, and a last byte for the degree, since in a product
-// exponents and degrees add up; what the four exponents count before that byte, where those of four more are 0
-const WIDE_FIRST: u64 = 1 << 49;
-
-const WIDE_SECOND: u64 = 1 << 42;
-
-const WIDE_THIRD: u64 = 1 << 35;
-
-const WIDE_FOURTH: u64 = 1 << 28;
-
+// exponents and degrees add up. Exponents are moved apart, and together, many at once: the two halves of a key, then
+// the two bytes of each half, then the two exponents of each byte, by masks for the higher and the lower of all pairs
 const LAST_BYTE: u64 = 1 << 8;
 
+const HALF_BITS: u64 = 1 << 16;
+
+const WIDE_HALF: u64 = 1 << 28;
+
+// The bytes of both halves, which are then 14 bits apart: six more.
+const HIGHER_BYTES: u64 = 0xFF00000FF00;
+
+const LOWER_BYTES: u64 = 0xFF00000FF;
+
+const BYTE_GAP: u64 = 1 << 6;
+
+// The exponents of all bytes, which are then seven bits apart: three more.
+const HIGHER_OF_BYTES: u64 = 0x3C00F003C00F0;
+
+const LOWER_OF_BYTES: u64 = 0x3C00F003C00F;
+
+const DIGIT_GAP: u64 = 1 << 3;
+
+// The exponents of a key, each with seven bits.
+fn spread(key: Key) -> u64
+    ensures { λ r. ⌜ r ≡ half-wide (key / 65536) * 268435456 + half-wide (key % 65536) ⌝ }
+{
+    let word = key as u64;
+    let halves = word / HALF_BITS * WIDE_HALF + word % HALF_BITS;
+    let bytes = (halves & HIGHER_BYTES) * BYTE_GAP + (halves & LOWER_BYTES);
+    (bytes & HIGHER_OF_BYTES) * DIGIT_GAP + (bytes & LOWER_OF_BYTES)
+}
+
 // The wide key of a key.
-pub fn wide_key(key: u16) -> u64
+pub fn wide_key(key: Key) -> u64
     ensures { λ r. ⌜ r ≡ widened key ⌝ }
 {
-    let low = key % FIRST;
-    let lower = low % SECOND;
-    let first = (key / FIRST) as u64;
-    let second = (low / SECOND) as u64;
-    let third = (lower / THIRD) as u64;
-    let fourth = (lower % THIRD) as u64;
-    let exponents = first * WIDE_FIRST
-        + second * WIDE_SECOND
-        + third * WIDE_THIRD
-        + fourth * WIDE_FOURTH;
+    let exponents = spread(key);
     let total = degree(key) as u64;
     exponents * LAST_BYTE + total
 }
@@ -161,18 +171,18 @@ pub fn wide_degree(wide: u64) -> u64
     wide % LAST_BYTE
 }
 
-// The key of a wide key. Its exponents have to fit four bits each; its degree and further exponents are not looked at.
-pub fn narrow_key(wide: u64) -> u16
+// The same masks where the exponents are seven bits apart, and the bytes 14.
+const HIGHER_OF_WIDE: u64 = 0x1E007801E00780;
+
+const HIGHER_WIDE_BYTES: u64 = 0x3FC00003FC000;
+
+// The key of a wide key. Its exponents have to fit four bits each; its degree is not looked at.
+pub fn narrow_key(wide: u64) -> Key
     requires { ⌜ Below 16 (wide-exponents wide) ⌝ }
     ensures { λ r. ⌜ r ≡ narrowed wide ⌝ }
 {
     let exponents = wide / LAST_BYTE;
-    let low = exponents % WIDE_FIRST;
-    let lower = low % WIDE_SECOND;
-    let lowest = lower % WIDE_THIRD;
-    let first = (exponents / WIDE_FIRST) as u16;
-    let second = (low / WIDE_SECOND) as u16;
-    let third = (lower / WIDE_THIRD) as u16;
-    let fourth = (lowest / WIDE_FOURTH) as u16;
-    first * FIRST + second * SECOND + third * THIRD + fourth
+    let bytes = (exponents & HIGHER_OF_WIDE) / DIGIT_GAP + (exponents & LOWER_OF_BYTES);
+    let halves = (bytes & HIGHER_WIDE_BYTES) / BYTE_GAP + (bytes & LOWER_BYTES);
+    (halves / WIDE_HALF * HALF_BITS + halves % WIDE_HALF) as Key
 }

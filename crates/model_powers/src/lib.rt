@@ -8,14 +8,14 @@ use model_types::Model;
 use model_types::Term;
 
 // The larger of two.
-fn larger(a: u16, b: u16) -> u16
+fn larger(a: u32, b: u32) -> u32
     ensures { λ r. ⌜ r ≡ max a b ⌝ }
 {
     if a < b { b } else { a }
 }
 
 // The largest exponent of variable i.
-pub fn largest_exponent(f: Model, i: u8) -> u16
+pub fn largest_exponent(f: Model, i: u8) -> u32
     requires { ⌜ In-variable i f ⌝ }
     ensures { λ r. ⌜ r ≡ largest-exponent i (view f .terms) ⌝ }
 {
@@ -31,7 +31,7 @@ pub fn largest_exponent(f: Model, i: u8) -> u16
 }
 
 // What multiplies the k-th power of variable i, radius 0.
-pub fn part(f: Model, i: u8, k: u16) -> Model
+pub fn part(f: Model, i: u8, k: u32) -> Model
     requires { ⌜ In-variable i f ⌝ }
     ensures { λ r. ⌜ r ≡ pack (part i k (view f)) ⌝ }
 {

@@ -6,9 +6,10 @@ ghost use Rattle.calculus.specs.Refusal.{done};
 ghost use Rattle.calculus.specs.Operations.{range, «range-in-box»};
 ghost use Rattle.model_types.specs.ModelStruct.{view, bounds};
 ghost use Rattle.model_range.specs.KeyRange.{«key-steady», «even-fall», «even-rise», «key-fall», «key-rise»};
+use model_keys::Key;
 
 // What a term counts in the constant part.
-fn steady(key: u16, coefficient: i64) -> i64
+fn steady(key: Key, coefficient: i64) -> i64
     ensures { λ r. ⌜ r ≡ key-steady key coefficient ⌝ }
 {
     if key == 0 {
@@ -40,7 +41,7 @@ fn over(coefficient: i64) -> u64
 // How far any term other than the constant reaches below 0. The sign is asked for in a function of its own: tested
 // here, before the parity, it was compiled to a jump that no processor can foresee, and the walk took several times as
 // long.
-fn fall(key: u16, coefficient: i64) -> u64
+fn fall(key: Key, coefficient: i64) -> u64
     ensures { λ r. ⌜ r ≡ key-fall key coefficient ⌝ }
 {
     if key == 0 {
@@ -53,7 +54,7 @@ fn fall(key: u16, coefficient: i64) -> u64
 }
 
 // How far it reaches above 0.
-fn rise(key: u16, coefficient: i64) -> u64
+fn rise(key: Key, coefficient: i64) -> u64
     ensures { λ r. ⌜ r ≡ key-rise key coefficient ⌝ }
 {
     if key == 0 {

@@ -6,12 +6,13 @@ ghost use Rattle.calculus.specs.Model.{sound};
 ghost use Rattle.model_types.specs.ModelStruct.{view, verdict};
 ghost use Rattle.model_slices.specs.HandedModels.{handed, lent};
 ghost use Rattle.model_call_tests.specs.Admission.{ordered};
+use model_types::Key;
 use model_types::MOST_TERMS;
 use model_types::Refusal;
 use model_types::Verdict;
 
 // Whether slices hold a model by the rules, with degrees up to d. The span is summed without wrapping.
-pub fn sound(n: u8, count: usize, radius: u64, keys: &[u16], coefficients: &[i64], d: u8) -> bool
+pub fn sound(n: u8, count: usize, radius: u64, keys: &[Key], coefficients: &[i64], d: u8) -> bool
     requires { ⌜ lent count (length (now keys)) (length (now coefficients)) ≡ true ⌝ }
     ensures { λ r. ⌜ r ≡ sound d (view (handed n count radius (now (keys .entry)) (now (coefficients .entry)))) ⌝ }
 {
@@ -22,7 +23,7 @@ pub fn sound(n: u8, count: usize, radius: u64, keys: &[u16], coefficients: &[i64
         return false;
     }
     let mut span = radius;
-    let mut least: u32 = 0;
+    let mut least: u64 = 0;
     let mut i = 0;
     while i < count {
         let k = keys[i];
@@ -31,7 +32,7 @@ pub fn sound(n: u8, count: usize, radius: u64, keys: &[u16], coefficients: &[i64
             return false;
         }
         span = fixed::capped_sum(span, fixed::magnitude(c));
-        least = k as u32 + 1;
+        least = k as u64 + 1;
         i += 1;
     }
     fixed::within_span(span)
@@ -43,12 +44,12 @@ pub fn ordered(
     n1: u8,
     count1: usize,
     radius1: u64,
-    keys1: &[u16],
+    keys1: &[Key],
     coefficients1: &[i64],
     n2: u8,
     count2: usize,
     radius2: u64,
-    keys2: &[u16],
+    keys2: &[Key],
     coefficients2: &[i64],
 ) -> Verdict
     requires { ⌜ lent count1 (length (now keys1)) (length (now coefficients1)) ≡ true ⌝ }

@@ -7,6 +7,7 @@ ghost use Rattle.calculus.specs.Model.{«most-terms»};
 ghost use Rattle.model_types.specs.ModelStruct.{view, «verdict-number», «verdict-place»};
 ghost use Rattle.model_slices.specs.HandedModels.{handed, lent, «answer-numbers», «model-room»};
 ghost use Rattle.model_slices.specs.HandedModels.{«stored-keys», «stored-coefficients», «stored-numbers»};
+use model_types::Key;
 use model_types::Model;
 use model_types::Shares;
 use model_types::Term;
@@ -45,7 +46,7 @@ pub fn lent(count: usize, keys: usize, coefficients: usize) -> bool
 }
 
 // The model that is handed over. Its places are the first 64 of the slices, and zeros where these end before.
-pub fn handed(n: u8, count: usize, radius: u64, keys: &[u16], coefficients: &[i64]) -> Model
+pub fn handed(n: u8, count: usize, radius: u64, keys: &[Key], coefficients: &[i64]) -> Model
     ensures { λ r. ⌜ r ≡ handed n count radius (now (keys .entry)) (now (coefficients .entry)) ⌝ }
 {
     let both = least(keys.len(), coefficients.len());
@@ -70,7 +71,7 @@ pub fn handed(n: u8, count: usize, radius: u64, keys: &[u16], coefficients: &[i6
 }
 
 // The same model to every call: only the places that its count names are copied, and zeros stand behind them.
-pub fn taken(n: u8, count: usize, radius: u64, keys: &[u16], coefficients: &[i64]) -> Model
+pub fn taken(n: u8, count: usize, radius: u64, keys: &[Key], coefficients: &[i64]) -> Model
     ensures { λ r. ⌜ view r ≡ view (handed n count radius (now (keys .entry)) (now (coefficients .entry))) ⌝ }
 {
     let both = least(keys.len(), coefficients.len());
@@ -116,7 +117,7 @@ pub fn verdict_place(verdict: Verdict) -> usize
 }
 
 // All 64 places of a model's terms go into two slices.
-pub fn store_terms(m: Model, keys: &mut [u16], coefficients: &mut [i64])
+pub fn store_terms(m: Model, keys: &mut [Key], coefficients: &mut [i64])
     requires { ⌜ (most-terms ≤ length (now keys)) × (most-terms ≤ length (now coefficients)) ⌝ }
     ensures { λ r. ⌜ (now (keys .exit) ≡ stored-keys m (now (keys .entry)))
         × (now (coefficients .exit) ≡ stored-coefficients m (now (coefficients .entry))) ⌝ }

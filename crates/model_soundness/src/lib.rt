@@ -3,22 +3,23 @@ ghost use mathlib.Core.Path.{_≡_};
 ghost use Prim.Native.Nat.{_≤_};
 ghost use Rattle.calculus.specs.Model.{sound};
 ghost use Rattle.model_types.specs.ModelStruct.{view, «term-sound»};
+use model_keys::Key;
 use model_types::MOST_TERMS;
 use model_types::Model;
 
 // Whether a term may stand in a model where keys before it are below `least`.
-pub fn term_sound(n: u8, d: u8, least: u32, key: u16, coefficient: i64) -> bool
+pub fn term_sound(n: u8, d: u8, least: u64, key: Key, coefficient: i64) -> bool
     requires { ⌜ 1 ≤ n ⌝ }
     ensures { λ r. ⌜ r ≡ term-sound n d least key coefficient ⌝ }
 {
     if coefficient == 0 {
         return false;
     }
-    if (key as u32) < least {
+    if (key as u64) < least {
         return false;
     }
     if model_keys::key_fits(n, key) {
-        model_keys::degree(key) <= d as u16
+        model_keys::degree(key) <= d as u32
     } else {
         false
     }
@@ -37,7 +38,7 @@ pub fn sound(m: Model, d: u8) -> bool
         return false;
     }
     let mut span = m.radius;
-    let mut least: u32 = 0;
+    let mut least: u64 = 0;
     let mut i = 0;
     while i < count {
         let t = m.terms[i];
@@ -45,7 +46,7 @@ pub fn sound(m: Model, d: u8) -> bool
             return false;
         }
         span = fixed::capped_sum(span, fixed::magnitude(t.coefficient));
-        least = t.key as u32 + 1;
+        least = t.key as u64 + 1;
         i += 1;
     }
     fixed::within_span(span)

@@ -14,20 +14,21 @@ ghost use Rattle.calculus.specs.Shares.{grown, «all-carried»};
 ghost use Rattle.model_types.specs.ModelStruct.{pack, «one-term», cause, answer, bounds};
 ghost use Rattle.model_types.specs.SharesStruct.{«stored-shares», «unless-refused», accounted};
 ghost use Rattle.model_types.specs.ModelStruct.{«integral-answer»};
+pub use model_keys::Key;
 
 // The places of a model's terms.
 pub const MOST_TERMS: usize = 64;
 
 // The largest number of variables.
-pub const MOST_VARS: u8 = 4;
+pub const MOST_VARS: u8 = 8;
 
 // The largest degree of a term, and the largest order.
 pub const MOST_DEGREE: u8 = 15;
 
-// One term: four exponents of four bits each, that of variable 1 in the highest bits, and a coefficient in units of
+// One term: eight exponents of four bits each, that of variable 1 in the highest bits, and a coefficient in units of
 // 1/U.
 pub struct Term {
-    pub key: u16,
+    pub key: Key,
     pub coefficient: i64,
 }
 
@@ -327,7 +328,7 @@ impl Model {
 
 // ---- for the layer above: numbers that are known to be within their limits
 // A model of one term.
-fn of_one_term(n: u8, key: u16, coefficient: i64) -> Model
+fn of_one_term(n: u8, key: Key, coefficient: i64) -> Model
     requires { ⌜ n ≤ key-width ⌝ }
     ensures { λ r. ⌜ r ≡ pack (one-term n key coefficient) ⌝ }
 {

@@ -8,6 +8,7 @@ ghost use Rattle.calculus.specs.Operations.{negate, sweep};
 ghost use Rattle.calculus.specs.Shares.{«sweep-shares»};
 ghost use Rattle.model_types.specs.ModelStruct.{view, pack};
 ghost use Rattle.model_types.specs.SharesStruct.{accounted};
+use model_types::Key;
 use model_types::Accounted;
 use model_types::Answer;
 use model_types::MOST_TERMS;
@@ -16,7 +17,7 @@ use model_types::Term;
 use model_types::Verdict;
 
 // Whether a term is swept: not the constant one, and not above the threshold.
-fn is_small(threshold: u64, key: u16, size: u64) -> bool
+fn is_small(threshold: u64, key: Key, size: u64) -> bool
     ensures { λ r. ⌜ r ≡ (not (eqb key 0) && leb size threshold) ⌝ }
 {
     if key == 0 {

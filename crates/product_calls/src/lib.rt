@@ -8,6 +8,7 @@ ghost use Rattle.model_types.specs.ModelStruct.{view, answer};
 ghost use Rattle.model_slices.specs.HandedModels.{handed, lent};
 ghost use Rattle.product_terms.specs.ProductTerms.{«Kept-room»};
 ghost use Rattle.product_answer.specs.KeptProduct.{«kept-accounted», «Kept-ready»};
+use model_types::Key;
 use model_slices::Kept;
 use model_types::Shares;
 use model_types::Verdict;
@@ -25,12 +26,12 @@ pub fn multiply_slices(
     n1: u8,
     count1: usize,
     radius1: u64,
-    keys1: &[u16],
+    keys1: &[Key],
     coefficients1: &[i64],
     n2: u8,
     count2: usize,
     radius2: u64,
-    keys2: &[u16],
+    keys2: &[Key],
     coefficients2: &[i64],
     kept: &mut [u64],
     coefficients: &mut [i64],

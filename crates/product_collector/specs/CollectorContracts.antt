@@ -8,6 +8,7 @@ use lib.ListN.{length, getD}
 use Rattle.calculus.specs.Terms.{Terms, every, size, drop-zeros}
 use Rattle.calculus.specs.Model.{Model, most-terms, most-degree, fits}
 use Rattle.calculus.specs.Operations.{products, kept}
+use Rattle.model_keys.specs.Keys.{wide-width}
 use Rattle.product_slots.specs.Slots.{Told, home-slots}
 use Rattle.product_table.specs.Table.{terms, entries, most-entries, lent-places, Table}
 use Rattle.product_gathering.specs.declared.Gathered.{Gathered}
@@ -56,12 +57,12 @@ pub record Collected (homes : ℕ) (old : Terms) (most : ℕ) (q : Terms) (slots
   pub sum : entries n keys sums ≡ accumulated-all old q
 
 -- ---- the product
--- two models in at most four variables, held by the wide keys of their terms, whose products fit when summed
+-- two models in at most eight variables, held by the wide keys of their terms, whose products fit when summed
 pub record Held-factors (ka : List ℕ) (ca : List ℤ) (na : ℕ) (kb : List ℕ) (cb : List ℤ) (nb : ℕ) : Type 0 where
   pub vars : ℕ
   pub first : Model
   pub second : Model
-  pub vars-few : vars ≤ 4
+  pub vars-few : vars ≤ wide-width
   pub first-fits : T (every (λ k c. fits vars most-degree k) (first .terms))
   pub second-fits : T (every (λ k c. fits vars most-degree k) (second .terms))
   pub first-held : terms na ka ca ≡ wide-terms (first .terms)

@@ -1,17 +1,18 @@
 -- The four digits of a wide key: as they are put together, added and read.
 use mathlib.Core.Path.{_≡_, refl, sym, _∙_, ap, ap₂}
 use mathlib.Core.List.{List, [], _∷_}
-use Prim.Native.Nat.{ℕ, _+_, _*_, _/_, _%_, _^_, _<_, _≤_}
+use Prim.Native.Nat.{ℕ, zero, suc, _+_, _*_, _/_, _%_, _^_, _<_, _≤_}
 use native.Mathlib.Omega.{arith}
-use lib.Dec.{T}
+use native.Mathlib.Nat as NatL
+use lib.Dec.{T, lit<}
 use lib.ListN.{length}
 use Rattle.calculus.specs.Monomial.{degree}
 use Rattle.calculus.specs.Key.{encode}
+use Rattle.calculus.specs.KeyLaws.{below-degree, encode-lt}
 use Rattle.calculus.specs.Model.{fits}
 use Rattle.calculus.specs.FitsLaws.{fits-length, fits-degree}
-use Rattle.model_keys.specs.Keys.{wide-key}
-use Rattle.product_slots.specs.Slots.{upper, digit-sum, Told}
-use Rattle.product_dense.specs.Grid.{first-of, second-of, third-of, fourth-of}
+use Rattle.model_keys.specs.Keys.{wide-base, wide-width, wide-key}
+use Rattle.product_dense.specs.Grid.{first-of, second-of, third-of, fourth-of, others-of, upper, digit-sum, Four-told, Low-key}
 
 -- none above the most, with their sum below them
 pub record Digits (most key : ℕ) : Type 0 where
@@ -39,37 +40,55 @@ digits-sum x y = record {
   is = omega (arith, x .is, y .is);
 }
 
--- of a wide key
-four-digits : (a b c d : ℕ)
-    → wide-key (a ∷ (b ∷ (c ∷ (d ∷ [])))) ≡ (((a * 2 ^ 7 + b) * 2 ^ 7 + c) * 2 ^ 7 + d) * 2 ^ 36 + (a + b + c + d)
-unfolding encode degree
-four-digits a b c d = omega arith
+-- ---- of a wide key: four digits, and the exponents of the other variables
+pub record Parts (most key : ℕ) : Type 0 where
+  pub a : ℕ
+  pub b : ℕ
+  pub c : ℕ
+  pub d : ℕ
+  pub others : ℕ
+  pub more : ℕ
+  pub low : a + b + c + d + more ≤ most
+  pub small : others < 2 ^ 28
+  pub none : others ≡ 0 → more ≡ 0
+  pub is : key
+      ≡ (((a * 2 ^ 7 + b) * 2 ^ 7 + c) * 2 ^ 7 + d) * 2 ^ 36 + (others * 2 ^ 8 + (a + b + c + d + more))
 
-pub wide-digits : (n m : ℕ) → n ≤ 4 → (k : List ℕ) → T (fits n m k) → Digits m (wide-key k)
+-- no digit counts nothing
+encode-none : (w : ℕ) (k : List ℕ) → length k ≤ w → encode wide-base w k ≡ 0 → degree k ≡ 0
 unfolding encode degree
-wide-digits n m l k h = go k (omega (arith, fits-length n m k h)) (fits-degree n m k h)
+encode-none w [] l e = refl
+encode-none zero (a ∷ k) l e = absurd (omega arith)
+encode-none (suc w) (a ∷ k) l e =
+    let p : a * 1 ≤ a * wide-base ^ w = NatL.mul-le-mul-left a (NatL.one-le-pow w wide-base (lit< tt)) in
+    let r = encode-none w k (omega arith) (omega (arith, e)) in omega (arith, p, e, r)
+
+pub wide-parts : (n m : ℕ) → n ≤ wide-width → m ≤ 127 → (k : List ℕ) → T (fits n m k) → Parts m (wide-key k)
+unfolding encode degree
+wide-parts n m l u k h = go k (omega (arith, fits-length n m k h)) (fits-degree n m k h)
   where
-    made : (a b c d key : ℕ) → a + b + c + d ≤ m
-        → key ≡ (((a * 2 ^ 7 + b) * 2 ^ 7 + c) * 2 ^ 7 + d) * 2 ^ 36 + (a + b + c + d) → Digits m key
-    made a b c d key g e = record {
+    made : (a b c d : ℕ) (key : ℕ) (k : List ℕ) → length k ≤ 4 → a + b + c + d + degree k ≤ m
+        → key ≡ (((a * 2 ^ 7 + b) * 2 ^ 7 + c) * 2 ^ 7 + d) * 2 ^ 36
+        + (encode wide-base 4 k * 2 ^ 8 + (a + b + c + d + degree k)) → Parts m key
+    made a b c d key k l g e = record {
       a = a;
       b = b;
       c = c;
       d = d;
-      low-a = omega arith;
-      low-b = omega arith;
-      low-c = omega arith;
-      low-d = omega arith;
+      others = encode wide-base 4 k;
+      more = degree k;
+      low = g;
+      small = encode-lt wide-base (lit< tt) 4 k (below-degree wide-base k (omega arith)) l;
+      none = encode-none 4 k l;
       is = e;
     }
 
-    go : (k : List ℕ) → length k ≤ 4 → degree k ≤ m → Digits m (wide-key k)
-    go [] l g = made 0 0 0 0 _ (omega arith) refl
-    go (a ∷ []) l g = made a 0 0 0 _ (omega arith) (omega arith)
-    go (a ∷ (b ∷ [])) l g = made a b 0 0 _ (omega arith) (omega arith)
-    go (a ∷ (b ∷ (c ∷ []))) l g = made a b c 0 _ (omega arith) (omega arith)
-    go (a ∷ (b ∷ (c ∷ (d ∷ [])))) l g = made a b c d _ (omega arith) (four-digits a b c d)
-    go (a ∷ (b ∷ (c ∷ (d ∷ (e ∷ k))))) l g = absurd (omega arith)
+    go : (k : List ℕ) → length k ≤ 8 → degree k ≤ m → Parts m (wide-key k)
+    go [] l g = made 0 0 0 0 _ [] (omega arith) (omega arith) refl
+    go (a ∷ []) l g = made a 0 0 0 _ [] (omega arith) (omega arith) (omega arith)
+    go (a ∷ (b ∷ [])) l g = made a b 0 0 _ [] (omega arith) (omega arith) (omega arith)
+    go (a ∷ (b ∷ (c ∷ []))) l g = made a b c 0 _ [] (omega arith) (omega arith) (omega arith)
+    go (a ∷ (b ∷ (c ∷ (d ∷ k)))) l g = made a b c d _ k (omega arith) (omega arith) (omega arith)
 
 -- ---- as they are read
 by-upper : (key : ℕ)
@@ -129,11 +148,62 @@ module _ {m key : ℕ} (x : Digits m key) (h : m ≤ 127) where
   pub read-fourth : fourth-of key ≡ x .d
   read-fourth = by-upper key .3 ∙ ap (λ w. w % 2 ^ 7) upper-is ∙ reads .4
 
-  pub digits-told : Told key
+  pub digits-told : Four-told key
   digits-told =
       let s : digit-sum (upper key) ≡ x .a + x .b + x .c + x .d =
       ap digit-sum upper-is ∙ rw (reads .1, reads .2, reads .3, reads .4) refl in
       record {
         small = within-64 whole rest (reads .0);
         whole = whole ∙ ap₂ (λ w z. w * 2 ^ 36 + z) (sym upper-is) (sym s);
+      }
+
+-- ---- any wide key
+module _ {m key : ℕ} (x : Parts m key) (h : m ≤ 127) where
+  abbrev tail : ℕ
+  tail = x .others * 2 ^ 8 + (x .a + x .b + x .c + x .d + x .more)
+
+  tail-small : tail < 2 ^ 36
+  tail-small = omega (arith, x .small, x .low, h)
+
+  parts-whole : key ≡ number (x .a) (x .b) (x .c) (x .d) * 2 ^ 36 + tail
+  unfolding number
+  parts-whole = x .is
+
+  parts-upper : upper key ≡ number (x .a) (x .b) (x .c) (x .d)
+  parts-upper = over-36 parts-whole tail-small
+
+  others-read : (w z s key : ℕ) → key ≡ w * 2 ^ 36 + (z * 2 ^ 8 + s) → z < 2 ^ 28 → s < 2 ^ 8 → others-of key ≡ z
+  others-read w z s key e l g = omega arith
+
+  parts-others : others-of key ≡ x .others
+  parts-others = others-read _ (x .others) _ key parts-whole (x .small) (omega (arith, x .low, h))
+
+  -- without other exponents it has four digits
+  pub parts-digits : others-of key ≡ 0 → Digits m key
+  parts-digits e =
+      let z : x .others ≡ 0 = sym parts-others ∙ e in
+      let r : x .more ≡ 0 = x .none z in
+      record {
+        a = x .a;
+        b = x .b;
+        c = x .c;
+        d = x .d;
+        low-a = omega (arith, x .low);
+        low-b = omega (arith, x .low);
+        low-c = omega (arith, x .low);
+        low-d = omega (arith, x .low);
+        is = omega (arith, x .is, z, r);
+      }
+
+  -- each of the first four is small
+  pub parts-low : m ≤ 15 → Low-key key
+  parts-low l =
+      let r = number-digits (x .a) (x .b) (x .c) (x .d) (omega (arith, x .low)) (omega (arith, x .low))
+      (omega (arith, x .low)) (omega (arith, x .low)) in
+      let u = by-upper key in
+      record {
+        first = omega (arith, u .0, ap (λ w. w / 2 ^ 21) parts-upper, r .1, x .low);
+        second = omega (arith, u .1, ap (λ w. w / 2 ^ 14 % 2 ^ 7) parts-upper, r .2, x .low);
+        third = omega (arith, u .2, ap (λ w. w / 2 ^ 7 % 2 ^ 7) parts-upper, r .3, x .low);
+        fourth = omega (arith, u .3, ap (λ w. w % 2 ^ 7) parts-upper, r .4, x .low);
       }

@@ -1,9 +1,10 @@
 -- A grid of monomials: how many places a variable's exponents take, and the place of a wide key among all.
+use mathlib.Core.Path.{_≡_}
 use mathlib.Core.List.{List}
 use Prim.Native.Nat.{ℕ, zero, suc, _+_, _*_, _/_, _%_, _^_, max, _<_, _≤_}
 use lib.ListN.{getD}
+use lib.Bits.{bitOr}
 use Rattle.model_keys.specs.Keys.{wide-degree}
-use Rattle.product_slots.specs.Slots.{Told}
 use Rattle.product_dense.specs.declared.Extents.{Extents}
 use Rattle.product_dense.specs.declared.Sides.{Sides}
 
@@ -24,6 +25,23 @@ third-of key = key / 2 ^ 43 % 2 ^ 7
 abbrev pub fourth-of : ℕ → ℕ
 fourth-of key = key / 2 ^ 36 % 2 ^ 7
 
+-- what follows them: the exponents of the other variables
+abbrev pub others-of : ℕ → ℕ
+others-of key = key % 2 ^ 36 / 2 ^ 8
+
+-- the bits of a key that tell it from all others without other exponents
+abbrev pub upper : ℕ → ℕ
+upper key = key / 2 ^ 36
+
+-- the four digits of seven bits that these are, added
+abbrev pub digit-sum : ℕ → ℕ
+digit-sum u = u / 2 ^ 21 + u / 2 ^ 14 % 2 ^ 7 + u / 2 ^ 7 % 2 ^ 7 + u % 2 ^ 7
+
+-- a key that they tell, as a wide key's exponents tell its degree
+pub record Four-told (key : ℕ) : Type 0 where
+  pub small : key < 2 ^ 64
+  pub whole : key ≡ upper key * 2 ^ 36 + digit-sum (upper key)
+
 -- ---- the largest of each
 -- none above those of e
 pub record Within (e : Extents) (key : ℕ) : Type 0 where
@@ -31,30 +49,41 @@ pub record Within (e : Extents) (key : ℕ) : Type 0 where
   pub second : second-of key ≤ e .second
   pub third : third-of key ≤ e .third
   pub fourth : fourth-of key ≤ e .fourth
+  pub others : others-of key ≤ e .others
 
--- the larger of each and a key's
+-- the larger of each and a key's, of the others all bits
 unfoldable pub raised-by : (e : Extents) (key : ℕ) → Extents
 raised-by e key = record {
   first = max (e .first) (first-of key);
   second = max (e .second) (second-of key);
   third = max (e .third) (third-of key);
   fourth = max (e .fourth) (fourth-of key);
+  others = bitOr (e .others) (others-of key);
 }
 
--- each fits four bits
+-- each fits four bits, and the others four times seven
 pub record Low (e : Extents) : Type 0 where
   pub first : e .first < 2 ^ 4
   pub second : e .second < 2 ^ 4
   pub third : e .third < 2 ^ 4
   pub fourth : e .fourth < 2 ^ 4
+  pub others : e .others < 2 ^ 28
+
+-- of one key
+pub record Low-key (key : ℕ) : Type 0 where
+  pub first : first-of key < 2 ^ 4
+  pub second : second-of key < 2 ^ 4
+  pub third : third-of key < 2 ^ 4
+  pub fourth : fourth-of key < 2 ^ 4
 
 -- the extents of the first keys
 unfoldable pub extents : (count : ℕ) (keys : List ℕ) → Extents
-extents zero keys = record { first = 0; second = 0; third = 0; fourth = 0 }
+extents zero keys = record { first = 0; second = 0; third = 0; fourth = 0; others = 0 }
 extents (suc n) keys = raised-by (extents n keys) (getD keys n 0)
 
 -- ---- the grid
--- for the products of terms within e and within h: a side for each variable, and the number of places
+-- for the products of terms within e and within h: a side for each variable, and the number of places, which is too
+-- large for any use where there are other exponents
 unfoldable pub sides-for : (e h : Extents) → Sides
 sides-for e h =
     let first = e .first + h .first + 1 in
@@ -66,7 +95,7 @@ sides-for e h =
       second = second;
       third = third;
       fourth = fourth;
-      size = first * second * third * fourth;
+      size = first * second * third * fourth + (e .others + h .others) * 2 ^ 24;
     }
 
 -- no side too long
@@ -94,7 +123,7 @@ word s = word-by (s .second) (s .third) (s .fourth)
 
 -- a key in the grid
 pub record Gridded (s : Sides) (key : ℕ) : Type 0 where
-  pub told : Told key
+  pub told : Four-told key
   pub first : first-of key < s .first
   pub second : second-of key < s .second
   pub third : third-of key < s .third

@@ -1,6 +1,6 @@
 -- A key's digits as its exponents in a grid.
 use mathlib.Core.Path.{_≡_, ap₂}
-use Prim.Native.Nat.{ℕ, _+_, _*_, _<_, _≤_}
+use Prim.Native.Nat.{ℕ, _+_, _*_, _^_, _<_, _≤_}
 use native.Mathlib.Omega.{arith}
 use Rattle.product_dense.specs.declared.Extents.{Extents}
 use Rattle.product_dense.specs.declared.Sides.{Sides}
@@ -39,3 +39,8 @@ pub sides-whole : (e h : Extents)
     → let s = sides-for e h in s .first * s .second * s .third * s .fourth ≤ s .size
 unfolding sides-for
 sides-whole e h = omega arith
+
+-- one that is not too large has no other exponents
+pub sides-others : (e h : Extents) → sides-for e h .size < 2 ^ 24 → (e .others ≡ 0) × (h .others ≡ 0)
+unfolding sides-for
+sides-others e h l = (omega arith, omega arith)

@@ -6,11 +6,12 @@ use native.Mathlib.Nat.{mul-le-mul, le-max-left, le-max-right, max-le}
 use native.Mathlib.Decide.{ℕ-discrete}
 use native.Mathlib.Omega.{arith}
 use native.Mathlib.Numerals.{unary-clauses}
+use lib.Bits.{bitOr, or-lt, or-add-and, and-le-l, and-le-r}
 use lib.ListN.{length, getD, set}
 use lib.Seq.{getD-set-same, getD-set-other}
 use Rattle.product_dense.specs.declared.Extents.{Extents}
-use Rattle.product_dense.specs.Grid.{first-of, second-of, third-of, fourth-of, Within, raised-by, Low, extents}
-use Rattle.product_dense.specs.Grid.{sides-for, Narrow, place-by}
+use Rattle.product_dense.specs.Grid.{first-of, second-of, third-of, fourth-of, others-of, Within, raised-by}
+use Rattle.product_dense.specs.Grid.{Low, Low-key, extents, sides-for, Narrow, place-by}
 use Rattle.product_dense.specs.DigitLaws.{Digits, read-first, read-second, read-third, read-fourth}
 
 -- ---- how large they are
@@ -25,6 +26,9 @@ module _ (e h : Extents) (p : Low e) (q : Low h) where
   cube-fits =
       let a : e .third + h .third + 1 ≤ 2 ^ 8 = omega (arith, p .third, q .third) in
       mul-le-mul plane-fits a
+
+  pub others-fit : (e .others + h .others) * 2 ^ 24 ≤ 2 ^ 53
+  others-fit = omega (arith, p .others, q .others)
 
   pub size-fits : (e .first + h .first + 1) * (e .second + h .second + 1) * (e .third + h .third + 1)
       * (e .fourth + h .fourth + 1) ≤ 2 ^ 32
@@ -75,17 +79,34 @@ place-fits second third fourth key l w =
 max-lt : {a b k : ℕ} → a < k → b < k → max a b < k
 max-lt {a} {b} {k} h l = let g : max a b ≤ k - 1 = max-le (omega arith) (omega arith) in omega arith
 
-low-zero : Low (record { first = 0; second = 0; third = 0; fourth = 0 })
-low-zero = record { first = omega arith; second = omega arith; third = omega arith; fourth = omega arith }
+low-zero : Low (record { first = 0; second = 0; third = 0; fourth = 0; others = 0 })
+low-zero = record {
+  first = omega arith;
+  second = omega arith;
+  third = omega arith;
+  fourth = omega arith;
+  others = omega arith;
+}
+
+-- all bits of two numbers are no less than either
+or-left : (a b : ℕ) → a ≤ bitOr a b
+or-left a b = omega (arith, or-add-and a b, and-le-r a b)
+
+or-right : (a b : ℕ) → b ≤ bitOr a b
+or-right a b = omega (arith, or-add-and a b, and-le-l a b)
+
+others-small : (key : ℕ) → others-of key < 2 ^ 28
+others-small key = omega arith
 
 module _ (e : Extents) (key : ℕ) where
-  low-raised : Low e → Digits 15 key → Low (raised-by e key)
+  low-raised : Low e → Low-key key → Low (raised-by e key)
   unfolding raised-by
   low-raised h x = record {
-    first = max-lt (h .first) (omega (arith, read-first x (omega arith), x .low-a));
-    second = max-lt (h .second) (omega (arith, read-second x (omega arith), x .low-b));
-    third = max-lt (h .third) (omega (arith, read-third x (omega arith), x .low-c));
-    fourth = max-lt (h .fourth) (omega (arith, read-fourth x (omega arith), x .low-d));
+    first = max-lt (h .first) (x .first);
+    second = max-lt (h .second) (x .second);
+    third = max-lt (h .third) (x .third);
+    fourth = max-lt (h .fourth) (x .fourth);
+    others = or-lt 28 (e .others) (others-of key) (h .others) (others-small key);
   }
 
   within-new : Within (raised-by e key) key
@@ -95,6 +116,7 @@ module _ (e : Extents) (key : ℕ) where
     second = le-max-right (e .second) (second-of key);
     third = le-max-right (e .third) (third-of key);
     fourth = le-max-right (e .fourth) (fourth-of key);
+    others = or-right (e .others) (others-of key);
   }
 
   within-old : (l : ℕ) → Within e l → Within (raised-by e key) l
@@ -104,6 +126,7 @@ module _ (e : Extents) (key : ℕ) where
     second = omega (arith, h .second, le-max-left (e .second) (second-of key));
     third = omega (arith, h .third, le-max-left (e .third) (third-of key));
     fourth = omega (arith, h .fourth, le-max-left (e .fourth) (fourth-of key));
+    others = omega (arith, h .others, or-left (e .others) (others-of key));
   }
 
 -- ---- the extents of the first keys
@@ -111,7 +134,7 @@ pub extents-more : (n : ℕ) (keys : List ℕ) → extents (n + 1) keys ≡ rais
 unfolding extents
 extents-more n keys = simp unary-clauses refl
 
-pub extents-low : (n : ℕ) (keys : List ℕ) → ((i : ℕ) → i < n → Digits 15 (getD keys i 0)) → Low (extents n keys)
+pub extents-low : (n : ℕ) (keys : List ℕ) → ((i : ℕ) → i < n → Low-key (getD keys i 0)) → Low (extents n keys)
 unfolding extents
 extents-low zero keys f = low-zero
 extents-low (suc n) keys f =

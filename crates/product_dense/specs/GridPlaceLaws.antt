@@ -5,10 +5,9 @@ use Prim.Native.Nat.{ℕ, _+_, _*_, _/_, _%_, _^_, _<_, _≤_}
 use native.Mathlib.Nat.{mul-le-mul, mul-le-mul-right, add-mul}
 use native.Mathlib.Decide.{decLt, ℕ-discrete}
 use native.Mathlib.Omega.{arith}
-use Rattle.product_slots.specs.Slots.{upper, digit-sum, Told}
 use Rattle.product_dense.specs.declared.Extents.{Extents}
 use Rattle.product_dense.specs.declared.Sides.{Sides}
-use Rattle.product_dense.specs.Grid.{first-of, second-of, third-of, fourth-of, Within, Low, sides-for}
+use Rattle.product_dense.specs.Grid.{first-of, second-of, third-of, fourth-of, upper, digit-sum, Within, Low, sides-for}
 use Rattle.product_dense.specs.Grid.{place-by, place, Gridded}
 use Rattle.product_dense.specs.DigitLaws.{Digits, digits-sum, number, upper-number, digits-told}
 use Rattle.product_dense.specs.DigitLaws.{read-first, read-second, read-third, read-fourth}
@@ -170,5 +169,6 @@ module _ (e h : Extents) (low-e : Low e) (low-h : Low h) (k l : ℕ) (x : Digits
         second = second;
         third = third;
         fourth = fourth;
-        below = digits-below _ _ _ _ (digits-below _ _ _ _ (digits-below _ _ _ _ first second) third) fourth;
+        below = let b = digits-below _ _ _ _ (digits-below _ _ _ _ (digits-below _ _ _ _ first second) third) fourth in
+            omega (arith, b);
       }

@@ -3,7 +3,7 @@
 ghost use mathlib.Core.Path.{_≡_};
 ghost use Prim.Native.Nat.{ℕ, max, _<_, _≤_};
 ghost use lib.ListN.{length, getD};
-ghost use Rattle.product_dense.specs.Grid.{«first-of», «second-of», «third-of», «fourth-of», Low};
+ghost use Rattle.product_dense.specs.Grid.{«first-of», «second-of», «third-of», «fourth-of», «others-of», Low};
 ghost use Rattle.product_dense.specs.Grid.{«raised-by», extents};
 ghost use Rattle.product_dense.specs.Grid.{«sides-for», Narrow, «place-by», «word-by»};
 ghost use Rattle.product_dense.specs.Degrees.{«Top-degree»};
@@ -18,6 +18,12 @@ const THIRD: u64 = 1 << 43;
 const FOURTH: u64 = 1 << 36;
 
 const DIGIT: u64 = 1 << 7;
+
+// What stands behind the first four exponents begins with the degree, a byte.
+const DEGREE: u64 = 1 << 8;
+
+// Where there are other exponents, a grid counts as having so many places more, which is too many.
+const TOO_MANY: usize = 1 << 24;
 
 fn first_of(key: u64) -> u8
     ensures { λ r. ⌜ r ≡ first-of key ⌝ }
@@ -43,16 +49,25 @@ fn fourth_of(key: u64) -> u8
     (key / FOURTH % DIGIT) as u8
 }
 
+// The exponents of the other variables, as one number.
+fn others_of(key: u64) -> usize
+    ensures { λ r. ⌜ r ≡ others-of key ⌝ }
+{
+    (key % FOURTH / DEGREE) as usize
+}
+
 // What a place counts in a word that has a degree in its last byte.
 pub const LAST_BYTE: usize = 1 << 8;
 
 // ---- the grid
-// The largest exponent of each variable, as bytes, of which the compiler compares many at once.
+// The largest exponent of each of the first four variables, as bytes, of which the compiler compares many at once; and
+// the bits of all exponents of the others, 0 only where there are none.
 pub struct Extents {
     pub first: u8,
     pub second: u8,
     pub third: u8,
     pub fourth: u8,
+    pub others: usize,
 }
 
 // How many exponents of each variable there can be in a product, and how many monomials.
@@ -79,6 +94,7 @@ fn raised(e: Extents, key: u64) -> Extents
         second: larger(e.second, second_of(key)),
         third: larger(e.third, third_of(key)),
         fourth: larger(e.fourth, fourth_of(key)),
+        others: e.others | others_of(key),
     }
 }
 
@@ -92,6 +108,7 @@ pub fn extents_of(keys: &[u64], count: usize) -> Extents
         second: 0,
         third: 0,
         fourth: 0,
+        others: 0,
     };
     let mut i = 0;
     while i < count {
@@ -113,12 +130,13 @@ pub fn sides_of(e: Extents, h: Extents) -> Sides
     let fourth = e.fourth as usize + h.fourth as usize + 1;
     let plane = first * second;
     let cube = plane * third;
+    let others = (e.others + h.others) * TOO_MANY;
     Sides {
         first: first,
         second: second,
         third: third,
         fourth: fourth,
-        size: cube * fourth,
+        size: cube * fourth + others,
     }
 }
 

@@ -20,12 +20,13 @@ ghost use Rattle.product_answer.specs.KeptProduct.{«kept-model», «kept-accou
 ghost use Rattle.product_answer.specs.KeptProduct.{«kept-count»};
 ghost use Rattle.product_slices.specs.KeptPlaces.{«narrow-keys», «narrow-coefficients», zeroed};
 pub use model_slices::Kept;
+use model_keys::Key;
 use model_types::Accounted;
 use model_types::Verdict;
 
 // ---- the factors
 // The terms of a model go into an array by their wide keys; the sum of their |c|. The coefficients stay where they are.
-fn unpack(count: usize, keys: &[u16], coefficients: &[i64], wide: &mut [u64]) -> u64
+fn unpack(count: usize, keys: &[Key], coefficients: &[i64], wide: &mut [u64]) -> u64
     requires { ⌜ Handed count (now keys) (now coefficients) ⌝ }
     requires { ⌜ count ≤ length (now wide) ⌝ }
     ensures { λ r. ⌜ ((w : Handed count (now (keys .entry)) (now (coefficients .entry)))
@@ -51,11 +52,11 @@ pub fn multiplied_slices(
     n: u8,
     count1: usize,
     radius1: u64,
-    keys1: &[u16],
+    keys1: &[Key],
     coefficients1: &[i64],
     count2: usize,
     radius2: u64,
-    keys2: &[u16],
+    keys2: &[Key],
     coefficients2: &[i64],
     slots: &mut [u16],
     keys: &mut [u64],
@@ -107,11 +108,11 @@ pub fn multiplied_slices_alone(
     n: u8,
     count1: usize,
     radius1: u64,
-    keys1: &[u16],
+    keys1: &[Key],
     coefficients1: &[i64],
     count2: usize,
     radius2: u64,
-    keys2: &[u16],
+    keys2: &[Key],
     coefficients2: &[i64],
     kept: &mut [u64],
     coefficients: &mut [i64],
@@ -155,11 +156,11 @@ pub fn multiplied_slices_accounted(
     n: u8,
     count1: usize,
     radius1: u64,
-    keys1: &[u16],
+    keys1: &[Key],
     coefficients1: &[i64],
     count2: usize,
     radius2: u64,
-    keys2: &[u16],
+    keys2: &[Key],
     coefficients2: &[i64],
     slots: &mut [u16],
     keys: &mut [u64],
@@ -217,7 +218,7 @@ fn store_first(
     count: usize,
     kept: &[u64],
     rounded: &[i64],
-    keys: &mut [u16],
+    keys: &mut [Key],
     coefficients: &mut [i64],
 )
     requires { ⌜ Pack-ready count (now kept) (now rounded) ⌝ }
@@ -238,7 +239,7 @@ fn store_first(
 }
 
 // Zeros go into the other places of a model.
-fn store_zeros(from: usize, keys: &mut [u16], coefficients: &mut [i64])
+fn store_zeros(from: usize, keys: &mut [Key], coefficients: &mut [i64])
     requires { ⌜ from ≤ most-terms ⌝ }
     requires { ⌜ (most-terms ≤ length (now keys)) × (most-terms ≤ length (now coefficients)) ⌝ }
     ensures { λ r. ⌜ (now (keys .exit) ≡ zeroed 0 from most-terms (now (keys .entry)))
@@ -257,7 +258,7 @@ pub fn store_kept(
     k: Kept,
     kept: &[u64],
     rounded: &[i64],
-    keys: &mut [u16],
+    keys: &mut [Key],
     coefficients: &mut [i64],
 )
     requires { ⌜ Kept-ready k (now kept) (now rounded) ⌝ }

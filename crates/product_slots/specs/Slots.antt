@@ -5,18 +5,18 @@ use Prim.Native.Nat.{ℕ, zero, suc, _+_, _*_, _/_, _%_, _^_, _<_, _≤_}
 use lib.ListN.{length, getD}
 
 -- ---- keys
--- the bits of a key that tell it from all others, which its lowest 36 do not
+-- the bits of a key that its search goes by first: the exponents of variables 1 to 4
 abbrev pub upper : ℕ → ℕ
 upper key = key / 2 ^ 36
 
--- the four digits of seven bits that these are, added
-abbrev pub digit-sum : ℕ → ℕ
-digit-sum u = u / 2 ^ 21 + u / 2 ^ 14 % 2 ^ 7 + u / 2 ^ 7 % 2 ^ 7 + u % 2 ^ 7
+-- and those that it goes by then: the exponents of the others, and the degree
+abbrev pub lower : ℕ → ℕ
+lower key = key % 2 ^ 36
 
--- a key that they tell, as a wide key's exponents tell its degree
+-- a key that these tell, with room for a 1 above them: its exponents are below 64
 pub record Told (key : ℕ) : Type 0 where
   pub small : key < 2 ^ 64
-  pub whole : key ≡ upper key * 2 ^ 36 + digit-sum (upper key)
+  pub room : lower key < 2 ^ 35
 
 -- ---- where a search begins
 -- the most slots that a search can begin at
@@ -44,9 +44,9 @@ home-slot homes key = mixed key * homes / 2 ^ 32
 abbrev pub slot-below : (homes x b : ℕ) → ℕ
 slot-below homes x b = homes + 2 * x + b
 
--- the upper bits, and a 1 above them
+-- the upper bits, the lower ones above them, and a 1 above all
 abbrev pub path : ℕ → ℕ
-path key = upper key + 2 ^ 28
+path key = upper key + lower key * 2 ^ 28 + 2 ^ 63
 
 -- the slot that the search for a key comes to after t entries: below each, bit t says which of the two
 unfoldable pub walked : (homes : ℕ) (slots : List ℕ) (key t : ℕ) → ℕ
@@ -59,7 +59,7 @@ abbrev pub Passed : (homes : ℕ) (slots keys : List ℕ) (key t : ℕ) → Type
 Passed homes slots keys key t =
     (s : ℕ) → s < t → getD keys (getD slots (walked homes slots key s) 0) 0 ≡ key → ⊥
 
--- a search passes at most 28 entries; an empty slot leads to place 0, where the key is put before
+-- a search passes at most 63 entries; an empty slot leads to place 0, where the key is put before
 pub record Searchable (homes : ℕ) (slots keys : List ℕ) (key : ℕ) : Type 0 where
   pub some : 0 < homes
   pub not-many : homes ≤ home-slots
@@ -67,7 +67,8 @@ pub record Searchable (homes : ℕ) (slots keys : List ℕ) (key : ℕ) : Type 0
   pub below-in : (s : ℕ) → slot-below homes (getD slots s 0) 1 < length slots
   pub inside : (s : ℕ) → getD slots s 0 < length keys
   pub first : getD keys 0 0 ≡ key
-  pub ends : (t : ℕ) → Passed homes slots keys key (suc t) → t < 28
+  pub told : Told key
+  pub ends : (t : ℕ) → Passed homes slots keys key (suc t) → t < 63
 
 -- the first slot on the key's way that leads to the key
 pub record Found (homes : ℕ) (slots keys : List ℕ) (key h : ℕ) : Type 0 where

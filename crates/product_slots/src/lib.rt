@@ -12,10 +12,13 @@ const HIGH_FACTOR: u64 = 1555934479;
 
 const HALF_WORD: u64 = 1 << 32;
 
-// A key's upper 28 bits tell it from all others; a 1 is put above them.
+// The way of a key: its upper 28 bits, the exponents of variables 1 to 4, then the lower ones, and a 1 above all. Two
+// shifts in opposite directions, which the compiler makes one rotation.
 const LOWER_BITS: u64 = 1 << 36;
 
 const ABOVE_UPPER: u64 = 1 << 28;
+
+const ABOVE_ALL: u64 = 1 << 63;
 
 // Where the search for a key begins, of so many slots: its halves, each times its factor, are added modulo 2^32, and as
 // the sum is to 2^32 so is the slot to their number. A remainder by that number would cost a division.
@@ -37,13 +40,13 @@ pub fn entry_number(x: u16) -> usize
 
 // The first slot on the key's way that leads to the key. The way begins at its home slot and goes on below each entry
 // that it passes, to the left or the right by one bit of the key after the other. Two keys on one way agree in all bits
-// that it has used, so that it passes 28 entries at the most: `path` halves with each, and is never 0.
+// that it has used, so that it passes 63 entries at the most: `path` halves with each, and is never 0.
 pub fn find(slots: &[u16], keys: &[u64], homes: usize, key: u64) -> usize
     requires { ⌜ Searchable homes (now slots) (now keys) key ⌝ }
     ensures { λ r. ⌜ Found homes (now (slots .entry)) (now (keys .entry)) key r ⌝ }
 {
     let mut h = home_slot(homes, key);
-    let mut path = (key / LOWER_BITS + ABOVE_UPPER) as usize;
+    let mut path = (key / LOWER_BITS + key % LOWER_BITS * ABOVE_UPPER + ABOVE_ALL) as usize;
     loop {
         let x = entry_number(slots[h]);
         if keys[x] == key {

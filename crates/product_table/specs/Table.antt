@@ -56,7 +56,7 @@ pub record Reached (homes : ℕ) (slots : List ℕ) (key i : ℕ) : Type 0 where
   pub full : (s : ℕ) → s < steps → 0 < getD slots (walked homes slots key s) 0
 
 -- the slots lead to the n entries, each on its key's way and from one slot only; no key stands twice, each is told by
--- its upper bits; and the slots below entries that are not there yet are empty
+-- its bits; and the slots below entries that are not there yet are empty
 pub record Table (homes : ℕ) (slots keys : List ℕ) (sums : List ℤ) (n : ℕ) : Type 0 where
   pub keys-long : n < length keys
   pub sums-long : n < length sums
@@ -68,7 +68,7 @@ pub record Table (homes : ℕ) (slots keys : List ℕ) (sums : List ℤ) (n : �
   pub distinct-keys : T (distinct (entries n keys sums))
 
 -- ---- one more term
--- there is room for one more entry, its key is told by its upper bits, and its sum fits
+-- there is room for one more entry, its key is told by its bits, and its sum fits
 pub record Room (homes : ℕ) (slots keys : List ℕ) (sums : List ℤ) (n key : ℕ) (z : ℤ) : Type 0 where
   pub table : Table homes slots keys sums n
   pub some : 0 < homes

@@ -1,5 +1,5 @@
 -- What the steps of a product of two lists of terms ask: of a table, of a grid, and of room of its own.
-use mathlib.Core.Path.{_≡_, sym, subst}
+use mathlib.Core.Path.{_≡_, sym, subst, ap}
 use Prim.Native.Nat.{ℕ, _+_, _*_, _≤_, _<_}
 use mathlib.Core.List.{List, []}
 use native.Mathlib.Decide.{decLt}
@@ -19,10 +19,10 @@ use Rattle.product_collector.specs.FactorArrayLaws.{factors-size}
 use Rattle.product_dense.specs.declared.Extents.{Extents}
 use Rattle.product_dense.specs.declared.Sides.{Sides}
 use Rattle.product_dense.specs.Grid.{Low, extents, sides-for, place, Gridded}
-use Rattle.product_dense.specs.DigitLaws.{Digits, wide-digits}
+use Rattle.product_dense.specs.DigitLaws.{Digits, Parts, wide-parts, parts-low, parts-digits}
 use Rattle.product_dense.specs.GridLaws.{sides-narrow, extents-low, extents-within}
 use Rattle.product_dense.specs.GridPlaceLaws.{place-plus, product-gridded}
-use Rattle.product_dense.specs.GridDigitLaws.{sides-whole}
+use Rattle.product_dense.specs.GridDigitLaws.{sides-whole, sides-others}
 use Rattle.product_grid.specs.GridContracts.{Grid-ready}
 use Rattle.product_terms.specs.ProductTerms.{Lent-room, Kept-room}
 
@@ -88,26 +88,38 @@ module _ {ka : List ℕ} {ca : List ℤ} {na : ℕ} {kb : List ℕ} {cb : List �
   unfolding most-terms
   products-few = NatL.mul-le-mul (h .first-few) (h .second-few)
 
-  first-digits : (i : ℕ) → i < na → Digits 15 (getD ka i 0)
+  first-parts : (i : ℕ) → i < na → Parts 15 (getD ka i 0)
   unfolding most-degree
-  first-digits i l =
+  first-parts i l =
       rw (first-key h i l)
-      (wide-digits (h .vars) 15 (h .vars-few) (monomial-at (h .first .terms) i) (first-monomial h i l))
+      (wide-parts (h .vars) 15 (h .vars-few) (omega arith) (monomial-at (h .first .terms) i) (first-monomial h i l))
 
-  second-digits : (i : ℕ) → i < nb → Digits 15 (getD kb i 0)
+  second-parts : (i : ℕ) → i < nb → Parts 15 (getD kb i 0)
   unfolding most-degree
-  second-digits i l =
+  second-parts i l =
       rw (second-key h i l)
-      (wide-digits (h .vars) 15 (h .vars-few) (monomial-at (h .second .terms) i) (second-monomial h i l))
+      (wide-parts (h .vars) 15 (h .vars-few) (omega arith) (monomial-at (h .second .terms) i) (second-monomial h i l))
 
   -- ---- the grid for them
   pub first-low : Low (extents na ka)
-  first-low = extents-low na ka first-digits
+  first-low = extents-low na ka (λ i l. parts-low (first-parts i l) (omega arith) (omega arith))
 
   pub second-low : Low (extents nb kb)
-  second-low = extents-low nb kb second-digits
+  second-low = extents-low nb kb (λ i l. parts-low (second-parts i l) (omega arith) (omega arith))
 
-  module _ (s : Sides) (w : s ≡ sides-for (extents na ka) (extents nb kb)) where
+  -- where it is not too large
+  module _ (s : Sides) (w : s ≡ sides-for (extents na ka) (extents nb kb)) (few : s .size ≤ lent-places) where
+    no-others : (extents na ka .others ≡ 0) × (extents nb kb .others ≡ 0)
+    no-others = sides-others (extents na ka) (extents nb kb) (omega (arith, few, ap (λ (t : Sides). t .size) w))
+
+    first-digits : (i : ℕ) → i < na → Digits 15 (getD ka i 0)
+    first-digits i l = parts-digits (first-parts i l) (omega arith)
+        (omega (arith, no-others .0, extents-within na ka i l .others))
+
+    second-digits : (i : ℕ) → i < nb → Digits 15 (getD kb i 0)
+    second-digits i l = parts-digits (second-parts i l) (omega arith)
+        (omega (arith, no-others .1, extents-within nb kb i l .others))
+
     gridded : (i j : ℕ) → i < na → j < nb → Gridded s (getD ka i 0 + getD kb j 0)
     gridded i j l m =
         rw w
@@ -122,9 +134,9 @@ module _ {ka : List ℕ} {ca : List ℤ} {na : ℕ} {kb : List ℕ} {cb : List �
         (s .second) (s .third) (s .fourth)
 
     pub grid-ready : {sums : List ℤ} {kept : List ℕ} {coefficients : List ℤ}
-        → s .size ≤ length sums → s .size ≤ lent-places → Kept-room kept coefficients
+        → s .size ≤ length sums → Kept-room kept coefficients
         → Grid-ready s ka ca na kb cb nb sums kept coefficients
-    grid-ready ls few r = record {
+    grid-ready ls r = record {
       whole = rw w (sides-whole (extents na ka) (extents nb kb));
       narrow = rw w (sides-narrow (extents na ka) (extents nb kb) first-low second-low);
       first-few = h .first-few;

@@ -3,7 +3,7 @@
 -- computed by the definitions that it shows.
 use mathlib.Core.Path.{_≡_, refl}
 use mathlib.Core.List.{List, [], _∷_, map}
-use Prim.Native.Nat.{ℕ, zero, suc, _*_, _<_}
+use Prim.Native.Nat.{ℕ, zero, suc, _*_, _<_, _/_}
 use native.Mathlib.Omega.{arith}
 use lib.Dec.{lit<}
 use lib.IntN.{ℤ, pos}
@@ -52,9 +52,9 @@ circle = record {
 }
 
 -- ---- short forms
--- a term
+-- a term with a key of 16 bits, which are the first of 32
 unfoldable pub at : (key : ℕ) → ℤ → Held-term
-at k c = record { key = k; coefficient = c }
+at k c = record { key = k * 65536; coefficient = c }
 
 -- a model of three variables
 unfoldable pub held : (radius : ℕ) → List Held-term → Held-model
@@ -213,7 +213,7 @@ unfolding renames renaming-forms
 fields-become = refl
 
 -- the keys of each model, which rise again
-pub keys-become : map (λ m. map (λ t. t .key) (m .terms)) (rename-held circle milking-before .models)
+pub keys-become : map (λ m. map (λ t. t .key / 65536) (m .terms)) (rename-held circle milking-before .models)
     ≡ (0x0100 ∷ 0x1000 ∷ 0x1020 ∷ []) ∷ (0x0100 ∷ 0x0200 ∷ 0x1000 ∷ 0x1020 ∷ 0x1100 ∷ 0x1120 ∷ [])
     ∷ (0x0000 ∷ 0x0100 ∷ []) ∷ (0x0000 ∷ 0x0100 ∷ []) ∷ []
 unfolding renames renaming-forms

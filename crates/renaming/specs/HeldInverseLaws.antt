@@ -161,7 +161,11 @@ module _ (h : Held-book) (p : Held-passes h) (ρ : Reordering (h .n)) where
   model-length-renamed : (m : Held-model) → T (held-model-sound (outline-of h) m)
       → length (model-bytes (rename-held-model ρ m)) ≡ length (model-bytes m)
   model-length-renamed m t = length-model (rename-held-model ρ m)
-      ∙ ap (λ k. head-length + term-length * k) (count-renamed m t) ∙ sym (length-model m)
+      ∙ ap₂ (λ n k. head-length + term-length n * k) vars-same (count-renamed m t)
+      ∙ sym (length-model m)
+    where
+      vars-same : rename-held-model ρ m .n ≡ m .n
+      vars-same = unfold rename-held-model in refl
 
   models-length-renamed : (i : ℕ) (l : List Held-model) → T (all-from i (λ i. held-model-sound (outline-of h)) l)
       → length (join (map model-bytes (map (rename-held-model ρ) l))) ≡ length (join (map model-bytes l))

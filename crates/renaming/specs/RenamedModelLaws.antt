@@ -1,6 +1,6 @@
 -- Renamed models: they are sound as before, and their limits, ranges and integrals are those of before.
 use mathlib.Core.Path.{_≡_, refl, sym, _∙_, ap, ap₂}
-use mathlib.Core.Bool.{Bool, not, _&&_}
+use mathlib.Core.Bool.{Bool, true, false, not, _&&_}
 use mathlib.Core.List.{List}
 use Prim.Native.Nat.{ℕ, _+_, _*_, _/_, _^_}
 use native.Mathlib.Omega.{arith}
@@ -16,7 +16,8 @@ use Rattle.calculus.specs.Model.{Model, most-terms, span, fits}
 use Rattle.calculus.specs.Refusal.{accepted, require, over-span, too-many-terms}
 use Rattle.calculus.specs.Operations.{limited, is-constant, constant-part, even-powers, can-fall, can-rise, below}
 use Rattle.calculus.specs.Operations.{above, range, range-in-box, widen, integral-sum, term-by-term, largest-end}
-use Rattle.calculus.specs.Operations.{common-denominator, integral-parts, exact-part, one-if-any, integral}
+use Rattle.calculus.specs.Operations.{common-denominator, has-exact, integral-parts, Mixed, zero-mixed, mixed-part, exact-part, one-if-any}
+use Rattle.calculus.specs.Operations.{Ends, exact-ends, integral}
 use Rattle.calculus.specs.Operations.{largest-value}
 use Rattle.calculus.specs.TermsLaws.{every-implies}
 use Rattle.calculus.specs.FitsLaws.{fits-length}
@@ -158,17 +159,25 @@ module _ {n : ℕ} (ρ : Reordering n) where
       (λ k c. all-even (m .vars) k) (λ k c e. rw v (all-even-renamed ρ k))
 
   -- with its remainder, over one denominator
-  pub exact-part-renamed : (m : Model) → m .vars ≡ n → In-order n (m .terms)
-      → exact-part (rename-model ρ m) ≡ exact-part m
-  unfolding exact-part integral-parts rename-model
-  exact-part-renamed m v h = ap
+  mixed-part-renamed : (m : Model) → m .vars ≡ n → In-order n (m .terms)
+      → mixed-part (rename-model ρ m) ≡ mixed-part m
+  unfolding mixed-part integral-parts rename-model
+  mixed-part-renamed m v h = ap
       (λ z. record { quotient = floor z common-denominator; remainder = remainder z common-denominator })
       (even-sum-renamed (λ c d. c *ℤ pos (2 ^ m .vars * (common-denominator / d))) m v h)
 
-  pub integral-renamed : (m : Model) → m .vars ≡ n → In-order n (m .terms) → integral (rename-model ρ m) ≡ integral m
-  integral-renamed m v h = unfold integral rename-model in
+  -- above four variables 0
+  pub exact-part-renamed : (m : Model) → m .vars ≡ n → In-order n (m .terms)
+      → exact-part (rename-model ρ m) ≡ exact-part m
+  unfolding exact-part rename-model
+  exact-part-renamed m v h =
+      ap (λ x. elim (has-exact (m .vars)) as (λ b. Mixed) [ true ↦ x | false ↦ zero-mixed ]) (mixed-part-renamed m v h)
+
+  exact-ends-renamed : (m : Model) → m .vars ≡ n → In-order n (m .terms)
+      → exact-ends (rename-model ρ m) ≡ exact-ends m
+  exact-ends-renamed m v h = unfold exact-ends rename-model in
       ap (λ x. record { low = x .quotient -ℤ around; high = x .quotient +ℤ around +ℤ pos (one-if-any (x .remainder)) })
-      (unfold rename-model in exact-part-renamed m v h)
+      (unfold rename-model in mixed-part-renamed m v h)
     where
       around : ℤ
       around = pos (2 ^ m .vars * m .radius)
@@ -183,3 +192,9 @@ module _ {n : ℕ} (ρ : Reordering n) where
     where
       around : ℤ
       around = pos (2 ^ m .vars * m .radius)
+
+  -- by the number of variables
+  pub integral-renamed : (m : Model) → m .vars ≡ n → In-order n (m .terms) → integral (rename-model ρ m) ≡ integral m
+  unfolding integral rename-model
+  integral-renamed m v h = ap₂ (λ x y. elim (has-exact (m .vars)) as (λ b. Ends) [ true ↦ x | false ↦ y ])
+      (exact-ends-renamed m v h) (term-by-term-renamed m v h)

@@ -3,6 +3,7 @@
 ghost use mathlib.Core.Path.{_≡_};
 ghost use Rattle.calculus.specs.Book.{«limits-sound»};
 ghost use Rattle.format.specs.HeldBook.{outline};
+ghost use Rattle.format.specs.Format.{«term-length», «mark-of»};
 ghost use Rattle.format.specs.Fields.{«limit-a», «limit-b», «v-sound», earlier, «value-sound», «fields-sound»};
 ghost use Rattle.sheet_book.specs.BookStruct.{«held-step»};
 use model_types::Model;
@@ -112,6 +113,28 @@ impl Exact {
         quotient: 0,
         remainder: 0,
     };
+}
+
+// ---- by the number of variables
+
+// The bytes of a term.
+pub fn term_bytes(n: u8) -> usize
+    ensures { λ r. ⌜ r ≡ term-length n ⌝ }
+{
+    if n <= format::MOST_SHORT {
+        return format::SHORT_TERM_BYTES;
+    }
+    format::LONG_TERM_BYTES
+}
+
+// The last byte of the mark.
+pub fn mark_of(n: u8) -> u8
+    ensures { λ r. ⌜ r ≡ mark-of n ⌝ }
+{
+    if n <= format::MOST_SHORT {
+        return format::SHORT_MARK;
+    }
+    format::LONG_MARK
 }
 
 // ---- test 3

@@ -42,7 +42,7 @@ fn first_unsound_model(b: Book) -> usize
             break 'models;
         }
         let mut span = m.radius;
-        let mut least: u32 = 0;
+        let mut least: u64 = 0;
         let mut i = 0;
         'terms: loop {
             if total <= i {
@@ -53,7 +53,7 @@ fn first_unsound_model(b: Book) -> usize
                 break 'models;
             }
             span = fixed::capped_sum(span, fixed::magnitude(t.coefficient));
-            least = t.key as u32 + 1;
+            least = t.key as u64 + 1;
             i += 1;
         }
         if !fixed::within_span(span) {

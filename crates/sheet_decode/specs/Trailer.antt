@@ -11,6 +11,7 @@ stored-trailer t = record {
   steps = t .steps;
   offset = t .offset;
   marked = t .marked;
+  mark = t .mark;
 }
 
 -- and back
@@ -22,4 +23,5 @@ held-trailer t = record {
   steps = t .steps;
   offset = t .offset;
   marked = t .marked;
+  mark = t .mark;
 }

@@ -13,7 +13,8 @@ use sheet_book::Step;
 // The least number of 32 bits that stands for a negative one.
 const SIGN_BIT: u32 = 1 << 31;
 
-// What a trailer says: n, d, the counts, the offset of the first step, and whether the mark stands.
+// What a trailer says: n, d, the counts, the offset of the first step, whether one of the marks stands, and its last
+// byte.
 pub struct Trailer {
     pub n: u8,
     pub d: u8,
@@ -21,6 +22,7 @@ pub struct Trailer {
     pub steps: u8,
     pub offset: u16,
     pub marked: bool,
+    pub mark: u8,
 }
 
 // ---- numbers at a place, little-endian
@@ -76,14 +78,20 @@ fn signed_at(s: &[u8], at: usize) -> i64
 
 // ---- records at a place
 
-// A term: key and coefficient.
-pub fn term_at(s: &[u8], at: usize) -> Term
-    requires { ⌜ at + term-length ≤ length (now s) ⌝ }
-    ensures { λ r. ⌜ r ≡ stored-term (read-term (drop at (now (s .entry)))) ⌝ }
+// A term of n variables: key and coefficient.
+pub fn term_at(s: &[u8], at: usize, n: u8) -> Term
+    requires { ⌜ at + term-length n ≤ length (now s) ⌝ }
+    ensures { λ r. ⌜ r ≡ stored-term (read-term n (drop at (now (s .entry)))) ⌝ }
 {
+    if n <= format::MOST_SHORT {
+        return Term {
+            key: u16_at(s, at) as u32 * format::SHORT_KEY,
+            coefficient: signed_at(s, at + 2),
+        };
+    }
     Term {
-        key: u16_at(s, at),
-        coefficient: signed_at(s, at + 2),
+        key: u32_at(s, at),
+        coefficient: signed_at(s, at + 4),
     }
 }
 
@@ -101,7 +109,7 @@ pub fn step_at(s: &[u8], at: usize) -> Step
     }
 }
 
-// Whether the mark stands in the last two bytes of a trailer.
+// Whether one of the marks stands in the last two bytes of a trailer.
 fn marked_at(s: &[u8], at: usize) -> bool
     requires { ⌜ at + trailer-length ≤ length (now s) ⌝ }
     ensures { λ r. ⌜ r ≡ read-trailer (drop at (now (s .entry))) .marked ⌝ }
@@ -109,7 +117,11 @@ fn marked_at(s: &[u8], at: usize) -> bool
     if byte_at(s, at + 6) != format::FIRST_MARK {
         return false;
     }
-    byte_at(s, at + 7) == format::SECOND_MARK
+    let last = byte_at(s, at + 7);
+    if last == format::SHORT_MARK {
+        return true;
+    }
+    last == format::LONG_MARK
 }
 
 // A trailer.
@@ -124,5 +136,6 @@ pub fn trailer_at(s: &[u8], at: usize) -> Trailer
         steps: byte_at(s, at + 3),
         offset: u16_at(s, at + 4),
         marked: marked_at(s, at),
+        mark: byte_at(s, at + 7),
     }
 }

@@ -1,5 +1,5 @@
 -- A model's record: its length, and what fits of a model's terms fits of the array's entries.
-use mathlib.Core.Path.{_≡_, ap}
+use mathlib.Core.Path.{_≡_, _∙_, ap}
 use Prim.Native.Nat.{ℕ, _+_, _*_, _^_, _<_, _≤_}
 use native.Mathlib.Omega.{arith}
 use lib.IntN.{natAbs}
@@ -18,8 +18,9 @@ module _ (m : Model) where
   unfolding held-model
   count-terms = length-held zero-term held-term (m .count) (m .terms)
 
-  pub length-record : length (model-bytes (held-model m)) ≡ head-length + term-length * m .count
-  length-record = omega (arith, length-model (held-model m), count-terms)
+  pub length-record : length (model-bytes (held-model m)) ≡ head-length + term-length (m .n) * m .count
+  unfolding held-model
+  length-record = length-model (held-model m) ∙ ap (λ c. head-length + term-length (m .n) * c) count-terms
 
   pub term-at : (i : ℕ) (x : Term) → i < m .count → m .count ≤ length (m .terms)
       → getD (held-model m .terms) i (held-term x) ≡ held-term (getD (m .terms) i x)

@@ -6,20 +6,22 @@ use native.Mathlib.Numerals.{add-one}
 use native.Mathlib.Omega.{arith}
 use lib.ListN.{length, set}
 use lib.Seq.{sets}
-use Rattle.format.specs.Bytes.{join, u16-bytes, u32-bytes, bits}
+use Rattle.format.specs.Bytes.{join, u32-bytes, bits}
 use Rattle.format.specs.HeldBook.{Held-term, Held-model, Held-step}
-use Rattle.format.specs.Format.{term-bytes, model-bytes, step-bytes}
+use Rattle.format.specs.Format.{key-length, key-bytes, term-bytes, model-bytes, step-bytes}
+use Rattle.format.specs.KeyBytesLaws.{length-key}
 use Rattle.format.specs.WriteLoopLaws.{sets-more}
 
 module _ (buffer : List ℕ) (at : ℕ) where
-  pub term-stores : (t : Held-term)
-      → sets (sets buffer at (u16-bytes (t .key))) (at + 2) (u32-bytes (bits (t .coefficient)))
-      ≡ sets buffer at (term-bytes t)
-  unfolding term-bytes u16-bytes
-  term-stores t = sets-more (u16-bytes (t .key)) (u32-bytes (bits (t .coefficient))) buffer at (at + 2) (omega arith)
+  pub term-stores : (n : ℕ) (t : Held-term) (j : ℕ) → j ≡ at + key-length n
+      → sets (sets buffer at (key-bytes n (t .key))) j (u32-bytes (bits (t .coefficient)))
+      ≡ sets buffer at (term-bytes n t)
+  unfolding term-bytes
+  term-stores n t j e = sets-more (key-bytes n (t .key)) (u32-bytes (bits (t .coefficient))) buffer at j
+      (omega (arith, e, length-key n (t .key)))
 
   pub model-stores : (m : Held-model) (c : ℕ) → c ≡ length (m .terms)
-      → sets (set (sets buffer at (u32-bytes (m .radius))) (at + 4) c) (at + 5) (join (map term-bytes (m .terms)))
+      → sets (set (sets buffer at (u32-bytes (m .radius))) (at + 4) c) (at + 5) (join (map (term-bytes (m .n)) (m .terms)))
       ≡ sets buffer at (model-bytes m)
   unfolding model-bytes u32-bytes
   model-stores m c e =

@@ -7,11 +7,12 @@ ghost use lib.IntN.{natAbs};
 ghost use lib.ListN.{length};
 ghost use lib.Seq.{sets};
 ghost use Rattle.format.specs.Bytes.{join, «u16-bytes», «u32-bytes», bits};
-ghost use Rattle.format.specs.Format.{«term-length», «step-length», «trailer-length»};
+ghost use Rattle.format.specs.Format.{«key-length», «key-bytes», «term-length», «step-length», «trailer-length»};
 ghost use Rattle.format.specs.Format.{«term-bytes», «model-bytes», «step-bytes», «models-bytes», «trailer-bytes»};
 ghost use Rattle.format.specs.HeldBook.{Held-passes};
 ghost use Rattle.sheet_book.specs.BookStruct.{«held-model», «held-step», «held-book»};
 ghost use Rattle.sheet_encode.specs.Fitting.{Model-fits};
+use model_types::Key;
 use model_types::Model;
 use sheet_book::Book;
 use sheet_book::Step;
@@ -63,15 +64,28 @@ fn put_i32(buffer: &mut [u8], at: usize, z: i64)
 
 // ---- records
 
-// A term.
-fn put_term(buffer: &mut [u8], at: usize, key: u16, coefficient: i64)
-    requires { ⌜ natAbs coefficient < 2 ^ 31 ⌝ }
-    requires { ⌜ at + term-length ≤ length (now buffer) ⌝ }
-    ensures { λ r. ⌜ now (buffer .exit)
-        ≡ sets (now (buffer .entry)) at (term-bytes (record { key = key; coefficient = coefficient })) ⌝ }
+// A key of n variables: short or long.
+fn put_key(buffer: &mut [u8], at: usize, n: u8, key: Key)
+    requires { ⌜ at + key-length n ≤ length (now buffer) ⌝ }
+    ensures { λ r. ⌜ now (buffer .exit) ≡ sets (now (buffer .entry)) at (key-bytes n key) ⌝ }
 {
-    put_u16(buffer, at, key);
-    put_i32(buffer, at + 2, coefficient);
+    if n <= format::MOST_SHORT {
+        put_u16(buffer, at, (key / format::SHORT_KEY) as u16);
+    } else {
+        put_u32(buffer, at, key);
+    }
+}
+
+// A term of n variables.
+fn put_term(buffer: &mut [u8], at: usize, n: u8, key: Key, coefficient: i64)
+    requires { ⌜ natAbs coefficient < 2 ^ 31 ⌝ }
+    requires { ⌜ at + term-length n ≤ length (now buffer) ⌝ }
+    ensures { λ r. ⌜ now (buffer .exit)
+        ≡ sets (now (buffer .entry)) at (term-bytes n (record { key = key; coefficient = coefficient })) ⌝ }
+{
+    let size = sheet_book::term_bytes(n);
+    put_key(buffer, at, n, key);
+    put_i32(buffer, at + size - 4, coefficient);
 }
 
 // A model.
@@ -80,15 +94,17 @@ fn put_model(buffer: &mut [u8], at: usize, m: Model)
     requires { ⌜ at + length (model-bytes (held-model m)) ≤ length (now buffer) ⌝ }
     ensures { λ r. ⌜ now (buffer .exit) ≡ sets (now (buffer .entry)) at (model-bytes (held-model m)) ⌝ }
 {
+    let n = m.n;
     let count = m.count;
+    let size = sheet_book::term_bytes(n);
     put_u32(buffer, at, m.radius as u32);
     buffer[at + format::COUNT_AT] = count as u8;
     let mut place = at + format::MODEL_BYTES;
     let mut i = 0;
     while i < count {
         let t = m.terms[i];
-        put_term(buffer, place, t.key, t.coefficient);
-        place += format::TERM_BYTES;
+        put_term(buffer, place, n, t.key, t.coefficient);
+        place += size;
         i += 1;
     }
 }
@@ -98,7 +114,7 @@ fn model_size(m: Model) -> usize
     requires { ⌜ Model-fits (held-model m) ⌝ }
     ensures { λ r. ⌜ r ≡ length (model-bytes (held-model m)) ⌝ }
 {
-    format::MODEL_BYTES + format::TERM_BYTES * m.count
+    format::MODEL_BYTES + sheet_book::term_bytes(m.n) * m.count
 }
 
 // A step.
@@ -174,11 +190,12 @@ pub fn put_trailer(buffer: &mut [u8], at: usize, b: Book, offset: usize)
     requires { ⌜ at + trailer-length ≤ length (now buffer) ⌝ }
     ensures { λ r. ⌜ now (buffer .exit) ≡ sets (now (buffer .entry)) at (trailer-bytes (held-book b)) ⌝ }
 {
+    let mark = sheet_book::mark_of(b.n);
     buffer[at] = b.n;
     buffer[at + 1] = b.d;
     buffer[at + 2] = b.model_count as u8;
     buffer[at + 3] = b.step_count as u8;
     put_u16(buffer, at + 4, offset as u16);
     buffer[at + 6] = format::FIRST_MARK;
-    buffer[at + 7] = format::SECOND_MARK;
+    buffer[at + 7] = mark;
 }

@@ -92,10 +92,10 @@ pub accepted-long : (s : List ℕ) → All-bytes s → verdict (read s) ≡ Acce
 accepted-long s y v = long-enough s y (has-book s v)
 
 -- ---- the number of records
-length-models : (c : ℕ) (s : List ℕ) → length (model-records c s) ≡ c
+length-models : (n c : ℕ) (s : List ℕ) → length (model-records n c s) ≡ c
 unfolding model-records
-length-models zero s = refl
-length-models (suc c) s = ap suc (length-models c (drop (model-length s) s))
+length-models n zero s = refl
+length-models n (suc c) s = ap suc (length-models n c (drop (model-length n s) s))
 
 length-steps : (c : ℕ) (s : List ℕ) → length (step-records c s) ≡ c
 unfolding step-records
@@ -108,8 +108,8 @@ module _ (s : List ℕ) where
 
   records-said : length (records s) ≡ said .models + said .steps
   unfolding records
-  records-said = length-append (model-records (said .models) s) _
-      ∙ ap₂ _+_ (length-models (said .models) s) (length-steps (said .steps) _)
+  records-said = length-append (model-records (said .n) (said .models) s) _
+      ∙ ap₂ _+_ (length-models (said .n) (said .models) s) (length-steps (said .steps) _)
 
   value-done : (r : Result Held-book) (h : Held-book) → r ≡ done h
       → returned [] (r followed-by (λ h. done (records s))) .value ≡ records s

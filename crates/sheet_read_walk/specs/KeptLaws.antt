@@ -31,21 +31,21 @@ use Rattle.sheet_read_walk.specs.declared.StepsRead.{StepsRead}
 use Rattle.sheet_read_walk.specs.KeptRecords.{models-read, steps-read}
 
 -- ---- terms: before term i of the record at a place
-abbrev pub Terms-kept : List ℕ → (at : ℕ) (terms : List Term) (i : ℕ) → Type 0
-Terms-kept s at terms i = terms ≡ pad (map stored-term (take i (terms-at at s)))
+abbrev pub Terms-kept : List ℕ → (n at : ℕ) (terms : List Term) (i : ℕ) → Type 0
+Terms-kept s n at terms i = terms ≡ pad (map stored-term (take i (terms-at n at s)))
 
-pub terms-none : (s : List ℕ) (at : ℕ) → Terms-kept s at (replicate most-terms zero-term) 0
+pub terms-none : (s : List ℕ) (n at : ℕ) → Terms-kept s n at (replicate most-terms zero-term) 0
 unfolding padded most-terms
-terms-none s at = refl
+terms-none s n at = refl
 
 module _ (s : List ℕ) (n d at : ℕ) (low : 1 ≤ n) (high : n ≤ key-width) (few : byte (at + 4) s ≤ 64)
     (span least place i : ℕ) (h : Terms-so-far s n d at span least place i) (terms : List Term)
-    (kept : Terms-kept s at terms i) where
+    (kept : Terms-kept s n at terms i) where
   abbrev ts : List Held-term
-  ts = terms-at at s
+  ts = terms-at n at s
 
-  pub terms-more : i < byte (at + 4) s → (t : Term) → t ≡ stored-term (read-term (drop place s))
-      → Terms-kept s at (set terms i t) (i + 1)
+  pub terms-more : i < byte (at + 4) s → (t : Term) → t ≡ stored-term (read-term n (drop place s))
+      → Terms-kept s n at (set terms i t) (i + 1)
   unfolding most-terms
   terms-more l t e =
       let within : i < length ts = inside s n d at low high few span least place i h l t e in
@@ -63,7 +63,7 @@ module _ (s : List ℕ) (n d at : ℕ) (low : 1 ≤ n) (high : n ≤ key-width) 
       → record { n = n; count = count; radius = radius; terms = terms } ≡ model-at n at s
   unfolding stored-model read-model
   terms-stored l count radius e r =
-      let c = length-read-terms (byte 4 (drop at s)) (drop 5 (drop at s)) in
+      let c = length-read-terms n (byte 4 (drop at s)) (drop 5 (drop at s)) in
       let f : i ≡ length ts = omega (arith, h .passed .within, count-is s n d at, byte-at at 4 s) in
       let g : count ≡ length ts = e ∙ sym (count-is s n d at) in
       let k : terms ≡ pad (map stored-term ts) = kept

@@ -6,11 +6,10 @@ use native.Mathlib.Omega.{arith}
 use lib.Dec.{T}
 use lib.ListN.{length, take, drop}
 use lib.Seq.{take-all}
-use Rattle.calculus.specs.Book.{limits-sound, most-models, most-steps}
+use Rattle.calculus.specs.Book.{most-models, most-steps}
 use Rattle.model_types.specs.declared.Verdict.the-variants.{Accepted}
 use Rattle.model_types.specs.Arrays.{padded}
-use Rattle.format.specs.HeldBook.{outline}
-use Rattle.format.specs.Format.{read-steps, read-records}
+use Rattle.format.specs.Format.{trailer-sound, read-steps, read-records}
 use Rattle.format.specs.WriteBackLaws.{length-read-steps}
 use Rattle.sheet_book.specs.BookStruct.{no-model, no-step, stored-model, stored-step, stored-book, read-answer}
 use Rattle.sheet_decode.specs.declared.Trailer.{Trailer}
@@ -38,7 +37,7 @@ unfolding steps-read
 steps-far n m c s v e = ap (λ (x : StepsRead). x .place) e
 
 -- ---- all is read
-module _ (s : List ℕ) (t : Trailer) (h : T (limits-sound (outline (t .n) (t .d) (t .models) (t .steps))))
+module _ (s : List ℕ) (t : Trailer) (h : T (trailer-sound (held-trailer t)))
     (e : t .offset + 8 * t .steps + 8 ≡ length s) (w : ModelsRead)
     (is : w ≡ models-read (t .n) (t .d) (t .models) (take (t .offset) s)) (l : t .models ≤ w .place)
     (g : t .offset ≤ w .end) (v : StepsRead)

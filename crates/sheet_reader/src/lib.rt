@@ -3,11 +3,10 @@ ghost use mathlib.Core.Path.{_≡_};
 ghost use Prim.Native.Nat.{_+_, _*_};
 ghost use lib.Dec.{T};
 ghost use lib.ListN.{length};
-ghost use Rattle.calculus.specs.Book.{«limits-sound»};
 ghost use Rattle.calculus.specs.Refusal.{stopped};
 ghost use Rattle.model_types.specs.ModelStruct.{cause};
-ghost use Rattle.format.specs.HeldBook.{«zero-book», outline};
-ghost use Rattle.format.specs.Format.{«step-length», «trailer-length», «read-records», read};
+ghost use Rattle.format.specs.HeldBook.{«zero-book»};
+ghost use Rattle.format.specs.Format.{«step-length», «trailer-length», «trailer-sound», «read-records», read};
 ghost use Rattle.sheet_book.specs.BookStruct.{«stored-book», «read-answer»};
 ghost use Rattle.sheet_decode.specs.Trailer.{«held-trailer»};
 use model_types::Refusal;
@@ -48,7 +47,7 @@ fn refuse(refusal: Refusal, place: usize) -> Read
 
 // Tests 5 and 6, and the book, for a sheet that passes the others.
 fn read_records(sheet: &[u8], t: Trailer) -> Read
-    requires { ⌜ T (limits-sound (outline (t .n) (t .d) (t .models) (t .steps))) ⌝ }
+    requires { ⌜ T (trailer-sound (held-trailer t)) ⌝ }
     requires { ⌜ t .offset + step-length * t .steps + trailer-length ≡ length (now sheet) ⌝ }
     ensures { λ r. ⌜ r ≡ read-answer (read-records (now (sheet .entry)) (held-trailer t)) ⌝ }
 {

@@ -12,9 +12,13 @@ use Rattle.sheet_book.specs.declared.Kind.the-variants.{Model, Step, End}
 unfoldable pub first-step : List ℕ → ℕ
 first-step s = read-trailer (trailer-of s) .offset
 
+-- how many variables there are, by the trailer
+unfoldable pub vars-of : List ℕ → ℕ
+vars-of s = read-trailer (trailer-of s) .n
+
 -- how long the record at a place should be: a model's length is found by its term count
 unfoldable pub record-size : List ℕ → (at : ℕ) → ℕ
-record-size s at = cond (ltb at (first-step s)) (model-length (drop at s)) step-length
+record-size s at = cond (ltb at (first-step s)) (model-length (vars-of s) (drop at s)) step-length
 
 -- how long it is: no record reaches into the trailer, and from the trailer on there is none
 unfoldable pub length-at : List ℕ → (at : ℕ) → ℕ

@@ -8,13 +8,13 @@ use borrow.Author.Tests.{lt-ltb, le-ltb}
 use lib.Dec.{ltb}
 use lib.ListN.{length, drop}
 use Rattle.format.specs.Bytes.{byte}
-use Rattle.format.specs.Format.{model-length}
+use Rattle.format.specs.Format.{term-length, model-length}
 use Rattle.format.specs.ReadLoopLaws.{byte-at}
 use Rattle.sheet_book.specs.declared.Kind.the-variants.{Model, Step, End}
-use Rattle.sheet_record_places.specs.Places.{first-step, record-size, kind-at}
+use Rattle.sheet_record_places.specs.Places.{first-step, vars-of, record-size, kind-at}
 
 module _ (s : List ℕ) (at : ℕ) where
-  pub size-model : at < first-step s → record-size s at ≡ 5 + 6 * byte (at + 4) s
+  pub size-model : at < first-step s → record-size s at ≡ 5 + term-length (vars-of s) * byte (at + 4) s
   unfolding record-size model-length
   size-model h = rw (lt-ltb at (first-step s) h, byte-at at 4 s)
 
@@ -26,7 +26,7 @@ module _ (s : List ℕ) (at : ℕ) where
   unfolding record-size model-length
   size-some = go (ltb at (first-step s))
     where
-      go : (t : Bool) → 5 ≤ cond t (5 + 6 * byte 4 (drop at s)) 8
+      go : (t : Bool) → 5 ≤ cond t (5 + term-length (vars-of s) * byte 4 (drop at s)) 8
       go true = omega arith
       go false = omega arith
 

@@ -4,7 +4,7 @@ ghost use mathlib.Core.Path.{_≡_};
 ghost use Prim.Native.Nat.{_+_, _≤_, _<_};
 ghost use lib.ListN.{length};
 ghost use Rattle.format.specs.Format.{«trailer-length»};
-ghost use Rattle.sheet_record_places.specs.Places.{«first-step», «record-size», «length-at», «next-at»};
+ghost use Rattle.sheet_record_places.specs.Places.{«first-step», «vars-of», «record-size», «length-at», «next-at»};
 ghost use Rattle.sheet_record_places.specs.Places.{«bytes-at», «kind-at»};
 use sheet_book::Kind;
 
@@ -18,6 +18,16 @@ pub fn first_step(s: &[u8]) -> usize
     t.offset as usize
 }
 
+// How many variables there are, by the trailer.
+fn vars_of(s: &[u8]) -> u8
+    requires { ⌜ trailer-length ≤ length (now s) ⌝ }
+    ensures { λ r. ⌜ r ≡ vars-of (now (s .entry)) ⌝ }
+{
+    let end = s.len() - format::TRAILER_BYTES;
+    let t = sheet_decode::trailer_at(s, end);
+    t.n
+}
+
 // How long the record at a place should be: a model's by its term count.
 fn size_at(s: &[u8], at: usize) -> usize
     requires { ⌜ at + trailer-length < length (now s) ⌝ }
@@ -25,8 +35,9 @@ fn size_at(s: &[u8], at: usize) -> usize
 {
     let first = first_step(s);
     if at < first {
+        let size = sheet_book::term_bytes(vars_of(s));
         let count = s[at + format::COUNT_AT] as usize;
-        return format::MODEL_BYTES + format::TERM_BYTES * count;
+        return format::MODEL_BYTES + size * count;
     }
     format::STEP_BYTES
 }

@@ -10,6 +10,7 @@ ghost use Rattle.model_types.specs.ModelStruct.{view};
 ghost use Rattle.model_slices.specs.HandedModels.{over};
 ghost use Rattle.sheet_results.specs.Results.{results, Roomy, result, «with-result», «with-row», «first-rows»};
 ghost use Rattle.sheet_results.specs.Results.{«settled-results», «settled-rows»};
+use model_types::Key;
 use model_types::Accounted;
 use model_types::Model;
 use model_types::Shares;
@@ -26,7 +27,7 @@ const ROW: usize = 4;
 pub fn result(
     n: u8,
     j: usize,
-    keys: &[u16],
+    keys: &[Key],
     coefficients: &[i64],
     counts: &[usize],
     radii: &[u64],
@@ -64,7 +65,7 @@ pub fn operand(
     n: u8,
     named: bool,
     j: usize,
-    keys: &[u16],
+    keys: &[Key],
     coefficients: &[i64],
     counts: &[usize],
     radii: &[u64],
@@ -107,7 +108,7 @@ pub fn put_numbers(
 }
 
 // The terms that a model's count names go into two slices.
-fn store_named(m: Model, keys: &mut [u16], coefficients: &mut [i64])
+fn store_named(m: Model, keys: &mut [Key], coefficients: &mut [i64])
     requires { ⌜ (64 ≤ length (now keys)) × (64 ≤ length (now coefficients)) ⌝ }
     ensures { λ r. ⌜ (now (keys .exit) ≡ over (map (λ t. t .key) (take (m .count) (m .terms))) (now (keys .entry)))
         × (now (coefficients .exit)
@@ -129,7 +130,7 @@ pub fn put(
     m: Model,
     row: Shares,
     i: usize,
-    keys: &mut [u16],
+    keys: &mut [Key],
     coefficients: &mut [i64],
     counts: &mut [usize],
     radii: &mut [u64],
@@ -154,7 +155,7 @@ pub fn put(
 pub fn settled(
     c: Accounted,
     i: usize,
-    keys: &mut [u16],
+    keys: &mut [Key],
     coefficients: &mut [i64],
     counts: &mut [usize],
     radii: &mut [u64],

@@ -3,6 +3,7 @@ ghost use mathlib.Core.Path.{_≡_};
 ghost use Rattle.format.specs.HeldBook.{«view-book», «Held-passes»};
 ghost use Rattle.sheet_book.specs.BookStruct.{«held-book»};
 ghost use Rattle.sheet_running.specs.Running.{ran};
+use model_types::Key;
 use model_types::Answer;
 use model_types::Shares;
 use model_types::Verdict;
@@ -28,7 +29,7 @@ pub fn last_result(b: Book) -> Ran
 {
     let n = b.n;
     let count = b.step_count;
-    let mut keys = [0u16; ALL_TERMS];
+    let mut keys: [Key; ALL_TERMS] = [0; ALL_TERMS];
     let mut coefficients = [0i64; ALL_TERMS];
     let mut counts = [0usize; sheet_book::MOST_STEPS];
     let mut radii = [0u64; sheet_book::MOST_STEPS];

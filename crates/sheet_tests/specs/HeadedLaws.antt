@@ -10,14 +10,12 @@ use Rattle.calculus.specs.Model.{between}
 use Rattle.calculus.specs.Refusal.{bad-length, bad-mark, bad-limits, bad-offset}
 use Rattle.calculus.specs.Refusal.{Refusal, Result, done, stopped, require-at, _followed-by_}
 use Rattle.calculus.specs.RefusalLaws.{require-at-passed, passed-at}
-use Rattle.calculus.specs.Book.{Book, limits-sound}
 use Rattle.calculus.specs.BookLaws.{between-low, between-high}
 use Rattle.model_types.specs.declared.Refusal as D
 use Rattle.model_types.specs.declared.Verdict.the-variants.{Accepted, Refused}
 use Rattle.model_types.specs.ModelStruct.{verdict, cause}
-use Rattle.format.specs.HeldBook.{outline}
 use Rattle.format.specs.Format as F
-use Rattle.format.specs.Format.{shortest, longest, trailer-of, read-trailer, read-records, read}
+use Rattle.format.specs.Format.{shortest, longest, trailer-sound, trailer-of, read-trailer, read-records, read}
 use Rattle.format.specs.ReadLoopLaws.{refused}
 use Rattle.model_types.specs.ModelStructLaws.{refusal-cause}
 use Rattle.sheet_book.specs.TestedLaws.{verdict-stopped, accepted-done, refused-stopped}
@@ -49,9 +47,9 @@ unfolding _followed-by_
 four-stopped a b c d t r q i e = sym (four-first a b c d t r) ∙ ap (λ x. x followed-by (λ t. r)) e
 
 -- test 1
-pub length-range : (l : ℕ) → T (between shortest longest l) → (16 ≤ l) × (l ≤ 6744)
+pub length-range : (l : ℕ) → T (between shortest longest l) → (16 ≤ l) × (l ≤ 8792)
 unfolding shortest longest
-length-range l h = (between-low 16 6744 l h, between-high 16 6744 l h)
+length-range l h = (between-low 16 8792 l h, between-high 16 8792 l h)
 
 module _ (s : List ℕ) where
   pub length-fault : between shortest longest (length s) ≡ false → headed s ≡ stopped bad-length 0
@@ -60,8 +58,8 @@ module _ (s : List ℕ) where
 
   -- the trailer that is read
   module _ (t : Trailer) (is : t ≡ stored-trailer (read-trailer (drop (length s - 8) s))) where
-    abbrev book : Book
-    book = outline (t .n) (t .d) (t .models) (t .steps)
+    abbrev limited : Bool
+    limited = trailer-sound (held-trailer t)
 
     says : read-trailer (trailer-of s) ≡ held-trailer t
     unfolding trailer-of stored-trailer held-trailer
@@ -69,7 +67,7 @@ module _ (s : List ℕ) where
 
     -- tests 2 to 4, and tests 3 and 4
     abbrev from-3 : Result F.Trailer
-    from-3 = require-at 0 (limits-sound book) bad-limits
+    from-3 = require-at 0 (limited) bad-limits
         (require-at 0 (eqb (t .offset + 8 * t .steps + 8) (length s)) bad-offset (done (held-trailer t)))
 
     by-trailer : headed s ≡ require-at 0 (between shortest longest (length s)) bad-length
@@ -77,7 +75,7 @@ module _ (s : List ℕ) where
     unfolding headed held-trailer
     by-trailer = ap (λ (x : F.Trailer). require-at 0 (between shortest longest (length s)) bad-length
         (require-at 0 (x .marked) bad-mark
-        (require-at 0 (limits-sound (outline (x .n) (x .d) (x .models) (x .steps))) bad-limits
+        (require-at 0 (trailer-sound x) bad-limits
         (require-at 0 (eqb (x .offset + 8 * x .steps + 8) (length s)) bad-offset (done x))))) says
 
     module _ (h : between shortest longest (length s) ≡ true) where
@@ -91,22 +89,22 @@ module _ (s : List ℕ) where
         to-3 : headed s ≡ from-3
         to-3 = to-2 ∙ passes 0 (t .marked) bad-mark _ m
 
-        pub limits-fault : limits-sound book ≡ false → headed s ≡ stopped bad-limits 0
-        limits-fault e = to-3 ∙ refused 0 (limits-sound book) bad-limits _ e
+        pub limits-fault : limited ≡ false → headed s ≡ stopped bad-limits 0
+        limits-fault e = to-3 ∙ refused 0 (limited) bad-limits _ e
 
-        pub offset-fault : limits-sound book ≡ true → (t .offset + 8 * t .steps + 8 ≡ length s → ⊥)
+        pub offset-fault : limited ≡ true → (t .offset + 8 * t .steps + 8 ≡ length s → ⊥)
             → headed s ≡ stopped bad-offset 0
-        offset-fault e f = to-3 ∙ passes 0 (limits-sound book) bad-limits _ e
+        offset-fault e f = to-3 ∙ passes 0 (limited) bad-limits _ e
             ∙ refused 0 (eqb (t .offset + 8 * t .steps + 8) (length s)) bad-offset _ (ne-eqb _ _ f)
 
-        pub head-sound : limits-sound book ≡ true → t .offset + 8 * t .steps + 8 ≡ length s
+        pub head-sound : limited ≡ true → t .offset + 8 * t .steps + 8 ≡ length s
             → headed s ≡ done (held-trailer t)
-        head-sound e f = to-3 ∙ passes 0 (limits-sound book) bad-limits _ e
+        head-sound e f = to-3 ∙ passes 0 (limited) bad-limits _ e
             ∙ passes 0 (eqb (t .offset + 8 * t .steps + 8) (length s)) bad-offset _ (eq-eqb _ _ f)
 
   -- ---- a verdict on them
   -- accepted: the sheet has a length in its range,
-  head-range : verdict (headed s) ≡ Accepted → (16 ≤ length s) × (length s ≤ 6744)
+  head-range : verdict (headed s) ≡ Accepted → (16 ≤ length s) × (length s ≤ 8792)
   unfolding headed
   head-range v =
       let d = accepted-done (headed s) v in
@@ -117,7 +115,7 @@ module _ (s : List ℕ) where
 
   -- its trailer has limits and an offset that pass, and the read goes on
   pub record Head-passes (t : Trailer) : Type 0 where
-    pub limits : T (limits-sound (outline (t .n) (t .d) (t .models) (t .steps)))
+    pub limits : T (trailer-sound (held-trailer t))
     pub fits : t .offset + 8 * t .steps + 8 ≡ length s
     pub goes-on : read s ≡ read-records s (held-trailer t)
 
@@ -129,7 +127,7 @@ module _ (s : List ℕ) where
       let one = passed-at 0 (between shortest longest (length s)) bad-length _ (d .value)
       (sym (by-trailer t is) ∙ d .is) in
       let two = passed-at 0 (t .marked) bad-mark _ (d .value) (one .result) in
-      let three = passed-at 0 (limits-sound (book t is)) bad-limits _ (d .value) (two .result) in
+      let three = passed-at 0 (limited t is) bad-limits _ (d .value) (two .result) in
       let four = passed-at 0 (eqb (t .offset + 8 * t .steps + 8) (length s)) bad-offset _ (d .value) (three .result) in
       record {
         limits = three .test;

@@ -12,9 +12,10 @@ use Rattle.calculus.specs.Refusal.{bad-limits, bad-offset, bad-model, bad-step}
 use Rattle.calculus.specs.Refusal.{Result, done, stopped, require-at, require-each, _followed-by_}
 use Rattle.calculus.specs.RefusalLaws.{require-at-passed}
 use Rattle.calculus.specs.Book.{Book, limits-sound, model-sound}
+use Rattle.calculus.specs.TestLaws.{and-left}
 use Rattle.format.specs.HeldBook.{Held-model, Held-step, Held-book, view-model, outline, held-model-sound}
 use Rattle.format.specs.HeldBook.{held-step-sound}
-use Rattle.format.specs.Format.{read-model, model-length, read-models, read-steps, read-records}
+use Rattle.format.specs.Format.{trailer-sound, read-model, model-length, read-models, read-steps, read-records}
 use Rattle.format.specs.Fields.{fields-sound}
 use Rattle.format.specs.WriteBackLaws.{length-read-steps}
 use Rattle.sheet_book.specs.CodeLaws.{step-by-code}
@@ -25,10 +26,16 @@ use Rattle.sheet_walk.specs.declared.ModelsWalked.{ModelsWalked}
 use Rattle.sheet_walk.specs.Walk.{record-sound, Walk, walk, models-walked, steps-walked}
 use Rattle.sheet_tests.specs.HeadedLaws.{passes}
 
+-- ---- test 3
+pub trailer-limits : (t : Trailer) → T (trailer-sound (held-trailer t))
+    → T (limits-sound (outline (t .n) (t .d) (t .models) (t .steps)))
+unfolding trailer-sound held-trailer
+trailer-limits t h = and-left (limits-sound (outline (t .n) (t .d) (t .models) (t .steps))) _ h
+
 -- ---- test 5 by the walk
 -- the test of a record that has the book's n
 record-test : (n d m k : ℕ) (s : List ℕ)
-    → leb (model-length s) (length s) && held-model-sound (outline n d m k) (read-model n s) ≡ record-sound n d s
+    → leb (model-length n s) (length s) && held-model-sound (outline n d m k) (read-model n s) ≡ record-sound n d s
 unfolding record-sound held-model-sound model-sound outline view-model read-model
 record-test n d m k s = rw (eq-eqb n n refl)
 
@@ -65,15 +72,15 @@ module _ (n d m k : ℕ) where
   reaches before (suc c) s =
       subst (λ t. Reaches before (suc c) s (walk n d before (suc c) s) (require-at (length before) t bad-model later))
       (sym (record-test n d m k s))
-      (go (record-sound n d s) (reaches (before ++ (read-model n s ∷ [])) c (drop (model-length s) s)))
+      (go (record-sound n d s) (reaches (before ++ (read-model n s ∷ [])) c (drop (model-length n s) s)))
     where
       later : Result (List Held-model)
-      later = read-models b (before ++ (read-model n s ∷ [])) c (drop (model-length s) s)
+      later = read-models b (before ++ (read-model n s ∷ [])) c (drop (model-length n s) s)
 
       on : Walk
-      on = walk n d (before ++ (read-model n s ∷ [])) c (drop (model-length s) s)
+      on = walk n d (before ++ (read-model n s ∷ [])) c (drop (model-length n s) s)
 
-      go : (t : Bool) → Reaches (before ++ (read-model n s ∷ [])) c (drop (model-length s) s) on later
+      go : (t : Bool) → Reaches (before ++ (read-model n s ∷ [])) c (drop (model-length n s) s) on later
           → Reaches before (suc c) s
           (elim t as (λ t. Walk) [ true ↦ on | false ↦ record { passed = before; left = s } ])
           (require-at (length before) t bad-model later)
@@ -82,7 +89,7 @@ module _ (n d m k : ℕ) where
           omega (arith, length-append before (read-model n s ∷ [])) in
           record {
             few = omega (arith, h .few);
-            short = omega (arith, h .short, length-drop (model-length s) s);
+            short = omega (arith, h .short, length-drop (model-length n s) s);
             faulty = λ l. h .faulty (omega arith);
             over = λ l g. h .over (l ∙ sym e) g;
             all = λ l g. h .all (l ∙ sym e) g;
@@ -112,10 +119,10 @@ module _ (s : List ℕ) (t : Trailer) where
   rest = read-models book [] (t .models) (take (t .offset) s)
       followed-by (λ l. require-each 0 (held-step-sound book) steps bad-step (done (with-models l)))
 
-  module _ (h : T (limits-sound book)) (e : t .offset + 8 * t .steps + 8 ≡ length s) where
+  module _ (h : T (trailer-sound (held-trailer t))) (e : t .offset + 8 * t .steps + 8 ≡ length s) where
     to-rest : read-records s (held-trailer t) ≡ rest
     unfolding read-records held-trailer
-    to-rest = require-at-passed 0 (limits-sound book) bad-limits _ h
+    to-rest = require-at-passed 0 (trailer-sound (held-trailer t)) bad-limits _ h
         ∙ passes 0 (eqb (t .offset + 8 * t .steps + 8) (length s)) bad-offset _ (eq-eqb _ _ e)
 
     -- test 5

@@ -4,10 +4,8 @@ ghost use Prim.Native.Nat.{_+_, _*_};
 ghost use lib.Dec.{T};
 ghost use lib.ListN.{length};
 ghost use Rattle.calculus.specs.Model.{between};
-ghost use Rattle.calculus.specs.Book.{«limits-sound»};
 ghost use Rattle.model_types.specs.ModelStruct.{verdict};
-ghost use Rattle.format.specs.HeldBook.{outline};
-ghost use Rattle.format.specs.Format.{«step-length», «trailer-length», shortest, longest, «read-records», read};
+ghost use Rattle.format.specs.Format.{«step-length», «trailer-length», «trailer-sound», shortest, longest, «read-records», read};
 ghost use Rattle.sheet_decode.specs.Trailer.{«held-trailer»};
 ghost use Rattle.sheet_tests.specs.Headed.{headed};
 use model_types::Refusal;
@@ -24,6 +22,16 @@ fn length_sound(length: usize) -> bool
     length <= format::LONGEST
 }
 
+// Test 3: the limits, and n fits the mark.
+fn trailer_sound(t: Trailer) -> bool
+    ensures { λ r. ⌜ r ≡ trailer-sound (held-trailer t) ⌝ }
+{
+    if sheet_book::limits_sound(t.n, t.d, t.models as usize, t.steps as usize) {
+        return t.mark == sheet_book::mark_of(t.n);
+    }
+    false
+}
+
 // Tests 1 to 4.
 pub fn head_tested(sheet: &[u8]) -> Verdict
     ensures { λ r. ⌜ r ≡ verdict (headed (now (sheet .entry))) ⌝ }
@@ -36,7 +44,7 @@ pub fn head_tested(sheet: &[u8]) -> Verdict
     let steps = t.steps as usize;
     let offset = t.offset as usize;
     let marked = t.marked;
-    let within = sheet_book::limits_sound(t.n, t.d, t.models as usize, steps);
+    let within = trailer_sound(t);
     if !marked {
         return Verdict::Refused(Refusal::BadMark, 0);
     }
@@ -52,7 +60,7 @@ pub fn head_tested(sheet: &[u8]) -> Verdict
 
 // Tests 5 and 6 of a sheet that passes the others.
 fn records_tested(sheet: &[u8], t: Trailer) -> Verdict
-    requires { ⌜ T (limits-sound (outline (t .n) (t .d) (t .models) (t .steps))) ⌝ }
+    requires { ⌜ T (trailer-sound (held-trailer t)) ⌝ }
     requires { ⌜ t .offset + step-length * t .steps + trailer-length ≡ length (now sheet) ⌝ }
     ensures { λ r. ⌜ r ≡ verdict (read-records (now (sheet .entry)) (held-trailer t)) ⌝ }
 {

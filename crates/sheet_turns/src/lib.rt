@@ -18,6 +18,7 @@ ghost use Rattle.sheet_results.specs.Results.{results, Roomy, result};
 ghost use Rattle.sheet_steps.specs.Steps.{«names-second»};
 ghost use Rattle.sheet_turns.specs.Run.{Running, Turn, «Input-turn», Turned};
 ghost use Rattle.sheet_turns.specs.Run.{«Lent-for», Served, Fit, Begun, Stopped};
+use model_types::Key;
 use model_types::Accounted;
 use model_types::Answer;
 use model_types::Model;
@@ -54,7 +55,7 @@ fn names_second(code: u8) -> bool
 fn input_step(
     input: Model,
     i: usize,
-    keys: &mut [u16],
+    keys: &mut [Key],
     coefficients: &mut [i64],
     counts: &mut [usize],
     radii: &mut [u64],
@@ -80,7 +81,7 @@ fn product(
     d: u8,
     a: usize,
     b: usize,
-    keys: &[u16],
+    keys: &[Key],
     coefficients: &[i64],
     counts: &[usize],
     radii: &[u64],
@@ -133,7 +134,7 @@ fn product_step(
     d: u8,
     s: Step,
     i: usize,
-    keys: &mut [u16],
+    keys: &mut [Key],
     coefficients: &mut [i64],
     counts: &mut [usize],
     radii: &mut [u64],
@@ -176,7 +177,7 @@ fn quotient_step(
     d: u8,
     s: Step,
     i: usize,
-    keys: &mut [u16],
+    keys: &mut [Key],
     coefficients: &mut [i64],
     counts: &mut [usize],
     radii: &mut [u64],
@@ -215,7 +216,7 @@ fn other_step(
     d: u8,
     s: Step,
     i: usize,
-    keys: &mut [u16],
+    keys: &mut [Key],
     coefficients: &mut [i64],
     counts: &mut [usize],
     radii: &mut [u64],
@@ -251,7 +252,7 @@ fn step(
     d: u8,
     s: Step,
     i: usize,
-    keys: &mut [u16],
+    keys: &mut [Key],
     coefficients: &mut [i64],
     counts: &mut [usize],
     radii: &mut [u64],
@@ -350,7 +351,7 @@ fn steps(
     b: Book,
     from: usize,
     room: usize,
-    keys: &mut [u16],
+    keys: &mut [Key],
     coefficients: &mut [i64],
     counts: &mut [usize],
     radii: &mut [u64],
@@ -413,7 +414,7 @@ fn steps(
 // The first steps, with the small table.
 fn small(
     b: Book,
-    keys: &mut [u16],
+    keys: &mut [Key],
     coefficients: &mut [i64],
     counts: &mut [usize],
     radii: &mut [u64],
@@ -447,7 +448,7 @@ fn small(
 fn large(
     b: Book,
     from: usize,
-    keys: &mut [u16],
+    keys: &mut [Key],
     coefficients: &mut [i64],
     counts: &mut [usize],
     radii: &mut [u64],
@@ -479,7 +480,7 @@ fn large(
 // All steps.
 pub fn run(
     b: Book,
-    keys: &mut [u16],
+    keys: &mut [Key],
     coefficients: &mut [i64],
     counts: &mut [usize],
     radii: &mut [u64],

@@ -12,48 +12,49 @@ use Rattle.calculus.specs.Model.{sound}
 use Rattle.model_types.specs.ModelStruct.{view}
 use Rattle.format.specs.Bytes.{byte}
 use Rattle.format.specs.HeldBook.{Held-model, view-model}
-use Rattle.format.specs.Format.{read-model, model-length}
+use Rattle.format.specs.Format.{term-length, read-model, model-length}
 use Rattle.format.specs.ReadLoopLaws.{byte-at, model-at-least, and-false}
 use Rattle.sheet_walk.specs.Walk.{record-sound, Walk, walk, models-walked}
 use Rattle.sheet_walk.specs.TermWalkLaws.{view-stored, model-at, many-terms}
 
 -- ---- the record at a place
 module _ (n d at : ℕ) (s : List ℕ) where
-  length-at : model-length (drop at s) ≡ 5 + 6 * byte (at + 4) s
+  length-at : model-length n (drop at s) ≡ 5 + term-length n * byte (at + 4) s
   unfolding model-length
-  length-at = ap (λ c. 5 + 6 * c) (byte-at at 4 s)
+  length-at = ap (λ c. 5 + term-length n * c) (byte-at at 4 s)
 
   -- it does not fit,
-  no-room : length s - at < model-length (drop at s) → record-sound n d (drop at s) ≡ false
+  no-room : length s - at < model-length n (drop at s) → record-sound n d (drop at s) ≡ false
   unfolding record-sound
   no-room h =
-      let l : length (drop at s) < model-length (drop at s) = omega (arith, length-drop at s) in
-      rw (lt-leb (model-length (drop at s)) (length (drop at s)) l)
+      let l : length (drop at s) < model-length n (drop at s) = omega (arith, length-drop at s) in
+      rw (lt-leb (model-length n (drop at s)) (length (drop at s)) l)
 
   -- as one of fewer bytes than the least record,
   no-head : length s - at < 5 → record-sound n d (drop at s) ≡ false
-  no-head h = no-room (omega (arith, model-at-least (drop at s)))
+  no-head h = no-room (omega (arith, model-at-least n (drop at s)))
 
   -- or its terms do not,
-  no-terms : (total : ℕ) → total ≡ byte (at + 4) s → length s - at < 5 + 6 * total
+  no-terms : (total : ℕ) → total ≡ byte (at + 4) s → length s - at < 5 + term-length n * total
       → record-sound n d (drop at s) ≡ false
-  no-terms total e h = no-room (omega (arith, length-at))
+  no-terms total e h = no-room (omega (arith, h, length-at, ap (λ c. term-length n * c) e))
 
   -- or its model breaks a rule
   unsound : sound d (view (model-at n at s)) ≡ false → record-sound n d (drop at s) ≡ false
   unfolding record-sound
-  unsound h = and-false (leb (model-length (drop at s)) (length (drop at s))) _
+  unsound h = and-false (leb (model-length n (drop at s)) (length (drop at s))) _
       (ap (sound d) (sym (view-stored (read-model n (drop at s)))) ∙ h)
 
   -- else it passes
-  record-passes : (total : ℕ) → total ≡ byte (at + 4) s → 5 + 6 * total ≤ length s - at
+  record-passes : (total : ℕ) → total ≡ byte (at + 4) s → 5 + term-length n * total ≤ length s - at
       → sound d (view (model-at n at s)) ≡ true → record-sound n d (drop at s) ≡ true
   unfolding record-sound
   record-passes total e l h =
-      let room : model-length (drop at s) ≤ length (drop at s) = omega (arith, length-drop at s, length-at) in
+      let room : model-length n (drop at s) ≤ length (drop at s) =
+      omega (arith, l, length-drop at s, length-at, ap (λ c. term-length n * c) e) in
       let holds : sound d (view-model (read-model n (drop at s))) ≡ true =
       ap (sound d) (sym (view-stored (read-model n (drop at s)))) ∙ h in
-      rw (le-leb (model-length (drop at s)) (length (drop at s)) room, holds)
+      rw (le-leb (model-length n (drop at s)) (length (drop at s)) room, holds)
 
 -- ---- a walk by the record at the head
 walk-stop : (n d : ℕ) (before : List Held-model) (c : ℕ) (s : List ℕ) → record-sound n d s ≡ false
@@ -63,7 +64,7 @@ walk-stop n d before zero s h = refl
 walk-stop n d before (suc c) s h = rw (h, walk)
 
 walk-on : (n d : ℕ) (before : List Held-model) (c : ℕ) (s : List ℕ) → record-sound n d s ≡ true
-    → walk n d before (suc c) s ≡ walk n d (before ++ (read-model n s ∷ [])) c (drop (model-length s) s)
+    → walk n d before (suc c) s ≡ walk n d (before ++ (read-model n s ∷ [])) c (drop (model-length n s) s)
 unfolding walk
 walk-on n d before c s h = rw (h, walk)
 
@@ -101,7 +102,7 @@ module _ (s : List ℕ) (n d count : ℕ) (before : List Held-model) (at k : ℕ
   models-no-head l = stop (no-head n d at s l)
 
   -- or than this one has,
-  pub models-no-terms : (total : ℕ) → total ≡ byte (at + 4) s → length s - at < 5 + 6 * total → Ends
+  pub models-no-terms : (total : ℕ) → total ≡ byte (at + 4) s → length s - at < 5 + term-length n * total → Ends
   models-no-terms total e l = stop (no-terms n d at s total e l)
 
   -- or too many terms,
@@ -119,13 +120,13 @@ module _ (s : List ℕ) (n d count : ℕ) (before : List Held-model) (at k : ℕ
       sym (h .rest) ∙ ap (λ c. walk n d before c (drop at s)) e ∙ walk-end n d before (drop at s)
 
   -- a turn
-  pub models-turn : k < count → (total : ℕ) → total ≡ byte (at + 4) s → 5 + 6 * total ≤ length s - at
-      → sound d (view (model-at n at s)) ≡ true → (next : ℕ) → next ≡ at + model-length (drop at s)
+  pub models-turn : k < count → (total : ℕ) → total ≡ byte (at + 4) s → 5 + term-length n * total ≤ length s - at
+      → sound d (view (model-at n at s)) ≡ true → (next : ℕ) → next ≡ at + model-length n (drop at s)
       → Models-so-far s n d count (before ++ (read-model n (drop at s) ∷ [])) next (k + 1)
   models-turn l total t room f next e = record {
     number = omega (arith, length-append before (read ∷ []), h .number);
     most = omega arith;
-    within = omega (arith, length-at n d at s);
+    within = omega (arith, room, e, h .within, length-at n d at s, ap (λ c. term-length n * c) t);
     rest =
         let c : count - k ≡ suc (count - (k + 1)) = omega arith in
         ap (λ r. walk n d (before ++ (read ∷ [])) (count - (k + 1)) r) (behind e)
@@ -136,8 +137,8 @@ module _ (s : List ℕ) (n d count : ℕ) (before : List Held-model) (at k : ℕ
       read : Held-model
       read = read-model n (drop at s)
 
-      behind : next ≡ at + model-length (drop at s) → drop next s ≡ drop (model-length (drop at s)) (drop at s)
-      behind e = ap (λ j. drop j s) e ∙ sym (drop-drop (model-length (drop at s)) at s)
+      behind : next ≡ at + model-length n (drop at s) → drop next s ≡ drop (model-length n (drop at s)) (drop at s)
+      behind e = ap (λ j. drop j s) e ∙ sym (drop-drop (model-length n (drop at s)) at s)
 
   -- how far the walk goes where it ends
   pub walk-place : Ends → k ≡ length (walk n d [] count s .passed)

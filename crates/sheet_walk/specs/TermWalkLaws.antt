@@ -4,6 +4,7 @@ use mathlib.Core.Bool.{Bool, true, false}
 use mathlib.Core.List.{List, map}
 use Prim.Native.Nat.{ℕ, _+_, _*_, _≤_, _<_}
 use native.Mathlib.Omega.{arith}
+use native.Mathlib.Nat as NatL
 use lib.Dec.{leb}
 use lib.IntN.{pos, natAbs}
 use lib.ListN.{length, getD, drop, length-map, List·getD-append, List·getD-map}
@@ -21,7 +22,7 @@ use Rattle.model_types.specs.ModelStructLaws.{vars-within}
 use Rattle.model.specs.OperationLaws.{Passed, passed-first, passed-turn, passed-not, passed-end, many-not}
 use Rattle.format.specs.Bytes.{byte, u32}
 use Rattle.format.specs.HeldBook.{Held-term, Held-model, view-model}
-use Rattle.format.specs.Format.{read-term, read-terms, read-model, model-length}
+use Rattle.format.specs.Format.{term-length, read-term, read-terms, read-model, model-length}
 use Rattle.format.specs.ReadLoopLaws.{byte-at, read-term-at}
 use Rattle.format.specs.WriteBackLaws.{length-read-terms}
 use Rattle.sheet_book.specs.BookStruct.{stored-term, stored-model}
@@ -31,14 +32,22 @@ use Rattle.sheet_book.specs.BookStructLaws.{held-stored-model, view-held-model}
 pub view-stored : (h : Held-model) → view (stored-model h) ≡ view-model h
 view-stored h = sym (view-held-model (stored-model h)) ∙ ap view-model (held-stored-model h)
 
+-- one more of a length
+pub one-more : (l i : ℕ) → l * (i + 1) ≡ l * i + l
+one-more l i = NatL.mul-add l i 1 ∙ ap (λ k. l * i + k) (NatL.mul-one l)
+
+-- one of so many is inside
+pub one-inside : (l i c : ℕ) → i < c → l * i + l ≤ l * c
+one-inside l i c h = subst (λ x. x ≤ l * c) (one-more l i) (NatL.mul-le-mul-left l (omega arith))
+
 -- ---- the record at a place
 -- the struct of its model
 abbrev pub model-at : (n at : ℕ) → List ℕ → Model
 model-at n at s = stored-model (read-model n (drop at s))
 
 -- its terms
-abbrev pub terms-at : (at : ℕ) → List ℕ → List Held-term
-terms-at at s = read-terms (byte 4 (drop at s)) (drop 5 (drop at s))
+abbrev pub terms-at : (n at : ℕ) → List ℕ → List Held-term
+terms-at n at s = read-terms n (byte 4 (drop at s)) (drop 5 (drop at s))
 
 -- what a place beyond them would hold
 abbrev pub some-term : Held-term
@@ -47,18 +56,18 @@ some-term = record { key = 0; coefficient = pos 0 }
 -- before term i
 pub record Terms-so-far (s : List ℕ) (n d at : ℕ) (span least place i : ℕ) : Type 0 where
   pub passed : Passed d (model-at n at s) span least i
-  pub placed : place ≡ at + 5 + 6 * i
+  pub placed : place ≡ at + 5 + term-length n * i
 
 module _ (s : List ℕ) (n d at : ℕ) where
   abbrev m : Model
   m = model-at n at s
 
   abbrev ts : List Held-term
-  ts = terms-at at s
+  ts = terms-at n at s
 
   pub count-is : m .count ≡ byte (at + 4) s
   unfolding stored-model read-model
-  count-is = length-read-terms (byte 4 (drop at s)) (drop 5 (drop at s)) ∙ byte-at at 4 s
+  count-is = length-read-terms n (byte 4 (drop at s)) (drop 5 (drop at s)) ∙ byte-at at 4 s
 
   pub many-terms : 64 < byte (at + 4) s → sound d (view m) ≡ false
   unfolding most-terms
@@ -86,22 +95,22 @@ module _ (s : List ℕ) (n d at : ℕ) where
     unfolding stored-model read-model
     terms-first radius e = record {
       passed = subst (λ r. Passed d m r 0 0) (sym e) (passed-first d m vars few-terms whole);
-      placed = omega arith;
+      placed = omega (arith, NatL.mul-zero (term-length n));
     }
 
     module _ (span least place i : ℕ) (h : Terms-so-far s n d at span least place i) where
-      module _ (l : i < byte (at + 4) s) (t : Term) (e : t ≡ stored-term (read-term (drop place s))) where
-        at-place : drop (6 * i) (drop 5 (drop at s)) ≡ drop place s
+      module _ (l : i < byte (at + 4) s) (t : Term) (e : t ≡ stored-term (read-term n (drop place s))) where
+        at-place : drop (term-length n * i) (drop 5 (drop at s)) ≡ drop place s
         at-place =
-            let e : at + (5 + 6 * i) ≡ place = omega (arith, h .placed) in
-            drop-drop (6 * i) 5 (drop at s) ∙ drop-drop (5 + 6 * i) at s ∙ ap (λ j. drop j s) e
+            let e : at + (5 + term-length n * i) ≡ place = omega (arith, h .placed) in
+            drop-drop (term-length n * i) 5 (drop at s) ∙ drop-drop (5 + term-length n * i) at s ∙ ap (λ j. drop j s) e
 
         pub inside : i < length ts
-        inside = omega (arith, length-read-terms (byte 4 (drop at s)) (drop 5 (drop at s)), byte-at at 4 s)
+        inside = omega (arith, length-read-terms n (byte 4 (drop at s)) (drop 5 (drop at s)), byte-at at 4 s)
 
         pub in-terms : t ≡ stored-term (getD ts i some-term)
-        in-terms = e ∙ ap stored-term (sym (read-term-at (byte 4 (drop at s)) i (drop 5 (drop at s)) some-term
-            (omega (arith, byte-at at 4 s)) ∙ ap read-term at-place))
+        in-terms = e ∙ ap stored-term (sym (read-term-at n (byte 4 (drop at s)) i (drop 5 (drop at s)) some-term
+            (omega (arith, byte-at at 4 s)) ∙ ap (read-term n) at-place))
 
         here : getD (m .terms) i zero-term ≡ t
         unfolding stored-model read-model stored-term padded
@@ -121,13 +130,13 @@ module _ (s : List ℕ) (n d at : ℕ) where
 
         pub terms-turn : t .key < key-limit → term-sound n d least (t .key) (t .coefficient) ≡ true
             → (next : ℕ) → next ≡ capped (span + natAbs (t .coefficient))
-            → Terms-so-far s n d at next (t .key + 1) (place + 6) (i + 1)
+            → Terms-so-far s n d at next (t .key + 1) (place + term-length n) (i + 1)
         terms-turn small g next k = record {
           passed = subst (λ x. Passed d m next (x .key + 1) (i + 1)) here
               (passed-turn d m vars few-terms whole span least i (h .passed) counted
               (subst (λ x. x .key < key-limit) (sym here) small) (tested true g) next
               (k ∙ ap (λ x. capped (span + natAbs (x .coefficient))) (sym here)));
-          placed = omega (arith, h .placed);
+          placed = omega (arith, h .placed, one-more (term-length n) i);
         }
 
         pub terms-bad : t .key < key-limit → term-sound n d least (t .key) (t .coefficient) ≡ false
@@ -139,6 +148,8 @@ module _ (s : List ℕ) (n d at : ℕ) where
       terms-end l = passed-end d m vars few-terms whole span least i (h .passed) (omega (arith, count-is))
 
       -- the place behind them
-      pub terms-behind : byte (at + 4) s ≤ i → place ≡ at + model-length (drop at s)
+      pub terms-behind : byte (at + 4) s ≤ i → place ≡ at + model-length n (drop at s)
       unfolding model-length
-      terms-behind l = omega (arith, h .placed, h .passed .within, count-is, byte-at at 4 s)
+      terms-behind l =
+          let e : i ≡ byte 4 (drop at s) = omega (arith, h .passed .within, count-is, byte-at at 4 s) in
+          omega (arith, h .placed, ap (λ c. term-length n * c) e)

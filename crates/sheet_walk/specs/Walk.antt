@@ -14,7 +14,7 @@ use Rattle.sheet_walk.specs.declared.ModelsWalked.{ModelsWalked}
 -- ---- models
 -- the record at the head fits, and its model keeps the rules
 unfoldable pub record-sound : (n d : ℕ) → List ℕ → Bool
-record-sound n d s = leb (model-length s) (length s) && sound d (view-model (read-model n s))
+record-sound n d s = leb (model-length n s) (length s) && sound d (view-model (read-model n s))
 
 -- those read, and the bytes that are left
 pub record Walk : Type 0 where
@@ -25,7 +25,7 @@ pub record Walk : Type 0 where
 unfoldable pub walk : (n d : ℕ) (before : List Held-model) (c : ℕ) → List ℕ → Walk
 walk n d before zero s = record { passed = before; left = s }
 walk n d before (suc c) s = elim (record-sound n d s) [
-  | true ↦ walk n d (before ++ (read-model n s ∷ [])) c (drop (model-length s) s)
+  | true ↦ walk n d (before ++ (read-model n s ∷ [])) c (drop (model-length n s) s)
   | false ↦ record { passed = before; left = s }
 ]
 

@@ -17,6 +17,7 @@ pub fn walk_models(s: &[u8], n: u8, d: u8, count: usize) -> ModelsWalked
     requires { ⌜ (1 ≤ n) × (n ≤ key-width) ⌝ }
     ensures { λ r. ⌜ r ≡ models-walked n d count (now (s .entry)) ⌝ }
 {
+    let size = sheet_book::term_bytes(n);
     let mut at = 0;
     let mut k = 0;
     'models: while k < count {
@@ -25,27 +26,27 @@ pub fn walk_models(s: &[u8], n: u8, d: u8, count: usize) -> ModelsWalked
             break 'models;
         }
         let total = sheet_decode::byte_at(s, at + format::COUNT_AT) as usize;
-        if left < format::MODEL_BYTES + format::TERM_BYTES * total {
+        if left < format::MODEL_BYTES + size * total {
             break 'models;
         }
         if model_types::MOST_TERMS < total {
             break 'models;
         }
         let mut span = sheet_decode::u32_at(s, at) as u64;
-        let mut least: u32 = 0;
+        let mut least: u64 = 0;
         let mut place = at + format::MODEL_BYTES;
         let mut i = 0;
         'terms: loop {
             if total <= i {
                 break 'terms;
             }
-            let t = sheet_decode::term_at(s, place);
+            let t = sheet_decode::term_at(s, place, n);
             if !model::term_sound(n, d, least, t.key, t.coefficient) {
                 break 'models;
             }
             span = fixed::capped_sum(span, fixed::magnitude(t.coefficient));
-            least = t.key as u32 + 1;
-            place += format::TERM_BYTES;
+            least = t.key as u64 + 1;
+            place += size;
             i += 1;
         }
         if !fixed::within_span(span) {

@@ -1,6 +1,6 @@
--- No text is longer than 2,048 bytes: numbers of at most 11 digits, lines of at most 35 bytes, at most 64 terms.
+-- No text is longer than 4,096 bytes: numbers of at most 12 digits, lines of at most 41 bytes, at most 64 terms.
 use mathlib.Core.Path.{_≡_, refl, _∙_, ap}
-use mathlib.Core.Bool.{true, false}
+use mathlib.Core.Bool.{Bool, true, false}
 use mathlib.Core.List.{List, [], _∷_, _++_, map}
 use Prim.Native.Nat.{ℕ, zero, suc, _+_, _*_, _/_, _%_, _^_, _≤_, _<_}
 use native.Mathlib.Decide.{decLe}
@@ -12,8 +12,6 @@ use lib.ListN.{length, take, drop, length-append}
 use lib.Seq.{take-append-seam}
 use Rattle.algebra.specs.Integer.{natAbs-add, natAbs-neg}
 use Rattle.polynomial.specs.Polynomial.{Term}
-use Rattle.fixed.specs.Division.{floor, remainder}
-use Rattle.fixed.specs.DivisionLaws.{remainder-lt}
 use Rattle.fixed.specs.FixedLaws.{span-four-bytes}
 use Rattle.calculus.specs.Monomial.{degree}
 use Rattle.calculus.specs.Key.{key-width}
@@ -25,16 +23,16 @@ use Rattle.calculus.specs.Refusal.{over-span, too-many-terms, leaves-box, varia
 use Rattle.calculus.specs.Refusal.{uncertified}
 use Rattle.calculus.specs.Refusal.{number, Result, done, stopped}
 use Rattle.calculus.specs.Operations.{Ends, range, constant-part, below, above, integral, Mixed}
-use Rattle.calculus.specs.Operations.{common-denominator, integral-parts, exact-part, one-if-any}
+use Rattle.calculus.specs.Operations.{common-denominator, has-exact, exact-part}
 use Rattle.calculus.specs.Book.{Summary, summary}
 use Rattle.calculus.specs.FitsLaws.{fits-length, fits-degree}
 use Rattle.calculus.specs.SoundLaws.{sound-parts}
 use Rattle.model_types.specs.ModelStructLaws.{vars-range, sound-vars}
-use Rattle.model.specs.OperationLaws.{below-within, above-within, volume-le, quotient-within, one-at-most}
+use Rattle.model.specs.OperationLaws.{below-within, above-within, ends-within, exact-within, exact-remainder}
 use Rattle.format.specs.Bytes.{join}
 use Rattle.format.specs.Format.{run-sheet}
 use Rattle.format.specs.Lines.{text, decimal, signed-decimal, term-line, ends-line, radius-line, refusal-line}
-use Rattle.format.specs.Lines.{exact-line, lines, printed}
+use Rattle.format.specs.Lines.{exact-line, exact-lines, lines, printed}
 use Rattle.format.specs.LinesLaws.{decimal-digit, decimal-more}
 use Rattle.text_decimal.specs.Put.{natural, integer}
 use Rattle.text_lines.specs.LineLaws.{line-end, radius-pieces, refusal-pieces, ends-pieces, term-pieces, lines-pieces}
@@ -98,14 +96,14 @@ ends-length k w e h l = omega (
   integer-length k (e .high) l,
 )
 
-exact-length : (x : Mixed) → natAbs (x .quotient) < 10 ^ 11 → x .remainder < 10 ^ 9 → length (exact-line x) ≤ 29
+exact-length : (x : Mixed) → natAbs (x .quotient) < 10 ^ 12 → x .remainder < 10 ^ 9 → length (exact-line x) ≤ 30
 unfolding text
 exact-length x h l = omega (
   arith,
   ap length (exact-pieces x),
   length-append (integer (x .quotient)) (natural (x .remainder) ++ line-end),
   length-append (natural (x .remainder)) line-end,
-  integer-length 10 (x .quotient) h,
+  integer-length 11 (x .quotient) h,
   natural-length 8 (x .remainder) l,
 )
 
@@ -119,8 +117,8 @@ exponents-length (e ∷ es) h = omega (
   exponents-length es (omega arith),
 )
 
-term-length : (t : Term ℤ) → length (t .exponents) ≤ 4 → degree (t .exponents) < 10 ^ 2
-    → natAbs (t .coefficient) < 10 ^ 10 → length (term-line t) ≤ 29
+term-length : (t : Term ℤ) → length (t .exponents) ≤ 8 → degree (t .exponents) < 10 ^ 2
+    → natAbs (t .coefficient) < 10 ^ 10 → length (term-line t) ≤ 41
 unfolding text
 term-length t h d c = omega (
   arith,
@@ -131,8 +129,8 @@ term-length t h d c = omega (
   integer-length 9 (t .coefficient) c,
 )
 
-terms-length : (n d : ℕ) (p : Terms) → n ≤ 4 → d < 10 ^ 2 → T (every (λ k c. fits n d k) p) → size p < 10 ^ 10
-    → length (join (map term-line p)) ≤ 29 * length p
+terms-length : (n d : ℕ) (p : Terms) → n ≤ 8 → d < 10 ^ 2 → T (every (λ k c. fits n d k) p) → size p < 10 ^ 10
+    → length (join (map term-line p)) ≤ 41 * length p
 unfolding join size sum-over
 terms-length n d [] w o f s = omega arith
 terms-length n d (t ∷ p) w o f s = omega (
@@ -142,7 +140,7 @@ terms-length n d (t ∷ p) w o f s = omega (
   terms-length n d p w o (every-tail (λ k c. fits n d k) t p f) (omega arith),
 )
   where
-    head : T (fits n d (t .exponents)) → length (term-line t) ≤ 29
+    head : T (fits n d (t .exponents)) → length (term-line t) ≤ 41
     head h = term-length t (omega (arith, fits-length n d (t .exponents) h))
         (omega (arith, fits-degree n d (t .exponents) h))
         (omega arith)
@@ -152,11 +150,11 @@ module _ (m : Model) (h : T (sound most-degree m)) where
   small : span m < 2 ^ 31
   small = omega (arith, sound-parts most-degree m h .1 .small-span, span-four-bytes)
 
-  width : m .vars ≤ 4
+  width : m .vars ≤ 8
   unfolding key-width
   width = vars-range (m .vars) (sound-vars most-degree m h) .1
 
-  terms-small : length (join (map term-line (m .terms))) ≤ 1856
+  terms-small : length (join (map term-line (m .terms))) ≤ 2624
   unfolding span most-degree most-terms
   terms-small = omega (
     arith,
@@ -174,54 +172,41 @@ module _ (m : Model) (h : T (sound most-degree m)) where
         (omega (arith, small, above-within m, natAbs-add (constant-part m) (pos (above m)))),
   )
 
-  volume : span m * 2 ^ m .vars ≤ 2 ^ 31 * 16
-  volume = NatL.mul-le-mul {n₂ = 2 ^ 31} (omega (arith, small)) (volume-le (m .vars) (unfold key-width in width))
+  volume : span m * 2 ^ m .vars ≤ 2 ^ 31 * 2 ^ 8
+  volume = NatL.mul-le-mul {n₂ = 2 ^ 31} (omega (arith, small))
+      (NatL.pow-le-pow-right {n = 2} (lit< tt) {i = m .vars} {j = 8} width)
 
-  -- the quotient, the remainder, and 2^n times the radius
-  abbrev q : ℤ
-  q = floor (integral-parts m) common-denominator
-
-  abbrev r : ℕ
-  r = remainder (integral-parts m) common-denominator
-
-  abbrev w : ℕ
-  w = 2 ^ m .vars * m .radius
-
-  integral-small : length (ends-line (text "integral") (integral m)) ≤ 35
-  unfolding integral exact-part text
+  integral-small : length (ends-line (text "integral") (integral m)) ≤ 37
+  unfolding text
   integral-small = omega (
     arith,
-    ends-length 10 (text "integral") (integral m)
-        (omega (arith, volume, quotient-within m, natAbs-sub q w))
-        (omega (
-          arith,
-          volume,
-          quotient-within m,
-          natAbs-add q (pos w),
-          natAbs-add (q +ℤ pos w) (pos (one-if-any r)),
-          one-at-most r,
-        )),
+    ends-length 11 (text "integral") (integral m)
+        (omega (arith, volume, ends-within m .0)) (omega (arith, volume, ends-within m .1)),
   )
 
-  exact-small : length (exact-line (exact-part m)) ≤ 29
-  unfolding exact-part common-denominator
-  exact-small = exact-length (exact-part m) (omega (arith, volume, quotient-within m))
-      (omega (arith, remainder-lt (integral-parts m) common-denominator (omega arith)))
+  exact-small : length (exact-lines (m .vars) (exact-part m)) ≤ 30
+  unfolding exact-lines
+  exact-small = go (has-exact (m .vars))
+    where
+      go : (b : Bool) → length {A = ℕ} (elim b as (λ b. List ℕ) [ true ↦ exact-line (exact-part m) | false ↦ [] ]) ≤ 30
+      go true = exact-length (exact-part m) (omega (arith, volume, exact-within m))
+          (unfold common-denominator in omega (arith, exact-remainder m))
+      go false = omega arith
 
-  summary-length : length (lines (done (summary m))) ≤ 1968
+  summary-length : length (lines (done (summary m))) ≤ 2739
   unfolding summary span
   summary-length = omega (
     arith,
     ap length (lines-pieces (summary m)),
     length-append (radius-line (m .radius)) (join (map term-line (m .terms))
         ++ (ends-line (text "range") (range m)
-        ++ (ends-line (text "integral") (integral m) ++ exact-line (exact-part m)))),
+        ++ (ends-line (text "integral") (integral m) ++ exact-lines (m .vars) (exact-part m)))),
     length-append (join (map term-line (m .terms)))
         (ends-line (text "range") (range m)
-        ++ (ends-line (text "integral") (integral m) ++ exact-line (exact-part m))),
+        ++ (ends-line (text "integral") (integral m) ++ exact-lines (m .vars) (exact-part m))),
     length-append (ends-line (text "range") (range m))
-        (ends-line (text "integral") (integral m) ++ exact-line (exact-part m)),
-    length-append (ends-line (text "integral") (integral m)) (exact-line (exact-part m)),
+        (ends-line (text "integral") (integral m) ++ exact-lines (m .vars) (exact-part m)),
+    length-append (ends-line (text "integral") (integral m)) (exact-lines (m .vars) (exact-part m)),
     radius-length (m .radius) (omega (arith, small)),
     terms-small,
     range-small,

@@ -11,11 +11,11 @@ use Rattle.calculus.specs.Refusal.{Refusal, bad-model, bad-step, Answer, accept
 use Rattle.calculus.specs.Refusal.{at-place, require-at, require-each, _followed-by_}
 use Rattle.calculus.specs.Tests.{vars-sound, order-sound}
 use Rattle.calculus.specs.Book.{Step, Book, most-models, most-steps, limits-sound, run-steps, run-sound}
-use Rattle.calculus.specs.TestLaws.{and-right}
+use Rattle.calculus.specs.TestLaws.{and-left, and-right}
 use Rattle.calculus.specs.BookLaws.{Passes, between-high, next-number}
 use Rattle.format.specs.HeldBook.{Held-model, view-book, held-step-sound, outline}
 use Rattle.format.specs.Format.{read-model, read-models, Trailer, read-trailer, trailer-of, read-steps}
-use Rattle.format.specs.Format.{read-records, read, run-sheet}
+use Rattle.format.specs.Format.{trailer-sound, read-records, read, run-sheet}
 use Rattle.format.specs.HeldBookLaws.{in-limits, view-passes}
 use Rattle.format.specs.WriteBackLaws.{length-read-steps, read-passes}
 
@@ -64,9 +64,9 @@ module _ (s : List ℕ) (t : Trailer) where
   book = outline (t .n) (t .d) (t .models) (t .steps)
 
   near-records : Near 64 (read-records s t)
-  unfolding read-records
+  unfolding read-records trailer-sound
   near-records = near-require 0 _ _ _ (omega arith) (λ l.
-      let limits = in-limits (t .n) (t .d) (t .models) (t .steps) l in
+      let limits = in-limits (t .n) (t .d) (t .models) (t .steps) (and-left (limits-sound book) _ l) in
       near-require 0 _ _ _ (omega arith) (λ o.
       near-followed _ _ (near-models book [] (t .models) _ (omega (arith, limits .models)))
       (λ ms e. near-each 0 (held-step-sound book) (read-steps (t .steps) (drop (t .offset) s)) bad-step _

@@ -9,4 +9,4 @@ laid text buffer = take (length buffer) text ++ drop (length text) buffer
 
 -- no text is longer than this (LengthLaws, `text-length`)
 unfoldable pub most-text : ℕ
-most-text = 2048
+most-text = 4096

@@ -15,7 +15,7 @@ use sheet::Summary;
 use sheet::run;
 
 // No text is longer, whatever the sheet: a buffer of this length always holds the whole of it.
-pub const MOST_TEXT: usize = 2048;
+pub const MOST_TEXT: usize = 4096;
 
 // The lines of an accepted sheet.
 fn put_summary(out: &mut [u8], summary: Summary) -> usize
@@ -30,7 +30,7 @@ fn put_summary(out: &mut [u8], summary: Summary) -> usize
     let terms = text_lines::put_terms(out, radius, m);
     let next = text_lines::put_ends(out, terms, b"range", range.low, range.high);
     let last = text_lines::put_ends(out, next, b"integral", integral.low, integral.high);
-    text_lines::put_exact(out, last, exact.quotient, exact.remainder)
+    text_lines::put_exact_of(out, last, m.n, exact.quotient, exact.remainder)
 }
 
 // Runs a sheet and writes its lines from the start of the buffer, as much of them as it has room for; the rest of the

@@ -1,5 +1,7 @@
 -- The lines as pieces that are put one behind another, and loops that put one piece a turn.
 use mathlib.Core.Path.{_≡_, refl, sym, _∙_, ap, ap₂}
+use mathlib.Core.Bool.{true, false}
+use borrow.Author.Tests.{le-leb, lt-leb}
 use mathlib.Core.List.{List, [], _∷_, _++_, map, append-assoc, map-append}
 use Prim.Native.Nat.{ℕ, suc, _+_, _^_, _≤_, _<_}
 use native.Mathlib.Omega.{arith}
@@ -12,7 +14,7 @@ use mir.Syntax.{w64}
 use mir.Val.{toZ, ofZ, hbits}
 use Rattle.polynomial.specs.Polynomial.{Term}
 use Rattle.calculus.specs.Refusal.{Refusal, number, done, stopped}
-use Rattle.calculus.specs.Operations.{Ends, Mixed}
+use Rattle.calculus.specs.Operations.{Ends, has-exact, Mixed}
 use Rattle.calculus.specs.Book.{Summary}
 use Rattle.model_types.specs.declared.Model.{Model}
 use Rattle.model_types.specs.ModelStruct.{zero-term, view-term, view}
@@ -21,7 +23,7 @@ use Rattle.format.specs.BytesLaws.{join-++}
 use Rattle.format.specs.Bytes.{join}
 use Rattle.format.specs.WriteLoopLaws.{join-more}
 use Rattle.format.specs.Lines.{text, decimal, signed-decimal, line, term-line, ends-line, radius-line, refusal-line}
-use Rattle.format.specs.Lines.{exact-line, lines}
+use Rattle.format.specs.Lines.{exact-line, exact-lines, lines}
 use Rattle.text_decimal.specs.Put.{Put, Room, natural, integer}
 use Rattle.text_decimal.specs.PutLaws.{put-nothing, _then-put_, put-as}
 use Rattle.text_lines.specs.LineParts.{ends}
@@ -56,6 +58,15 @@ exact-pieces x = ap (λ l. text "exact" ++ l)
     (sym (append-assoc (text " ") (decimal (x .remainder)) line-end))
     ∙ sym (append-assoc (text " ") (signed-decimal (x .quotient)) _))
 
+-- up to four variables, and above
+pub exact-some : (n : ℕ) (x : Mixed) → n ≤ 4 → exact-lines n x ≡ exact-line x
+unfolding exact-lines has-exact
+exact-some n x h = ap (λ b. elim b as (λ b. List ℕ) [ true ↦ exact-line x | false ↦ [] ]) (le-leb n 4 h)
+
+pub exact-none : (n : ℕ) (x : Mixed) → 4 < n → exact-lines n x ≡ []
+unfolding exact-lines has-exact
+exact-none n x h = ap (λ b. elim b as (λ b. List ℕ) [ true ↦ exact-line x | false ↦ [] ]) (lt-leb n 4 h)
+
 -- a word, n exponents, a coefficient
 exponents-pieces : (w c : List ℕ) (es : List ℕ)
     → line (w ∷ (map decimal es ++ (c ∷ []))) ≡ w ++ (join (map natural es) ++ ((text " " ++ c) ++ line-end))
@@ -77,7 +88,7 @@ pub lines-pieces : (s : Summary)
     ≡ radius-line (s .model .radius)
     ++ (join (map term-line (s .model .terms))
     ++ (ends-line (text "range") (s .range)
-    ++ (ends-line (text "integral") (s .integral) ++ exact-line (s .exact))))
+    ++ (ends-line (text "integral") (s .integral) ++ exact-lines (s .model .vars) (s .exact))))
 unfolding lines
 lines-pieces s = refl
 

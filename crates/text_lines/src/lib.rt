@@ -5,16 +5,20 @@ ghost use Rattle.calculus.specs.Key.{«monomial-of»};
 ghost use Rattle.calculus.specs.Model.{«most-degree», sound};
 ghost use Rattle.model_types.specs.ModelStruct.{view};
 ghost use Rattle.format.specs.Bytes.{join};
-ghost use Rattle.format.specs.Lines.{«term-line», «ends-line», «exact-line», «radius-line», «refusal-line»};
+ghost use Rattle.format.specs.Lines.{«term-line», «ends-line», «exact-line», «exact-lines», «radius-line», «refusal-line»};
 ghost use Rattle.text_decimal.specs.Put.{Put, Room, natural};
 ghost use Rattle.text_lines.specs.LineParts.{ends, mixed, «Key-in», «key-line»};
+use model_types::Key;
 use model_types::Model;
+
+// Up to so many variables there is an exact integral.
+const MOST_EXACT: u8 = 4;
 
 // Every function below puts its bytes where the buffer has room for them and answers the place behind them, also where
 // that is past the buffer's end.
 
 // The n exponents of a key.
-fn put_exponents(out: &mut [u8], at: usize, n: u8, key: u16) -> usize
+fn put_exponents(out: &mut [u8], at: usize, n: u8, key: Key) -> usize
     requires { ⌜ Key-in n key ⌝ }
     requires { ⌜ Room at (join (map natural (monomial-of n key))) ⌝ }
     ensures { λ r. ⌜ Put (now (out .entry)) at (join (map natural (monomial-of n key))) (now (out .exit)) r ⌝ }
@@ -30,7 +34,7 @@ fn put_exponents(out: &mut [u8], at: usize, n: u8, key: u16) -> usize
 }
 
 // The line of a term.
-fn put_term(out: &mut [u8], at: usize, n: u8, key: u16, coefficient: i64) -> usize
+fn put_term(out: &mut [u8], at: usize, n: u8, key: Key, coefficient: i64) -> usize
     requires { ⌜ Key-in n key ⌝ }
     requires { ⌜ Room at (key-line n key coefficient) ⌝ }
     ensures { λ r. ⌜ Put (now (out .entry)) at (key-line n key coefficient) (now (out .exit)) r ⌝ }
@@ -70,7 +74,7 @@ pub fn put_ends(out: &mut [u8], at: usize, word: &[u8], low: i64, high: i64) -> 
 }
 
 // The line of an exact integral.
-pub fn put_exact(out: &mut [u8], at: usize, quotient: i64, remainder: u64) -> usize
+fn put_exact(out: &mut [u8], at: usize, quotient: i64, remainder: u64) -> usize
     requires { ⌜ Room at (exact-line (mixed quotient remainder)) ⌝ }
     ensures { λ r. ⌜ Put (now (out .entry)) at (exact-line (mixed quotient remainder)) (now (out .exit)) r ⌝ }
 {
@@ -78,6 +82,17 @@ pub fn put_exact(out: &mut [u8], at: usize, quotient: i64, remainder: u64) -> us
     let first = text_decimal::put_integer(out, word, quotient);
     let next = text_decimal::put_natural(out, first, remainder);
     text_decimal::put_byte(out, next, b'\n')
+}
+
+// The same in up to four variables; above, no line.
+pub fn put_exact_of(out: &mut [u8], at: usize, n: u8, quotient: i64, remainder: u64) -> usize
+    requires { ⌜ Room at (exact-lines n (mixed quotient remainder)) ⌝ }
+    ensures { λ r. ⌜ Put (now (out .entry)) at (exact-lines n (mixed quotient remainder)) (now (out .exit)) r ⌝ }
+{
+    if MOST_EXACT < n {
+        return at;
+    }
+    put_exact(out, at, quotient, remainder)
 }
 
 // The line of a refusal.

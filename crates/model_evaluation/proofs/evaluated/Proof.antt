@@ -46,7 +46,7 @@ loop-holds c =
     (remaining-first (s .pre .0) (long s), refl, refl, refl)
 
 -- ---- a turn
-small : (c : tie.In-loop Inv-loop μ-loop) → c .before .loop .i ≤ 4
+small : (c : tie.In-loop Inv-loop μ-loop) → c .before .loop .i ≤ 8
 unfolding key-width
 small c = omega (arith, width (c .before .before .before .before))
 

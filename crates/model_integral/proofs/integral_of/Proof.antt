@@ -1,170 +1,46 @@
--- `integral_of` divides the parts once; the ends are 2^n times the radius around the quotient, all within 2^n times the
--- span.
-use mathlib.Core.Path.{_≡_, refl, _∙_, ap, ap₂}
-use Prim.Native.Nat.{ℕ, _+_, _*_, _^_, _≤_, _<_}
-use native.Mathlib.Nat as NatL
+-- `integral_of` chooses by the number of variables.
+use mathlib.Core.Path.{_≡_, _∙_, ap, ap₂}
 use native.Mathlib.Omega.{arith}
-use borrow.Author.Needs.{needs}
-use lib.IntN.{ℤ, pos, natAbs, _+ℤ_, _-ℤ_}
+use lib.IntN.{ℤ, pos}
+use mir.Facts.{toZ-ofZ}
 use mir.Syntax.{w64}
 use mir.Val.{toZ, ofZ}
-use Rattle.algebra.specs.Integer.{natAbs-add}
-use Rattle.fixed.specs.Division.{floor, remainder}
-use Rattle.fixed.specs.FixedLaws.{span-fits}
-use Rattle.fixed.specs.MachineLaws.{answered}
-use Rattle.calculus.specs.Terms.{size}
-use Rattle.calculus.specs.Model.{span}
-use Rattle.calculus.specs.Operations.{common-denominator, integral-parts, exact-part, one-if-any, integral}
-use Rattle.calculus.specs.Operations.{whole-integral}
-use Rattle.model_types.specs.ModelStruct.{view, integral-answer}
-use Rattle.model_types.specs.ModelStructLaws.{Limits, limits}
-use Rattle.model_integral.specs.IntegralParts.{most-parts}
-use Rattle.model_integral.specs.IntegralPartsLaws.{volume-le, parts-within, scaled-within, quotient-within}
-use Rattle.model_integral.specs.IntegralPartsLaws.{one-at-most}
+use borrow.Author.Needs.{needs}
+use Rattle.calculus.specs.Model.{Model}
+use Rattle.calculus.specs.Refusal.{done}
+use Rattle.calculus.specs.Operations.{zero-mixed, term-by-term, Integral}
+use Rattle.model_types.specs.declared.Bounds.{Bounds}
+use Rattle.model_types.specs.declared.Integral as M
+use Rattle.model_types.specs.declared.Verdict.the-variants.{Accepted}
+use Rattle.model_types.specs.ModelStruct.{view, bounds, integral-answer}
+use Rattle.model_integral.specs.IntegralPartsLaws.{whole-exact, whole-terms}
 use Rattle.model_integral.proofs.integral_of.Statement.{statement}
 use Rattle.model_integral.proofs.integral_of.Tie as tie
 
-module _ (c : tie.Start) where
-  known : Limits (c .args .m)
-  known = limits _ _ (c .pre)
-
-  abbrev q : ℤ
-  q = floor (integral-parts (view (c .args .m))) common-denominator
-
-  abbrev wide : ℕ
-  wide = 2 ^ c .args .m .n * c .args .m .radius
-
-  few-parts : natAbs (integral-parts (view (c .args .m))) ≤ most-parts
-  unfolding view span
-  few-parts = NatL.le-trans (parts-within (view (c .args .m)))
-      (scaled-within (c .args .m .n) (size (view (c .args .m) .terms)) (known .width) (omega (arith, known .small)))
-
-  room : natAbs q + wide + 1 < 2 ^ 63
-  unfolding view
-  room = omega (
-    arith,
-    quotient-within (view (c .args .m)),
-    span-fits,
-    NatL.mul-le-mul (known .small) (volume-le (c .args .m .n) (known .width)),
-  )
-
--- the sum, its quotient and remainder
-total : (c : tie.After-integral-parts) → toZ w64 (ofZ w64 (c .integral-parts .result))
-    ≡ integral-parts (view (c .before .args .m))
-total c = answered (c .integral-parts .ok) (c .integral-parts .ensures)
-
-quotient : (c : tie.After-floor-divided) → toZ w64 (ofZ w64 (c .floor-divided .result)) ≡ q (c .before .before)
-unfolding common-denominator
-quotient c = answered (c .floor-divided .ok)
-    (c .floor-divided .ensures ∙ ap (λ z. floor z common-denominator) (total (c .before)))
-
-above : (c : tie.After-rest) → c .rest .result
-    ≡ remainder (integral-parts (view (c .before .before .before .args .m))) common-denominator
-above c = c .rest .ensures ∙ ap (λ z. remainder z common-denominator) (total (c .before .before))
-
--- 2^n times the radius, and 1 if there is a remainder
-product : (c : tie.After-struct-known)
-    → c .before .volume .result * c .before .before .before .before .before .args .m .radius
-    ≡ wide (c .before .before .before .before .before)
-product c = ap (λ v. v * c .before .before .before .before .before .args .m .radius) (c .before .volume .ensures)
-
-around : (c : tie.After-signed) → toZ w64 (ofZ w64 (c .signed .result))
-    ≡ pos (wide (c .before .before .before .before .before .before))
-around c = answered (c .signed .ok) (c .signed .ensures ∙ ap pos (product (c .before)))
-
-one : (c : tie.After-signed2) → toZ w64 (ofZ w64 (c .signed2 .result))
-    ≡ pos (one-if-any (c .before .before .before .before .before .rest .result))
-one c = answered (c .signed2 .ok) (c .signed2 .ensures ∙ ap pos (c .before .one-if-any .ensures))
-
--- the high end without it
-sum : (c : tie.After-sum) → toZ w64 (ofZ w64 (c .sum .result))
-    ≡ q (c .before .before .before .before .before .before .before .before .before .before)
-    +ℤ pos (wide (c .before .before .before .before .before .before .before .before .before .before))
-sum c =
-    let t = c .before .before .before .before in
-    answered (c .sum .ok)
-    (c .sum .ensures ∙ ap₂ _+ℤ_ (quotient (t .before .before .before .before)) (around t))
-
-integral-parts-requires : tie.Need-integral-parts-requires
-integral-parts-requires c κs = search needs
-
-floor-divided-requires : tie.Need-floor-divided-requires
-floor-divided-requires c κs = search needs
-
-rest-requires : tie.Need-rest-requires
-rest-requires c κs = rw (quotient c, total (c .before)) (few-parts (c .before .before), refl)
-
-volume-requires : tie.Need-volume-requires
-volume-requires c κs =
-    let k = known (c .before .before .before) in
-    (k .some, k .width)
-
-mul-signed : tie.Need-mul-signed
-mul-signed c = omega (arith, product c, room (c .before .before .before .before .before))
-
-signed-requires : tie.Need-signed-requires
-signed-requires c κs = omega (arith, product c, room (c .before .before .before .before .before))
-
-one-if-any-requires : tie.Need-one-if-any-requires
-one-if-any-requires c κs = search needs
-
-signed-requires-2 : tie.Need-signed-requires-2
-signed-requires-2 c κs =
-    omega (arith, c .one-if-any .ensures, one-at-most (c .before .before .before .before .rest .result))
-
-difference-requires : tie.Need-difference-requires
-difference-requires c κs =
-    let t = c .before .before in
-    rw (quotient (t .before .before .before .before), around t)
-    (omega (arith, room (t .before .before .before .before .before .before)))
-
-sum-requires : tie.Need-sum-requires
-sum-requires c κs =
-    let t = c .before .before .before in
-    rw (quotient (t .before .before .before .before), around t)
-    (omega (arith, room (t .before .before .before .before .before .before)))
-
-sum-requires-2 : tie.Need-sum-requires-2
-sum-requires-2 c κs =
-    let t = c .before .before .before .before in
-    let s = t .before .before .before .before .before .before in
-    rw (sum c, one (c .before .before))
-    (omega (
-      arith,
-      room s,
-      natAbs-add (q s) (pos (wide s)),
-      one-at-most (t .before .before .before .rest .result),
-    ))
+exact-of-requires : tie.Need-exact-of-requires
+exact-of-requires c κs = search needs
 
 returns : tie.Need-returns
-unfolding integral-answer whole-integral integral exact-part view
-returns c =
-    let t = c .before .before .before .before .before in
-    let f = t .before .before .before .before in
-    let r = t .before .before .before in
-    rw (
-      answered (c .before .before .difference .ok)
-          (c .before .before .difference .ensures ∙ ap₂ _-ℤ_ (quotient f) (around t)),
-      answered (c .sum2 .ok)
-          (c .sum2 .ensures
-          ∙ ap₂ _+ℤ_ (sum (c .before)) (one (c .before .before .before) ∙ ap (λ r. pos (one-if-any r)) (above r))),
-      quotient f,
-      above r,
-    )
+unfolding view
+returns c = let s = c .before .before .before in
+    c .exact-of .ensures ∙ ap (λ i. integral-answer (done i)) (whole-exact (view (s .args .m)) (c .before .if1 .taken))
+
+ends-of-requires : tie.Need-ends-of-requires
+ends-of-requires c κs = search needs
+
+returns-2 : tie.Need-returns-2
+unfolding view integral-answer bounds zero-mixed
+returns-2 c =
+    let s = c .before .before .before .before in
+    let i = c .before .ends-of in
+    let t = c .struct-told .given in
+    let low : toZ w64 (ofZ w64 (i .result .low)) ≡ i .result .low = toZ-ofZ (record { sfits = t .0 .1 }) in
+    let high : toZ w64 (ofZ w64 (i .result .high)) ≡ i .result .high = toZ-ofZ (record { sfits = t .1 .0 .1 }) in
+    ap₂ ends low high ∙ ap (λ (b : Bounds). ends (b .low) (b .high)) (i .ensures)
+    ∙ ap (λ i. integral-answer (done i)) (whole-terms (view (s .args .m)) (c .before .before .if1 .left))
+  where
+    ends : ℤ → ℤ → M.Integral
+    ends a b = record { low = a; high = b; quotient = pos 0; remainder = 0; verdict = Accepted }
 
 pub integral-of-spec : {M : Type 1} → statement M
-integral-of-spec =
-    tie.close
-    (tie.spec
-    integral-parts-requires
-    floor-divided-requires
-    rest-requires
-    volume-requires
-    mul-signed
-    signed-requires
-    one-if-any-requires
-    signed-requires-2
-    difference-requires
-    sum-requires
-    sum-requires-2
-    returns)
+integral-of-spec = tie.close (tie.spec exact-of-requires returns ends-of-requires returns-2)

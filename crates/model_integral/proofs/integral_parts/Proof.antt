@@ -41,7 +41,7 @@ module _ (c : tie.Start Inv-loop μ-loop) where
   whole = simp length-map at (c .good .0 .1 .1 .1 .1 .1 .0 .1 .0 .1)
 
   known : Limits (c .args .t1)
-  known = limits _ _ (c .pre)
+  known = limits _ _ (c .pre .0)
 
   few : c .args .t1 .count ≤ 64
   unfolding most-terms
@@ -74,7 +74,7 @@ module _ (c : tie.After-t Inv-loop μ-loop) where
   at = getD (start .args .t1 .terms) (place .loop .i) zero-term
 
   fits-at : T (key-fits key-width (start .args .t1 .n) (at .key))
-  fits-at = key-fits-at most-degree _ _ (omega arith) (start .pre) (long start) (c .before .loop-test .taken)
+  fits-at = key-fits-at most-degree _ _ (omega arith) (start .pre .0) (long start) (c .before .loop-test .taken)
 
 tested : (c : tie.After-all-even Inv-loop μ-loop)
     → all-even (start (c .before) .args .t1 .n)
@@ -108,7 +108,7 @@ unfolding most-parts
 parts-requires c κs =
     let t = read-place c in
     let s = start t in (
-      omega (arith, scaled (place t .before), volume-le _ (known s .width)),
+      omega (arith, scaled (place t .before), volume-le _ (s .pre .1)),
       rw (read-back c)
           (omega (
             arith,
@@ -147,7 +147,7 @@ sum-requires c κs =
       sum-room (λ k c. all-even (m .n) k) (term-parts (m .n)) (m .n) (place t .loop .i) (m .count) (m .terms)
           (t .before .loop-test .taken) (omega (arith, long s)),
       terms-within (m .n) (read (m .n) (m .count) (m .terms)),
-      scaled-within (m .n) (size (read (m .n) (m .count) (m .terms))) (known s .width)
+      scaled-within (m .n) (size (read (m .n) (m .count) (m .terms))) (s .pre .1)
           (omega (arith, known s .small, read-within-span m (m .count) (long s) (omega arith))),
     ))
 

@@ -8,8 +8,8 @@ use Rattle.model_keys.proofs.degree.Statement.{statement}
 use Rattle.model_keys.proofs.degree.Tie as tie
 
 -- the lower digits, and others one place down
-room : (key mask : ℕ) → key < 2 ^ 16 → bitAnd key 0x0F0F + bitAnd key mask / 16 < 2 ^ 16
-room key mask h = omega (arith, and-le-r key 0x0F0F, and-le-l key mask)
+room : (key mask : ℕ) → key < 2 ^ 32 → bitAnd key 0x0F0F0F0F + bitAnd key mask / 16 < 2 ^ 32
+room key mask h = omega (arith, and-le-r key 0x0F0F0F0F, and-le-l key mask)
 
 add-result : tie.Need-add-result
 add-result c = record { fits = room (c .args .key) _ (omega arith) }

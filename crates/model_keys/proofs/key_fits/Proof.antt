@@ -1,33 +1,32 @@
 -- `key_fits` is the test that the digits after the n-th are 0.
-use mathlib.Core.Path.{_≡_}
-use Prim.Native.Nat.{_-_}
 use native.Mathlib.Omega.{arith}
-use native.Mathlib.Nat as NatL
-use borrow.Author.Tests.{lt-ltb}
-use Rattle.calculus.specs.Key.{fits-digits, key-width, key-limit}
+use borrow.Author.Needs.{needs}
+use Rattle.calculus.specs.Key.{key-width}
 use Rattle.calculus.specs.MonomialKeyLaws.{word-key}
+use Rattle.model_keys.specs.Keys.{Slot}
+use Rattle.model_keys.specs.KeyShiftLaws.{bits-small, unit-pos, fits-shifted, fits-every}
 use Rattle.model_keys.proofs.key_fits.Statement.{statement}
 use Rattle.model_keys.proofs.key_fits.Tie as tie
 
 returns : tie.Need-returns
-unfolding fits-digits key-limit key-width
-returns c = rw (c .if1 .taken, lt-ltb (c .before .args .key) key-limit (word-key _ (omega arith)))
+returns c = fits-every (c .before .args .n) (c .before .args .key) (unfold key-width in omega (arith, c .if1 .taken))
+    (word-key _ (omega arith))
+
+slot : (c : tie.Else1) → Slot (c .before .args .n)
+slot c = record { first = c .before .pre; last = unfold key-width in omega (arith, c .if1 .left) }
+
+behind-requires : tie.Need-behind-requires
+behind-requires c κs = slot c .last
+
+shl-others : tie.Need-shl-others
+shl-others c = bits-small _ (slot (c .before)) _ (c .behind .ensures)
+
+sub-others : tie.Need-sub-others
+sub-others c = unit-pos _ (slot (c .before)) _ (c .behind .ensures)
 
 returns-2 : tie.Need-returns-2
-unfolding fits-digits key-limit key-width
-returns-2 c = rw (c .if2 .taken, lt-ltb (c .before .before .args .key) key-limit (word-key _ (omega arith)))
-
-returns-3 : tie.Need-returns-3
-unfolding fits-digits key-limit key-width
-returns-3 c = rw (c .if3 .taken, lt-ltb (c .before .before .before .args .key) key-limit (word-key _ (omega arith)))
-
--- from 4 variables on there are no such digits
-returns-4 : tie.Need-returns-4
-unfolding fits-digits key-limit key-width
-returns-4 c =
-    let s = c .before .before .before in
-    let e : 4 - s .args .n ≡ 0 = omega arith in
-    rw (e, NatL.mod-one (s .args .key), lt-ltb (s .args .key) key-limit (word-key _ (omega arith)))
+returns-2 c = fits-shifted _ (slot (c .before)) _ (c .behind .ensures) (c .before .before .args .key)
+    (word-key _ (omega arith))
 
 pub key-fits-spec : {M : Type 1} → statement M
-key-fits-spec = tie.close (tie.spec returns returns-2 returns-3 returns-4)
+key-fits-spec = tie.close (tie.spec returns behind-requires shl-others sub-others returns-2)

@@ -1,66 +1,34 @@
--- `narrow_key` gives each of the first four exponents a digit.
+-- `narrow_key` moves the digits of a wide key together, then its bytes, then its halves.
+use Prim.Native.Nat.{ℕ, _+_, _/_}
 use native.Mathlib.Omega.{arith}
-use Rattle.calculus.specs.Key.{encode, decode, key-width}
-use Rattle.model_keys.specs.Keys.{wide-exponents, narrowed}
+use lib.Bits.{bitAnd}
+use lib.Dec.{lit<}
+use Rattle.model_keys.specs.SpreadLaws.{masked-quotients, gathered-key}
 use Rattle.model_keys.proofs.narrow_key.Statement.{statement}
 use Rattle.model_keys.proofs.narrow_key.Tie as tie
 
-cast-first : tie.Need-cast-first
-unfolding wide-exponents key-width decode
-cast-first c = omega arith
+-- the word with the digits of each byte together
+abbrev bytes : ℕ → ℕ
+bytes x = bitAnd x 0x1E007801E00780 / 8 + bitAnd x 0x3C00F003C00F
 
-cast-second : tie.Need-cast-second
-unfolding wide-exponents key-width decode
-cast-second c = omega arith
+add-bytes : tie.Need-add-bytes
+add-bytes c = record { fits = masked-quotients (c .args .wide / 256) (c .args .wide / 256) 0x1E007801E00780 0x3C00F003C00F 8 (lit< tt) }
 
-cast-third : tie.Need-cast-third
-unfolding wide-exponents key-width decode
-cast-third c = omega arith
-
-cast-fourth : tie.Need-cast-fourth
-unfolding wide-exponents key-width decode
-cast-fourth c = omega arith
+add-halves : tie.Need-add-halves
+add-halves c = record { fits = masked-quotients (bytes (c .args .wide / 256)) (bytes (c .args .wide / 256)) 0x3FC00003FC000 0xFF00000FF 64 (lit< tt) }
 
 mul-result : tie.Need-mul-result
-unfolding wide-exponents key-width decode
-mul-result c = omega arith
-
-mul-result-2 : tie.Need-mul-result-2
-unfolding wide-exponents key-width decode
-mul-result-2 c = omega arith
+mul-result c = record { fits = omega (arith, gathered-key (c .args .wide) (omega arith) (c .pre) .small) }
 
 add-result : tie.Need-add-result
-unfolding wide-exponents key-width decode
-add-result c = omega arith
+add-result c = record { fits = omega (arith, gathered-key (c .args .wide) (omega arith) (c .pre) .small) }
 
-mul-result-3 : tie.Need-mul-result-3
-unfolding wide-exponents key-width decode
-mul-result-3 c = omega arith
-
-add-result-2 : tie.Need-add-result-2
-unfolding wide-exponents key-width decode
-add-result-2 c = omega arith
-
-add-result-3 : tie.Need-add-result-3
-unfolding wide-exponents key-width decode
-add-result-3 c = omega arith
+cast-result : tie.Need-cast-result
+cast-result c = record { fits = omega (arith, gathered-key (c .args .wide) (omega arith) (c .pre) .small) }
 
 returns : tie.Need-returns
-unfolding narrowed wide-exponents key-width encode decode
-returns c = omega arith
+returns c = gathered-key (c .args .wide) (omega arith) (c .pre) .is
 
 pub narrow-key-spec : {M : Type 1} → statement M
 narrow-key-spec =
-    tie.close
-    (tie.spec
-    cast-first
-    cast-second
-    cast-third
-    cast-fourth
-    mul-result
-    mul-result-2
-    add-result
-    mul-result-3
-    add-result-2
-    add-result-3
-    returns)
+    tie.close (tie.spec add-bytes add-halves mul-result add-result cast-result returns)

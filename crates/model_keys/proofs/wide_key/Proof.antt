@@ -1,43 +1,27 @@
--- `wide_key` gives each digit of a key seven bits, and the degree the last byte.
+-- `wide_key` puts the degree behind the exponents.
+use mathlib.Core.Path.{sym, subst}
+use Prim.Native.Nat.{_/_, _%_, _^_, _<_}
 use native.Mathlib.Omega.{arith}
+use Rattle.calculus.specs.MonomialKeyLaws.{word-key}
+use Rattle.model_keys.specs.KeyHalvesLaws.{half-wide-lt, wide-halves, key-degree-lt}
 use borrow.Author.Needs.{needs}
-use Rattle.calculus.specs.Key.{encode, decode, key-width, key-degree}
-use Rattle.model_keys.specs.Keys.{widened}
 use Rattle.model_keys.proofs.wide_key.Statement.{statement}
 use Rattle.model_keys.proofs.wide_key.Tie as tie
 
-cast-first : tie.Need-cast-first
-cast-first c = search needs
+exponents-lt : (c : tie.After-spread) → c .spread .result < 2 ^ 56
+exponents-lt c = omega (
+  arith,
+  c .spread .ensures,
+  half-wide-lt (c .before .args .key / 65536) (omega arith),
+  half-wide-lt (c .before .args .key % 65536) (omega arith),
+)
 
-cast-second : tie.Need-cast-second
-cast-second c = search needs
+degree-lt : (c : tie.After-degree) → c .degree .result < 256
+degree-lt c = subst (λ x. x < 256) (sym (c .degree .ensures))
+    (key-degree-lt (c .before .before .args .key) (word-key _ (omega arith)))
 
-cast-third : tie.Need-cast-third
-cast-third c = search needs
-
-cast-fourth : tie.Need-cast-fourth
-cast-fourth c = search needs
-
-mul-exponents : tie.Need-mul-exponents
-mul-exponents c = search needs
-
-mul-exponents-2 : tie.Need-mul-exponents-2
-mul-exponents-2 c = search needs
-
-add-exponents : tie.Need-add-exponents
-add-exponents c = search needs
-
-mul-exponents-3 : tie.Need-mul-exponents-3
-mul-exponents-3 c = search needs
-
-add-exponents-2 : tie.Need-add-exponents-2
-add-exponents-2 c = search needs
-
-mul-exponents-4 : tie.Need-mul-exponents-4
-mul-exponents-4 c = search needs
-
-add-exponents-3 : tie.Need-add-exponents-3
-add-exponents-3 c = search needs
+spread-requires : tie.Need-spread-requires
+spread-requires c κs = search needs
 
 degree-requires : tie.Need-degree-requires
 degree-requires c κs = search needs
@@ -46,32 +30,15 @@ cast-total : tie.Need-cast-total
 cast-total c = search needs
 
 mul-result : tie.Need-mul-result
-mul-result c = search needs
+mul-result c = record { fits = omega (arith, exponents-lt (c .before)) }
 
 add-result : tie.Need-add-result
-add-result c = search needs
+add-result c = record { fits = omega (arith, exponents-lt (c .before), degree-lt c) }
 
 returns : tie.Need-returns
-unfolding widened key-width encode decode key-degree
-returns c = omega (arith, c .degree .ensures)
+returns c = rw (c .before .spread .ensures, c .degree .ensures)
+    (wide-halves (c .before .before .args .key) (word-key _ (omega arith)))
 
 pub wide-key-spec : {M : Type 1} → statement M
 wide-key-spec =
-    tie.close
-    (tie.spec
-    cast-first
-    cast-second
-    cast-third
-    cast-fourth
-    mul-exponents
-    mul-exponents-2
-    add-exponents
-    mul-exponents-3
-    add-exponents-2
-    mul-exponents-4
-    add-exponents-3
-    degree-requires
-    cast-total
-    mul-result
-    add-result
-    returns)
+    tie.close (tie.spec spread-requires degree-requires cast-total mul-result add-result returns)

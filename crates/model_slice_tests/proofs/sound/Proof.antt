@@ -8,7 +8,7 @@ use borrow.Author.Tests.{not-true, not-false}
 use lib.IntN.{ℤ, pos, natAbs}
 use lib.ListN.{length, getD}
 use mir.Facts.{toZ-ofZ}
-use mir.Syntax.{w16, w32, w64}
+use mir.Syntax.{w32, w64}
 use mir.Val.{Fits, toZ, ofZ}
 use Rattle.fixed.specs.Fixed.{capped}
 use Rattle.calculus.specs.Key.{key-limit}
@@ -65,7 +65,7 @@ module _ (c : tie.After-c Inv-loop μ-loop) where
   abbrev coefficient-at : ℤ
   coefficient-at = getD (start outside .args .coefficients .now) (turn .loop .i) (pos 0)
 
-  key-word : Fits w16 key-at
+  key-word : Fits w32 key-at
   key-word = c .before .shared-slice-known2 .given (turn .loop .i)
 
   key-small : key-at < key-limit
@@ -123,10 +123,10 @@ capped-sum-requires : tie.Need-capped-sum-requires Inv-loop μ-loop
 capped-sum-requires c κs = search needs
 
 -- a key fits twice the bits, and so does the number behind it
-key-fits : (z : ℕ) → Fits w16 z → Fits w32 z
+key-fits : (z : ℕ) → Fits w32 z → Fits w64 z
 key-fits z h = omega arith
 
-next-fits : (z : ℕ) → Fits w16 z → Fits w32 (z + 1)
+next-fits : (z : ℕ) → Fits w32 z → Fits w64 (z + 1)
 next-fits z h = omega arith
 
 cast-least : tie.Need-cast-least Inv-loop μ-loop

@@ -8,6 +8,7 @@ use Rattle.product_dense.proofs.raised.Reads as reads
 use Rattle.product_dense.proofs.raised.Lts as lts
 use Rattle.product_dense.proofs.first_of.Reads as first-of-reads
 use Rattle.product_dense.proofs.fourth_of.Reads as fourth-of-reads
+use Rattle.product_dense.proofs.others_of.Reads as others-of-reads
 use Rattle.product_dense.proofs.larger.Reads as larger-reads
 use Rattle.product_dense.proofs.second_of.Reads as second-of-reads
 use Rattle.product_dense.proofs.third_of.Reads as third-of-reads
@@ -36,12 +37,16 @@ fourth-of-requires c κs = search needs
 larger-requires-4 : tie.Need-larger-requires-4
 larger-requires-4 c κs = search needs
 
+others-of-requires : tie.Need-others-of-requires
+others-of-requires c κs = search needs
+
 returns : tie.Need-returns
 unfolding raised-by
 returns c =
-    let first = c .before .before .before .before .before .before in
-    let second = c .before .before .before .before in
-    let third = c .before .before in
+    let first = c .before .before .before .before .before .before .before .before in
+    let second = c .before .before .before .before .before .before in
+    let third = c .before .before .before .before in
+    let fourth = c .before .before in
     rw (
       first .larger .ensures,
       first .before .first-of .ensures,
@@ -49,8 +54,9 @@ returns c =
       second .before .second-of .ensures,
       third .larger3 .ensures,
       third .before .third-of .ensures,
-      c .larger4 .ensures,
-      c .before .fourth-of .ensures,
+      fourth .larger4 .ensures,
+      fourth .before .fourth-of .ensures,
+      c .before .others-of .ensures,
     )
     refl
 
@@ -66,4 +72,5 @@ raised-spec =
     larger-requires-3
     fourth-of-requires
     larger-requires-4
+    others-of-requires
     returns)

@@ -3,7 +3,7 @@ use mathlib.Core.Path.{refl}
 use native.Mathlib.Omega.{arith}
 use borrow.Author.Needs.{needs}
 use Rattle.product_dense.specs.Grid.{sides-for}
-use Rattle.product_dense.specs.GridLaws.{plane-fits, cube-fits, size-fits}
+use Rattle.product_dense.specs.GridLaws.{plane-fits, cube-fits, size-fits, others-fit}
 use Rattle.product_dense.proofs.sides_of.Statement.{statement}
 use Rattle.product_dense.proofs.sides_of.Tie as tie
 use Rattle.product_dense.proofs.sides_of.Reads as reads
@@ -67,10 +67,27 @@ mul-cube c =
     let s = c .before .before .before .before .before .before .before .before in
     record { fits = omega (arith, cube-fits (s .args .e) (s .args .h) (s .pre .0) (s .pre .1)) }
 
-mul-t9 : tie.Need-mul-t9
-mul-t9 c =
-    let s = c .before .before .before .before .before .before .before .before in
+add-others : tie.Need-add-others
+add-others c = search needs
+
+mul-others : tie.Need-mul-others
+mul-others c = search needs
+
+mul-t11 : tie.Need-mul-t11
+mul-t11 c =
+    let s = c .before .before .before .before .before .before .before .before .before .before in
     record { fits = omega (arith, size-fits (s .args .e) (s .args .h) (s .pre .0) (s .pre .1)) }
+
+add-t10 : tie.Need-add-t10
+add-t10 c =
+    let s = c .before .before .before .before .before .before .before .before .before .before in
+    record {
+      fits = omega (
+        arith,
+        size-fits (s .args .e) (s .args .h) (s .pre .0) (s .pre .1),
+        others-fit (s .args .e) (s .args .h) (s .pre .0) (s .pre .1),
+      );
+    }
 
 returns : tie.Need-returns
 unfolding sides-for
@@ -98,5 +115,8 @@ sides-of-spec =
     add-fourth-2
     mul-plane
     mul-cube
-    mul-t9
+    add-others
+    mul-others
+    mul-t11
+    add-t10
     returns)

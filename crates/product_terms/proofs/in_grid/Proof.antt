@@ -1,9 +1,10 @@
 -- `in_grid` says yes only to a grid that fits.
-use mathlib.Core.Path.{_≡_, subst}
+use mathlib.Core.Path.{_≡_, sym, subst}
 use mathlib.Core.Bool.{Bool, not}
+use Prim.Native.Nat.{_*_}
 use native.Mathlib.Omega.{arith}
 use borrow.Author.Needs.{needs}
-use lib.Dec.{T}
+use lib.Dec.{T, leb→le}
 use Rattle.product_terms.proofs.in_grid.Statement.{statement}
 use Rattle.product_terms.proofs.in_grid.Tie as tie
 use Rattle.product_terms.proofs.in_grid.Reads as reads

@@ -1,4 +1,5 @@
 -- `in_large_grid` makes a grid of zeros.
+use native.Mathlib.Omega.{arith}
 use borrow.Author.Needs.{needs}
 use Rattle.product_table.specs.Table.{lent-places}
 use Rattle.product_grid.specs.GridReadyLaws.{fresh-zeros}

@@ -17,7 +17,7 @@ gathered-empty-requires : tie.Need-gathered-empty-requires
 gathered-empty-requires c κs =
     let s = c .before .before .before .before .before .before in
     let few = s .pre .1 .1 .0 in
-    (grid-ready (s .pre .0) _ (s .pre .1 .0) few (omega (arith, few)) (s .pre .1 .1 .1), fresh-zeros few-places _)
+    (grid-ready (s .pre .0) _ (s .pre .1 .0) (omega (arith, few)) few (s .pre .1 .1 .1), fresh-zeros few-places _)
 
 same-length : tie.Need-same-length
 same-length c = search needs

@@ -50,7 +50,7 @@ gathered-requires c κs =
     let s = c .before .before .before .before .before .before .before .before .before .before .before .before in
     let t = c .before .before .before in
     let fits = t .before .in-grid .ensures (t .if2 .taken) in
-    grid-ready (s .pre .0) _ (k .grid-for .ensures) (omega (arith, fits .0)) (omega (arith, fits .1))
+    grid-ready (s .pre .0) _ (k .grid-for .ensures) (omega (arith, fits .1)) (omega (arith, fits .0))
     (s .pre .1 .1)
 
 same-length-6 : tie.Need-same-length-6

@@ -91,7 +91,7 @@ module _ (c : tie.After-struct-told Inv-terms μ-terms Inv-models μ-models) whe
   abbrev term : Term
   term = getD (m outer .terms) (inner .terms .i) zero-term
 
-  key-small : term .key < 65536
+  key-small : term .key < 4294967296
   key-small = c .struct-told .given .0 .1
 
   read-back : toZ w64 (ofZ w64 (term .coefficient)) ≡ term .coefficient

@@ -38,13 +38,21 @@ u16-at-requires c κs = search needs
 marked-at-requires : tie.Need-marked-at-requires
 marked-at-requires c κs = search needs
 
+add-byte-at-4 : tie.Need-add-byte-at-4
+add-byte-at-4 c = search needs
+
+byte-at-requires-5 : tie.Need-byte-at-requires-5
+byte-at-requires-5 c κs = search needs
+
 returns : tie.Need-returns
 unfolding stored-trailer read-trailer
 returns c =
-    let last = c .before in
+    let last = c .before .before in
     let a = last .before .before .before .before .before .before .args in
     rw (
-      c .marked-at .ensures,
+      c .before .marked-at .ensures,
+      byte-at (a .at) 7 (a .s .now),
+      c .byte-at5 .ensures,
       byte-here (a .at) (a .s .now),
       byte-at (a .at) 1 (a .s .now),
       byte-at (a .at) 2 (a .s .now),
@@ -71,4 +79,6 @@ trailer-at-spec =
     add-u16-at
     u16-at-requires
     marked-at-requires
+    add-byte-at-4
+    byte-at-requires-5
     returns)

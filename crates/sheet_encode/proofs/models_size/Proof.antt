@@ -66,7 +66,7 @@ module _ (c : tie.After-model-size Inv-loop μ-loop) where
         ap (λ m. length (model-bytes m)) (model-at b k x i (omega (arith, whole start, few start))),
       )
 
-  small : turn .loop .size + c .model-size .result ≤ 6224
+  small : turn .loop .size + c .model-size .result ≤ 8272
   small =
       let b = start .args .t1 in
       omega (

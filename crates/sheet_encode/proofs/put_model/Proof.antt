@@ -24,11 +24,11 @@ use Rattle.sheet_encode.proofs.put_model.Statement.{statement}
 use Rattle.sheet_encode.proofs.put_model.Tie as tie
 
 abbrev Inv-loop : tie.InvT-loop
-Inv-loop buffer₀ at m count place₀ i₀ buffer place i =
-    Put term-bytes (held-model m .terms) buffer₀ (at + head-length) buffer place i
+Inv-loop buffer₀ at m n count size place₀ i₀ buffer place i =
+    Put (term-bytes (m .n)) (held-model m .terms) buffer₀ (at + head-length) buffer place i
 
 abbrev μ-loop : tie.MeasureT-loop
-μ-loop buffer₀ at m count place₀ i₀ buffer place i = count - i
+μ-loop buffer₀ at m n count size place₀ i₀ buffer place i = count - i
 
 module _ (c : tie.Start Inv-loop μ-loop) where
   whole : length (c .args .t3 .terms) ≡ 64
@@ -38,39 +38,42 @@ module _ (c : tie.Start Inv-loop μ-loop) where
   unfolding most-terms
   few = omega (arith, c .pre .0 .count, count-terms (c .args .t3))
 
-  room : c .args .at + head-length + term-length * c .args .t3 .count ≤ length (c .args .buffer .now)
+  room : c .args .at + head-length + term-length (c .args .t3 .n) * c .args .t3 .count ≤ length (c .args .buffer .now)
   room = omega (arith, c .pre .1, length-record (c .args .t3))
+
+term-bytes-requires : tie.Need-term-bytes-requires Inv-loop μ-loop
+term-bytes-requires c κs = search needs
 
 cast-put-u32 : tie.Need-cast-put-u32 Inv-loop μ-loop
 unfolding held-model
-cast-put-u32 c = omega (arith, c .before .before .pre .0 .radius)
+cast-put-u32 c = omega (arith, c .before .before .before .pre .0 .radius)
 
 put-u32-requires : tie.Need-put-u32-requires Inv-loop μ-loop
-put-u32-requires c κs = omega (arith, room (c .before .before))
+put-u32-requires c κs = omega (arith, room (c .before .before .before))
 
 cast-buffer : tie.Need-cast-buffer Inv-loop μ-loop
-cast-buffer c = omega (arith, few (c .before .before .before .before .before))
+cast-buffer c = omega (arith, few (c .before .before .before .before .before .before))
 
 add-buffer : tie.Need-add-buffer Inv-loop μ-loop
 add-buffer c = search needs
 
 slice-write-buffer : tie.Need-slice-write-buffer Inv-loop μ-loop
 slice-write-buffer c =
-    omega (arith, c .before .before .put-u32 .kept .0, room (c .before .before .before .before .before))
+    omega (arith, c .before .before .put-u32 .kept .0, room (c .before .before .before .before .before .before))
 
 add-place : tie.Need-add-place Inv-loop μ-loop
 add-place c = search needs
 
 loop-holds : tie.Need-loop-holds Inv-loop μ-loop
-loop-holds c = put-first term-bytes _ _ _
+loop-holds c = put-first (term-bytes _) _ _ _
 
 -- ---- a turn
 abbrev start : tie.At-loop Inv-loop μ-loop → tie.Start Inv-loop μ-loop
-start c = c .before .before .before .before .before .before
+start c = c .before .before .before .before .before .before .before
 
 -- the buffer keeps its length
 long : (c : tie.At-loop Inv-loop μ-loop) → length (c .loop .buffer) ≡ length (start c .args .buffer .now)
-long c = put-length term-bytes _ _ _ (c .loop .inv) ∙ (simp length-set (c .before .before .before .put-u32 .kept .0))
+long c = put-length (term-bytes _) _ _ _ (c .loop .inv) ∙ (simp length-set (c .before .before .before .put-u32 .kept .0))
 
 mul-t : tie.Need-mul-t Inv-loop μ-loop
 mul-t c = omega (arith, few (start (c .before)))
@@ -103,14 +106,18 @@ module _ (c : tie.After-struct-told Inv-loop μ-loop) where
   below : turn .loop .i < length (held-model held .terms)
   below = omega (arith, inside, count-terms held)
 
-  fits : turn .loop .place + term-length ≤ length (turn .loop .buffer)
+  sized : turn .before .before .before .before .before .term-bytes .result ≡ term-length (held .n)
+  sized = turn .before .before .before .before .before .term-bytes .ensures
+
+  fits : turn .loop .place + term-length (held .n) ≤ length (turn .loop .buffer)
   fits =
-      let e = put-length term-bytes _ _ _ (turn .loop .inv) in
+      let e = put-length (term-bytes (held .n)) _ _ _ (turn .loop .inv) in
       omega (
         arith,
-        put-room term-bytes _ _ _ (turn .loop .inv) (held-term zero-term) (held-term term) below here
-            (omega (arith, e, long turn, room (start turn), length-terms (held-model held .terms), count-terms held)),
-        length-term (held-term term),
+        put-room (term-bytes (held .n)) _ _ _ (turn .loop .inv) (held-term zero-term) (held-term term) below here
+            (omega (arith, e, long turn, room (start turn), length-terms (held .n) (held-model held .terms),
+            ap (λ k. term-length (held .n) * k) (count-terms held))),
+        length-term (held .n) (held-term term),
       )
 
 put-term-requires : tie.Need-put-term-requires Inv-loop μ-loop
@@ -122,7 +129,7 @@ put-term-requires c κs = (
 add-place-2 : tie.Need-add-place-2 Inv-loop μ-loop
 add-place-2 c =
     let t = c .before .before .before in
-    omega (arith, fits t, long (turn t), start (turn t) .fits)
+    omega (arith, fits t, sized t, long (turn t), start (turn t) .fits)
 
 add-i : tie.Need-add-i Inv-loop μ-loop
 add-i c = omega (arith, few (start (turn (c .before .before .before))))
@@ -135,11 +142,11 @@ unfolding held-term
 loop-again c =
     let t = c .before .before .before in
     let l = turn t in
-    put-turn term-bytes _ _ _ (l .loop .inv) (held-term zero-term) (held-term (term t)) (below t) (here t) _ _
+    put-turn (term-bytes (held t .n)) _ _ _ (l .loop .inv) (held-term zero-term) (held-term (term t)) (below t) (here t) _ _
     (c .before .before .put-term .ensures
-    ∙ ap (λ z. sets (l .loop .buffer) (l .loop .place) (term-bytes (record { key = term t .key; coefficient = z })))
+    ∙ ap (λ z. sets (l .loop .buffer) (l .loop .place) (term-bytes (held t .n) (record { key = term t .key; coefficient = z })))
     (read-back t))
-    (ap (λ s. l .loop .place + s) (sym (length-term (held-term (term t)))))
+    (ap (λ s. l .loop .place + s) (sized t ∙ sym (length-term (held t .n) (held-term (term t)))))
 
 -- ---- after the loop
 same-length : tie.Need-same-length Inv-loop μ-loop
@@ -151,9 +158,9 @@ returns c =
     let l = c .before in
     let s = start l in
     let m = s .args .t3 in
-    put-end term-bytes _ _ _ (l .loop .inv) (omega (arith, c .loop-test .left, count-terms m))
+    put-end (term-bytes _) _ _ _ (l .loop .inv) (omega (arith, c .loop-test .left, count-terms m))
     ∙ ap (λ b. sets (set b (s .args .at + 4) (m .count)) (s .args .at + head-length)
-    (join (map term-bytes (held-model m .terms))))
+    (join (map (term-bytes (m .n)) (held-model m .terms))))
     (l .before .before .before .put-u32 .ensures)
     ∙ model-stores (s .args .buffer .now) (s .args .at) (held-model m) (m .count) (sym (count-terms m))
 
@@ -163,6 +170,7 @@ put-model-spec =
     (tie.spec
     Inv-loop
     μ-loop
+    term-bytes-requires
     cast-put-u32
     put-u32-requires
     cast-buffer

@@ -14,8 +14,11 @@ use Rattle.sheet_encode.proofs.put_trailer.Tie as tie
 -- the buffer keeps its length
 kept : (c : tie.After-slice-known2)
     → length (c .before .before .put-u16 .last .0)
-    ≡ length (c .before .before .before .before .before .before .before .args .buffer .now)
+    ≡ length (c .before .before .before .before .before .before .before .before .args .buffer .now)
 kept c = c .before .before .put-u16 .kept .0 ∙ simp length-set
+
+mark-of-requires : tie.Need-mark-of-requires
+mark-of-requires c κs = search needs
 
 slice-write-buffer : tie.Need-slice-write-buffer
 slice-write-buffer c = search needs
@@ -28,7 +31,7 @@ slice-write-buffer-2 c = simp length-set (omega arith)
 
 cast-buffer : tie.Need-cast-buffer
 cast-buffer c =
-    let s = c .before .before in
+    let s = c .before .before .before in
     omega (arith, book-limits (s .args .b) (s .pre .0) .models)
 
 add-buffer-2 : tie.Need-add-buffer-2
@@ -39,7 +42,7 @@ slice-write-buffer-3 c = simp length-set (omega arith)
 
 cast-buffer-2 : tie.Need-cast-buffer-2
 cast-buffer-2 c =
-    let s = c .before .before .before in
+    let s = c .before .before .before .before in
     omega (arith, book-limits (s .args .b) (s .pre .0) .steps-high)
 
 add-buffer-3 : tie.Need-add-buffer-3
@@ -53,7 +56,7 @@ add-put-u16 c = search needs
 
 cast-put-u16 : tie.Need-cast-put-u16
 cast-put-u16 c =
-    let s = c .before .before .before .before in
+    let s = c .before .before .before .before .before in
     omega (arith, s .pre .1 .0, models-short (held-book (s .args .b)) (s .pre .0))
 
 put-u16-requires : tie.Need-put-u16-requires
@@ -77,9 +80,9 @@ same-length c = simp length-set (kept c)
 returns : tie.Need-returns
 unfolding held-book
 returns c =
-    let s = c .before .before .before .before .before .before .before in
+    let s = c .before .before .before .before .before .before .before .before in
     let b = s .args .b in
-    rw (c .before .before .put-u16 .ensures)
+    rw (c .before .before .put-u16 .ensures, c .before .before .before .before .before .before .mark-of .ensures)
     (trailer-stores (s .args .buffer .now) (s .args .at) (held-book b) (b .«model_count») (b .«step_count»)
     (s .args .offset) (sym (count-models b)) (sym (count-steps b)) (s .pre .1 .0))
 
@@ -87,6 +90,7 @@ pub put-trailer-spec : {M : Type 1} → statement M
 put-trailer-spec =
     tie.close
     (tie.spec
+    mark-of-requires
     slice-write-buffer
     add-buffer
     slice-write-buffer-2

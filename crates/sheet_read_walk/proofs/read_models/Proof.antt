@@ -1,8 +1,9 @@
 -- `read_models` reads model after model and term after term, and stops at the first fault.
-use mathlib.Core.Path.{_≡_, sym, _∙_, ap}
+use mathlib.Core.Path.{_≡_, sym, _∙_, ap, subst}
 use mathlib.Core.List.{List}
 use Prim.Native.Nat.{ℕ, _+_, _*_, _-_, _≤_, _<_}
 use native.Mathlib.Omega.{arith}
+use native.Mathlib.Nat as NatL
 use borrow.Author.Needs.{needs}
 use borrow.Author.Tests.{not-true, not-false}
 use lib.IntN.{natAbs}
@@ -19,7 +20,9 @@ use Rattle.model_types.specs.declared.Term.{Term}
 use Rattle.model_types.specs.ModelStruct.{view, term-sound}
 use Rattle.format.specs.Bytes.{byte}
 use Rattle.sheet_walk.specs.TermWalkLaws.{Terms-so-far, terms-first, terms-turn, terms-bad, terms-end}
-use Rattle.sheet_walk.specs.TermWalkLaws.{model-at, terms-behind}
+use Rattle.format.specs.Format.{term-length}
+use Rattle.format.specs.KeyBytesLaws.{term-most}
+use Rattle.sheet_walk.specs.TermWalkLaws.{model-at, terms-behind, one-inside}
 use Rattle.sheet_walk.specs.ModelWalkLaws.{models-turn, models-end}
 use Rattle.sheet_walk.specs.ModelWalkLaws.{models-no-head, models-no-terms, models-many, models-unsound}
 use Rattle.sheet_read_walk.specs.KeptLaws.{Terms-kept, terms-none, terms-more, terms-stored}
@@ -28,18 +31,18 @@ use Rattle.sheet_read_walk.proofs.read_models.Statement.{statement}
 use Rattle.sheet_read_walk.proofs.read_models.Tie as tie
 
 abbrev Inv-terms : tie.InvT-terms
-Inv-terms s n d count models at k left total radius terms₀ span₀ least₀ place₀ i₀ terms span least place i =
-    Terms-so-far s n d at span least place i × Terms-kept s at terms i
+Inv-terms s n d count size models at k left total radius terms₀ span₀ least₀ place₀ i₀ terms span least place i =
+    Terms-so-far s n d at span least place i × Terms-kept s n at terms i
 
 abbrev μ-terms : tie.MeasureT-terms
-μ-terms s n d count models at k left total radius terms₀ span₀ least₀ place₀ i₀ terms span least place i =
+μ-terms s n d count size models at k left total radius terms₀ span₀ least₀ place₀ i₀ terms span least place i =
     total - i
 
 abbrev Inv-models : tie.InvT-models
-Inv-models s n d count models₀ at₀ k₀ models at k = Models-kept s n d count models at k
+Inv-models s n d count size models₀ at₀ k₀ models at k = Models-kept s n d count models at k
 
 abbrev μ-models : tie.MeasureT-models
-μ-models s n d count models₀ at₀ k₀ models at k = count - k
+μ-models s n d count size models₀ at₀ k₀ models at k = count - k
 
 -- ---- what is known of the sheet,
 short : (c : tie.Start Inv-terms μ-terms Inv-models μ-models) → Fits w64 (length (c .args .s .now))
@@ -51,7 +54,7 @@ module _ (u : tie.After-u32-at Inv-terms μ-terms Inv-models μ-models) where
   outer = u .before .before .before .before .before .before
 
   abbrev entry : tie.Start Inv-terms μ-terms Inv-models μ-models
-  entry = outer .before .before .before
+  entry = outer .before .before .before .before
 
   abbrev sheet : List ℕ
   sheet = entry .args .s .now
@@ -65,8 +68,11 @@ module _ (u : tie.After-u32-at Inv-terms μ-terms Inv-models μ-models) where
   few : byte (outer .models .at + 4) sheet ≤ 64
   few = omega (arith, counted, u .before .if3 .left)
 
-  room : 5 + 6 * total ≤ length sheet - outer .models .at
-  room = u .before .before .if2 .left
+  sized : outer .before .before .term-bytes .result ≡ term-length (entry .args .n)
+  sized = outer .before .before .term-bytes .ensures
+
+  room : 5 + term-length (entry .args .n) * total ≤ length sheet - outer .models .at
+  room = subst (λ k. 5 + k * total ≤ length sheet - outer .models .at) sized (u .before .before .if2 .left)
 
 -- and of the term at hand
 module _ (c : tie.After-struct-told Inv-terms μ-terms Inv-models μ-models) where
@@ -105,6 +111,9 @@ span-decides c =
     sym (c .within-span .ensures
     ∙ terms-end _ _ _ _ (p .0) (p .1) (few u) _ _ _ _ (c .before .before .terms .inv .0) (behind-all (c .before)))
 
+term-bytes-requires : tie.Need-term-bytes-requires Inv-terms μ-terms Inv-models μ-models
+term-bytes-requires c κs = search needs
+
 without-terms-requires : tie.Need-without-terms-requires Inv-terms μ-terms Inv-models μ-models
 without-terms-requires c κs = search needs
 
@@ -124,11 +133,20 @@ byte-at-requires c κs = search needs
 cast-total : tie.Need-cast-total Inv-terms μ-terms Inv-models μ-models
 cast-total c = search needs
 
+-- a record's terms are not many bytes
+product : (c : tie.After-byte-at Inv-terms μ-terms Inv-models μ-models)
+    → c .before .before .before .before .before .term-bytes .result * c .byte-at .result ≤ 8 * 255
+product c =
+    let few : c .byte-at .result ≤ 255 = omega arith in
+    NatL.mul-le-mul
+    (subst (λ k. k ≤ 8) (sym (c .before .before .before .before .before .term-bytes .ensures)) (term-most _))
+    few
+
 mul-if2 : tie.Need-mul-if2 Inv-terms μ-terms Inv-models μ-models
-mul-if2 c = search needs
+mul-if2 c = omega (arith, product c)
 
 add-if2 : tie.Need-add-if2 Inv-terms μ-terms Inv-models μ-models
-add-if2 c = search needs
+add-if2 c = omega (arith, product c)
 
 u32-at-requires : tie.Need-u32-at-requires Inv-terms μ-terms Inv-models μ-models
 u32-at-requires c κs = search needs
@@ -143,12 +161,17 @@ terms-holds : tie.Need-terms-holds Inv-terms μ-terms Inv-models μ-models
 unfolding most-terms
 terms-holds c =
     let p = entry c .pre in
-    (terms-first _ _ _ _ (p .0) (p .1) (few c) _ (c .u32-at .ensures), terms-none (sheet c) (outer c .models .at))
+    (terms-first _ _ _ _ (p .0) (p .1) (few c) _ (c .u32-at .ensures), terms-none (sheet c) (entry c .args .n) (outer c .models .at))
 
 term-at-requires : tie.Need-term-at-requires Inv-terms μ-terms Inv-models μ-models
 term-at-requires c κs =
     let u = c .before .before in
-    omega (arith, c .before .terms .inv .0 .placed, c .terms-test .left, room u)
+    omega (
+      arith,
+      c .before .terms .inv .0 .placed,
+      one-inside (term-length (entry u .args .n)) (c .before .terms .i) (total u) (omega (arith, c .terms-test .left)),
+      room u,
+    )
 
 term-sound-requires : tie.Need-term-sound-requires Inv-terms μ-terms Inv-models μ-models
 term-sound-requires c κs = entry (inner c .before) .pre .0
@@ -177,7 +200,9 @@ add-place-2 c =
     omega (
       arith,
       inner t .terms .inv .0 .placed,
-      t .before .before .terms-test .left,
+      one-inside (term-length (entry (inner t .before) .args .n)) (inner t .terms .i) (total (inner t .before))
+          (omega (arith, t .before .before .terms-test .left)),
+      sized (inner t .before),
       room (inner t .before),
       short (entry (inner t .before)),
     )
@@ -202,10 +227,10 @@ terms-again c =
     let h = inner t .terms .inv in
     let l : inner t .terms .i < byte (outer u .models .at + 4) (sheet u) =
     omega (arith, counted u, t .before .before .terms-test .left) in (
-      terms-turn _ _ _ _ (p .0) (p .1) (few u) _ _ _ _ (h .0) l _ (t .before .term-at .ensures) (key-small t)
+      rw (sized u) (terms-turn _ _ _ _ (p .0) (p .1) (few u) _ _ _ _ (h .0) l _ (t .before .term-at .ensures) (key-small t)
           (tested (branch .before) ∙ not-false _ (branch .if4 .left)) _
           (added .capped-sum .ensures
-          ∙ ap (λ x. capped (inner t .terms .span + x)) (added .before .magnitude .ensures ∙ ap natAbs (read-back t))),
+          ∙ ap (λ x. capped (inner t .terms .span + x)) (added .before .magnitude .ensures ∙ ap natAbs (read-back t)))),
       terms-more _ _ _ _ (p .0) (p .1) (few u) _ _ _ _ (h .0) _ (h .1) l _ (t .before .term-at .ensures),
     )
 
@@ -255,7 +280,8 @@ returns-3 : tie.Need-returns-3 Inv-terms μ-terms Inv-models μ-models
 returns-3 c =
     let h = c .before .before .before .before .models .inv in
     models-answer _ _ _ _ _ _ _ h
-    (models-no-terms _ _ _ _ _ _ _ (h .so-far) _ (c .before .byte-at .ensures) (c .if2 .taken))
+    (models-no-terms _ _ _ _ _ _ _ (h .so-far) _ (c .before .byte-at .ensures)
+    (rw (c .before .before .before .before .before .before .term-bytes .ensures) at (c .if2 .taken)))
 
 returns-4 : tie.Need-returns-4 Inv-terms μ-terms Inv-models μ-models
 returns-4 c =
@@ -290,6 +316,7 @@ read-models-spec =
     μ-terms
     Inv-models
     μ-models
+    term-bytes-requires
     without-terms-requires
     models-holds
     sub-left

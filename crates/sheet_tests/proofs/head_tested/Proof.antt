@@ -31,18 +31,18 @@ module _ (c : tie.Else1) where
   long = length-range _ (subst T (sym test-1) tt) .0
 
 -- and of the trailer
-module _ (c : tie.After-limits-sound) where
+module _ (c : tie.After-trailer-sound) where
   abbrev read-at : tie.After-trailer-at
-  read-at = c .before .before .before .before
+  read-at = c .before .before .before
 
   abbrev trailer : Trailer
   trailer = read-at .trailer-at .result
 
   steps-small : trailer .steps < 256
-  steps-small = c .before .before .before .struct-known .given .1 .1 .1 .0 .fits
+  steps-small = c .before .before .struct-known .given .1 .1 .1 .0 .fits
 
   offset-small : trailer .offset < 65536
-  offset-small = c .before .before .before .struct-known .given .1 .1 .1 .1 .0 .fits
+  offset-small = c .before .before .struct-known .given .1 .1 .1 .1 .0 .fits
 
 length-sound-requires : tie.Need-length-sound-requires
 length-sound-requires c κs = search needs
@@ -65,11 +65,8 @@ cast-steps c = search needs
 cast-offset : tie.Need-cast-offset
 cast-offset c = search needs
 
-cast-limits-sound : tie.Need-cast-limits-sound
-cast-limits-sound c = search needs
-
-limits-sound-requires : tie.Need-limits-sound-requires
-limits-sound-requires c κs = search needs
+trailer-sound-requires : tie.Need-trailer-sound-requires
+trailer-sound-requires c κs = search needs
 
 returns-2 : tie.Need-returns-2
 unfolding refusal
@@ -85,7 +82,7 @@ returns-3 c =
     let r = read-at l in
     sym (verdict-stopped _ bad-limits 0
     (limits-fault _ _ (r .trailer-at .ensures) (test-1 (r .before)) (not-false _ (c .before .if2 .left))
-    (sym (l .limits-sound .ensures) ∙ not-true _ (c .if3 .taken))))
+    (sym (l .trailer-sound .ensures) ∙ not-true _ (c .if3 .taken))))
 
 mul-end : tie.Need-mul-end
 mul-end c = omega (arith, steps-small (c .before .before), offset-small (c .before .before))
@@ -104,7 +101,7 @@ returns-4 c =
     let r = read-at l in
     sym (verdict-stopped _ bad-offset 0
     (offset-fault _ _ (r .trailer-at .ensures) (test-1 (r .before)) (not-false _ (e .before .if2 .left))
-    (sym (l .limits-sound .ensures) ∙ not-false _ (e .if3 .left)) (c .if4 .taken)))
+    (sym (l .trailer-sound .ensures) ∙ not-false _ (e .if3 .left)) (c .if4 .taken)))
 
 returns-5 : tie.Need-returns-5
 returns-5 c =
@@ -113,7 +110,7 @@ returns-5 c =
     let r = read-at l in
     sym (verdict-done _ _
     (head-sound _ _ (r .trailer-at .ensures) (test-1 (r .before)) (not-false _ (e .before .if2 .left))
-    (sym (l .limits-sound .ensures) ∙ not-false _ (e .if3 .left)) (c .if4 .left)))
+    (sym (l .trailer-sound .ensures) ∙ not-false _ (e .if3 .left)) (c .if4 .left)))
 
 pub head-tested-spec : {M : Type 1} → statement M
 head-tested-spec =
@@ -125,8 +122,7 @@ head-tested-spec =
     trailer-at-requires
     cast-steps
     cast-offset
-    cast-limits-sound
-    limits-sound-requires
+    trailer-sound-requires
     returns-2
     returns-3
     mul-end

@@ -11,7 +11,7 @@ use Rattle.model_types.specs.ModelStruct.{refusal}
 use Rattle.format.specs.HeldBookLaws.{In-limits, in-limits}
 use Rattle.sheet_book.specs.TestedLaws.{verdict-done, verdict-stopped}
 use Rattle.sheet_decode.specs.declared.Trailer.{Trailer}
-use Rattle.sheet_tests.specs.RecordTestLaws.{model-fault, bytes-left, step-fault, whole-sheet}
+use Rattle.sheet_tests.specs.RecordTestLaws.{trailer-limits, model-fault, bytes-left, step-fault, whole-sheet}
 use Rattle.sheet_tests.proofs.records_tested.Statement.{statement}
 use Rattle.sheet_tests.proofs.records_tested.Tie as tie
 
@@ -24,7 +24,8 @@ module _ (c : tie.Start) where
   trailer = c .args .t
 
   limits : In-limits (trailer .n) (trailer .d) (trailer .models) (trailer .steps)
-  limits = in-limits (trailer .n) (trailer .d) (trailer .models) (trailer .steps) (c .pre .0)
+  limits = in-limits (trailer .n) (trailer .d) (trailer .models) (trailer .steps)
+      (trailer-limits trailer (c .pre .0))
 
   steps-fit : trailer .offset + 8 * trailer .steps ≤ length sheet
   steps-fit = omega (arith, c .pre .1)

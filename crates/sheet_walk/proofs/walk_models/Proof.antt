@@ -1,8 +1,9 @@
 -- `walk_models` tests model after model and term after term, and stops at the first fault.
-use mathlib.Core.Path.{_≡_, sym, _∙_, ap}
+use mathlib.Core.Path.{_≡_, sym, _∙_, ap, subst}
 use mathlib.Core.List.{List, []}
 use Prim.Native.Nat.{ℕ, _+_, _*_, _-_, _≤_, _<_}
 use native.Mathlib.Omega.{arith}
+use native.Mathlib.Nat as NatL
 use borrow.Author.Needs.{needs}
 use borrow.Author.Tests.{not-true, not-false}
 use lib.IntN.{natAbs}
@@ -18,25 +19,27 @@ use Rattle.model_types.specs.declared.Term.{Term}
 use Rattle.model_types.specs.ModelStruct.{view, term-sound}
 use Rattle.format.specs.Bytes.{byte}
 use Rattle.sheet_walk.specs.TermWalkLaws.{Terms-so-far, terms-first, terms-turn, terms-bad, terms-end}
-use Rattle.sheet_walk.specs.TermWalkLaws.{model-at, terms-behind}
+use Rattle.format.specs.Format.{term-length}
+use Rattle.format.specs.KeyBytesLaws.{term-most}
+use Rattle.sheet_walk.specs.TermWalkLaws.{model-at, terms-behind, one-inside}
 use Rattle.sheet_walk.specs.ModelWalkLaws.{Models-passed, models-answer, models-first, models-turn, models-end}
 use Rattle.sheet_walk.specs.ModelWalkLaws.{models-no-head, models-no-terms, models-many, models-unsound}
 use Rattle.sheet_walk.proofs.walk_models.Statement.{statement}
 use Rattle.sheet_walk.proofs.walk_models.Tie as tie
 
 abbrev Inv-terms : tie.InvT-terms
-Inv-terms s n d count at k left total span₀ least₀ place₀ i₀ span least place i =
+Inv-terms s n d count size at k left total span₀ least₀ place₀ i₀ span least place i =
     Terms-so-far s n d at span least place i
 
 abbrev μ-terms : tie.MeasureT-terms
-μ-terms s n d count at k left total span₀ least₀ place₀ i₀ span least place i =
+μ-terms s n d count size at k left total span₀ least₀ place₀ i₀ span least place i =
     total - i
 
 abbrev Inv-models : tie.InvT-models
-Inv-models s n d count at₀ k₀ at k = Models-passed s n d count at k
+Inv-models s n d count size at₀ k₀ at k = Models-passed s n d count at k
 
 abbrev μ-models : tie.MeasureT-models
-μ-models s n d count at₀ k₀ at k = count - k
+μ-models s n d count size at₀ k₀ at k = count - k
 
 -- ---- what is known of the sheet,
 short : (c : tie.Start Inv-terms μ-terms Inv-models μ-models) → Fits w64 (length (c .args .s .now))
@@ -48,7 +51,7 @@ module _ (u : tie.After-u32-at Inv-terms μ-terms Inv-models μ-models) where
   outer = u .before .before .before .before .before .before
 
   abbrev sheet : List ℕ
-  sheet = outer .before .before .args .s .now
+  sheet = outer .before .before .before .args .s .now
 
   abbrev total : ℕ
   total = u .before .before .before .byte-at .result
@@ -59,8 +62,12 @@ module _ (u : tie.After-u32-at Inv-terms μ-terms Inv-models μ-models) where
   few : byte (outer .models .at + 4) sheet ≤ 64
   few = omega (arith, counted, u .before .if3 .left)
 
-  room : 5 + 6 * total ≤ length sheet - outer .models .at
-  room = u .before .before .if2 .left
+  abbrev start : tie.Start Inv-terms μ-terms Inv-models μ-models
+  start = outer .before .before .before
+
+  room : 5 + term-length (start .args .n) * total ≤ length sheet - outer .models .at
+  room = subst (λ k. 5 + k * total ≤ length sheet - outer .models .at) (outer .before .term-bytes .ensures)
+      (u .before .before .if2 .left)
 
 -- and of the term at hand
 module _ (c : tie.After-struct-told Inv-terms μ-terms Inv-models μ-models) where
@@ -77,8 +84,8 @@ module _ (c : tie.After-struct-told Inv-terms μ-terms Inv-models μ-models) whe
   read-back = toZ-ofZ (record { sfits = c .struct-told .given .1 .0 .1 })
 
 tested : (c : tie.After-term-sound Inv-terms μ-terms Inv-models μ-models)
-    → term-sound (outer (inner (c .before) .before) .before .before .args .n)
-    (outer (inner (c .before) .before) .before .before .args .d)
+    → term-sound (start (inner (c .before) .before) .args .n)
+    (start (inner (c .before) .before) .args .d)
     (inner (c .before) .terms .least) (term (c .before) .key) (term (c .before) .coefficient)
     ≡ c .term-sound .result
 tested c = sym (c .term-sound .ensures ∙ ap (term-sound _ _ _ _) (read-back (c .before)))
@@ -89,15 +96,18 @@ module _ (c : tie.After-terms Inv-terms μ-terms Inv-models μ-models) where
   behind-all = omega (arith, counted (c .before .before), c .terms-test .taken)
 
 span-decides : (c : tie.After-within-span Inv-terms μ-terms Inv-models μ-models)
-    → sound (outer (c .before .before .before) .before .before .args .d)
-    (view (model-at (outer (c .before .before .before) .before .before .args .n)
+    → sound (start (c .before .before .before) .args .d)
+    (view (model-at (start (c .before .before .before) .args .n)
     (outer (c .before .before .before) .models .at) (sheet (c .before .before .before))))
     ≡ c .within-span .result
 span-decides c =
     let u = c .before .before .before in
-    let p = outer u .before .before .pre in
+    let p = start u .pre in
     sym (c .within-span .ensures
     ∙ terms-end _ _ _ _ (p .0) (p .1) (few u) _ _ _ _ (c .before .before .terms .inv) (behind-all (c .before)))
+
+term-bytes-requires : tie.Need-term-bytes-requires Inv-terms μ-terms Inv-models μ-models
+term-bytes-requires c κs = search needs
 
 models-holds : tie.Need-models-holds Inv-terms μ-terms Inv-models μ-models
 models-holds c = record { before = []; so-far = models-first _ _ _ _ }
@@ -114,11 +124,19 @@ byte-at-requires c κs = search needs
 cast-total : tie.Need-cast-total Inv-terms μ-terms Inv-models μ-models
 cast-total c = search needs
 
+-- a record's terms are not many bytes
+product : (c : tie.After-byte-at Inv-terms μ-terms Inv-models μ-models)
+    → c .before .before .before .before .term-bytes .result * c .byte-at .result ≤ 8 * 255
+product c =
+    let few : c .byte-at .result ≤ 255 = omega arith in
+    NatL.mul-le-mul
+    (subst (λ k. k ≤ 8) (sym (c .before .before .before .before .term-bytes .ensures)) (term-most _)) few
+
 mul-if2 : tie.Need-mul-if2 Inv-terms μ-terms Inv-models μ-models
-mul-if2 c = search needs
+mul-if2 c = omega (arith, product c)
 
 add-if2 : tie.Need-add-if2 Inv-terms μ-terms Inv-models μ-models
-add-if2 c = search needs
+add-if2 c = omega (arith, product c)
 
 u32-at-requires : tie.Need-u32-at-requires Inv-terms μ-terms Inv-models μ-models
 u32-at-requires c κs = search needs
@@ -131,16 +149,21 @@ add-place c = search needs
 
 terms-holds : tie.Need-terms-holds Inv-terms μ-terms Inv-models μ-models
 terms-holds c =
-    let p = outer c .before .before .pre in
+    let p = start c .pre in
     terms-first _ _ _ _ (p .0) (p .1) (few c) _ (c .u32-at .ensures)
 
 term-at-requires : tie.Need-term-at-requires Inv-terms μ-terms Inv-models μ-models
 term-at-requires c κs =
     let u = c .before .before in
-    omega (arith, c .before .terms .inv .placed, c .terms-test .left, room u)
+    omega (
+      arith,
+      c .before .terms .inv .placed,
+      one-inside (term-length (start u .args .n)) (c .before .terms .i) (total u) (omega (arith, c .terms-test .left)),
+      room u,
+    )
 
 term-sound-requires : tie.Need-term-sound-requires Inv-terms μ-terms Inv-models μ-models
-term-sound-requires c κs = outer (inner c .before) .before .before .pre .0
+term-sound-requires c κs = start (inner c .before) .pre .0
 
 magnitude-requires : tie.Need-magnitude-requires Inv-terms μ-terms Inv-models μ-models
 magnitude-requires c κs = search needs
@@ -160,9 +183,11 @@ add-place-2 c =
     omega (
       arith,
       inner t .terms .inv .placed,
-      t .before .before .terms-test .left,
+      one-inside (term-length (start (inner t .before) .args .n)) (inner t .terms .i) (total (inner t .before))
+          (omega (arith, t .before .before .terms-test .left)),
+      outer (inner t .before) .before .term-bytes .ensures,
       room (inner t .before),
-      short (outer (inner t .before) .before .before),
+      short (outer (inner t .before) .before .before .before),
     )
 
 add-i : tie.Need-add-i Inv-terms μ-terms Inv-models μ-models
@@ -181,12 +206,13 @@ terms-again c =
     let branch = added .before .before .before in
     let t = branch .before .before in
     let u = inner t .before in
-    let p = outer u .before .before .pre in
+    let p = start u .pre in
     let h = inner t .terms .inv in
-    terms-turn _ _ _ _ (p .0) (p .1) (few u) _ _ _ _ h (omega (arith, counted u, t .before .before .terms-test .left)) _
+    rw (outer u .before .term-bytes .ensures)
+    (terms-turn _ _ _ _ (p .0) (p .1) (few u) _ _ _ _ h (omega (arith, counted u, t .before .before .terms-test .left)) _
     (t .before .term-at .ensures) (key-small t) (tested (branch .before) ∙ not-false _ (branch .if4 .left)) _
     (added .capped-sum .ensures
-    ∙ ap (λ x. capped (inner t .terms .span + x)) (added .before .magnitude .ensures ∙ ap natAbs (read-back t)))
+    ∙ ap (λ x. capped (inner t .terms .span + x)) (added .before .magnitude .ensures ∙ ap natAbs (read-back t))))
 
 within-span-requires : tie.Need-within-span-requires Inv-terms μ-terms Inv-models μ-models
 within-span-requires c κs = search needs
@@ -201,7 +227,7 @@ models-again : tie.Need-models-again Inv-terms μ-terms Inv-models μ-models
 models-again c =
     let l = c .before .before in
     let u = l .before .before in
-    let p = outer u .before .before .pre in
+    let p = start u .pre in
     let h = l .before .terms .inv in
     let m = outer u .models .inv in
     let w = behind-all l in
@@ -226,7 +252,8 @@ returns-3 : tie.Need-returns-3 Inv-terms μ-terms Inv-models μ-models
 returns-3 c =
     let h = c .before .before .before .before .models .inv in
     models-answer _ _ _ _ _ _ h
-    (models-no-terms _ _ _ _ _ _ _ (h .so-far) _ (c .before .byte-at .ensures) (c .if2 .taken))
+    (models-no-terms _ _ _ _ _ _ _ (h .so-far) _ (c .before .byte-at .ensures)
+    (rw (c .before .before .before .before .before .term-bytes .ensures) at (c .if2 .taken)))
 
 returns-4 : tie.Need-returns-4 Inv-terms μ-terms Inv-models μ-models
 returns-4 c =
@@ -238,7 +265,7 @@ returns-5 : tie.Need-returns-5 Inv-terms μ-terms Inv-models μ-models
 returns-5 c =
     let t = c .before .before in
     let u = inner t .before in
-    let p = outer u .before .before .pre in
+    let p = start u .pre in
     let h = outer u .models .inv in
     models-answer _ _ _ _ _ _ h
     (models-unsound _ _ _ _ _ _ _ (h .so-far)
@@ -261,6 +288,7 @@ walk-models-spec =
     μ-terms
     Inv-models
     μ-models
+    term-bytes-requires
     models-holds
     sub-left
     add-byte-at

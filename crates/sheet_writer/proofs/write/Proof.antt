@@ -56,7 +56,7 @@ module _ (c : tie.After-struct-known) where
   offset-is : c .before .models-size .result ≡ length (models-bytes (held-book (held told)))
   offset-is = c .before .models-size .ensures
 
-  small : (held told .«step_count» ≤ 64) × (c .before .models-size .result ≤ 6224)
+  small : (held told .«step_count» ≤ 64) × (c .before .models-size .result ≤ 8272)
   small = (
     book-limits (held told) (passes told) .steps-high,
     omega (arith, offset-is, models-short (held-book (held told)) (passes told)),

@@ -9,7 +9,7 @@ use mir.Val.{toZ, ofZ}
 use Rattle.calculus.specs.Book.{Summary}
 use Rattle.model_types.specs.ModelStruct.{view}
 use Rattle.format.specs.Bytes.{join}
-use Rattle.format.specs.Lines.{text, term-line, ends-line, exact-line, radius-line}
+use Rattle.format.specs.Lines.{text, term-line, ends-line, exact-lines, radius-line}
 use Rattle.sheet_book.specs.SummaryStruct.{ends-of, exact-of, summary-of}
 use Rattle.text_decimal.specs.Put.{Put, Room}
 use Rattle.text_decimal.specs.PutLaws.{_then-put_, put-as, room-before, room-behind}
@@ -36,7 +36,7 @@ module _ (c : tie.Start) where
   integral = ends-line (text "integral") (ends (c .args .summary .integral .low) (c .args .summary .integral .high))
 
   abbrev exact : List ℕ
-  exact = exact-line (mixed (c .args .summary .exact .quotient) (c .args .summary .exact .remainder))
+  exact = exact-lines (c .args .summary .model .n) (mixed (c .args .summary .exact .quotient) (c .args .summary .exact .remainder))
 
   whole : Room 0 (radius ++ (terms ++ (range ++ (integral ++ exact))))
   unfolding view summary-of ends-of exact-of
@@ -104,11 +104,11 @@ room₄ c =
     let p = c .before .before .before .before .before .before .before in
     room-behind (integral (start₄ c)) _ (room₃ p) (integral-put c)
 
-exact-put : (c : tie.After-put-exact)
+exact-put : (c : tie.After-put-exact-of)
     → let e = c .before .before .before .before .before in
-    Put (e .put-ends2 .last .0) (e .put-ends2 .result) (exact (start₄ e)) (c .put-exact .last .0)
-    (c .put-exact .result)
-exact-put c = put-as (ap exact-line (exact-is (c .before))) (c .put-exact .ensures)
+    Put (e .put-ends2 .last .0) (e .put-ends2 .result) (exact (start₄ e)) (c .put-exact-of .last .0)
+    (c .put-exact-of .result)
+exact-put c = put-as (ap (exact-lines _) (exact-is (c .before))) (c .put-exact-of .ensures)
 
 put-radius-requires : tie.Need-put-radius-requires
 put-radius-requires c κs =
@@ -138,8 +138,8 @@ put-ends-requires-2 c κs =
     let p = c .before .before .before .before .before .before in
     rw (integral-is c) (room-before (integral (start₃ p)) _ (room₃ p))
 
-put-exact-requires : tie.Need-put-exact-requires
-put-exact-requires c κs = rw (exact-is c) (room₄ (c .before .before .before .before))
+put-exact-of-requires : tie.Need-put-exact-of-requires
+put-exact-of-requires c κs = rw (exact-is c) (room₄ (c .before .before .before .before))
 
 same-length : tie.Need-same-length
 same-length c = search needs
@@ -166,6 +166,6 @@ put-summary-spec =
     put-ends-requires
     slice-aggregate-put-ends-2
     put-ends-requires-2
-    put-exact-requires
+    put-exact-of-requires
     same-length
     returns)

@@ -24,6 +24,18 @@ module _ (c : tie.Start) where
   back₄ : toZ w64 (ofZ w64 (c .args .x4)) ≡ c .args .x4
   back₄ = toZ-ofZ (c .fits .x4)
 
+  back₅ : toZ w64 (ofZ w64 (c .args .x5)) ≡ c .args .x5
+  back₅ = toZ-ofZ (c .fits .x5)
+
+  back₆ : toZ w64 (ofZ w64 (c .args .x6)) ≡ c .args .x6
+  back₆ = toZ-ofZ (c .fits .x6)
+
+  back₇ : toZ w64 (ofZ w64 (c .args .x7)) ≡ c .args .x7
+  back₇ = toZ-ofZ (c .fits .x7)
+
+  back₈ : toZ w64 (ofZ w64 (c .args .x8)) ≡ c .args .x8
+  back₈ = toZ-ofZ (c .fits .x8)
+
 ends-call-fits-requires : tie.Need-ends-call-fits-requires
 ends-call-fits-requires c κs = search needs
 
@@ -62,6 +74,10 @@ returns-2 c =
       back₂ s,
       back₃ s,
       back₄ s,
+      back₅ s,
+      back₆ s,
+      back₇ s,
+      back₈ s,
       f .taken .ensures,
       sym (e .before .ends-call-fits .ensures) ∙ not-false _ (e .if1 .left),
     )
