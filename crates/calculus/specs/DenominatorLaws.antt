@@ -9,7 +9,7 @@ use lib.Dec.{T, eqb, leb, eqb→eq, leb→le, nleb→lt}
 use Rattle.polynomial.specs.Integral.{even, first, rest, all-even, divisor}
 use Rattle.calculus.specs.Monomial.{degree}
 use Rattle.calculus.specs.Model.{most-degree}
-use Rattle.calculus.specs.Operations.{common-denominator}
+use Rattle.calculus.specs.Operations.{common-denominator, exact-vars}
 use Rattle.calculus.specs.TestLaws.{and-left, and-right}
 
 -- d times every product of (2 h + 1) over n numbers h of at most left in sum divides it; the first h is at most top
@@ -112,7 +112,7 @@ serves (suc (suc (suc (suc zero)))) h = serves-four
 serves (suc (suc (suc (suc (suc n))))) h = absurd (omega arith)
 
 -- THEOREM: it is a multiple of the product of (exponent + 1) over the variables
-pub denominator-serves : (n : ℕ) (k : List ℕ) → n ≤ 4 → degree k ≤ most-degree → T (all-even n k)
+pub denominator-serves : (n : ℕ) (k : List ℕ) → n ≤ exact-vars → degree k ≤ most-degree → T (all-even n k)
     → divisor n k * (common-denominator / divisor n k) ≡ common-denominator
 unfolding most-degree
 denominator-serves n k h l v =

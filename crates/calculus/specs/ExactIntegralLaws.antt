@@ -27,8 +27,9 @@ use Rattle.fixed.specs.Division.{floor, ceiling, remainder}
 use Rattle.fixed.specs.DivisionLaws.{floor-le, division, remainder-lt}
 use Rattle.calculus.specs.Terms.{Terms, every, sum-over}
 use Rattle.calculus.specs.Model.{Model, Point, In-box, most-degree, fits, sound}
-use Rattle.calculus.specs.Operations.{common-denominator, has-exact, integral-parts, mixed-part, one-if-any, integral-sum}
-use Rattle.calculus.specs.Operations.{Ends, exact-ends, integral, term-by-term, Mixed, zero-mixed, exact-part}
+use Rattle.calculus.specs.Operations.{common-denominator, exact-vars, has-exact, integral-parts, mixed-part}
+use Rattle.calculus.specs.Operations.{one-if-any, integral-sum, Ends, exact-ends, integral, term-by-term, Mixed}
+use Rattle.calculus.specs.Operations.{zero-mixed, exact-part}
 use Rattle.calculus.specs.Outcome.{ℚ-Polynomial, value-of, exact-integral}
 use Rattle.calculus.specs.Claim.{Lies}
 use Rattle.calculus.specs.TestLaws.{and-left, and-right}
@@ -40,7 +41,8 @@ use Rattle.calculus.specs.UnitLaws.{natural, natural-*, natural-nonneg}
 use Rattle.calculus.specs.ValueLaws.{Near}
 use Rattle.calculus.specs.ChainLaws.{_≤≤_, _≡≤_, _≤≡_}
 use Rattle.calculus.specs.IntegralEndsLaws.{whole-polynomial, polynomial-integral, term-moment, moment-is}
-use Rattle.calculus.specs.IntegralEndsLaws.{down-below, up-above, widened-ends, widened-encloses, term-by-term-encloses}
+use Rattle.calculus.specs.IntegralEndsLaws.{down-below, up-above, widened-ends, widened-encloses}
+use Rattle.calculus.specs.IntegralEndsLaws.{term-by-term-encloses}
 use Rattle.calculus.specs.DenominatorLaws.{denominator-serves}
 open Ring ℚR using (*-one, *-assoc, *-comm)
 
@@ -51,7 +53,7 @@ unfolding common-denominator
 denominator-inverse = ap (λ n. n *ℚ reciprocal common-denominator) (sym (nat-whole common-denominator))
     ∙ ℚF .nat-reciprocal common-denominator (omega arith)
 
-module _ (n : ℕ) (few : n ≤ 4) where
+module _ (n : ℕ) (few : n ≤ exact-vars) where
   -- the parts of a term
   parts-of : List ℕ → ℤ → ℤ
   parts-of k c = if-ℤ (all-even n k) (c *ℤ pos (2 ^ n * (common-denominator / divisor n k)))
@@ -93,14 +95,14 @@ module _ (n : ℕ) (few : n ≤ 4) where
 
 -- ---- a model whose terms it serves
 pub record Served (m : Model) : Type 0 where
-  pub few : m .vars ≤ 4
+  pub few : m .vars ≤ exact-vars
   pub fitting : T (every (λ k c. fits (m .vars) most-degree k) (m .terms))
 
 -- a sound model in up to four variables is one
 pub sound-served : (d : ℕ) (m : Model) → d ≤ most-degree → T (sound d m) → T (has-exact (m .vars)) → Served m
 unfolding has-exact
 sound-served d m h t e = record {
-  few = leb→le (m .vars) 4 e;
+  few = leb→le (m .vars) exact-vars e;
   fitting = every-implies (λ k c. fits (m .vars) d k) (λ k c. fits (m .vars) most-degree k)
       (λ k c f. let l = fits-degree (m .vars) d k f in
       fits-by (m .vars) most-degree k (fits-length (m .vars) d k f) (omega arith)) (m .terms)

@@ -25,7 +25,8 @@ use Rattle.calculus.specs.RefusalLaws.{Passed, passed-at}
 use Rattle.calculus.specs.BookLaws.{Passes, Done, run-done, Ran, sound-ran}
 use Rattle.calculus.specs.UnitLaws.{natural, U-times}
 use Rattle.calculus.specs.IntegralEndsLaws.{whole-polynomial, polynomial-integral}
-use Rattle.calculus.specs.ExactIntegralLaws.{Served, sound-served, exact-is, remainder-small, exact-known, exact-none}
+use Rattle.calculus.specs.ExactIntegralLaws.{Served, sound-served, exact-is, remainder-small}
+use Rattle.calculus.specs.ExactIntegralLaws.{exact-known, exact-none}
 use Rattle.calculus.specs.ClaimProof.{result-served}
 
 -- q + r / 212,837,625 is the integral of a model's polynomial in units, and r is from 0 to 212,837,624

@@ -3,7 +3,7 @@ use mathlib.Core.List.{List, [], _∷_}
 use Prim.Native.Nat.{ℕ, _*_}
 use lib.IntN.{ℤ, pos, negℤ}
 use Rattle.polynomial.specs.Polynomial.{Term}
-use Rattle.calculus.specs.Key.{key-width, key-exponents}
+use Rattle.calculus.specs.Key.{key-width, short-key, key-exponents}
 use Rattle.calculus.specs.Terms.{Terms}
 use Rattle.calculus.specs.Model.{Model}
 use Rattle.calculus.specs.Refusal.{Result, done}
@@ -14,9 +14,9 @@ use Rattle.calculus.specs.Book.{Step, Book, Summary}
 unfoldable pub at-long-key : (n key : ℕ) → ℤ → Term ℤ
 at-long-key n key c = record { coefficient = c; exponents = key-exponents key-width n key }
 
--- at a key of 16 bits, which are the first of 32
+-- at a short key
 unfoldable pub at-key : (n key : ℕ) → ℤ → Term ℤ
-at-key n key = at-long-key n (key * 65536)
+at-key n key = at-long-key n (key * short-key)
 
 -- a model
 unfoldable pub model : (n radius : ℕ) → Terms → Model

@@ -31,6 +31,14 @@ key-width = 8
 unfoldable pub key-limit : ℕ
 key-limit = 16 ^ key-width
 
+-- up to so many variables keys are short: the exponents behind these are 0, and 16 bits hold the others
+abbrev pub short-width : ℕ
+short-width = 4
+
+-- what a short key counts: it is the upper half of a key
+abbrev pub short-key : ℕ
+short-key = 65536
+
 -- the key of a monomial
 abbrev pub key : (w : ℕ) → List ℕ → ℕ
 key = encode 16

@@ -12,8 +12,7 @@ use Rattle.calculus.specs.Monomial.{degree, zeros, index-of, single, sam
 use Rattle.calculus.specs.MonomialLaws.{length-zeros, length-single, degree-zeros, degree-single}
 use Rattle.calculus.specs.Operations.{is-constant}
 use Rattle.calculus.specs.Key.{encode, decode, fits-digits, key-width, key-limit, key, key-exponents, key-fits}
-use Rattle.calculus.specs.Key.{monomial-of, key-degree}
-use Rattle.calculus.specs.Key.{Below}
+use Rattle.calculus.specs.Key.{short-width, short-key, monomial-of, key-degree, Below}
 use Rattle.calculus.specs.KeyLaws.{below-degree, encode-less, encode-same, encode-fits}
 use Rattle.calculus.specs.KeyLaws.{decode-encode, encode-decode, decode-length, decode-below}
 use Rattle.calculus.specs.Model.{fits}
@@ -87,12 +86,13 @@ pub fits-below : (n z : ℕ) → T (key-fits key-width n z) → z < key-limit
 unfolding key-limit fits-digits
 fits-below n z h = ltb→lt z key-limit (and-left (ltb z key-limit) _ h)
 
--- a key of up to four variables: behind the first four digits there are zeros
-pub fits-short : (n z : ℕ) → n ≤ 4 → T (key-fits key-width n z) → z % 65536 ≡ 0
+-- the key of so few variables is that of a short one
+pub fits-short : (n z : ℕ) → n ≤ short-width → T (key-fits key-width n z) → z % short-key ≡ 0
 unfolding fits-digits key-width
 fits-short n z l f =
-    sym (NatL.mod-mod-of-dvd 65536 z (subst (λ i. 16 ^ 4 ∣ 16 ^ i) (omega arith) (power-divides 16 positive 4 (4 - n))))
-    ∙ ap (λ y. y % 65536) (eqb→eq (z % 16 ^ (8 - n)) 0 (and-right (ltb z (16 ^ 8)) _ f))
+    sym (NatL.mod-mod-of-dvd short-key z
+    (subst (λ i. 16 ^ 4 ∣ 16 ^ i) (omega arith) (power-divides 16 positive 4 (short-width - n))))
+    ∙ ap (λ y. y % short-key) (eqb→eq (z % 16 ^ (8 - n)) 0 (and-right (ltb z (16 ^ 8)) _ f))
 
 -- the key of the monomial of a key
 pub key-monomial : (n z : ℕ) → n ≤ key-width → z < key-limit → key key-width (monomial-of n z) ≡ z

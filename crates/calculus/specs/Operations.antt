@@ -202,9 +202,13 @@ term-by-term m = record {
 unfoldable pub common-denominator : ℕ
 common-denominator = 212837625
 
--- whether it serves models in n variables: above four the term-by-term rule stays (request 9)
+-- up to so many variables
+abbrev pub exact-vars : ℕ
+exact-vars = 4
+
+-- whether it serves models in n variables: above, the term-by-term rule stays (request 9)
 unfoldable pub has-exact : (n : ℕ) → Bool
-has-exact n = leb n 4
+has-exact n = leb n exact-vars
 
 -- the polynomial part's integral times that: a term with any odd exponent gives 0, others c × 2^n × that divided by the
 -- product of (exponent + 1), which leaves nothing

@@ -33,6 +33,6 @@ writes = tt
 unfoldable pub prints : Unit {0}
 unfolding
     reads
-    L.text L.digits L.decimal L.signed-decimal L.line L.term-line L.ends-line L.exact-line L.exact-lines L.radius-line L.refusal-line
-    L.lines L.printed
+    L.text L.digits L.decimal L.signed-decimal L.line L.term-line L.ends-line L.exact-line L.exact-lines
+    L.radius-line L.refusal-line L.lines L.printed
 prints = tt

@@ -5,6 +5,7 @@ use mathlib.Core.Option.{Option}
 use Prim.Native.Nat.{ℕ, zero, suc, _+_, _-_, _*_, _/_}
 use lib.Dec.{eqb, leb}
 use lib.ListN.{length, take, drop, getElem?}
+use Rattle.calculus.specs.Key.{short-width, short-key}
 use Rattle.calculus.specs.Model.{between}
 use Rattle.calculus.specs.Refusal.{bad-length, bad-mark, bad-limits, bad-offset, bad-model, bad-step, short-buffer}
 use Rattle.calculus.specs.Refusal.{Result, done, stopped, require-at, require-each, _followed-by_, Returned, returned}
@@ -21,7 +22,7 @@ head-length = 5
 
 -- keys are short with n of 1 to 4, long with n of 5 to 8
 unfoldable pub short-keys : (n : ℕ) → Bool
-short-keys n = leb n 4
+short-keys n = leb n short-width
 
 -- of a key: the first half of its 32 bits where it is short, since the other exponents are 0
 unfoldable pub key-length : (n : ℕ) → ℕ
@@ -42,7 +43,7 @@ trailer-length = 8
 -- ---- models: radius (4 bytes), term count (1), then per term the key (2, or 4) and the coefficient (4)
 -- the key at the head
 unfoldable pub read-key : (n : ℕ) → List ℕ → ℕ
-read-key n s = cond (short-keys n) (u16 s * 65536) (u32 s)
+read-key n s = cond (short-keys n) (u16 s * short-key) (u32 s)
 
 -- the term at the head
 unfoldable pub read-term : (n : ℕ) → List ℕ → Held-term
@@ -196,7 +197,7 @@ handed-out s i = getElem? (returned-records s .value) i
 -- ---- writing
 -- a key
 unfoldable pub key-bytes : (n : ℕ) → ℕ → List ℕ
-key-bytes n k = cond (short-keys n) (u16-bytes (k / 65536)) (u32-bytes k)
+key-bytes n k = cond (short-keys n) (u16-bytes (k / short-key)) (u32-bytes k)
 
 -- a term
 unfoldable pub term-bytes : (n : ℕ) → Held-term → List ℕ

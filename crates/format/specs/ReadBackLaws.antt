@@ -11,7 +11,7 @@ use lib.ListN.{length, take, drop, length-append, length-replicate}
 use lib.Seq.{drop-at, take-at}
 use Rattle.fixed.specs.Fixed.{span-limit}
 use Rattle.fixed.specs.FixedLaws.{span-four-bytes}
-use Rattle.calculus.specs.Key.{key-width, key-limit}
+use Rattle.calculus.specs.Key.{key-width, key-limit, short-key}
 use Rattle.calculus.specs.MonomialKeyLaws.{key-word}
 use Rattle.calculus.specs.Terms.{every, size}
 use Rattle.calculus.specs.Model.{zero-model, between, fits}
@@ -28,8 +28,10 @@ use Rattle.format.specs.HeldBook.{held-model-sound, held-step-sound, Hel
 use Rattle.format.specs.Format.{head-length, short-keys, key-length, term-length, step-length, trailer-length}
 use Rattle.format.specs.Format.{read-key, read-term, read-terms, read-model, model-length, read-models}
 use Rattle.format.specs.Format.{read-step, read-steps}
-use Rattle.format.specs.Format.{Trailer, short-mark, long-mark, mark-of, trailer-sound, trailer-of, read-trailer, shortest, longest, read-records, read}
-use Rattle.format.specs.Format.{key-bytes, term-bytes, model-bytes, step-bytes, models-bytes, trailer-bytes, sheet-bytes}
+use Rattle.format.specs.Format.{short-mark, long-mark, mark-of, Trailer, trailer-of, read-trailer}
+use Rattle.format.specs.Format.{shortest, longest, trailer-sound, read-records, read}
+use Rattle.format.specs.Format.{key-bytes, term-bytes, model-bytes, step-bytes, models-bytes}
+use Rattle.format.specs.Format.{trailer-bytes, sheet-bytes}
 use Rattle.format.specs.Format.{write}
 use Rattle.format.specs.BytesLaws.{read-u16, read-u32, signed-bits, bits-below}
 use Rattle.format.specs.KeyBytesLaws.{term-parts, term-most, length-key, key-back, key-rest}
@@ -71,7 +73,7 @@ pub mark-known : (n : ℕ) → (eqb (mark-of n) short-mark || eqb (mark-of n) lo
 unfolding mark-of
 mark-known n = go (short-keys n)
   where
-    go : (b : Bool) → (eqb (cond b short-mark long-mark) short-mark || eqb (cond b short-mark long-mark) long-mark) ≡ true
+    go : (b : Bool) → let m : ℕ = cond b short-mark long-mark in (eqb m short-mark || eqb m long-mark) ≡ true
     go true = refl
     go false = refl
 
@@ -79,7 +81,7 @@ mark-known n = go (short-keys n)
 term-is : (t : Held-term) (k : ℕ) (z : ℤ) → k ≡ t .key → z ≡ t .coefficient → record { key = k; coefficient = z } ≡ t
 term-is t k z p q = rw (p, q)
 
-term-back : (n : ℕ) (t : Held-term) (r : List ℕ) → t .key < key-limit → (T (short-keys n) → t .key % 65536 ≡ 0)
+term-back : (n : ℕ) (t : Held-term) (r : List ℕ) → t .key < key-limit → (T (short-keys n) → t .key % short-key ≡ 0)
     → natAbs (t .coefficient) ≤ span-limit → read-term n (term-bytes n t ++ r) ≡ t
 unfolding read-term term-bytes
 term-back n t r h z k = term-is t _ _ (ap (read-key n) assoc ∙ key-back n (t .key) _ (key-word (t .key) h) z)

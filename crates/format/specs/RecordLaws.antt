@@ -70,7 +70,8 @@ module _ (h : Held-book) (p : Held-passes h) where
   sheet-records : records (sheet-bytes h) ≡ book-records h
   unfolding records book-records sheet-bytes said models-bytes outline-of outline
   sheet-records =
-      ap (λ t. model-records (t .n) (t .models) (sheet-bytes h) ++ step-records (t .steps) (drop (t .offset) (sheet-bytes h)))
+      ap (λ t. model-records (t .n) (t .models) (sheet-bytes h)
+      ++ step-records (t .steps) (drop (t .offset) (sheet-bytes h)))
       (sheet-trailer h p)
       ∙ ap₂ _++_ (models-handed (outline-of h) 0 (h .models) (Q ++ trailer-bytes h) (p .models))
       (ap (step-records (length (h .steps))) (drop-at P (Q ++ trailer-bytes h) (length P) refl)

@@ -10,7 +10,7 @@ use lib.Signed.{nonNeg}
 use lib.ListN.{length, length-map}
 use Rattle.fixed.specs.Fixed.{span-limit}
 use Rattle.fixed.specs.FixedLaws.{span-four-bytes}
-use Rattle.calculus.specs.Key.{key-width, key-limit, key-fits, monomial-of}
+use Rattle.calculus.specs.Key.{key-width, key-limit, short-width, short-key, key-fits, monomial-of}
 use Rattle.calculus.specs.Terms.{every, sum-over, size}
 use Rattle.calculus.specs.Model.{most-terms, span, fits}
 use Rattle.calculus.specs.Tests.{constant-sound, variable-sound, threshold-sound}
@@ -51,7 +51,7 @@ model-facts b m h = record {
 
 pub record Term-facts (n d : ℕ) (t : Held-term) (ts : List Held-term) : Type 0 where
   pub key : t .key < key-limit
-  pub short : T (short-keys n) → t .key % 65536 ≡ 0
+  pub short : T (short-keys n) → t .key % short-key ≡ 0
   pub coefficient : natAbs (t .coefficient) ≤ size (map (view-held-term n) (t ∷ ts))
   pub size-rest : size (map (view-held-term n) ts) ≤ size (map (view-held-term n) (t ∷ ts))
   pub fitting-rest : T (every (λ k c. fits n d k) (map (view-held-term n) ts))
@@ -61,7 +61,7 @@ pub term-facts : (n d : ℕ) (t : Held-term) (ts : List Held-term) → n ≤ key
 unfolding every size sum-over view-held-term
 term-facts n d t ts l u h = record {
   key = fits-below n (t .key) key-fitting;
-  short = λ e. unfold short-keys in fits-short n (t .key) (leb→le n 4 e) key-fitting;
+  short = λ e. unfold short-keys in fits-short n (t .key) (leb→le n short-width e) key-fitting;
   coefficient = omega arith;
   size-rest = omega arith;
   fitting-rest = and-right (fits n d (monomial-of n (t .key))) _ h;

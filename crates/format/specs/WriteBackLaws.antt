@@ -22,8 +22,10 @@ use Rattle.format.specs.HeldBook.{held-model-sound, held-step-sound, Hel
 use Rattle.format.specs.Format.{head-length, key-length, term-length, step-length, trailer-length}
 use Rattle.format.specs.Format.{read-key, read-term, read-terms, read-model, model-length, read-models}
 use Rattle.format.specs.Format.{read-step, read-steps}
-use Rattle.format.specs.Format.{Trailer, short-mark, long-mark, mark-of, trailer-sound, trailer-of, read-trailer, shortest, longest, read-records, read}
-use Rattle.format.specs.Format.{key-bytes, term-bytes, model-bytes, step-bytes, models-bytes, trailer-bytes, sheet-bytes}
+use Rattle.format.specs.Format.{short-mark, long-mark, mark-of, Trailer, trailer-of, read-trailer}
+use Rattle.format.specs.Format.{shortest, longest, trailer-sound, read-records, read}
+use Rattle.format.specs.Format.{key-bytes, term-bytes, model-bytes, step-bytes, models-bytes}
+use Rattle.format.specs.Format.{trailer-bytes, sheet-bytes}
 use Rattle.format.specs.Format.{write}
 use Rattle.format.specs.BytesLaws.{bytes-drop, bytes-take, drop-more, u32-below, bits-signed, four}
 use Rattle.format.specs.BytesLaws.{write-u16, write-u32}
@@ -68,7 +70,8 @@ model-forth : (n : ℕ) (s : List ℕ) → All-bytes s → model-length n s ≤ 
     → model-bytes (read-model n s) ++ drop (model-length n s) s ≡ s
 unfolding model-bytes read-model model-length
 model-forth n s h l =
-    append-assoc (u32-bytes (u32 s)) (length ts ∷ join (map (term-bytes n) ts)) (drop (head-length + term-length n * c) s)
+    append-assoc (u32-bytes (u32 s)) (length ts ∷ join (map (term-bytes n) ts))
+    (drop (head-length + term-length n * c) s)
     ∙ ap (λ r. u32-bytes (u32 s) ++ r)
     (ap₂ (λ x r. x ∷ join (map (term-bytes n) ts) ++ r) (length-read-terms n c (drop head-length s))
     (sym (drop-drop (term-length n * c) head-length s))
@@ -101,7 +104,8 @@ one-more b i c before ms s p r = record {
   all = r .all ∙ append-assoc before (m ∷ []) (r .more);
   many = ap suc (r .many);
   same = λ y. ap (λ x. model-bytes m ++ x) (r .same (bytes-drop (model-length (b .vars) s) s y))
-      ∙ model-forth (b .vars) s y (leb→le (model-length (b .vars) s) (length s) (and-left (leb (model-length (b .vars) s) (length s)) _ p));
+      ∙ model-forth (b .vars) s y (leb→le (model-length (b .vars) s) (length s)
+      (and-left (leb (model-length (b .vars) s) (length s)) _ p));
   sound = both (held-model-sound b m) _ (and-right (leb (model-length (b .vars) s) (length s)) _ p) (r .sound);
 }
   where
@@ -120,7 +124,8 @@ models-forth b i zero before ms [] h = record {
 }
 models-forth b i zero before ms (x ∷ s) h = let z : _≡_ {A = ℕ} 0 1 = cc in absurd (omega arith)
 models-forth b i (suc c) before ms s h =
-    let p = passed-at (length before) (leb (model-length (b .vars) s) (length s) && held-model-sound b (read-model (b .vars) s))
+    let p = passed-at (length before)
+    (leb (model-length (b .vars) s) (length s) && held-model-sound b (read-model (b .vars) s))
     bad-model _ ms h in
     one-more b i c before ms s (p .test) (models-forth b (suc i) c _ ms _ (p .result))
 

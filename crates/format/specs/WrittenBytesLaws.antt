@@ -11,6 +11,7 @@ use Rattle.calculus.specs.Refusal.{done}
 use Rattle.calculus.specs.Book.{Book}
 use Rattle.calculus.specs.TestLaws.{and-left, and-right}
 use Rattle.calculus.specs.Refusal.{all-from}
+use Rattle.calculus.specs.Key.{short-key}
 use Rattle.format.specs.Bytes.{byte, All-bytes, join, u16-bytes, u32-bytes}
 use Rattle.format.specs.HeldBook.{Held-term, Held-model, Held-step, Held-book, outline-of}
 use Rattle.format.specs.HeldBook.{held-model-sound, held-step-sound, Held-passes}
@@ -50,8 +51,8 @@ key-all : (n k : ℕ) → All-bytes (key-bytes n k)
 unfolding key-bytes
 key-all n k = go (short-keys n)
   where
-    go : (b : Bool) → All-bytes (cond b (u16-bytes (k / 65536)) (u32-bytes k))
-    go true = two-bytes (k / 65536)
+    go : (b : Bool) → All-bytes (cond b (u16-bytes (k / short-key)) (u32-bytes k))
+    go true = two-bytes (k / short-key)
     go false = four-bytes k
 
 terms-all : (n : ℕ) (ts : List Held-term) → All-bytes (join (map (term-bytes n) ts))

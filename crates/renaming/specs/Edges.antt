@@ -9,6 +9,7 @@ use lib.Dec.{lit<}
 use lib.IntN.{ℤ, pos}
 use lib.ListN.{getD}
 use Rattle.algebra.specs.Rational.{ℚ}
+use Rattle.calculus.specs.Key.{short-key}
 use Rattle.calculus.specs.Refusal.{over-span, too-many-terms, leaves-box, uncertified, Result, stopped}
 use Rattle.calculus.specs.Book.{input, variable, multiply, substitute, quotient, antiderivative, Summary}
 use Rattle.calculus.specs.Terms.{Terms}
@@ -52,9 +53,9 @@ circle = record {
 }
 
 -- ---- short forms
--- a term with a key of 16 bits, which are the first of 32
+-- a term with a short key
 unfoldable pub at : (key : ℕ) → ℤ → Held-term
-at k c = record { key = k * 65536; coefficient = c }
+at k c = record { key = k * short-key; coefficient = c }
 
 -- a model of three variables
 unfoldable pub held : (radius : ℕ) → List Held-term → Held-model
@@ -213,7 +214,7 @@ unfolding renames renaming-forms
 fields-become = refl
 
 -- the keys of each model, which rise again
-pub keys-become : map (λ m. map (λ t. t .key / 65536) (m .terms)) (rename-held circle milking-before .models)
+pub keys-become : map (λ m. map (λ t. t .key / short-key) (m .terms)) (rename-held circle milking-before .models)
     ≡ (0x0100 ∷ 0x1000 ∷ 0x1020 ∷ []) ∷ (0x0100 ∷ 0x0200 ∷ 0x1000 ∷ 0x1020 ∷ 0x1100 ∷ 0x1120 ∷ [])
     ∷ (0x0000 ∷ 0x0100 ∷ []) ∷ (0x0000 ∷ 0x0100 ∷ []) ∷ []
 unfolding renames renaming-forms

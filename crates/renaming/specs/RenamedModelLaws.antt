@@ -16,8 +16,8 @@ use Rattle.calculus.specs.Model.{Model, most-terms, span, fits}
 use Rattle.calculus.specs.Refusal.{accepted, require, over-span, too-many-terms}
 use Rattle.calculus.specs.Operations.{limited, is-constant, constant-part, even-powers, can-fall, can-rise, below}
 use Rattle.calculus.specs.Operations.{above, range, range-in-box, widen, integral-sum, term-by-term, largest-end}
-use Rattle.calculus.specs.Operations.{common-denominator, has-exact, integral-parts, Mixed, zero-mixed, mixed-part, exact-part, one-if-any}
-use Rattle.calculus.specs.Operations.{Ends, exact-ends, integral}
+use Rattle.calculus.specs.Operations.{common-denominator, has-exact, integral-parts, Mixed, zero-mixed, mixed-part}
+use Rattle.calculus.specs.Operations.{exact-part, one-if-any, Ends, exact-ends, integral}
 use Rattle.calculus.specs.Operations.{largest-value}
 use Rattle.calculus.specs.TermsLaws.{every-implies}
 use Rattle.calculus.specs.FitsLaws.{fits-length}
