@@ -13,7 +13,7 @@ use Rattle.calculus.specs.Calls.{call-evaluate, call-antiderivative, cal
 use Rattle.calculus.specs.Calls.{call-substitute, call-sound, returned-model, returned-ends, returned-integral}
 use Rattle.calculus.specs.Computing.{calls}
 use Rattle.calculus.specs.Forms.{at-key, at-long-key, model, ends, minus, mixed, line, forms}
-use Rattle.calculus.specs.Edges.{one-term, terms-from}
+use Rattle.calculus.specs.Edges.{one-term, one-long-term, terms-from}
 
 -- what a call hands back
 pub data Handed-back : Type 0 where
@@ -108,23 +108,36 @@ integrated c = call-antiderivative 2 1 (one-term 1 0x1000 c)
 unfoldable pub square : (e : ℕ) → ℤ → Model
 square e c = model 1 e (at-key 1 0x2000 c ∷ [])
 
+-- 6 x8 + 4 x5 + 8 x1 in eight variables, in units of 1/U
+unfoldable pub long-line : Model
+long-line = model 8 0
+    (at-long-key 8 0x00000001 (pos 6) ∷ at-long-key 8 0x00001000 (pos 4) ∷ at-long-key 8 0x10000000 (pos 8) ∷ [])
+
+-- a point of eight coordinates: the first one, three zeros, and the last four
+unfoldable pub point : (a e f g h : ℤ) → List ℤ
+point a e f g h = a ∷ pos 0 ∷ pos 0 ∷ pos 0 ∷ e ∷ f ∷ g ∷ h ∷ []
+
 -- ---- the table; the line is 5 + 3x
 unfoldable pub call-edges : List Call-edge
 call-edges =
     -- 3 before 6
     refuses 1 (call-constant 0 (pos 1073741825)) 3 0
     ∷ refuses 1 (call-variable 9 10) 3 0
+    ∷ refuses 1 (call-constant 9 (pos 1)) 3 0
     -- 6
     ∷ refuses 2 (call-constant 4 (minus 1073741825)) 6 0
     ∷ refuses 2 (call-variable 2 3) 6 0
     ∷ gives 2 (call-variable 4 4) (one-term 4 0x0001 (pos 1048576))
-    ∷ gives 2 (call-variable 8 8) (model 8 0 (at-long-key 8 0x00000001 (pos 1048576) ∷ []))
+    ∷ gives 2 (call-variable 8 8) (one-long-term 8 0x00000001 (pos 1048576))
+    ∷ refuses 2 (call-variable 8 9) 6 0
     -- 5 before 6
     ∷ refuses 3 (call-sweep (minus 1) bad) 5 0
     ∷ refuses 3 (call-sweep (minus 1) line) 6 0
     ∷ gives 3 (call-sweep (pos 1073741824) line) (model 1 3 (at-key 1 0x0000 (pos 5) ∷ []))
     -- a model's own n counts under 5, and so do its span and keys that do not rise
     ∷ refuses 4 (call-negate (model 0 0 [])) 5 0
+    ∷ refuses 4 (call-negate (model 9 0 [])) 5 0
+    ∷ gives 4 (call-negate (model 8 0 [])) (model 8 0 [])
     ∷ refuses 4 (call-negate (model 1 1073741825 [])) 5 0
     ∷ refuses 4 (call-negate (model 1 0 (at-key 1 0x1000 (pos 1) ∷ at-key 1 0x1000 (pos 1) ∷ []))) 5 0
     -- no order is taken: degrees go up to 15
@@ -238,14 +251,36 @@ call-edges =
     ∷ gives 28 (call-antiderivative 3 1 cube) (model 1 262144 [])
     ∷ gives 28 (call-antiderivative 2 1 (model 1 1073741821 (at-key 1 0x1000 (pos 3) ∷ [])))
     (model 1 1073741822 (at-key 1 0x2000 (pos 2) ∷ []))
+    -- at eight coordinates, 1 for x1 and -1/2 for x5 and x8: 8 - 2 - 3
+    ∷ gives-ends 29 (call-evaluate (point (pos 1048576) (minus 524288) (pos 7) (minus 9) (minus 524288)) long-line)
+    (ends (pos 3) (pos 3))
+    -- 6 for each of the coordinates 5 to 8 above n, 9 for each of them outside the box
+    ∷ refuses-ends 30 (call-evaluate (point (pos 0) (pos 1) (pos 0) (pos 0) (pos 0)) (model 4 0 [])) 6
+    ∷ refuses-ends 30 (call-evaluate (point (pos 0) (pos 0) (pos 1) (pos 0) (pos 0)) (model 5 0 [])) 6
+    ∷ refuses-ends 30 (call-evaluate (point (pos 0) (pos 0) (pos 0) (minus 1) (pos 0)) (model 6 0 [])) 6
+    ∷ refuses-ends 30 (call-evaluate (point (pos 0) (pos 0) (pos 0) (pos 0) (pos 1)) (model 7 0 [])) 6
+    ∷ refuses-ends 30 (call-evaluate (point (pos 0) (pos 1048577) (pos 0) (pos 0) (pos 0)) (model 5 0 [])) 9
+    ∷ refuses-ends 30 (call-evaluate (point (pos 0) (pos 0) (minus 1048577) (pos 0) (pos 0)) long-line) 9
+    ∷ refuses-ends 30 (call-evaluate (point (pos 0) (pos 0) (pos 0) (pos 1048577) (pos 0)) long-line) 9
+    ∷ refuses-ends 30 (call-evaluate (point (pos 0) (pos 0) (pos 0) (pos 0) (minus 1048577)) long-line) 9
+    -- a product, a substitution, an antiderivative and a range in variables 5 to 8: x5 x8; x1/2 for x8 in that; its
+    -- antiderivative in x8; x5 x8, x5^2 x8 and x5^2 x8^2
+    ∷ gives 31 (call-multiply 2 (one-long-term 8 0x00001000 (pos 1048576)) (one-long-term 8 0x00000001 (pos 7)))
+    (one-long-term 8 0x00001001 (pos 7))
+    ∷ gives 31 (call-substitute 2 8 (one-long-term 8 0x00001001 (pos 8)) (one-long-term 8 0x10000000 (pos 524288)))
+    (one-long-term 8 0x10001000 (pos 4))
+    ∷ gives 31 (call-antiderivative 3 8 (one-long-term 8 0x00001001 (pos 8))) (one-long-term 8 0x00001002 (pos 4))
+    ∷ gives-ends 31 (call-range (one-long-term 8 0x00001001 (pos 7))) (ends (minus 7) (pos 7))
+    ∷ gives-ends 31 (call-range (one-long-term 8 0x00002001 (pos 7))) (ends (minus 7) (pos 7))
+    ∷ gives-ends 31 (call-range (one-long-term 8 0x00002002 (pos 7))) (ends (pos 0) (pos 7))
     ∷ []
 
 -- each call hands back what its row says
 pub call-edges-hold : map (λ r. r .given) call-edges ≡ map (λ r. r .wanted) call-edges
 unfolding
-    calls forms one-term terms-from
+    calls forms one-term one-long-term terms-from
     back gives refuses gives-ends refuses-ends refuses-integral bad cube two-variables outside near-limit times about
-    constant-and-square square-minus integrated square call-edges
+    constant-and-square square-minus integrated square long-line point call-edges
 call-edges-hold = refl
 
 -- ---- whether a model keeps the rules: x^15 y^i with degrees up to d

@@ -53,8 +53,8 @@ call-range f = require-at 0 (sound most-degree f) bad-model (done (Op.range f))
 unfoldable pub call-integral : Model → Result Integral
 call-integral f = require-at 0 (sound most-degree f) bad-model (done (Op.whole-integral f))
 
--- 5, 6 for a coordinate above n, 9 for one of the first n, then what the substitutions give: there are four coordinates
--- in the code, and evaluation reads the first n
+-- 5, 6 for a coordinate above n, 9 for one of the first n, then what the substitutions give: there are eight
+-- coordinates in the code, and evaluation reads the first n
 unfoldable pub call-evaluate : List ℤ → Model → Result Ends
 call-evaluate Xs f =
     require-at 0 (sound most-degree f) bad-model

@@ -5,6 +5,7 @@ use mathlib.Core.List.{List, [], _∷_, map}
 use Prim.Native.Nat.{ℕ, zero, suc, _+_, _*_, _/_, _%_}
 use lib.IntN.{ℤ, pos}
 use lib.ListN.{replicate}
+use Rattle.calculus.specs.Key.{key-degree}
 use Rattle.calculus.specs.Terms.{Terms}
 use Rattle.calculus.specs.Model.{Model}
 use Rattle.calculus.specs.Refusal.{bad-limits, bad-model, bad-step, over-span, too-many-terms, leaves-box}
@@ -12,7 +13,7 @@ use Rattle.calculus.specs.Refusal.{Result, stopped}
 use Rattle.calculus.specs.Book.{Step, input, constant, variable, negate, add, subtract, multiply, substitute}
 use Rattle.calculus.specs.Book.{sweep, antiderivative, quotient, Book, Summary, run}
 use Rattle.calculus.specs.Computing.{runs}
-use Rattle.calculus.specs.Forms.{at-key, model, book, ends, minus, mixed, gives, forms}
+use Rattle.calculus.specs.Forms.{at-key, at-long-key, model, book, ends, minus, mixed, gives, forms}
 
 -- a row of the table: its number, a book, and what its run must give
 pub record Book-edge : Type 0 where
@@ -32,6 +33,10 @@ row-of-terms keys = model 2 0 (map (λ key. at-key 2 key (pos 67108864)) keys)
 -- a model of one term
 unfoldable pub one-term : (n key : ℕ) → ℤ → Model
 one-term n key c = model n 0 (at-key n key c ∷ [])
+
+-- one whose key is long
+unfoldable pub one-long-term : (n key : ℕ) → ℤ → Model
+one-long-term n key c = model n 0 (at-long-key n key c ∷ [])
 
 -- so many terms with the coefficient c, from the i-th of 1, y, .., y^7, x, xy, .., x y^7, x^2, .. on
 unfoldable pub terms-from : (i count : ℕ) → ℤ → Terms
@@ -162,9 +167,34 @@ edges =
     (gives (model 1 174763 []) (ends (minus 174763) (pos 174763)) (ends (minus 349526) (pos 349526)) (mixed (pos 0) 0))
     -- an antiderivative's operand is an earlier step, its variable 1 to n
     ∷ broken 22 (antiderivative 1 1) ∷ broken 22 (antiderivative 0 0) ∷ broken 22 (antiderivative 0 2)
+    -- variables 5 to 8: the product of variable 5 and variable 8; variable 9 there is none
+    ∷ row 23 (book 8 2 [] (variable 5 ∷ variable 8 ∷ multiply 0 1 ∷ []))
+    (gives (one-long-term 8 0x00001001 (pos 1048576)) (ends (minus 1048576) (pos 1048576)) (ends (pos 0) (pos 0))
+    (mixed (pos 0) 0))
+    ∷ row 23 (book 8 2 [] (variable 9 ∷ [])) (stopped bad-step 0)
+    -- row 2 in the last three of eight variables: exponents of 16 and more are carried nowhere
+    ∷ row 24 (book 8 15
+    (model 8 0 (at-long-key 8 0x00000090 (pos 1048576) ∷ at-long-key 8 0x00000108 (pos 1048576) ∷ [])
+    ∷ model 8 0 (at-long-key 8 0x00000008 (minus 1048576) ∷ at-long-key 8 0x00000080 (pos 1048576) ∷ []) ∷ [])
+    (input 0 ∷ input 1 ∷ multiply 0 1 ∷ []))
+    (gives (model 8 4194304 []) (ends (minus 4194304) (pos 4194304)) (ends (minus 1073741824) (pos 1073741824))
+    (mixed (pos 0) 0))
+    -- the 15th powers of the first and the last of eight variables
+    ∷ row 25 (book 8 15
+    (model 8 0 (at-long-key 8 0x0000000F (pos 3) ∷ at-long-key 8 0xF0000000 (pos 5) ∷ []) ∷ []) (input 0 ∷ []))
+    (gives (model 8 0 (at-long-key 8 0x0000000F (pos 3) ∷ at-long-key 8 0xF0000000 (pos 5) ∷ []))
+    (ends (minus 8) (pos 8)) (ends (pos 0) (pos 0)) (mixed (pos 0) 0))
+    ∷ row 25 (book 8 14 (one-long-term 8 0x0000000F (pos 3) ∷ []) (input 0 ∷ [])) (stopped bad-model 0)
     ∷ []
 
 -- the run of each book gives what its row says
 pub edges-run : map (λ r. run (r .book)) edges ≡ map (λ r. r .result) edges
-unfolding runs forms edges row row-of-terms one-term terms-from small-constant broken
+unfolding runs forms edges row row-of-terms one-term one-long-term terms-from small-constant broken
 edges-run = refl
+
+-- ---- degrees of keys
+-- all exponents 15; the 15th powers of the first and the last of eight variables; one exponent each
+pub degrees-stand : map key-degree (0xFFFFFFFF ∷ 0xF0000000 ∷ 0x0000000F ∷ 0x11111111 ∷ 0x00001001 ∷ 0x00000000 ∷ [])
+    ≡ 120 ∷ 15 ∷ 15 ∷ 8 ∷ 2 ∷ 0 ∷ []
+unfolding runs key-degree
+degrees-stand = refl

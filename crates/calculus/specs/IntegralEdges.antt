@@ -10,7 +10,7 @@ use Rattle.calculus.specs.Calls.{call-integral}
 use Rattle.calculus.specs.Book.{run, returned-summary}
 use Rattle.calculus.specs.Computing.{calls}
 use Rattle.calculus.specs.Forms.{at-key, at-long-key, model, book, ends, minus, mixed, forms}
-use Rattle.calculus.specs.Edges.{one-term, terms-from}
+use Rattle.calculus.specs.Edges.{one-term, one-long-term, terms-from}
 use Rattle.calculus.specs.CallEdges.{back}
 
 -- a row of the table: a model, and what its integral must be
@@ -62,12 +62,19 @@ integral-edges =
     ∷ integrates (model 4 1073741823 (at-key 4 0x0000 (minus 1) ∷ []))
     (ends (minus 17179869184) (pos 17179869152)) (mixed (minus 16) 0)
     -- above four variables each term is rounded by itself, and q and r are 0: -32/3; 32/3 + 32/3; radii
-    ∷ integrates (model 5 0 (at-long-key 5 0x20000000 (minus 1) ∷ [])) (ends (minus 11) (minus 10)) (mixed (pos 0) 0)
+    ∷ integrates (one-long-term 5 0x20000000 (minus 1)) (ends (minus 11) (minus 10)) (mixed (pos 0) 0)
     ∷ integrates (model 5 0 (at-long-key 5 0x02000000 (pos 1) ∷ at-long-key 5 0x20000000 (pos 1) ∷ []))
     (ends (pos 20) (pos 22)) (mixed (pos 0) 0)
     ∷ integrates (model 8 1 (at-long-key 8 0x00000002 (pos 3) ∷ [])) (ends (pos 0) (pos 512)) (mixed (pos 0) 0)
     ∷ integrates (model 8 1073741823 (at-long-key 8 0x00000000 (pos 1) ∷ []))
     (ends (minus 274877906432) (pos 274877906944)) (mixed (pos 0) 0)
+    -- x5^2 x8^2 and its negative: 256/9; beside x5^2: 28 + 85 and 29 + 86, where the sum would give 113 and 114
+    ∷ integrates (one-long-term 8 0x00002002 (pos 1)) (ends (pos 28) (pos 29)) (mixed (pos 0) 0)
+    ∷ integrates (one-long-term 8 0x00002002 (minus 1)) (ends (minus 29) (minus 28)) (mixed (pos 0) 0)
+    ∷ integrates (model 8 0 (at-long-key 8 0x00002000 (pos 1) ∷ at-long-key 8 0x00002002 (pos 1) ∷ []))
+    (ends (pos 113) (pos 115)) (mixed (pos 0) 0)
+    -- an odd exponent of the last variable
+    ∷ integrates (one-long-term 8 0x00002001 (pos 7)) (ends (pos 0) (pos 0)) (mixed (pos 0) 0)
     -- all 330 even monomials of degree at most 15 in four variables
     ∷ integrates
     (ones (0x0000 ∷ 0x0002 ∷ 0x0004 ∷ 0x0006 ∷ 0x0008 ∷ 0x000A ∷ 0x000C ∷ 0x000E ∷ 0x0020 ∷ 0x0022 ∷ 0x0024 ∷
@@ -115,7 +122,7 @@ integral-edges =
 
 -- each call gives what its row says
 pub integral-edges-hold : map (λ r. call-integral (r .model)) integral-edges ≡ map (λ r. r .result) integral-edges
-unfolding calls forms one-term integrates ones integral-edges
+unfolding calls forms one-term one-long-term integrates ones integral-edges
 integral-edges-hold = refl
 
 -- ---- a refused run
