@@ -263,6 +263,11 @@ call-edges =
     ∷ refuses-ends 30 (call-evaluate (point (pos 0) (pos 0) (minus 1048577) (pos 0) (pos 0)) long-line) 9
     ∷ refuses-ends 30 (call-evaluate (point (pos 0) (pos 0) (pos 0) (pos 1048577) (pos 0)) long-line) 9
     ∷ refuses-ends 30 (call-evaluate (point (pos 0) (pos 0) (pos 0) (pos 0) (minus 1048577)) long-line) 9
+    -- which comes before 7, as in row 14
+    ∷ refuses-ends 30 (call-evaluate (point (pos 1048575) (pos 1048577) (pos 0) (pos 0) (pos 0))
+    (near-limit 5 1073741823)) 9
+    ∷ refuses-ends 30 (call-evaluate (point (pos 1048575) (pos 0) (pos 0) (pos 0) (minus 1048577))
+    (near-limit 8 1073741823)) 9
     -- a product, a substitution, an antiderivative and a range in variables 5 to 8: x5 x8; x1/2 for x8 in that; its
     -- antiderivative in x8; x5 x8, x5^2 x8 and x5^2 x8^2
     ∷ gives 31 (call-multiply 2 (one-long-term 8 0x00001000 (pos 1048576)) (one-long-term 8 0x00000001 (pos 7)))

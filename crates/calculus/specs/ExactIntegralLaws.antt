@@ -5,7 +5,7 @@ use mathlib.Core.Bool.{Bool, true, false, not}
 use mathlib.Core.List.{List, [], _∷_}
 use Prim.Native.Nat.{ℕ, zero, suc, _+_, _*_, _/_, _^_, _≤_, _<_}
 use native.Mathlib.Omega.{arith}
-use lib.Dec.{T, eqb, eqb→eq, leb→le}
+use lib.Dec.{T, eqb, eqb→eq, leb→le, T-not}
 use lib.IntN.{ℤ, pos, negℤ, _+ℤ_, _-ℤ_, _*ℤ_}
 use lib.Signed.{_≤ℤ_}
 use Rattle.algebra.specs.Integer.{is, is-eq, is-add, is-mul, is-nat, plus, minus}
@@ -245,17 +245,17 @@ module _ (m : Model) (s : Served m) where
       (λ (e : Ends). (term-by-term m .low ≤ℤ e .low) × (e .high ≤ℤ term-by-term m .high)) (sym ends-are)
       (ℤO .≤-add (negℤ (pos (2 ^ m .vars * m .radius))) down-le, ℤO .≤-add (pos (2 ^ m .vars * m .radius)) up-ge)
 
+-- the two cases of a test
+by-test : {A : Type 0} (P : A → Type 0) (b : Bool) (x y : A) → (T b → P x) → (T (not b) → P y)
+    → P (elim b as (λ b. A) [ true ↦ x | false ↦ y ])
+by-test P true x y f g = f tt
+by-test P false x y f g = g tt
+
 -- ---- the ends of any model: these, or above four variables those of the term-by-term rule
--- the two cases
 pub by-exact : (P : Ends → Type 0) (m : Model) → (T (has-exact (m .vars)) → P (exact-ends m))
     → (T (not (has-exact (m .vars))) → P (term-by-term m)) → P (integral m)
 unfolding integral
-by-exact P m f g = go (has-exact (m .vars)) f g
-  where
-    go : (b : Bool) → (T b → P (exact-ends m)) → (T (not b) → P (term-by-term m))
-        → P (elim b as (λ b. Ends) [ true ↦ exact-ends m | false ↦ term-by-term m ])
-    go true f g = f tt
-    go false f g = g tt
+by-exact P m f g = by-test P (has-exact (m .vars)) _ _ f g
 
 -- THEOREM: they enclose the integral of what is within the model
 pub integral-encloses : (m : Model) → (T (has-exact (m .vars)) → Served m) → (p : ℚ-Polynomial)
@@ -272,16 +272,10 @@ integral-inside m s = by-exact (λ e. (term-by-term m .low ≤ℤ e .low) × (e 
 -- ---- q and r: of a model in up to four variables; above, 0
 pub exact-known : (m : Model) → T (has-exact (m .vars)) → exact-part m ≡ mixed-part m
 unfolding exact-part
-exact-known m t = go (has-exact (m .vars)) t
-  where
-    go : (b : Bool) → T b → elim b as (λ b. Mixed) [ true ↦ mixed-part m | false ↦ zero-mixed ] ≡ mixed-part m
-    go true t = refl
-    go false t = absurd t
+exact-known m t = by-test (λ x. x ≡ mixed-part m) (has-exact (m .vars)) _ _ (λ e. refl)
+    (λ e. absurd (T-not (has-exact (m .vars)) e t))
 
 pub exact-none : (m : Model) → T (not (has-exact (m .vars))) → exact-part m ≡ zero-mixed
 unfolding exact-part
-exact-none m t = go (has-exact (m .vars)) t
-  where
-    go : (b : Bool) → T (not b) → elim b as (λ b. Mixed) [ true ↦ mixed-part m | false ↦ zero-mixed ] ≡ zero-mixed
-    go true t = absurd t
-    go false t = refl
+exact-none m t = by-test (λ x. x ≡ zero-mixed) (has-exact (m .vars)) _ _
+    (λ e. absurd (T-not (has-exact (m .vars)) t e)) (λ e. refl)
