@@ -1,18 +1,21 @@
 -- Sheets at the edges of the tests, beside the samples, and the largest sheet.
 use mathlib.Core.Path.{_≡_, refl}
 use mathlib.Core.List.{List, [], _∷_, _++_, map}
-use Prim.Native.Nat.{ℕ, zero, suc, _*_}
+use Prim.Native.Nat.{ℕ, zero, suc, _-_, _*_}
 use Prim.Native.String.{String}
 use lib.IntN.{pos, negsuc, negℤ}
 use lib.ListN.{replicate, length}
 use Rattle.fixed.specs.Fixed.{U}
+use Rattle.calculus.specs.Key.{short-key}
 use Rattle.calculus.specs.Refusal.{uncertified, done, stopped}
 use Rattle.calculus.specs.Forms.{at-key, at-long-key, model, ends, mixed, gives}
 use Rattle.format.specs.Bytes.{join}
 use Rattle.format.specs.HeldBook.{Held-model, Held-book}
-use Rattle.format.specs.Format.{longest, returned-book, opened, run-sheet, written}
+use Rattle.format.specs.Format.{trailer-length, longest, read, returned-book, opened, run-sheet, sheet-bytes}
+use Rattle.format.specs.Format.{written}
+use Rattle.format.specs.Lines.{text, printed}
 use Rattle.format.specs.Samples.{hex, sheet-forms}
-use Rattle.format.specs.Computing.{reads, writes}
+use Rattle.format.specs.Computing.{reads, writes, prints}
 
 -- a row of the table: the number and the place that a read gives, 0 and 0 where it is accepted, and the sheet
 pub record Sheet-edge : Type 0 where
@@ -24,6 +27,10 @@ pub record Sheet-edge : Type 0 where
 unfoldable pub edge : (number place : ℕ) → List String → Sheet-edge
 edge i p l = record { number = i; place = p; bytes = hex l }
 
+-- a sheet of so many bytes, all 0 but the trailer
+unfoldable pub long-edge : (number place length : ℕ) → String → Sheet-edge
+long-edge i p k trailer = record { number = i; place = p; bytes = replicate (k - trailer-length) 0 ++ hex (trailer ∷ []) }
+
 -- the table
 unfoldable pub edges : List Sheet-edge
 edges =
@@ -31,16 +38,25 @@ edges =
     edge 1 0 []
     -- 15 bytes
     ∷ edge 1 0 ("00 00 00 00 00 00 00" ∷ "01 02 00 01 00 00 4D 4B" ∷ [])
+    -- 8,793 bytes with either mark; 8,792, and what was too long before there were two marks: the offset is wrong
+    ∷ long-edge 1 0 8793 "08 0F 00 01 00 00 4D 57" ∷ long-edge 1 0 8793 "04 0F 00 01 00 00 4D 4B"
+    ∷ long-edge 4 0 8792 "08 0F 00 01 00 00 4D 57" ∷ long-edge 4 0 8792 "04 0F 00 01 00 00 4D 4B"
+    ∷ long-edge 4 0 6745 "04 0F 00 01 00 00 4D 4B" ∷ long-edge 4 0 6744 "04 0F 00 01 00 00 4D 4B"
     -- a wrong mark in either byte
     ∷ edge 2 0 ("01 00 00 00 00 00 00 00" ∷ "01 02 00 01 00 00 4E 4B" ∷ [])
     ∷ edge 2 0 ("01 00 00 00 00 00 00 00" ∷ "01 02 00 01 00 00 4D 4A" ∷ [])
+    ∷ edge 2 0 ("01 00 00 00 00 00 00 00" ∷ "05 02 00 01 00 00 4E 57" ∷ [])
+    ∷ edge 2 0 ("01 00 00 00 00 00 00 00" ∷ "05 02 00 01 00 00 4D 58" ∷ [])
     -- n, d and the counts just outside their limits; the wrong offset that comes with some of them is not yet seen
     ∷ edge 3 0 ("01 00 00 00 00 00 00 00" ∷ "00 02 00 01 00 00 4D 4B" ∷ [])
     ∷ edge 3 0 ("01 00 00 00 00 00 00 00" ∷ "00 02 00 01 00 00 4D 57" ∷ [])
     ∷ edge 3 0 ("01 00 00 00 00 00 00 00" ∷ "09 02 00 01 00 00 4D 57" ∷ [])
+    ∷ edge 3 0 ("01 00 00 00 00 00 00 00" ∷ "09 02 00 01 00 00 4D 4B" ∷ [])
     -- n of 1 to 4 with the one mark, n of 5 to 8 with the other
     ∷ edge 0 0 ("01 00 00 00 00 00 00 00" ∷ "04 02 00 01 00 00 4D 4B" ∷ [])
     ∷ edge 3 0 ("01 00 00 00 00 00 00 00" ∷ "05 02 00 01 00 00 4D 4B" ∷ [])
+    ∷ edge 3 0 ("01 00 00 00 00 00 00 00" ∷ "08 02 00 01 00 00 4D 4B" ∷ [])
+    ∷ edge 3 0 ("01 00 00 00 00 00 00 00" ∷ "01 02 00 01 00 00 4D 57" ∷ [])
     ∷ edge 3 0 ("01 00 00 00 00 00 00 00" ∷ "04 02 00 01 00 00 4D 57" ∷ [])
     ∷ edge 0 0 ("01 00 00 00 00 00 00 00" ∷ "05 02 00 01 00 00 4D 57" ∷ [])
     ∷ edge 0 0 ("01 00 00 00 00 00 00 00" ∷ "08 02 00 01 00 00 4D 57" ∷ [])
@@ -58,6 +74,17 @@ edges =
     ∷ edge 5 0 ("00 00 00 00 01 00 10 00 00 00 00" ∷ "01 00 00 00 00 00 00 00" ∷ "01 02 01 01 0B 00 4D 4B" ∷ [])
     ∷ edge 5 0 ("00 00 00 00 02 00 10 01 00 00 00 00 10 01 00 00 00" ∷ "01 00 00 00 00 00 00 00" ∷
     "01 02 01 01 11 00 4D 4B" ∷ [])
+    -- long keys: variable 8 alone in eight variables and in seven; the 15th powers of variables 1 and 8, and the latter
+    -- in a book of order 14; all exponents 15; keys that fall; a key of two bytes
+    ∷ edge 0 0 ("00 00 00 00 01 01 00 00 00 01 00 00 00" ∷ "01 00 00 00 00 00 00 00" ∷ "08 02 01 01 0D 00 4D 57" ∷ [])
+    ∷ edge 5 0 ("00 00 00 00 01 01 00 00 00 01 00 00 00" ∷ "01 00 00 00 00 00 00 00" ∷ "07 02 01 01 0D 00 4D 57" ∷ [])
+    ∷ edge 0 0 ("00 00 00 00 02 0F 00 00 00 01 00 00 00 00 00 00 F0 01 00 00 00" ∷ "01 00 00 00 00 00 00 00" ∷
+    "08 0F 01 01 15 00 4D 57" ∷ [])
+    ∷ edge 5 0 ("00 00 00 00 01 0F 00 00 00 01 00 00 00" ∷ "01 00 00 00 00 00 00 00" ∷ "08 0E 01 01 0D 00 4D 57" ∷ [])
+    ∷ edge 5 0 ("00 00 00 00 01 FF FF FF FF 01 00 00 00" ∷ "01 00 00 00 00 00 00 00" ∷ "08 0F 01 01 0D 00 4D 57" ∷ [])
+    ∷ edge 5 0 ("00 00 00 00 02 00 00 00 F0 01 00 00 00 0F 00 00 00 01 00 00 00" ∷ "01 00 00 00 00 00 00 00" ∷
+    "08 0F 01 01 15 00 4D 57" ∷ [])
+    ∷ edge 5 0 ("00 00 00 00 01 00 10 01 00 00 00" ∷ "01 00 00 00 00 00 00 00" ∷ "05 02 01 01 0B 00 4D 57" ∷ [])
     -- span 2^30 and one above, by the radius and by a coefficient; the least coefficient
     ∷ edge 0 0 ("00 00 00 40 00" ∷ "01 00 00 00 00 00 00 00" ∷ "01 02 01 01 05 00 4D 4B" ∷ [])
     ∷ edge 5 0 ("01 00 00 40 00" ∷ "01 00 00 00 00 00 00 00" ∷ "01 02 01 01 05 00 4D 4B" ∷ [])
@@ -119,7 +146,7 @@ edges =
 -- the read of each sheet gives what its row says
 pub edges-read : map {B = ℕ × ℕ} (λ r. (returned-book (r .bytes) .number, returned-book (r .bytes) .place)) edges
     ≡ map (λ r. (r .number, r .place)) edges
-unfolding reads writes sheet-forms edges edge
+unfolding reads writes sheet-forms edges edge long-edge
 edges-read = refl
 
 -- ---- quotients
@@ -163,6 +190,17 @@ pub edge-eight : run-sheet (hex ("00 00 00 00 02 02 00 00 00 03 00 00 00 00 00 0
 unfolding reads sheet-forms
 edge-eight = refl
 
+-- its lines, and those of 2 x5 in five variables: no `exact`, which four variables have
+pub edge-lines : (printed (hex ("00 00 00 00 02 02 00 00 00 03 00 00 00 00 00 00 10 01 00 00 00" ∷
+    "00 00 00 00 00 00 00 00" ∷ "08 02 01 01 15 00 4D 57" ∷ []))
+    ≡ text "radius 0\nterm 0 0 0 0 0 0 0 2 3\nterm 1 0 0 0 0 0 0 0 1\nrange -1 4\nintegral 256 256\n")
+    × (printed (hex ("00 00 00 00 01 00 10 00 00 02 00 00 00" ∷ "00 00 00 00 00 00 00 00" ∷
+    "05 02 01 01 0D 00 4D 57" ∷ [])) ≡ text "radius 0\nterm 0 0 0 0 1 2\nrange -2 2\nintegral 0 0\n")
+    × (printed (hex ("00 00 00 00 01 01 00 02 00 00 00" ∷ "00 00 00 00 00 00 00 00" ∷ "04 02 01 01 0B 00 4D 4B" ∷ []))
+    ≡ text "radius 0\nterm 0 0 0 1 2\nrange -2 2\nintegral 0 0\nexact 0 0\n")
+unfolding prints sheet-forms
+edge-lines = (refl, refl, refl)
+
 -- ---- records
 -- the records of a sheet whose run would be refused: two models and three steps, and no trailer
 pub edge-records : opened (hex ("02 00 00 00 00" ∷ "00 00 00 40 00" ∷ "00 00 00 00 00 00 00 00" ∷
@@ -171,6 +209,14 @@ pub edge-records : opened (hex ("02 00 00 00 00" ∷ "00 00 00 40 00" ∷ "00 00
     "00 01 00 00 00 00 00 00" ∷ "04 00 01 00 00 00 00 00" ∷ []))
 unfolding reads sheet-forms
 edge-records = refl
+
+-- two models with long keys, of two terms and of one
+pub edge-long-records : opened (hex ("00 00 00 00 02 02 00 00 00 03 00 00 00 00 00 00 10 01 00 00 00" ∷
+    "00 00 00 00 01 01 00 00 00 01 00 00 00" ∷ "00 00 00 00 00 00 00 00" ∷ "08 02 02 01 22 00 4D 57" ∷ []))
+    ≡ done (map (λ r. hex (r ∷ [])) ("00 00 00 00 02 02 00 00 00 03 00 00 00 00 00 00 10 01 00 00 00" ∷
+    "00 00 00 00 01 01 00 00 00 01 00 00 00" ∷ "00 00 00 00 00 00 00 00" ∷ []))
+unfolding reads sheet-forms
+edge-long-records = refl
 
 -- ---- writing
 -- one step without operands, in one variable; with code 1 it is the constant 0
@@ -186,18 +232,27 @@ small-book d code = record {
 unfoldable pub small-sheet : List ℕ
 small-sheet = hex ("01 00 00 00 00 00 00 00" ∷ "01 02 00 01 00 00 4D 4B" ∷ [])
 
--- the single term of key hex 2000, coefficient -1: the book of sample 12
-unfoldable pub square-book : Held-book
-square-book = record {
-  n = 1;
-  d = 2;
-  models = record { n = 1; radius = 0; terms = record { key = 0x20000000; coefficient = negsuc 0 } ∷ [] } ∷ [];
+-- an input of n variables: the single term of a key, coefficient -1
+unfoldable pub one-term-book : (n d key : ℕ) → Held-book
+one-term-book n d key = record {
+  n = n;
+  d = d;
+  models = record { n = n; radius = 0; terms = record { key = key; coefficient = negsuc 0 } ∷ [] } ∷ [];
   steps = record { code = 0; a = 0; b = 0; v = 0; value = pos 0 } ∷ [];
 }
 
--- its sheet
-unfoldable pub square-sheet : List ℕ
-square-sheet = hex ("00 00 00 00 01 00 20 FF FF FF FF" ∷ "00 00 00 00 00 00 00 00" ∷ "01 02 01 01 0B 00 4D 4B" ∷ [])
+-- the sheet of x1^2 in one variable, that of sample 12, with a short key
+unfoldable pub short-sheet : List ℕ
+short-sheet = hex ("00 00 00 00 01 00 20 FF FF FF FF" ∷ "00 00 00 00 00 00 00 00" ∷ "01 02 01 01 0B 00 4D 4B" ∷ [])
+
+-- of x1 x4^2 in four
+unfoldable pub short-sheet-of-four : List ℕ
+short-sheet-of-four = hex ("00 00 00 00 01 02 10 FF FF FF FF" ∷ "00 00 00 00 00 00 00 00" ∷ "04 03 01 01 0B 00 4D 4B" ∷
+    [])
+
+-- of x1 x5^2 in five, with a long one
+unfoldable pub long-sheet : List ℕ
+long-sheet = hex ("00 00 00 00 01 00 20 00 10 FF FF FF FF" ∷ "00 00 00 00 00 00 00 00" ∷ "05 03 01 01 0D 00 4D 57" ∷ [])
 
 -- a write: number, place, length and buffer
 unfoldable pub all-written : Held-book → List ℕ → ℕ × ℕ × ℕ × List ℕ
@@ -207,11 +262,20 @@ all-written h buffer = let w = written h buffer in (w .number, w .place, w .valu
 pub edge-written : (all-written (small-book 2 1) (replicate 18 0xFF) ≡ (0, 0, 16, small-sheet ++ (0xFF ∷ 0xFF ∷ [])))
     × (all-written (small-book 2 1) (replicate 16 0xFF) ≡ (0, 0, 16, small-sheet))
     × (all-written (small-book 2 1) (replicate 15 0xFF) ≡ (11, 0, 0, replicate 15 0xFF))
-    × (all-written square-book (replicate 27 0) ≡ (0, 0, 27, square-sheet))
     × (all-written (small-book 2 11) [] ≡ (6, 0, 0, []))
     × (all-written (small-book 0 11) [] ≡ (3, 0, 0, []))
-unfolding writes sheet-forms small-book small-sheet square-book square-sheet all-written
-edge-written = (refl, refl, refl, refl, refl, refl)
+unfolding writes sheet-forms small-book small-sheet all-written
+edge-written = (refl, refl, refl, refl, refl)
+
+-- keys of two bytes up to four variables, of four bytes above; a key with an exponent above n, and n = 9
+pub edge-keys-written : (all-written (one-term-book 1 2 0x20000000) (replicate 27 0) ≡ (0, 0, 27, short-sheet))
+    × (all-written (one-term-book 4 3 0x10020000) (replicate 27 0) ≡ (0, 0, 27, short-sheet-of-four))
+    × (all-written (one-term-book 5 3 0x10002000) (replicate 29 0) ≡ (0, 0, 29, long-sheet))
+    × (all-written (one-term-book 5 3 0x10002000) (replicate 28 0) ≡ (11, 0, 0, replicate 28 0))
+    × (all-written (one-term-book 4 3 0x10002000) [] ≡ (5, 0, 0, []))
+    × (all-written (one-term-book 9 3 0x10002000) [] ≡ (3, 0, 0, []))
+unfolding writes sheet-forms one-term-book short-sheet short-sheet-of-four long-sheet all-written
+edge-keys-written = (refl, refl, refl, refl, refl, refl)
 
 -- ---- the largest sheet
 -- k numbers from a on
@@ -219,25 +283,32 @@ unfoldable pub numbers-from : (a k : ℕ) → List ℕ
 numbers-from a zero = []
 numbers-from a (suc k) = a ∷ numbers-from (suc a) k
 
--- 64 terms in the last two of eight variables
-unfoldable pub largest-model : Held-model
-largest-model = record {
-  n = 8;
+-- 64 terms in the last two of n variables, the last of which has the key given
+unfoldable pub largest-model : (n last : ℕ) → Held-model
+largest-model n last = record {
+  n = n;
   radius = 0;
-  terms = map (λ z. record { key = z; coefficient = pos 1 })
+  terms = map (λ z. record { key = z * last; coefficient = pos 1 })
       (join (map (λ i. numbers-from (16 * i) 8) (numbers-from 0 8)));
 }
 
 -- 16 of them and 64 steps
-unfoldable pub largest-book : Held-book
-largest-book = record {
-  n = 8;
+unfoldable pub largest-book : (n last : ℕ) → Held-book
+largest-book n last = record {
+  n = n;
   d = 15;
-  models = replicate 16 largest-model;
+  models = replicate 16 (largest-model n last);
   steps = replicate 64 (record { code = 0; a = 0; b = 0; v = 0; value = pos 0 });
 }
 
--- its sheet is as long as test 1 allows
-pub largest-written : written largest-book (replicate longest 0) .value .length ≡ longest
+-- of eight variables its sheet is as long as test 1 allows; of four it has 6,744 bytes
+pub largest-written : (written (largest-book 8 1) (replicate longest 0) .value .length ≡ longest)
+    × (written (largest-book 4 short-key) (replicate longest 0) .value .length ≡ 6744)
 unfolding writes largest-book largest-model numbers-from
-largest-written = refl
+largest-written = (refl, refl)
+
+-- and both are read
+pub largest-read : (read (sheet-bytes (largest-book 8 1)) ≡ done (largest-book 8 1))
+    × (read (sheet-bytes (largest-book 4 short-key)) ≡ done (largest-book 4 short-key))
+unfolding writes largest-book largest-model numbers-from
+largest-read = (refl, refl)
