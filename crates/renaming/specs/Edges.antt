@@ -3,7 +3,7 @@
 -- computed by the definitions that it shows.
 use mathlib.Core.Path.{_≡_, refl}
 use mathlib.Core.List.{List, [], _∷_, map}
-use Prim.Native.Nat.{ℕ, zero, suc, _*_, _<_, _/_}
+use Prim.Native.Nat.{ℕ, zero, suc, _+_, _*_, _/_, _%_, _<_}
 use native.Mathlib.Omega.{arith}
 use lib.Dec.{lit<}
 use lib.IntN.{ℤ, pos}
@@ -14,7 +14,7 @@ use Rattle.calculus.specs.Refusal.{over-span, too-many-terms, leaves-box, uncer
 use Rattle.calculus.specs.Book.{input, variable, multiply, substitute, quotient, antiderivative, Summary}
 use Rattle.calculus.specs.Terms.{Terms}
 use Rattle.calculus.specs.Shares.{Shares, all-rows}
-use Rattle.calculus.specs.Forms.{at-key, model, ends, minus, mixed, gives}
+use Rattle.calculus.specs.Forms.{at-key, at-long-key, model, ends, minus, mixed, gives}
 use Rattle.calculus.specs.ShareEdges.{shares, share-forms}
 use Rattle.calculus.specs.Computing.{reports}
 use Rattle.format.specs.HeldBook.{Held-term, Held-model, Held-step, Held-book, view-book}
@@ -269,3 +269,83 @@ renamed-rows-stand = refl
 pub answers-become : map (λ e. rename-result circle (e .answer)) renaming-edges ≡ map (λ e. e .renamed) renaming-edges
 unfolding renames renaming-forms
 answers-become = refl
+
+-- ---- eight variables in a circle
+-- variable 1 becomes 2, .., 7 becomes 8, and 8 becomes 1
+unfoldable pub great-circle : Reordering 8
+great-circle = record {
+  to = λ i. suc i % 8;
+  from = λ i. (i + 7) % 8;
+  to-inside = λ i h. omega arith;
+  from-inside = λ i h. omega arith;
+  from-to = λ i h. omega arith;
+  to-from = λ i h. omega arith;
+}
+
+-- a term with a long key
+unfoldable pub at-long : (key : ℕ) → ℤ → Held-term
+at-long k c = record { key = k; coefficient = c }
+
+-- f is an input; f times variable v is put in for variable i of f, and what is left is integrated in variable j
+unfoldable pub long-milking : (f : List Held-term) (v i j : ℕ) → Held-book
+long-milking f v i j = record {
+  n = 8;
+  d = 4;
+  models = record { n = 8; radius = 3; terms = f } ∷ [];
+  steps = step 0 0 0 0 (pos 0) ∷ step 2 0 0 v (pos 0) ∷ step 6 1 0 0 (pos 0) ∷ step 7 0 2 i (pos 0)
+      ∷ step 10 3 0 j (pos 0) ∷ [];
+}
+
+-- f has x8, x7^2 x8 and x1; x7 f is put in for x1, and the litres run along x8
+unfoldable pub long-before : Held-book
+long-before = long-milking
+    (at-long 0x00000001 (pos 65537) ∷ at-long 0x00000021 (pos 262144) ∷ at-long 0x10000000 (pos 131072) ∷ []) 7 1 8
+
+-- f has x1, x8^2 x1 and x2; x8 f is put in for x2, and the litres run along x1
+unfoldable pub long-after : Held-book
+long-after = long-milking
+    (at-long 0x01000000 (pos 131072) ∷ at-long 0x10000000 (pos 65537) ∷ at-long 0x10000002 (pos 262144) ∷ []) 8 2 1
+
+-- the terms of the answer, with its radius, its range and its integral; q and r are 0
+unfoldable pub long-litres : Terms → Result Summary
+long-litres p = gives (model 8 16389 p) (ends (minus 36869) (pos 200709)) (ends (pos 2328888) (pos 10720058))
+    (mixed (pos 0) 0)
+
+-- of the one sheet
+unfoldable pub long-answer : Result Summary
+long-answer = long-litres (at-long-key 8 0x00000002 (pos 32768) ∷ at-long-key 8 0x00000012 (pos 4096)
+    ∷ at-long-key 8 0x00000022 (pos 131072) ∷ at-long-key 8 0x10000011 (pos 16384) ∷ [])
+
+-- of the other
+unfoldable pub long-renamed : Result Summary
+long-renamed = long-litres (at-long-key 8 0x11000001 (pos 16384) ∷ at-long-key 8 0x20000000 (pos 32768)
+    ∷ at-long-key 8 0x20000001 (pos 4096) ∷ at-long-key 8 0x20000002 (pos 131072) ∷ [])
+
+-- the short forms, for facts that compute
+unfoldable pub long-forms : Unit {0}
+unfolding
+    share-forms step great-circle at-long long-milking long-before long-after long-litres long-answer long-renamed
+long-forms = tt
+
+-- a monomial and the numbers of the variables
+pub eight-become : (a b c d e f g h : ℕ)
+    → (rename great-circle (a ∷ b ∷ c ∷ d ∷ e ∷ f ∷ g ∷ h ∷ []) ≡ h ∷ a ∷ b ∷ c ∷ d ∷ e ∷ f ∷ g ∷ [])
+    × (map (rename-variable great-circle) (1 ∷ 2 ∷ 3 ∷ 4 ∷ 5 ∷ 6 ∷ 7 ∷ 8 ∷ []) ≡ 2 ∷ 3 ∷ 4 ∷ 5 ∷ 6 ∷ 7 ∷ 8 ∷ 1 ∷ [])
+unfolding renames long-forms
+eight-become a b c d e f g h = (refl, refl)
+
+-- the book becomes the other, and comes back
+pub long-becomes : (rename-held great-circle long-before ≡ long-after)
+    × (rename-held (inverse great-circle) long-after ≡ long-before)
+unfolding renames long-forms
+long-becomes = (refl, refl)
+
+-- the runs of both sheets, and the one answer is the other renamed
+pub long-answers-stand : (run-sheet (sheet-bytes long-before) ≡ long-answer)
+    × (run-sheet (sheet-bytes long-after) ≡ long-renamed)
+unfolding writes long-forms
+long-answers-stand = (refl, refl)
+
+pub long-answer-becomes : rename-result great-circle long-answer ≡ long-renamed
+unfolding renames long-forms
+long-answer-becomes = refl
