@@ -267,7 +267,7 @@ summary-integral : (b : Book) (s : Summary) → Ran b s → s .integral ≡ inte
 unfolding summary
 summary-integral b s r = subst (λ (t : Summary). t .integral ≡ integral (t .model)) (r .is-summary) refl
 
--- the denominator serves the result
+-- the denominator serves a result in up to four variables
 pub result-served : (b : Book) (s : Summary) → Passes b → run-sound b ≡ done s → T (has-exact (s .model .vars))
     → Served (s .model)
 unfolding model-sound

@@ -1,5 +1,5 @@
--- What q and r say of a model, of the answer of an integral's call and of the answer of a run: U times the integral of
--- the model's polynomial over the box.
+-- What q and r say of a model, of the answer of an integral's call and of the answer of a run: up to four variables U
+-- times the integral of the model's polynomial over the box, above nothing.
 use mathlib.Core.Path.{_≡_, refl, sym, _∙_, ap, ap₂, subst}
 use mathlib.Core.Bool.{not}
 use mathlib.Core.List.{List, [], _∷_}
@@ -53,10 +53,10 @@ pub record Exact-answer (m : Model) (x : Mixed) : Type 0 where
   pub known : T (has-exact (m .vars)) → Exact-value m x
   pub none : T (not (has-exact (m .vars))) → x ≡ zero-mixed
 
--- THEOREM: of a sound model, of an answered call and of an accepted book
 served-exact : (m : Model) → Served m → Exact-value m (mixed-part m)
 served-exact m s = record { is-integral = exact-is m s ∙ sym (in-units m); in-limits = remainder-small m s }
 
+-- THEOREM: of a sound model, of an answered call and of an accepted book
 pub model-exact : (m : Model) → (T (has-exact (m .vars)) → Served m) → Exact-answer m (exact-part m)
 model-exact m s = record {
   known = λ e. subst (Exact-value m) (sym (exact-known m e)) (served-exact m (s e));

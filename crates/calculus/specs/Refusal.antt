@@ -3,13 +3,13 @@ use mathlib.Core.Bool.{Bool, true, false, _&&_}
 use mathlib.Core.List.{List, [], _∷_}
 use Prim.Native.Nat.{ℕ, suc}
 
--- the causes of a refusal, in the words of document 01 (and, for 12, of document 02)
+-- the causes of a refusal, in the words of document 01 (and, for 1 to 3 and 12, of document 02)
 pub data Refusal : Type 0 where
-  -- length below 16 or above 6,744
+  -- length below 16 or above 8,792
   bad-length : Refusal
-  -- last two bytes are not the mark
+  -- last two bytes are neither mark
   bad-mark : Refusal
-  -- n, d, model count or step count outside its limits
+  -- n, d, model count or step count outside its limits; n does not fit the mark
   bad-limits : Refusal
   -- offset + 8 × steps + 8 is not the length
   bad-offset : Refusal

@@ -61,7 +61,7 @@ pub marks-read : reads-give mark-edges ≡ must-give mark-edges
 unfolding reads sheet-forms edge reads-give must-give mark-edges
 marks-read = refl
 
--- ---- long keys
+-- ---- long keys, and the variables that have them
 -- the table
 unfoldable pub long-key-edges : List Sheet-edge
 long-key-edges =
@@ -77,6 +77,10 @@ long-key-edges =
     ∷ edge 5 0 ("00 00 00 00 02 00 00 00 F0 01 00 00 00 0F 00 00 00 01 00 00 00" ∷ "01 00 00 00 00 00 00 00" ∷
     "08 0F 01 01 15 00 4D 57" ∷ [])
     ∷ edge 5 0 ("00 00 00 00 01 00 10 01 00 00 00" ∷ "01 00 00 00 00 00 00 00" ∷ "05 02 01 01 0B 00 4D 57" ∷ [])
+    -- variable 8 in a step, in eight variables and in seven; variable 9
+    ∷ edge 0 0 ("02 00 00 08 00 00 00 00" ∷ "08 02 00 01 00 00 4D 57" ∷ [])
+    ∷ edge 6 0 ("02 00 00 08 00 00 00 00" ∷ "07 02 00 01 00 00 4D 57" ∷ [])
+    ∷ edge 6 0 ("02 00 00 09 00 00 00 00" ∷ "08 02 00 01 00 00 4D 57" ∷ [])
     ∷ []
 
 pub long-keys-read : reads-give long-key-edges ≡ must-give long-key-edges

@@ -10,7 +10,8 @@ use Rattle.format.specs.Format.{read, run-sheet}
 use Rattle.format.specs.HeldBookLaws.{view-passes}
 use Rattle.format.specs.WriteBackLaws.{Came, came, read-passes}
 
--- THEOREM: q and r of an accepted sheet are U times the integral of the answered polynomial
+-- THEOREM: q and r of an accepted sheet are U times the integral of the answered polynomial in up to four variables,
+-- and 0 above
 pub sheet-exact : (bytes : List ℕ) (s : Summary) → run-sheet bytes ≡ done s → Exact-answer (s .model) (s .exact)
 unfolding run-sheet
 sheet-exact bytes s h = sound-run-exact (view-book (c .value)) s
