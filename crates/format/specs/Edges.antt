@@ -88,15 +88,25 @@ unfolding reads sheet-forms edge reads-give must-give long-key-edges
 long-keys-read = refl
 
 -- ---- lengths
--- the number that the read of so many bytes gives, all 0 but the trailer
+-- so many bytes, all 0 but the trailer
+unfoldable pub zeros-before : (trailer : String) (length : ℕ) → List ℕ
+zeros-before trailer k = replicate (k - trailer-length) 0 ++ hex (trailer ∷ [])
+
+-- the number that their read gives
 unfoldable pub number-at : (trailer : String) (length : ℕ) → ℕ
-number-at trailer k = returned-book (replicate (k - trailer-length) 0 ++ hex (trailer ∷ [])) .number
+number-at trailer k = returned-book (zeros-before trailer k) .number
 
 -- 8,793 bytes are too many with either mark; below, also above 6,744 with the mark of short keys, the offset is wrong
 pub edge-lengths : (map (number-at "04 0F 00 01 00 00 4D 4B") (6744 ∷ 6745 ∷ 8792 ∷ 8793 ∷ []) ≡ 4 ∷ 4 ∷ 4 ∷ 1 ∷ [])
     × (map (number-at "08 0F 00 01 00 00 4D 57") (6744 ∷ 6745 ∷ 8792 ∷ 8793 ∷ []) ≡ 4 ∷ 4 ∷ 4 ∷ 1 ∷ [])
-unfolding reads sheet-forms number-at
+unfolding reads sheet-forms zeros-before number-at
 edge-lengths = (refl, refl)
+
+-- the program prints the one number of 8,792 bytes, and the other of 8,793 and more
+pub edge-read-at-most : map (λ k. printed (zeros-before "08 0F 00 01 00 00 4D 57" k)) (8792 ∷ 8793 ∷ 8801 ∷ [])
+    ≡ text "refused 4 0\n" ∷ text "refused 1 0\n" ∷ text "refused 1 0\n" ∷ []
+unfolding prints sheet-forms zeros-before
+edge-read-at-most = refl
 
 -- ---- tests 1 to 6
 -- the table
