@@ -8,11 +8,11 @@ ghost use Rattle.model_slices.specs.HandedModels.{«answer-numbers»};
 ghost use Rattle.c_calls.specs.CallCodes.{«model-call», «ends-call», «call-fits», «ends-call-fits»};
 ghost use Rattle.c_calls.specs.CallCodes.{«called-state», «stored-answer», «ends-alone», «ends-state»};
 ghost use Rattle.c_calls.specs.CallCodes.{«stored-integral»};
-use model_types::Key;
 use model::Answer;
 use model::Bounds;
 use model::Integral;
 use model::Model;
+use model_types::Key;
 
 // The ends of an answer, and the quotient and the remainder.
 const ENDS: usize = 4;

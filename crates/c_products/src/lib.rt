@@ -10,8 +10,8 @@ ghost use Rattle.model_types.specs.ModelStruct.{view, answer};
 ghost use Rattle.model_slices.specs.HandedModels.{handed, lent, over, «answer-numbers»};
 ghost use Rattle.model.specs.OperationContracts.{«kept-accounted», «Kept-ready»};
 ghost use Rattle.c_calls.specs.CallCodes.{«called-state», «stored-answer»};
-use model_types::Key;
 use model_slices::Kept;
+use model_types::Key;
 use model_types::Verdict;
 
 // How many terms an answer may have before it is refused: one more than a model.

@@ -5,8 +5,8 @@ ghost use lib.ListN.{length};
 ghost use Rattle.model_types.specs.ModelStruct.{answer};
 ghost use Rattle.c_books.specs.HandedBooks.{«model-places»};
 ghost use Rattle.c_quotients.specs.HandedQuotients.{«quotient-models», «quotient-fits», «handed-quotient»};
-use model_types::Key;
 use model::Answer;
+use model_types::Key;
 
 // The models of a quotient.
 const MODELS: usize = 4;

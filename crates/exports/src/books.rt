@@ -9,8 +9,8 @@ ghost use Rattle.c_books.specs.HandedBooks.{«step-places», «handed-steps», 
 ghost use Rattle.c_books.specs.HandedBooks.{«handed-book»};
 ghost use Rattle.exports.specs.WriteCalls.{«book-fits», «written-state», «stored-written»};
 ghost use Rattle.exports.specs.WriteCalls.{«write-state», «called-write», «called-rewrite»};
-use model_types::Key;
 use super::MISUSED;
+use model_types::Key;
 use model_types::Verdict;
 use sheet_book::Written;
 

@@ -6,8 +6,8 @@ ghost use Rattle.model_types.specs.ModelStruct.{view};
 ghost use Rattle.model_slices.specs.HandedModels.{handed, «model-room»};
 ghost use Rattle.c_calls.specs.CallCodes.{«model-call», «ends-call», «call-fits», «ends-call-fits»};
 ghost use Rattle.c_calls.specs.CallCodes.{«called-state», called, «ends-state», «called-ends»};
-use model_types::Key;
 use super::MISUSED;
+use model_types::Key;
 
 // The code of a product, which is made from the slices.
 const MULTIPLY: u8 = 6;

@@ -5,8 +5,8 @@ ghost use Rattle.model_slices.specs.HandedModels.{«model-room»};
 ghost use Rattle.c_books.specs.HandedBooks.{«model-places»};
 ghost use Rattle.c_calls.specs.CallCodes.{«called-state», called};
 ghost use Rattle.c_quotients.specs.HandedQuotients.{«quotient-fits», «handed-quotient»};
-use model_types::Key;
 use super::MISUSED;
+use model_types::Key;
 
 // f / g, checked from a proposal h, w: the refusal's number, 0 without one, or MISUSED. The four models are handed over
 // one behind the other as a book's are; the answer's 64 keys and coefficients go into two slices, the refusal's place,

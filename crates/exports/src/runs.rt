@@ -14,9 +14,9 @@ ghost use Rattle.c_books.specs.HandedBooks.{«step-places», «handed-steps», 
 ghost use Rattle.c_books.specs.HandedBooks.{«handed-book»};
 ghost use Rattle.exports.specs.WriteCalls.{«book-fits»};
 ghost use Rattle.exports.specs.SheetCalls.{«six-ends», «run-state», «stored-summary», «called-run»};
-use model_types::Key;
 use super::MISUSED;
 use super::books::book_fits;
+use model_types::Key;
 use sheet::Ends;
 use sheet::Summary;
 use sheet_book::Exact;

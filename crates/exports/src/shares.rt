@@ -16,10 +16,10 @@ ghost use Rattle.c_shares.specs.HandedShares.{«report-room»};
 ghost use Rattle.exports.specs.WriteCalls.{«book-fits»};
 ghost use Rattle.exports.specs.SheetCalls.{«run-state»};
 ghost use Rattle.exports.specs.ShareCalls.{«report-state», «stored-report», «called-report»};
-use model_types::Key;
 use super::MISUSED;
 use super::books::book_fits;
 use super::runs::store_summary;
+use model_types::Key;
 use sheet::Report;
 
 // What a run with its rows answers goes into the slices; the refusal's number.

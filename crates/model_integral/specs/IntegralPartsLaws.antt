@@ -20,7 +20,8 @@ use Rattle.calculus.specs.Operations.{common-denominator, has-exact, integral-p
 use Rattle.calculus.specs.ExactIntegralLaws.{by-exact}
 use Rattle.model_integral_terms.specs.Rounding.{rule}
 use Rattle.model_integral_terms.specs.IntegralSizeLaws.{integral-within}
-use Rattle.calculus.specs.Operations.{Ends, Mixed, integral-sum, one-if-any, exact-ends, term-by-term, integral, Integral, whole-integral}
+use Rattle.calculus.specs.Operations.{Ends, Mixed, integral-sum, one-if-any, exact-ends, term-by-term, integral}
+use Rattle.calculus.specs.Operations.{Integral, whole-integral}
 use Rattle.model_types.specs.ModelStructLaws.{sum-abs, sum-select-le}
 use Rattle.model_integral.specs.IntegralParts.{most-parts, exact-integral}
 
@@ -140,7 +141,8 @@ ends-within m = by-exact
     (λ e. (natAbs (e .low) ≤ span m * 2 ^ m .vars) × (natAbs (e .high) ≤ span m * 2 ^ m .vars + 1)) m
     (λ t. exact) (λ t. rounded)
   where
-    exact : (natAbs (exact-ends m .low) ≤ span m * 2 ^ m .vars) × (natAbs (exact-ends m .high) ≤ span m * 2 ^ m .vars + 1)
+    exact : (natAbs (exact-ends m .low) ≤ span m * 2 ^ m .vars)
+        × (natAbs (exact-ends m .high) ≤ span m * 2 ^ m .vars + 1)
     exact = unfold exact-ends mixed-part in
         (let q : ℤ = floor (integral-parts m) common-denominator in
         let w : ℕ = 2 ^ m .vars * m .radius in
@@ -177,6 +179,7 @@ pub exact-remainder : (m : Model) → exact-part m .remainder < common-denominat
 unfolding exact-part
 exact-remainder m = go (has-exact (m .vars))
   where
-    go : (b : Bool) → elim b as (λ b. Mixed) [ true ↦ mixed-part m | false ↦ zero-mixed ] .remainder < common-denominator
+    go : (b : Bool)
+        → elim b as (λ b. Mixed) [ true ↦ mixed-part m | false ↦ zero-mixed ] .remainder < common-denominator
     go true = unfold mixed-part in remainder-lt (integral-parts m) common-denominator denominator-pos
     go false = unfold zero-mixed in denominator-pos

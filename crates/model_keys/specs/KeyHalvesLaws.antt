@@ -13,7 +13,8 @@ use Rattle.calculus.specs.Monomial.{degree}
 use Rattle.calculus.specs.Key.{encode, decode, key-width, key-limit, key-degree, Below}
 use Rattle.calculus.specs.KeyLaws.{encode-lt, decode-length, decode-below}
 use Rattle.model_keys.specs.KeyDegreeLaws.{degree-below}
-use Rattle.model_keys.specs.Keys.{key-divisor, wide-base, wide-width, degree-base, widened, wide-exponents, narrowed}
+use Rattle.model_keys.specs.Keys.{key-divisor, wide-base, wide-width, degree-base, widened, wide-exponents}
+use Rattle.model_keys.specs.Keys.{narrowed}
 
 -- ---- lists
 encode-split : (base v w : ℕ) (k l : List ℕ) → length k ≡ v

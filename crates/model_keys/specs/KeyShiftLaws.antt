@@ -115,7 +115,8 @@ module _ (i : ℕ) (s : Slot i) (bits : ℕ) (e : bits ≡ 4 * (key-width - i)) 
       inside = NatL.div-lt-iff-lt-mul (pow-pos bits) .1 (subst (λ x. z < x) (sym total) h)
 
       next : q + 2 ≤ p * 16
-      next = let d : q % 16 + 1 < 16 = subst (λ x. x + 1 < 16) (sym (exponent-shifted z h)) r in omega (arith, d, inside)
+      next = let d : q % 16 + 1 < 16 = subst (λ x. x + 1 < 16) (sym (exponent-shifted z h)) r in
+          omega (arith, d, inside)
 
       above : z + 2 ^ bits < (q + 2) * 2 ^ bits
       above = let l = NatL.lt-div-mul-add {a = z} (pow-pos bits) in omega (arith, l)

@@ -189,11 +189,13 @@ module _ (a b c d e f g h : ℕ) (ha : a < 16) (hb : b < 16) (hc : c < 16) (hd :
 -- ---- a wide key's two halves of four digits
 -- the digits of one half
 half-digits : (z : ℕ) → z < 2 ^ 28 → Below 16 (four-wide z)
-    → (z ≡ (z / 2 ^ 21 * 128 + z % 2 ^ 21 / 2 ^ 14) * 2 ^ 14 + (z % 2 ^ 21 % 2 ^ 14 / 128 * 128 + z % 2 ^ 21 % 2 ^ 14 % 128))
+    → (z ≡ (z / 2 ^ 21 * 128 + z % 2 ^ 21 / 2 ^ 14) * 2 ^ 14 + (z % 2 ^ 21 % 2 ^ 14 / 128 * 128
+    + z % 2 ^ 21 % 2 ^ 14 % 128))
     × (half-narrow z ≡ (z / 2 ^ 21 * 16 + z % 2 ^ 21 / 2 ^ 14) * 256
     + (z % 2 ^ 21 % 2 ^ 14 / 128 * 16 + z % 2 ^ 21 % 2 ^ 14 % 128))
 unfolding half-narrow four-wide encode decode
-half-digits z h b = (parts z, sums (z / 2 ^ 21) (z % 2 ^ 21 / 2 ^ 14) (z % 2 ^ 21 % 2 ^ 14 / 128) (z % 2 ^ 21 % 2 ^ 14 % 128))
+half-digits z h b =
+    (parts z, sums (z / 2 ^ 21) (z % 2 ^ 21 / 2 ^ 14) (z % 2 ^ 21 % 2 ^ 14 / 128) (z % 2 ^ 21 % 2 ^ 14 % 128))
   where
     low : (w : ℕ) → w ≡ w / 128 * 128 + w % 128
     low w = omega arith

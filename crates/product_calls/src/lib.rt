@@ -8,8 +8,8 @@ ghost use Rattle.model_types.specs.ModelStruct.{view, answer};
 ghost use Rattle.model_slices.specs.HandedModels.{handed, lent};
 ghost use Rattle.product_terms.specs.ProductTerms.{«Kept-room»};
 ghost use Rattle.product_answer.specs.KeptProduct.{«kept-accounted», «Kept-ready»};
-use model_types::Key;
 use model_slices::Kept;
+use model_types::Key;
 use model_types::Shares;
 use model_types::Verdict;
 

@@ -12,7 +12,8 @@ use Rattle.calculus.specs.KeyLaws.{below-degree, encode-lt}
 use Rattle.calculus.specs.Model.{fits}
 use Rattle.calculus.specs.FitsLaws.{fits-length, fits-degree}
 use Rattle.model_keys.specs.Keys.{wide-base, wide-width, wide-key}
-use Rattle.product_dense.specs.Grid.{first-of, second-of, third-of, fourth-of, others-of, upper, digit-sum, Four-told, Low-key}
+use Rattle.product_dense.specs.Grid.{first-of, second-of, third-of, fourth-of, others-of, upper, digit-sum}
+use Rattle.product_dense.specs.Grid.{Four-told, Low-key}
 
 -- none above the most, with their sum below them
 pub record Digits (most key : ℕ) : Type 0 where

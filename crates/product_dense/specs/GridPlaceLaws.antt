@@ -7,7 +7,8 @@ use native.Mathlib.Decide.{decLt, ℕ-discrete}
 use native.Mathlib.Omega.{arith}
 use Rattle.product_dense.specs.declared.Extents.{Extents}
 use Rattle.product_dense.specs.declared.Sides.{Sides}
-use Rattle.product_dense.specs.Grid.{first-of, second-of, third-of, fourth-of, upper, digit-sum, Within, Low, sides-for}
+use Rattle.product_dense.specs.Grid.{first-of, second-of, third-of, fourth-of, upper, digit-sum, Within, Low}
+use Rattle.product_dense.specs.Grid.{sides-for}
 use Rattle.product_dense.specs.Grid.{place-by, place, Gridded}
 use Rattle.product_dense.specs.DigitLaws.{Digits, digits-sum, number, upper-number, digits-told}
 use Rattle.product_dense.specs.DigitLaws.{read-first, read-second, read-third, read-fourth}

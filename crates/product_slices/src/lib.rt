@@ -19,8 +19,8 @@ ghost use Rattle.product_slices.specs.HandedTerms.{Handed};
 ghost use Rattle.product_answer.specs.KeptProduct.{«kept-model», «kept-accounted», «Kept-ready»};
 ghost use Rattle.product_answer.specs.KeptProduct.{«kept-count»};
 ghost use Rattle.product_slices.specs.KeptPlaces.{«narrow-keys», «narrow-coefficients», zeroed};
-pub use model_slices::Kept;
 use model_keys::Key;
+pub use model_slices::Kept;
 use model_types::Accounted;
 use model_types::Verdict;
 

@@ -21,7 +21,8 @@ module _ (buffer : List ℕ) (at : ℕ) where
       (omega (arith, e, length-key n (t .key)))
 
   pub model-stores : (m : Held-model) (c : ℕ) → c ≡ length (m .terms)
-      → sets (set (sets buffer at (u32-bytes (m .radius))) (at + 4) c) (at + 5) (join (map (term-bytes (m .n)) (m .terms)))
+      → sets (set (sets buffer at (u32-bytes (m .radius))) (at + 4) c) (at
+      + 5) (join (map (term-bytes (m .n)) (m .terms)))
       ≡ sets buffer at (model-bytes m)
   unfolding model-bytes u32-bytes
   model-stores m c e =

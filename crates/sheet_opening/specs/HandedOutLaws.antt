@@ -14,7 +14,8 @@ use Rattle.format.specs.Bytes.{All-bytes, join}
 use Rattle.format.specs.HeldBook.{Held-book}
 use Rattle.format.specs.Format.{trailer-of, read, records, opened, returned-records, handed-out}
 use Rattle.format.specs.RecordLaws.{book-records, records-are, records-joined, records-count}
-use Rattle.format.specs.PlaceLaws.{record-place, next-place, last-place, trailer-eight, here, model-size, step-size, trailer-vars}
+use Rattle.format.specs.PlaceLaws.{record-place, next-place, last-place, trailer-eight, here, model-size, step-size}
+use Rattle.format.specs.PlaceLaws.{trailer-vars}
 use Rattle.format.specs.PlaceLaws.{model-before, step-after}
 use Rattle.sheet_record_places.specs.Places.{first-step, vars-of, record-size, length-at, next-at, bytes-at, kind-at}
 use Rattle.sheet_record_places.specs.PlacesLaws.{size-step, size-some, kind-none, kind-model, kind-step}
@@ -71,7 +72,8 @@ module _ (s : List ℕ) (h : Held-book) (y : All-bytes s) (e : read s ≡ done h
       → record-size s (record-place s i) ≡ length (getD (records s) i [])
   unfolding first-step vars-of record-size
   size-model-here i l =
-      rw (lt-ltb (record-place s i) (first-step s) (model-before s h y e i l), trailer-vars s h y e) (model-size s h y e i l)
+      rw (lt-ltb (record-place s i) (first-step s) (model-before s h y e i l), trailer-vars s h y e)
+      (model-size s h y e i l)
 
   size-step-here : (k : ℕ) → k < length (h .steps)
       → record-size s (record-place s (length (h .models) + k)) ≡ length (getD (records s) (length (h .models) + k) [])

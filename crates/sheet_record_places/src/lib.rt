@@ -4,7 +4,8 @@ ghost use mathlib.Core.Path.{_≡_};
 ghost use Prim.Native.Nat.{_+_, _≤_, _<_};
 ghost use lib.ListN.{length};
 ghost use Rattle.format.specs.Format.{«trailer-length»};
-ghost use Rattle.sheet_record_places.specs.Places.{«first-step», «vars-of», «record-size», «length-at», «next-at»};
+ghost use Rattle.sheet_record_places.specs.Places.{«first-step», «vars-of», «record-size», «length-at»};
+ghost use Rattle.sheet_record_places.specs.Places.{«next-at»};
 ghost use Rattle.sheet_record_places.specs.Places.{«bytes-at», «kind-at»};
 use sheet_book::Kind;
 

@@ -5,7 +5,8 @@ use lib.Dec.{eqb}
 use lib.ListN.{length}
 use Rattle.calculus.specs.Model.{between}
 use Rattle.calculus.specs.Refusal.{Result, done, require-at, bad-length, bad-mark, bad-limits, bad-offset}
-use Rattle.format.specs.Format.{step-length, trailer-length, Trailer, trailer-sound, trailer-of, read-trailer, shortest, longest}
+use Rattle.format.specs.Format.{step-length, trailer-length, Trailer, trailer-sound, trailer-of, read-trailer, shortest}
+use Rattle.format.specs.Format.{longest}
 
 -- tests 1 to 4 in order, and what the trailer says
 unfoldable pub headed : List ℕ → Result Trailer

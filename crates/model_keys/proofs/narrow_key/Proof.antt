@@ -12,10 +12,16 @@ abbrev bytes : ℕ → ℕ
 bytes x = bitAnd x 0x1E007801E00780 / 8 + bitAnd x 0x3C00F003C00F
 
 add-bytes : tie.Need-add-bytes
-add-bytes c = record { fits = masked-quotients (c .args .wide / 256) (c .args .wide / 256) 0x1E007801E00780 0x3C00F003C00F 8 (lit< tt) }
+add-bytes c = record {
+  fits = masked-quotients (c .args .wide / 256)
+      (c .args .wide / 256) 0x1E007801E00780 0x3C00F003C00F 8 (lit< tt);
+}
 
 add-halves : tie.Need-add-halves
-add-halves c = record { fits = masked-quotients (bytes (c .args .wide / 256)) (bytes (c .args .wide / 256)) 0x3FC00003FC000 0xFF00000FF 64 (lit< tt) }
+add-halves c = record {
+  fits = masked-quotients (bytes (c .args .wide / 256)) (bytes
+      (c .args .wide / 256)) 0x3FC00003FC000 0xFF00000FF 64 (lit< tt);
+}
 
 mul-result : tie.Need-mul-result
 mul-result c = record { fits = omega (arith, gathered-key (c .args .wide) (omega arith) (c .pre) .small) }

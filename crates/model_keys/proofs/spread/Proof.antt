@@ -25,13 +25,17 @@ mul-bytes : tie.Need-mul-bytes
 mul-bytes c = record { fits = masked-product (halves (c .args .key)) 0xFF00000FF00 64 (lit< tt) }
 
 add-bytes : tie.Need-add-bytes
-add-bytes c = record { fits = masked-sum (halves (c .args .key)) (halves (c .args .key)) 0xFF00000FF00 0xFF00000FF 64 (lit< tt) }
+add-bytes c =
+    record { fits = masked-sum (halves (c .args .key)) (halves (c .args .key)) 0xFF00000FF00 0xFF00000FF 64 (lit< tt) }
 
 mul-result : tie.Need-mul-result
 mul-result c = record { fits = masked-product (bytes (c .args .key)) 0x3C00F003C00F0 8 (lit< tt) }
 
 add-result : tie.Need-add-result
-add-result c = record { fits = masked-sum (bytes (c .args .key)) (bytes (c .args .key)) 0x3C00F003C00F0 0x3C00F003C00F 8 (lit< tt) }
+add-result c = record {
+  fits = masked-sum (bytes (c .args .key)) (bytes
+      (c .args .key)) 0x3C00F003C00F0 0x3C00F003C00F 8 (lit< tt);
+}
 
 returns : tie.Need-returns
 returns c = spread-halves (c .args .key / 65536) (c .args .key % 65536) (omega arith) (omega arith)

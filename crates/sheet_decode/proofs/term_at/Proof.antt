@@ -13,7 +13,8 @@ use Rattle.sheet_decode.proofs.term_at.Statement.{statement}
 use Rattle.sheet_decode.proofs.term_at.Tie as tie
 
 u16-at-requires : tie.Need-u16-at-requires
-u16-at-requires c κs = let s = c .before .before in omega (arith, s .pre, term-length-short (s .args .n) (c .if1 .taken))
+u16-at-requires c κs = let s = c .before .before in
+    omega (arith, s .pre, term-length-short (s .args .n) (c .if1 .taken))
 
 cast-t6 : tie.Need-cast-t6
 cast-t6 c = search needs

@@ -11,10 +11,12 @@ cast-put-u16 : tie.Need-cast-put-u16
 cast-put-u16 c = search needs
 
 put-u16-requires : tie.Need-put-u16-requires
-put-u16-requires c κs = let s = c .before .before .before in omega (arith, s .pre, key-length-short (s .args .n) (c .before .if1 .taken))
+put-u16-requires c κs = let s = c .before .before .before in
+    omega (arith, s .pre, key-length-short (s .args .n) (c .before .if1 .taken))
 
 put-u32-requires : tie.Need-put-u32-requires
-put-u32-requires c κs = let s = c .before .before .before in omega (arith, s .pre, key-length-long (s .args .n) (c .before .if1 .left))
+put-u32-requires c κs = let s = c .before .before .before in
+    omega (arith, s .pre, key-length-long (s .args .n) (c .before .if1 .left))
 
 same-length : tie.Need-same-length
 same-length c = search needs

@@ -73,7 +73,8 @@ start c = c .before .before .before .before .before .before .before
 
 -- the buffer keeps its length
 long : (c : tie.At-loop Inv-loop μ-loop) → length (c .loop .buffer) ≡ length (start c .args .buffer .now)
-long c = put-length (term-bytes _) _ _ _ (c .loop .inv) ∙ (simp length-set (c .before .before .before .put-u32 .kept .0))
+long c = put-length (term-bytes _) _ _ _ (c .loop .inv)
+    ∙ (simp length-set (c .before .before .before .put-u32 .kept .0))
 
 mul-t : tie.Need-mul-t Inv-loop μ-loop
 mul-t c = omega (arith, few (start (c .before)))
@@ -115,8 +116,14 @@ module _ (c : tie.After-struct-told Inv-loop μ-loop) where
       omega (
         arith,
         put-room (term-bytes (held .n)) _ _ _ (turn .loop .inv) (held-term zero-term) (held-term term) below here
-            (omega (arith, e, long turn, room (start turn), length-terms (held .n) (held-model held .terms),
-            ap (λ k. term-length (held .n) * k) (count-terms held))),
+            (omega (
+              arith,
+              e,
+              long turn,
+              room (start turn),
+              length-terms (held .n) (held-model held .terms),
+              ap (λ k. term-length (held .n) * k) (count-terms held),
+            )),
         length-term (held .n) (held-term term),
       )
 
@@ -142,9 +149,13 @@ unfolding held-term
 loop-again c =
     let t = c .before .before .before in
     let l = turn t in
-    put-turn (term-bytes (held t .n)) _ _ _ (l .loop .inv) (held-term zero-term) (held-term (term t)) (below t) (here t) _ _
+    put-turn (term-bytes (held t .n)) _ _ _ (l .loop .inv) (held-term zero-term) (held-term (term t)) (below t)
+    (here t) _ _
     (c .before .before .put-term .ensures
-    ∙ ap (λ z. sets (l .loop .buffer) (l .loop .place) (term-bytes (held t .n) (record { key = term t .key; coefficient = z })))
+    ∙ ap (λ z. sets (l .loop .buffer) (l .loop .place) (term-bytes (held t .n) (record {
+      key = term t .key;
+      coefficient = z;
+    })))
     (read-back t))
     (ap (λ s. l .loop .place + s) (sized t ∙ sym (length-term (held t .n) (held-term (term t)))))
 

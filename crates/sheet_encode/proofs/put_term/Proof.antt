@@ -22,14 +22,21 @@ add-put-i32 c = search needs
 
 sub-put-i32 : tie.Need-sub-put-i32
 sub-put-i32 c =
-    let b = c .before .before .before .before .before in omega (arith, b .term-bytes .ensures, term-least (b .before .before .args .n))
+    let b = c .before .before .before .before .before in
+    omega (arith, b .term-bytes .ensures, term-least (b .before .before .args .n))
 
 put-i32-requires : tie.Need-put-i32-requires
 put-i32-requires c κs =
     let b = c .before .before .before .before .before in
     let s = b .before .before in (
       rw (toZ-ofZ (s .fits .coefficient)) (s .pre .0),
-      omega (arith, s .pre .1, b .term-bytes .ensures, term-least (s .args .n), c .before .before .before .put-key .kept .0),
+      omega (
+        arith,
+        s .pre .1,
+        b .term-bytes .ensures,
+        term-least (s .args .n),
+        c .before .before .before .put-key .kept .0,
+      ),
     )
 
 same-length : tie.Need-same-length

@@ -160,8 +160,11 @@ add-place c = search needs
 terms-holds : tie.Need-terms-holds Inv-terms μ-terms Inv-models μ-models
 unfolding most-terms
 terms-holds c =
-    let p = entry c .pre in
-    (terms-first _ _ _ _ (p .0) (p .1) (few c) _ (c .u32-at .ensures), terms-none (sheet c) (entry c .args .n) (outer c .models .at))
+    let p = entry c .pre in (
+      terms-first _ _ _ _ (p .0) (p .1) (few c) _ (c .u32-at .ensures),
+      terms-none (sheet c) (entry c .args .n)
+          (outer c .models .at),
+    )
 
 term-at-requires : tie.Need-term-at-requires Inv-terms μ-terms Inv-models μ-models
 term-at-requires c κs =
@@ -227,7 +230,8 @@ terms-again c =
     let h = inner t .terms .inv in
     let l : inner t .terms .i < byte (outer u .models .at + 4) (sheet u) =
     omega (arith, counted u, t .before .before .terms-test .left) in (
-      rw (sized u) (terms-turn _ _ _ _ (p .0) (p .1) (few u) _ _ _ _ (h .0) l _ (t .before .term-at .ensures) (key-small t)
+      rw (sized u) (terms-turn _ _ _ _ (p .0) (p .1) (few u) _ _ _ _ (h .0) l _ (t .before .term-at .ensures)
+          (key-small t)
           (tested (branch .before) ∙ not-false _ (branch .if4 .left)) _
           (added .capped-sum .ensures
           ∙ ap (λ x. capped (inner t .terms .span + x)) (added .before .magnitude .ensures ∙ ap natAbs (read-back t)))),

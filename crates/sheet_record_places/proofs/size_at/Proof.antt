@@ -33,7 +33,8 @@ start c = c .before .before .before .before .before .before
 count-small : (c : tie.After-shared-slice-known2) → byte (start c .args .at + 4) (start c .args .s .now) < 256
 count-small c = c .shared-slice-known2 .given (start c .args .at + 4) .fits
 
-sized : (c : tie.After-shared-slice-known2) → c .before .term-bytes .result ≡ term-length (vars-of (start c .args .s .now))
+sized : (c : tie.After-shared-slice-known2)
+    → c .before .term-bytes .result ≡ term-length (vars-of (start c .args .s .now))
 sized c = c .before .term-bytes .ensures ∙ ap term-length (c .before .before .vars-of .ensures)
 
 product : (c : tie.After-shared-slice-known2)
@@ -55,7 +56,8 @@ returns : tie.Need-returns
 returns c =
     let a = start c .args in
     let e = c .before .before .before .before .first-step .ensures in
-    ap (λ k. 5 + k * byte (a .at + 4) (a .s .now)) (sized c) ∙ sym (size-model (a .s .now) (a .at) (omega (arith, e, c .before .before .before .if1 .taken)))
+    ap (λ k. 5 + k * byte (a .at + 4) (a .s .now)) (sized c)
+    ∙ sym (size-model (a .s .now) (a .at) (omega (arith, e, c .before .before .before .if1 .taken)))
 
 returns-2 : tie.Need-returns-2
 returns-2 c =

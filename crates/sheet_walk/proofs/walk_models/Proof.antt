@@ -209,7 +209,8 @@ terms-again c =
     let p = start u .pre in
     let h = inner t .terms .inv in
     rw (outer u .before .term-bytes .ensures)
-    (terms-turn _ _ _ _ (p .0) (p .1) (few u) _ _ _ _ h (omega (arith, counted u, t .before .before .terms-test .left)) _
+    (terms-turn _ _ _ _ (p .0) (p .1) (few u) _ _ _ _ h (omega
+    (arith, counted u, t .before .before .terms-test .left)) _
     (t .before .term-at .ensures) (key-small t) (tested (branch .before) ∙ not-false _ (branch .if4 .left)) _
     (added .capped-sum .ensures
     ∙ ap (λ x. capped (inner t .terms .span + x)) (added .before .magnitude .ensures ∙ ap natAbs (read-back t))))

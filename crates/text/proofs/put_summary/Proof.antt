@@ -36,7 +36,8 @@ module _ (c : tie.Start) where
   integral = ends-line (text "integral") (ends (c .args .summary .integral .low) (c .args .summary .integral .high))
 
   abbrev exact : List ℕ
-  exact = exact-lines (c .args .summary .model .n) (mixed (c .args .summary .exact .quotient) (c .args .summary .exact .remainder))
+  exact = exact-lines (c .args .summary .model .n) (mixed (c .args .summary .exact .quotient)
+      (c .args .summary .exact .remainder))
 
   whole : Room 0 (radius ++ (terms ++ (range ++ (integral ++ exact))))
   unfolding view summary-of ends-of exact-of

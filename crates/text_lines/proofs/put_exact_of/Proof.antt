@@ -18,7 +18,8 @@ returns c = put-as (sym (exact-none _ _ (c .if1 .taken))) put-nothing
 
 -- the line, with the quotient as the call sees it
 line-is : (c : tie.Else1) → let a = c .before .before .args in
-    exact-line (mixed (toZ w64 (ofZ w64 (a .quotient))) (a .remainder)) ≡ exact-line (mixed (a .quotient) (a .remainder))
+    exact-line (mixed (toZ w64 (ofZ w64 (a .quotient))) (a .remainder)) ≡ exact-line (mixed (a .quotient)
+    (a .remainder))
 line-is c = let s = c .before .before in
     ap (λ q. exact-line (mixed q (s .args .remainder))) (toZ-ofZ (s .fits .quotient))
 
