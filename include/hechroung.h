@@ -1,4 +1,4 @@
-/* Hechroung: polynomial models in 1 to 4 variables on the box [-1, 1]^n, with an error radius. The functions that are
+/* Hechroung: polynomial models in 1 to 8 variables on the box [-1, 1]^n, with an error radius. The functions that are
    declared extern are proved (crates/exports); those that are written out here only spread a struct into numbers and
    slices and test for null pointers.
 
@@ -31,28 +31,33 @@ extern "C" {
 #endif
 
 /* The number of this layout. A program that hands slices to the functions declared extern can test it when it is
-   compiled: #if HECHROUNG_ABI != 2. In layout 1, whose header did not name it, `ends` of a run had 4 numbers and those
-   of a single call 2; now they have 6 and 4, with the exact integral behind the ends, and a slice that is too short for
-   it is answered with HECHROUNG_MISUSED. */
-#define HECHROUNG_ABI 2
+   compiled: #if HECHROUNG_ABI != 3. In layout 2 keys had 16 bits, those of variables 1 to 4, and a point four
+   coordinates, handed over without a length. A key of layout 2 has to be shifted up by 16 bits; where it is not, the
+   model is refused with 5, since the key names variables above n. The shared library is named by the layout,
+   libhechroung.so.3 (libhechroung.so is a link to it), so that a program that was linked with layout 2 does not start
+   with this one. */
+#define HECHROUNG_ABI 3
 
 #define HECHROUNG_UNIT 1048576
 #define HECHROUNG_DENOMINATOR 212837625
+#define HECHROUNG_MOST_VARIABLES 8
 #define HECHROUNG_MOST_TERMS 64
 #define HECHROUNG_MOST_MODELS 16
 #define HECHROUNG_MOST_STEPS 64
-#define HECHROUNG_LONGEST_SHEET 6744
+#define HECHROUNG_LONGEST_SHEET 8792
+#define HECHROUNG_LONGEST_RECORD (5 + 8 * HECHROUNG_MOST_TERMS)
 #define HECHROUNG_LONGEST_TEXT 2048
 #define HECHROUNG_MISUSED 255
 
-/* A model: the first `count` of its terms, with keys strictly rising, and a radius. A key has four exponents of four
-   bits each, that of variable 1 in the highest bits. Any field may hold anything: a call tests the model and refuses
-   with 5 what breaks a rule. Places beyond the count are not looked at; in an answer they hold zeros. */
+/* A model: the first `count` of its terms, with keys strictly rising, and a radius. A key has eight exponents of four
+   bits each, that of variable 1 in the highest bits; the exponents of variables above n are 0, so that in up to four
+   variables a key uses the upper 16 bits only. Any field may hold anything: a call tests the model and refuses with 5
+   what breaks a rule. Places beyond the count are not looked at; in an answer they hold zeros. */
 struct hechroung_model {
     uint8_t n;
     size_t count;
     uint64_t radius;
-    uint16_t keys[HECHROUNG_MOST_TERMS];
+    uint32_t keys[HECHROUNG_MOST_TERMS];
     int64_t coefficients[HECHROUNG_MOST_TERMS];
 };
 
@@ -63,7 +68,7 @@ struct hechroung_ends {
 
 /* The integral of a polynomial over the box without any rounding: quotient + remainder / HECHROUNG_DENOMINATOR units,
    with a remainder from 0 to HECHROUNG_DENOMINATOR - 1; the quotient is rounded down, also below 0. Sums of these are
-   exact: add quotients and remainders, and carry. */
+   exact: add quotients and remainders, and carry. Above four variables there is none: both are 0 and say nothing. */
 struct hechroung_exact {
     int64_t quotient, remainder;
 };
@@ -110,12 +115,12 @@ struct hechroung_step {
    refusal's place, n, the count and the radius. What lies behind stays. */
 extern uint8_t hechroung_call(uint8_t code, uint8_t d, uint8_t i, int64_t value,
                               uint8_t n1, size_t count1, uint64_t radius1,
-                              const uint16_t *keys1, size_t keys1_length,
+                              const uint32_t *keys1, size_t keys1_length,
                               const int64_t *coefficients1, size_t coefficients1_length,
                               uint8_t n2, size_t count2, uint64_t radius2,
-                              const uint16_t *keys2, size_t keys2_length,
+                              const uint32_t *keys2, size_t keys2_length,
                               const int64_t *coefficients2, size_t coefficients2_length,
-                              uint16_t *keys, size_t keys_length,
+                              uint32_t *keys, size_t keys_length,
                               int64_t *coefficients, size_t coefficients_length,
                               uint64_t *numbers, size_t numbers_length);
 
@@ -129,27 +134,27 @@ extern uint8_t hechroung_call(uint8_t code, uint8_t d, uint8_t i, int64_t value,
 extern uint8_t hechroung_quotient(uint8_t d, const uint8_t *ns, size_t ns_length,
                                   const size_t *counts, size_t counts_length,
                                   const uint64_t *radii, size_t radii_length,
-                                  const uint16_t *keys, size_t keys_length,
+                                  const uint32_t *keys, size_t keys_length,
                                   const int64_t *coefficients, size_t coefficients_length,
-                                  uint16_t *out_keys, size_t out_keys_length,
+                                  uint32_t *out_keys, size_t out_keys_length,
                                   int64_t *out_coefficients, size_t out_coefficients_length,
                                   uint64_t *out_numbers, size_t out_numbers_length);
 
-/* A call that answers with two ends. Codes: 1 range, 2 integral, 3 evaluate at the point x1, .., x4; the others do not
-   look at the point. The place of a refusal is 0. Read: as above. Written: ends, at least 4, hold the low and the high
-   end, and the quotient and the remainder of the exact integral; these two are 0 for range and evaluate, and beside a
-   refusal. */
+/* A call that answers with two ends. Codes: 1 range, 2 integral, 3 evaluate at a point. The place of a refusal is 0.
+   Read: as above, and for evaluate the first 8 coordinates of the point, which has at least so many, whatever n is; the
+   others take a point of any length and do not look at it. Written: ends, at least 4, hold the low and the high end,
+   and the quotient and the remainder of the exact integral; these two are 0 for range and evaluate, above four
+   variables, and beside a refusal. */
 extern uint8_t hechroung_ends(uint8_t code, uint8_t n, size_t count, uint64_t radius,
-                              const uint16_t *keys, size_t keys_length,
+                              const uint32_t *keys, size_t keys_length,
                               const int64_t *coefficients, size_t coefficients_length,
-                              int64_t x1, int64_t x2, int64_t x3, int64_t x4,
-                              int64_t *ends, size_t ends_length);
+                              const int64_t *point, size_t point_length, int64_t *ends, size_t ends_length);
 
 /* Runs a sheet: refusals 1 to 9, 12. Read: the sheet, of any length. Written: keys, coefficients and numbers as above;
    ends, at least 6, hold the low and high end of the range, then those of the integral, then the quotient and the
-   remainder of the exact integral. */
+   remainder of the exact integral, which are 0 above four variables. */
 extern uint8_t hechroung_run(const uint8_t *sheet, size_t sheet_length,
-                             uint16_t *keys, size_t keys_length, int64_t *coefficients, size_t coefficients_length,
+                             uint32_t *keys, size_t keys_length, int64_t *coefficients, size_t coefficients_length,
                              uint64_t *numbers, size_t numbers_length, int64_t *ends, size_t ends_length);
 
 /* Runs a sheet as hechroung_run does, with the same answer, and stores besides where the radius of each step came
@@ -158,7 +163,7 @@ extern uint8_t hechroung_run(const uint8_t *sheet, size_t sheet_length,
    on. They are 0 for a refused step and those after it, for steps that the sheet does not have, and for all steps of a
    sheet refused by 1 to 6. What lies behind stays. */
 extern uint8_t hechroung_shares(const uint8_t *sheet, size_t sheet_length,
-                                uint16_t *keys, size_t keys_length, int64_t *coefficients, size_t coefficients_length,
+                                uint32_t *keys, size_t keys_length, int64_t *coefficients, size_t coefficients_length,
                                 uint64_t *numbers, size_t numbers_length, int64_t *ends, size_t ends_length,
                                 uint64_t *shares, size_t shares_length);
 
@@ -192,7 +197,7 @@ extern uint8_t hechroung_next(const uint8_t *sheet, size_t sheet_length, size_t 
    v) and a value. Written: buffer and numbers as for hechroung_rewrite. */
 extern uint8_t hechroung_write(uint8_t n, uint8_t d, size_t model_count, size_t step_count,
                                const uint8_t *ns, size_t ns_length, const size_t *counts, size_t counts_length,
-                               const uint64_t *radii, size_t radii_length, const uint16_t *keys, size_t keys_length,
+                               const uint64_t *radii, size_t radii_length, const uint32_t *keys, size_t keys_length,
                                const int64_t *coefficients, size_t coefficients_length,
                                const uint8_t *fields, size_t fields_length, const int64_t *values, size_t values_length,
                                uint8_t *buffer, size_t buffer_length, uint64_t *numbers, size_t numbers_length);
@@ -202,11 +207,11 @@ extern uint8_t hechroung_write(uint8_t n, uint8_t d, size_t model_count, size_t 
 extern uint8_t hechroung_run_book(uint8_t n, uint8_t d, size_t model_count, size_t step_count,
                                   const uint8_t *ns, size_t ns_length, const size_t *counts, size_t counts_length,
                                   const uint64_t *radii, size_t radii_length,
-                                  const uint16_t *book_keys, size_t book_keys_length,
+                                  const uint32_t *book_keys, size_t book_keys_length,
                                   const int64_t *book_coefficients, size_t book_coefficients_length,
                                   const uint8_t *fields, size_t fields_length,
                                   const int64_t *values, size_t values_length,
-                                  uint16_t *keys, size_t keys_length, int64_t *coefficients, size_t coefficients_length,
+                                  uint32_t *keys, size_t keys_length, int64_t *coefficients, size_t coefficients_length,
                                   uint64_t *numbers, size_t numbers_length, int64_t *ends, size_t ends_length);
 
 /* Runs a book as hechroung_run_book does, and stores its shares besides. Read: as for hechroung_run_book. Written: as
@@ -214,11 +219,11 @@ extern uint8_t hechroung_run_book(uint8_t n, uint8_t d, size_t model_count, size
 extern uint8_t hechroung_shares_book(uint8_t n, uint8_t d, size_t model_count, size_t step_count,
                                      const uint8_t *ns, size_t ns_length, const size_t *counts, size_t counts_length,
                                      const uint64_t *radii, size_t radii_length,
-                                     const uint16_t *book_keys, size_t book_keys_length,
+                                     const uint32_t *book_keys, size_t book_keys_length,
                                      const int64_t *book_coefficients, size_t book_coefficients_length,
                                      const uint8_t *fields, size_t fields_length,
                                      const int64_t *values, size_t values_length,
-                                     uint16_t *keys, size_t keys_length,
+                                     uint32_t *keys, size_t keys_length,
                                      int64_t *coefficients, size_t coefficients_length,
                                      uint64_t *numbers, size_t numbers_length, int64_t *ends, size_t ends_length,
                                      uint64_t *shares, size_t shares_length);
@@ -309,7 +314,7 @@ static inline uint8_t hechroung_antiderivative(uint8_t d, uint8_t i, const struc
 }
 
 /* f / g with order d, from a proposal h for f / g and w for 1 / g, which are used without their radii. Refusals 3 (d),
-   5 at place 0 to 3, 10, then 8 or 7, 12 (uncertified), 7. It takes some 4 KB of stack itself. */
+   5 at place 0 to 3, 10, then 8 or 7, 12 (uncertified), 7. It takes some 5 KB of stack itself. */
 static inline uint8_t hechroung_divide(uint8_t d, const struct hechroung_model *f, const struct hechroung_model *g,
                                        const struct hechroung_model *h, const struct hechroung_model *w,
                                        struct hechroung_model *answer, size_t *place) {
@@ -318,7 +323,7 @@ static inline uint8_t hechroung_divide(uint8_t d, const struct hechroung_model *
     uint8_t ns[4], number;
     size_t counts[4], k;
     uint64_t radii[4], numbers[4] = {0, 0, 0, 0};
-    uint16_t keys[4 * HECHROUNG_MOST_TERMS];
+    uint32_t keys[4 * HECHROUNG_MOST_TERMS];
     int64_t coefficients[4 * HECHROUNG_MOST_TERMS];
     if (f == NULL || g == NULL || h == NULL || w == NULL || answer == NULL) return HECHROUNG_MISUSED;
     models[0] = f;
@@ -344,14 +349,15 @@ static inline uint8_t hechroung_divide(uint8_t d, const struct hechroung_model *
 }
 
 /* The exact integral is stored where `exact` is not null. */
-static inline uint8_t hechroung_ended_(uint8_t code, const struct hechroung_model *f, const int64_t point[4],
+static inline uint8_t hechroung_ended_(uint8_t code, const struct hechroung_model *f,
+                                       const int64_t *point, size_t length,
                                        struct hechroung_ends *answer, struct hechroung_exact *exact) {
     int64_t ends[4] = {0, 0, 0, 0};
     uint8_t number;
     if (f == NULL || point == NULL || answer == NULL) return HECHROUNG_MISUSED;
     number = hechroung_ends(code, f->n, f->count, f->radius,
                             f->keys, HECHROUNG_MOST_TERMS, f->coefficients, HECHROUNG_MOST_TERMS,
-                            point[0], point[1], point[2], point[3], ends, 4);
+                            point, length, ends, 4);
     answer->low = ends[0];
     answer->high = ends[1];
     if (exact != NULL) {
@@ -363,29 +369,29 @@ static inline uint8_t hechroung_ended_(uint8_t code, const struct hechroung_mode
 
 /* The range over the box: every function within the model has its values, times U, between the ends. Refusal 5. */
 static inline uint8_t hechroung_range(const struct hechroung_model *f, struct hechroung_ends *answer) {
-    static const int64_t nowhere[4] = {0, 0, 0, 0};
-    return hechroung_ended_(1, f, nowhere, answer, NULL);
+    static const int64_t nowhere = 0;
+    return hechroung_ended_(1, f, &nowhere, 0, answer, NULL);
 }
 
 /* The integral over the box, times U. Refusal 5. */
 static inline uint8_t hechroung_integral(const struct hechroung_model *f, struct hechroung_ends *answer) {
-    static const int64_t nowhere[4] = {0, 0, 0, 0};
-    return hechroung_ended_(2, f, nowhere, answer, NULL);
+    static const int64_t nowhere = 0;
+    return hechroung_ended_(2, f, &nowhere, 0, answer, NULL);
 }
 
-/* The same, with the exact integral of the polynomial. Refusal 5. */
+/* The same, with the exact integral of the polynomial, which is 0 above four variables. Refusal 5. */
 static inline uint8_t hechroung_integral_exact(const struct hechroung_model *f, struct hechroung_ends *answer,
                                                struct hechroung_exact *exact) {
-    static const int64_t nowhere[4] = {0, 0, 0, 0};
+    static const int64_t nowhere = 0;
     if (exact == NULL) return HECHROUNG_MISUSED;
-    return hechroung_ended_(2, f, nowhere, answer, exact);
+    return hechroung_ended_(2, f, &nowhere, 0, answer, exact);
 }
 
-/* The values at the point X_i/U; coordinates above n are 0. Refusals 5, 6 (a coordinate above n), 9 (one outside
-   -U to U), 7. */
-static inline uint8_t hechroung_evaluate(const struct hechroung_model *f, const int64_t point[4],
+/* The values at the point X_i/U, which has at least HECHROUNG_MOST_VARIABLES coordinates; those above n are 0. Refusals
+   5, 6 (a coordinate above n), 9 (one outside -U to U), 7. */
+static inline uint8_t hechroung_evaluate(const struct hechroung_model *f, const int64_t *point, size_t length,
                                          struct hechroung_ends *answer) {
-    return hechroung_ended_(3, f, point, answer, NULL);
+    return hechroung_ended_(3, f, point, length, answer, NULL);
 }
 
 static inline void hechroung_summed_(const uint64_t numbers[4], const int64_t ends[6], struct hechroung_summary *answer,
@@ -443,13 +449,13 @@ static inline uint8_t hechroung_shares_sheet(const uint8_t *sheet, size_t length
     return number;
 }
 
-/* The slices of a book, some 12 KB; hechroung_flat_ fills them, and answers 0 where a pointer is null that must not
+/* The slices of a book, some 14 KB; hechroung_flat_ fills them, and answers 0 where a pointer is null that must not
    be. */
 struct hechroung_flat_ {
     uint8_t ns[HECHROUNG_MOST_MODELS], fields[4 * HECHROUNG_MOST_STEPS];
     size_t counts[HECHROUNG_MOST_MODELS];
     uint64_t radii[HECHROUNG_MOST_MODELS];
-    uint16_t keys[HECHROUNG_MOST_MODELS * HECHROUNG_MOST_TERMS];
+    uint32_t keys[HECHROUNG_MOST_MODELS * HECHROUNG_MOST_TERMS];
     int64_t coefficients[HECHROUNG_MOST_MODELS * HECHROUNG_MOST_TERMS], values[HECHROUNG_MOST_STEPS];
 };
 
@@ -477,7 +483,7 @@ static inline int hechroung_flat_(const struct hechroung_model *models, size_t m
 
 /* Writes a book of these models and steps as a sheet; a buffer of HECHROUNG_LONGEST_SHEET bytes is always enough. Its
    length is stored where `length` points. Refusals 3, 5, 6, 11; a refused write changes no byte and stores the length
-   0. It takes some 12 KB of stack itself. */
+   0. It takes some 14 KB of stack itself. */
 static inline uint8_t hechroung_write_sheet(uint8_t n, uint8_t d,
                                             const struct hechroung_model *models, size_t model_count,
                                             const struct hechroung_step *steps, size_t step_count,
@@ -498,7 +504,7 @@ static inline uint8_t hechroung_write_sheet(uint8_t n, uint8_t d,
     return number;
 }
 
-/* Runs a book of these models and steps. Refusals 3, 5 to 9, 12. It takes some 12 KB of stack itself. */
+/* Runs a book of these models and steps. Refusals 3, 5 to 9, 12. It takes some 14 KB of stack itself. */
 static inline uint8_t hechroung_run_models(uint8_t n, uint8_t d,
                                            const struct hechroung_model *models, size_t model_count,
                                            const struct hechroung_step *steps, size_t step_count,
@@ -520,7 +526,7 @@ static inline uint8_t hechroung_run_models(uint8_t n, uint8_t d,
 }
 
 /* Runs a book of these models and steps and tells where the radius of each step came from, in 64 places. Refusals 3, 5
-   to 9, 12. It takes some 14 KB of stack itself. */
+   to 9, 12. It takes some 16 KB of stack itself. */
 static inline uint8_t hechroung_shares_models(uint8_t n, uint8_t d,
                                               const struct hechroung_model *models, size_t model_count,
                                               const struct hechroung_step *steps, size_t step_count,

@@ -4,7 +4,7 @@
 use crate::inputs::{factors, Kind, VARIABLES};
 use crate::products::stored;
 use crate::timing::best;
-use hechroung::{Ends, Model, Refusal, UNIT};
+use hechroung::{Ends, Model, Refusal, MOST_VARS, UNIT};
 use reference::calls::{self, EndsAnswer, ModelAnswer};
 use reference::generate::Random;
 use reference::stored::StoredModel;
@@ -15,7 +15,7 @@ const ROUNDS: usize = 40;
 const TERMS: usize = 15;
 const ORDER: u8 = 4;
 /// A point inside the box.
-const POINT: [i64; 4] = [UNIT / 2, -UNIT / 3, UNIT / 5, -UNIT / 7];
+const POINT: [i64; MOST_VARS] = [UNIT / 2, -UNIT / 3, UNIT / 5, -UNIT / 7, 0, 0, 0, 0];
 
 /// Two models, as each side takes them; the second one's range lies inside the box.
 struct Operands {

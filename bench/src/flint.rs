@@ -7,7 +7,8 @@ use std::sync::Once;
 extern "C" {
     fn bench_flint_start();
     fn bench_flint_polynomial(
-        keys: *const u16,
+        variables: usize,
+        keys: *const u32,
         coefficients: *const i64,
         count: usize,
     ) -> *mut c_void;
@@ -23,15 +24,15 @@ pub struct Polynomial(*mut c_void);
 impl Polynomial {
     /// The polynomial of a model of at most 64 terms.
     pub fn new(model: &Model) -> Polynomial {
-        // SAFETY: the context is made once and first; the arrays have 64 places, at least as many as are read.
+        // SAFETY: the contexts are made once and first; the arrays have 64 places, at least as many as are read.
         START.call_once(|| unsafe { bench_flint_start() });
         let count = model.count.min(hechroung::MOST_TERMS);
-        Polynomial(unsafe {
-            bench_flint_polynomial(model.keys.as_ptr(), model.coefficients.as_ptr(), count)
-        })
+        let variables = usize::from(model.n).min(hechroung::MOST_VARS);
+        let (keys, coefficients) = (model.keys.as_ptr(), model.coefficients.as_ptr());
+        Polynomial(unsafe { bench_flint_polynomial(variables, keys, coefficients, count) })
     }
 
-    /// The exact product, which is thrown away.
+    /// The exact product of two in as many variables, which is thrown away.
     pub fn multiply(&self, other: &Polynomial) {
         // SAFETY: both were built by `new` and are not freed yet.
         unsafe { bench_flint_multiply(self.0, other.0) }

@@ -1,9 +1,10 @@
-//! Inputs that are timed, all in 4 variables: factors of products, and sheets.
+//! Inputs that are timed, in 4 variables where no other number is named: factors of products, and sheets.
 
 use hechroung::{Model, UNIT};
 use reference::book::{Step, ADD, INPUT, MULTIPLY};
 use reference::generate::{self, Draft, DraftModel, Random};
 use std::collections::BTreeSet;
+use std::ops::RangeInclusive;
 
 /// The order of the largest sheets.
 pub const ORDER: u8 = 15;
@@ -20,22 +21,58 @@ pub enum Kind {
     Any,
     /// One large coefficient and small others at the same keys, so that what is kept fits.
     Kept,
+    /// Coefficients of up to 1/4: nothing is above the largest span, and every monomial up to the order is kept.
+    Quarters,
 }
 
 /// Two factors of this many terms each.
 pub fn factors(random: &mut Random, terms: usize, order: u8, kind: Kind) -> (Model, Model) {
-    let keys = keys(random, terms, order);
-    let other = match kind {
-        Kind::Kept => keys.clone(),
-        Kind::Any => self::keys(random, terms, order),
-    };
-    factors_at(random, &keys, &other, kind)
+    factors_in(random, VARIABLES, terms, order, kind)
 }
 
-/// Two factors with these keys.
-pub fn factors_at(random: &mut Random, keys: &[u16], other: &[u16], kind: Kind) -> (Model, Model) {
-    let f = model(random, keys, kind);
-    let g = model(random, other, kind);
+/// The same in n variables.
+pub fn factors_in(
+    random: &mut Random,
+    n: u8,
+    terms: usize,
+    order: u8,
+    kind: Kind,
+) -> (Model, Model) {
+    let keys = keys_in(random, 1..=n, terms, order);
+    let other = match kind {
+        Kind::Any => keys_in(random, 1..=n, terms, order),
+        Kind::Kept | Kind::Quarters => keys.clone(),
+    };
+    let f = model(random, n, &keys, kind);
+    let g = model(random, n, &other, kind);
+    (f, g)
+}
+
+/// The 8 variables of the models below.
+const EIGHT: RangeInclusive<u8> = 1..=8;
+
+/// Two factors in 8 variables, of all monomials up to this degree.
+pub fn up_to_degree(random: &mut Random, degree: u8) -> (Model, Model) {
+    let mut keys: Vec<u32> = (0..=degree).flat_map(|d| all_of_degree(EIGHT, d)).collect();
+    keys.sort_unstable();
+    factors_at(random, *EIGHT.end(), &keys, Kind::Quarters)
+}
+
+/// Two factors in 8 variables, of 1 and the same 63 monomials of degree 3: with order 3 these are kept.
+pub fn cubic(random: &mut Random) -> (Model, Model) {
+    let all = all_of_degree(EIGHT, 3);
+    let mut keys = BTreeSet::from([0]);
+    while keys.len() < 64 {
+        keys.insert(*random.pick(&all));
+    }
+    let keys: Vec<u32> = keys.into_iter().collect();
+    factors_at(random, *EIGHT.end(), &keys, Kind::Quarters)
+}
+
+/// Two factors in n variables with these keys.
+pub fn factors_at(random: &mut Random, n: u8, keys: &[u32], kind: Kind) -> (Model, Model) {
+    let f = model(random, n, keys, kind);
+    let g = model(random, n, keys, kind);
     (f, g)
 }
 
@@ -57,14 +94,14 @@ pub fn integrand(random: &mut Random, terms: usize, order: u8, parity: Parity) -
             halves.into_iter().map(|key| 2 * key).collect()
         }
     };
-    model(random, &keys, Kind::Any)
+    model(random, VARIABLES, &keys, Kind::Any)
 }
 
 /// Different rising keys of degree at most this, all equally likely to be tried.
-fn even_halves(random: &mut Random, terms: usize, degree: u8) -> BTreeSet<u16> {
+fn even_halves(random: &mut Random, terms: usize, degree: u8) -> BTreeSet<u32> {
     let mut halves = BTreeSet::from([0]);
     while halves.len() < terms {
-        let key = random.next_u64() as u16 & 0x7777;
+        let key = random.next_u64() as u32 & 0x7777_0000;
         if generate::models::degree(key) <= degree {
             halves.insert(key);
         }
@@ -73,25 +110,54 @@ fn even_halves(random: &mut Random, terms: usize, degree: u8) -> BTreeSet<u16> {
 }
 
 /// Different rising keys of degree at most the order, 0 among them. For high orders low exponents are the likelier.
-pub fn keys(random: &mut Random, terms: usize, order: u8) -> Vec<u16> {
+pub fn keys(random: &mut Random, terms: usize, order: u8) -> Vec<u32> {
+    keys_in(random, 1..=VARIABLES, terms, order)
+}
+
+/// The same in these variables alone.
+pub fn keys_in(
+    random: &mut Random,
+    variables: RangeInclusive<u8>,
+    terms: usize,
+    order: u8,
+) -> Vec<u32> {
     let mut keys = BTreeSet::from([0]);
     while keys.len() < terms {
         let mut left = order;
         let mut key = 0;
-        for _ in 0..VARIABLES {
+        for variable in variables.clone() {
             let most = if order > 8 { left / 2 } else { left };
             let exponent = random.byte(0, most);
             left -= exponent;
-            key = key << 4 | u16::from(exponent);
+            key |= u32::from(exponent) << shift(variable);
         }
         keys.insert(key);
     }
     keys.into_iter().collect()
 }
 
-fn model(random: &mut Random, keys: &[u16], kind: Kind) -> Model {
+/// Where the exponent of a variable, from 1, stands in a key.
+pub fn shift(variable: u8) -> u32 {
+    32 - 4 * u32::from(variable)
+}
+
+/// All monomials of these variables with this degree.
+pub fn all_of_degree(variables: RangeInclusive<u8>, degree: u8) -> Vec<u32> {
+    let (first, last) = variables.clone().into_inner();
+    if first == last {
+        return vec![u32::from(degree) << shift(first)];
+    }
+    let with = |exponent: u8| {
+        let others = all_of_degree(first + 1..=last, degree - exponent);
+        let power = u32::from(exponent) << shift(first);
+        others.into_iter().map(move |key| power | key)
+    };
+    (0..=degree).flat_map(with).collect()
+}
+
+fn model(random: &mut Random, n: u8, keys: &[u32], kind: Kind) -> Model {
     let mut model = Model {
-        n: VARIABLES,
+        n,
         count: keys.len(),
         radius: RADIUS,
         ..Model::ZERO
@@ -101,6 +167,7 @@ fn model(random: &mut Random, keys: &[u16], kind: Kind) -> Model {
             Kind::Any => random.between(1, 1 << 22),
             Kind::Kept if place == 0 => UNIT + random.between(0, 999),
             Kind::Kept => random.between(1, 60),
+            Kind::Quarters => random.between(1, UNIT / 4),
         };
         let sign = if place == 0 { 1 } else { random.sign() };
         model.keys[place] = key;
@@ -129,7 +196,12 @@ pub fn typical(random: &mut Random) -> Vec<u8> {
 
 /// Sixteen models of 64 terms at the same keys; two inputs, then products of the last result and an input.
 pub fn largest(random: &mut Random, count: usize) -> Vec<u8> {
-    let keys = keys(random, 64, 15);
+    largest_in(random, VARIABLES, count)
+}
+
+/// The same in n variables.
+pub fn largest_in(random: &mut Random, n: u8, count: usize) -> Vec<u8> {
+    let keys = keys_in(random, 1..=n, 64, 15);
     let models = (0..MODELS).map(|_| draft_model(random, &keys)).collect();
     let mut steps = vec![
         Step::one(INPUT, random.byte(0, 15)),
@@ -140,13 +212,13 @@ pub fn largest(random: &mut Random, count: usize) -> Vec<u8> {
         steps.push(Step::two(MULTIPLY, last, random.byte(0, 1)));
     }
     steps.truncate(count);
-    Draft::new(4, ORDER, models, steps).bytes()
+    Draft::new(n, ORDER, models, steps).bytes()
 }
 
 /// Small coefficients but for the constant one, so that 62 products in a row keep the same 64 terms.
-pub fn draft_model(random: &mut Random, keys: &[u16]) -> DraftModel {
-    let model = model(random, keys, Kind::Kept);
-    let small = |key: u16, c: i64| {
+pub fn draft_model(random: &mut Random, keys: &[u32]) -> DraftModel {
+    let model = model(random, VARIABLES, keys, Kind::Kept);
+    let small = |key: u32, c: i64| {
         if key == 0 {
             c
         } else {

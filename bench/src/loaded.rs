@@ -2,7 +2,7 @@
 //! of bench/versus stands here.
 
 use hechroung::raw::signature::{Call, Ends, Record, Run};
-use hechroung::{Model, MOST_TERMS};
+use hechroung::{Model, MOST_TERMS, MOST_VARS};
 use std::ffi::{c_char, c_int, c_void, CStr, CString};
 
 /// Every name is looked up at once, and none is lent to another library.
@@ -15,12 +15,64 @@ extern "C" {
     fn dlerror() -> *const c_char;
 }
 
-/// The functions of one build. It stays loaded until the program ends.
+/// Which layout a build has. In layout 2 keys have 16 bits, and a point is four numbers.
+#[derive(Clone, Copy, PartialEq)]
+pub enum Layout {
+    Two,
+    Now,
+}
+
+/// The ends of layout 2.
+type EndsOfTwo = unsafe extern "C" fn(
+    u8,
+    u8,
+    usize,
+    u64,
+    *const u16,
+    usize,
+    *const i64,
+    usize,
+    i64,
+    i64,
+    i64,
+    i64,
+    *mut i64,
+    usize,
+) -> u8;
+
+enum EitherEnds {
+    Two(EndsOfTwo),
+    Now(Ends),
+}
+
+/// The functions of one build. It stays loaded until the program ends. A pointer to keys is handed over alike in both
+/// layouts, whatever their width.
 pub struct Library {
+    layout: Layout,
     call: Call,
-    ends: Ends,
+    ends: EitherEnds,
     run: Run,
     record: Record,
+}
+
+/// A model with its keys in both widths, so that no build pays for a conversion; in 16 bits are variables 1 to 4.
+pub struct Lent {
+    model: Model,
+    halves: [u16; MOST_TERMS],
+}
+
+impl Lent {
+    pub fn new(model: Model) -> Lent {
+        let halves = model.keys.map(|key| (key >> 16) as u16);
+        Lent { model, halves }
+    }
+
+    fn keys(&self, layout: Layout) -> *const u32 {
+        match layout {
+            Layout::Two => self.halves.as_ptr().cast(),
+            Layout::Now => self.model.keys.as_ptr(),
+        }
+    }
 }
 
 /// All that a product or a run answers, as it is stored; a product has no ends. A build of the layout before the exact
@@ -29,12 +81,31 @@ pub struct Library {
 pub struct Answer {
     pub refusal: u8,
     numbers: [u64; 4],
-    keys: [u16; MOST_TERMS],
+    keys: [u32; MOST_TERMS],
+    /// The keys of layout 2.
+    halves: [u16; MOST_TERMS],
     coefficients: [i64; MOST_TERMS],
     ends: [i64; 6],
 }
 
 impl Answer {
+    /// The same with keys of this layout, whichever stored it. It is not timed.
+    pub fn widened(mut self) -> Answer {
+        for (key, half) in self.keys.iter_mut().zip(&mut self.halves) {
+            *key |= u32::from(*half) << 16;
+            *half = 0;
+        }
+        self
+    }
+
+    /// Where a build of this layout stores its keys.
+    fn room(&mut self, layout: Layout) -> *mut u32 {
+        match layout {
+            Layout::Two => self.halves.as_mut_ptr().cast(),
+            Layout::Now => self.keys.as_mut_ptr(),
+        }
+    }
+
     /// The same without the ends of the range, which come first.
     pub fn without_range(mut self) -> Answer {
         self.ends[..2].fill(0);
@@ -56,28 +127,33 @@ impl Answer {
         refusal: 0,
         numbers: [0; 4],
         keys: [0; MOST_TERMS],
+        halves: [0; MOST_TERMS],
         coefficients: [0; MOST_TERMS],
         ends: [0; 6],
     };
 }
 
 impl Library {
-    pub fn load(path: &str) -> Library {
+    pub fn load(path: &str, layout: Layout) -> Library {
         let file = CString::new(path).expect("a path has no zero byte");
         // SAFETY: the path ends with a zero. The library has no code that runs when it is loaded.
         let library = unsafe { dlopen(file.as_ptr(), RTLD_NOW) };
         assert!(!library.is_null(), "{path}: {}", why());
-        // SAFETY: the functions have these signatures, in all builds.
+        // SAFETY: the functions have these signatures, in all builds of that layout.
         unsafe {
+            let ends = function(library, c"hechroung_ends");
             Library {
+                layout,
                 call: std::mem::transmute::<*mut c_void, Call>(function(
                     library,
                     c"hechroung_call",
                 )),
-                ends: std::mem::transmute::<*mut c_void, Ends>(function(
-                    library,
-                    c"hechroung_ends",
-                )),
+                ends: match layout {
+                    Layout::Two => {
+                        EitherEnds::Two(std::mem::transmute::<*mut c_void, EndsOfTwo>(ends))
+                    }
+                    Layout::Now => EitherEnds::Now(std::mem::transmute::<*mut c_void, Ends>(ends)),
+                },
                 run: std::mem::transmute::<*mut c_void, Run>(function(library, c"hechroung_run")),
                 record: std::mem::transmute::<*mut c_void, Record>(function(
                     library,
@@ -87,8 +163,14 @@ impl Library {
         }
     }
 
-    pub fn multiply(&self, d: u8, f: &Model, g: &Model) -> Answer {
+    pub fn multiply(&self, d: u8, f: &Lent, g: &Lent) -> Answer {
         let mut answer = Answer::EMPTY;
+        let (keys1, keys2, keys) = (
+            f.keys(self.layout),
+            g.keys(self.layout),
+            answer.room(self.layout),
+        );
+        let (f, g) = (&f.model, &g.model);
         // SAFETY: each pointer comes from an array that lives during the call, with its own length; what is written
         // overlaps nothing. The contract asks for nothing else, here and below.
         answer.refusal = unsafe {
@@ -100,19 +182,19 @@ impl Library {
                 f.n,
                 f.count,
                 f.radius,
-                f.keys.as_ptr(),
-                f.keys.len(),
+                keys1,
+                MOST_TERMS,
                 f.coefficients.as_ptr(),
                 f.coefficients.len(),
                 g.n,
                 g.count,
                 g.radius,
-                g.keys.as_ptr(),
-                g.keys.len(),
+                keys2,
+                MOST_TERMS,
                 g.coefficients.as_ptr(),
                 g.coefficients.len(),
-                answer.keys.as_mut_ptr(),
-                answer.keys.len(),
+                keys,
+                MOST_TERMS,
                 answer.coefficients.as_mut_ptr(),
                 answer.coefficients.len(),
                 answer.numbers.as_mut_ptr(),
@@ -123,36 +205,61 @@ impl Library {
     }
 
     /// The two ends of the range.
-    pub fn range(&self, f: &Model) -> [i64; 2] {
+    pub fn range(&self, f: &Lent) -> [i64; 2] {
         let [low, high, _, _] = self.ended(1, f);
         [low, high]
     }
 
     /// The two ends of the integral, and the exact one, or zeros where the build has none.
-    pub fn integral(&self, f: &Model) -> [i64; 4] {
+    pub fn integral(&self, f: &Lent) -> [i64; 4] {
         self.ended(2, f)
     }
 
-    fn ended(&self, code: u8, f: &Model) -> [i64; 4] {
+    fn ended(&self, code: u8, lent: &Lent) -> [i64; 4] {
         let mut ends = [0; 4];
+        let (n, count, radius) = (lent.model.n, lent.model.count, lent.model.radius);
+        let coefficients = lent.model.coefficients.as_ptr();
+        let out = ends.as_mut_ptr();
         // SAFETY: as in `multiply`.
         let refusal = unsafe {
-            (self.ends)(
-                code,
-                f.n,
-                f.count,
-                f.radius,
-                f.keys.as_ptr(),
-                f.keys.len(),
-                f.coefficients.as_ptr(),
-                f.coefficients.len(),
-                0,
-                0,
-                0,
-                0,
-                ends.as_mut_ptr(),
-                ends.len(),
-            )
+            match self.ends {
+                EitherEnds::Two(call) => {
+                    let keys = lent.halves.as_ptr();
+                    call(
+                        code,
+                        n,
+                        count,
+                        radius,
+                        keys,
+                        MOST_TERMS,
+                        coefficients,
+                        MOST_TERMS,
+                        0,
+                        0,
+                        0,
+                        0,
+                        out,
+                        4,
+                    )
+                }
+                EitherEnds::Now(call) => {
+                    let (keys, point) = (lent.model.keys.as_ptr(), [0; MOST_VARS]);
+                    call(
+                        code,
+                        n,
+                        count,
+                        radius,
+                        keys,
+                        MOST_TERMS,
+                        coefficients,
+                        MOST_TERMS,
+                        point.as_ptr(),
+                        MOST_VARS,
+                        out,
+                        4,
+                    )
+                }
+            }
         };
         assert_eq!(refusal, 0, "the model is sound");
         ends
@@ -160,13 +267,14 @@ impl Library {
 
     pub fn run(&self, sheet: &[u8]) -> Answer {
         let mut answer = Answer::EMPTY;
+        let keys = answer.room(self.layout);
         // SAFETY: as in `multiply`.
         answer.refusal = unsafe {
             (self.run)(
                 sheet.as_ptr(),
                 sheet.len(),
-                answer.keys.as_mut_ptr(),
-                answer.keys.len(),
+                keys,
+                MOST_TERMS,
                 answer.coefficients.as_mut_ptr(),
                 answer.coefficients.len(),
                 answer.numbers.as_mut_ptr(),

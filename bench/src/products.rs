@@ -1,10 +1,10 @@
-//! Products of two models in 4 variables, or in the first of them alone. Ours is the whole public call through the
+//! Products of two models in 4 variables, or in the first of them alone, and in 8. Ours is the whole public call by the
 //! library's C interface: both models tested and read in their arrays, all products collected by monomial, rounded, the
 //! radius, all places of the result stored.
 //! FLINT's is the exact product alone, of polynomials built beforehand. The second implementation's is its whole call.
 
 use crate::flint::Polynomial;
-use crate::inputs::{factors, factors_at, Kind};
+use crate::inputs::{cubic, factors, factors_at, factors_in, shift, up_to_degree, Kind, VARIABLES};
 use crate::timing::best;
 use hechroung::Model;
 use reference::calls;
@@ -58,8 +58,7 @@ impl Pair {
 }
 
 pub fn print(random: &mut Random) {
-    println!("| Product, 4 variables | Terms | Order | Accepted | Ours, µs | FLINT, µs | Ours / FLINT | Second, µs | Ours / second |");
-    println!("|---|---|---|---|---|---|---|---|---|");
+    heads(VARIABLES);
     row(random, "sparse, refused", 64, 15, Kind::Any);
     row(random, "sparse, kept", 64, 15, Kind::Kept);
     row(random, "dense, kept", 64, 4, Kind::Kept);
@@ -69,15 +68,50 @@ pub fn print(random: &mut Random) {
     row(random, "10 of degree 2", 10, 2, Kind::Kept);
     row(random, "all of degree 3", 35, 3, Kind::Kept);
     let line: Vec<Pair> = (0..INPUTS)
-        .map(|_| Pair::of(factors_at(random, &line(), &line(), Kind::Kept)))
+        .map(|_| Pair::of(factors_at(random, VARIABLES, &line(), Kind::Kept)))
         .collect();
     timed("all powers of one variable", 16, 15, &line);
     println!();
+    print_eight(random);
+}
+
+fn heads(variables: u8) {
+    println!("| Product, {variables} variables | Terms | Order | Accepted | Ours, µs | FLINT, µs | Ours / FLINT | Second, µs | Ours / second |");
+    println!("|---|---|---|---|---|---|---|---|---|");
 }
 
 /// The powers 0 to 15 of variable 1.
-fn line() -> Vec<u16> {
-    (0..16).map(|exponent| exponent << 12).collect()
+fn line() -> Vec<u32> {
+    (0..16).map(|exponent| exponent << shift(1)).collect()
+}
+
+/// In 8 variables: sparse factors, and some whose products up to the order are at most 64, all of them kept.
+fn print_eight(random: &mut Random) {
+    heads(8);
+    row_of(random, "sparse, refused", 15, |random| {
+        factors_in(random, 8, 64, 15, Kind::Any)
+    });
+    row_of(random, "sparse, kept", 15, |random| {
+        factors_in(random, 8, 64, 15, Kind::Kept)
+    });
+    row_of(random, "all up to degree 1", 2, |random| {
+        up_to_degree(random, 1)
+    });
+    row_of(random, "all up to degree 2", 2, |random| {
+        up_to_degree(random, 2)
+    });
+    row_of(random, "1 and 63 of degree 3", 3, cubic);
+    println!();
+}
+
+fn row_of(
+    random: &mut Random,
+    name: &str,
+    order: u8,
+    factors: impl Fn(&mut Random) -> (Model, Model),
+) {
+    let pairs: Vec<Pair> = (0..INPUTS).map(|_| Pair::of(factors(random))).collect();
+    timed(name, pairs[0].f.count, order, &pairs);
 }
 
 fn row(random: &mut Random, name: &str, terms: usize, order: u8, kind: Kind) {

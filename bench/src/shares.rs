@@ -17,7 +17,7 @@ type Times = [f64; 2];
 
 /// The slices of an answer.
 struct Room {
-    keys: [u16; MOST_TERMS],
+    keys: [u32; MOST_TERMS],
     coefficients: [i64; MOST_TERMS],
     numbers: [u64; 4],
     ends: [i64; 6],

@@ -1,12 +1,13 @@
 //! A search for sheets that run slowly, by their time for each product that they make. Windows of home slots and hill
 //! climbing look for factors whose products meet in the table's searches; substitutions and quotients make many
-//! products by one step. The slowest of each kind is printed beside the benchmark's largest sheet.
+//! products by one step. The slowest of each kind is printed beside the benchmark's largest sheet of as many variables.
 
-use crate::inputs::{keys, largest, ORDER, STEPS, VARIABLES};
+use crate::inputs::{all_of_degree, keys_in, largest_in, shift, ORDER, STEPS};
 use crate::timing::median;
 use reference::book::{Step, INPUT, MULTIPLY};
 use reference::generate::{Draft, DraftModel, Random};
 use std::hint::black_box;
+use std::ops::RangeInclusive;
 use std::time::Instant;
 
 const WINDOWS: usize = 5_000;
@@ -25,39 +26,80 @@ const SLOWEST: usize = 16;
 /// has too many terms.
 const SMALL: i64 = 60;
 
+/// Sheets of n variables with factors in some of them alone.
+struct Field {
+    n: u8,
+    variables: RangeInclusive<u8>,
+    /// All keys of degree up to the order in these variables.
+    all: Vec<u32>,
+}
+
+impl Field {
+    fn new(n: u8, variables: RangeInclusive<u8>) -> Field {
+        let all = (0..=ORDER).flat_map(|degree| all_of_degree(variables.clone(), degree));
+        Field {
+            n,
+            all: all.collect(),
+            variables,
+        }
+    }
+
+    fn keys(&self, random: &mut Random, terms: usize, order: u8) -> Vec<u32> {
+        keys_in(random, self.variables.clone(), terms, order)
+    }
+
+    /// All keys in the order of where their searches begin.
+    fn by_home(&self) -> Vec<u32> {
+        let mut keys = self.all.clone();
+        keys.sort_by_key(|&key| mixed(wide(key)));
+        keys
+    }
+}
+
 pub fn print(random: &mut Random) {
+    for (n, variables) in [(4, 1..=4), (8, 1..=8), (8, 5..=8)] {
+        let (first, last) = variables.clone().into_inner();
+        println!(
+            "| {n} variables, factors in {first} to {last} | Tries | Slowest, µs a product | \
+             Largest sheet, µs a product | Ratio |"
+        );
+        println!("|---|---|---|---|---|");
+        print_field(random, &Field::new(n, variables));
+        println!();
+    }
+}
+
+fn print_field(random: &mut Random, field: &Field) {
     let largest = (0..16).map(|_| Candidate {
-        bytes: largest(random, STEPS),
+        bytes: largest_in(random, field.n, STEPS),
         products: STEPS - 2,
     });
     let usual = median(largest.map(|sheet| sheet.time(SURE_RUNS)));
-    println!("| Sheets | Tries | Slowest, µs a product | Largest sheet, µs a product | Ratio |");
-    println!("|---|---|---|---|---|");
-    let by_home = by_home();
+    let by_home = field.by_home();
     row("windows of home slots", WINDOWS, usual, || {
         let window = |random: &mut Random| {
             let start = random.size(0, by_home.len() - 1);
             let around = by_home.iter().cycle().skip(start).take(TERMS);
-            around.copied().collect::<Vec<u16>>()
+            around.copied().collect::<Vec<u32>>()
         };
-        let windows: Vec<Vec<u16>> = (0..MODELS).map(|_| window(random)).collect();
-        products(random, &windows)
+        let windows: Vec<Vec<u32>> = (0..MODELS).map(|_| window(random)).collect();
+        products(random, field.n, &windows)
     });
-    let mut climb = Climb::new(random);
+    let mut climb = Climb::new(random, field);
     let climbs = CLIMBS * CLIMB_STEPS;
     let mut step = 0;
     row("hill climbing on entries passed", climbs, usual, || {
         if step % CLIMB_STEPS == 0 {
-            climb = Climb::new(random);
+            climb = Climb::new(random, field);
         }
         step += 1;
-        climb.step(random);
-        products(random, &climb.factors)
+        climb.step(random, field);
+        products(random, field.n, &climb.factors)
     });
     row("substitutions", SUBSTITUTIONS, usual, || {
-        substitution(random)
+        substitution(random, field)
     });
-    row("quotients", QUOTIENTS, usual, || quotient(random));
+    row("quotients", QUOTIENTS, usual, || quotient(random, field));
 }
 
 fn row(name: &str, tries: usize, usual: f64, mut make: impl FnMut() -> Candidate) {
@@ -105,7 +147,7 @@ impl Candidate {
 
 /// As many products as a sheet can have of models with these keys, one of the first half with one of the second; of
 /// many models the pairs are so many that no branch predictor learns them.
-fn products(random: &mut Random, keys: &[Vec<u16>]) -> Candidate {
+fn products(random: &mut Random, n: u8, keys: &[Vec<u32>]) -> Candidate {
     let models: Vec<DraftModel> = keys.iter().map(|keys| small(random, keys)).collect();
     let count = models.len() as u8;
     let mut steps: Vec<Step> = (0..count).map(|number| Step::one(INPUT, number)).collect();
@@ -114,25 +156,25 @@ fn products(random: &mut Random, keys: &[Vec<u16>]) -> Candidate {
         let second = random.byte(count / 2, count - 1);
         steps.push(Step::two(MULTIPLY, first, second));
     }
-    let draft = Draft::new(VARIABLES, ORDER, models, steps);
+    let draft = Draft::new(n, ORDER, models, steps);
     Candidate::new(STEPS - usize::from(count), draft)
 }
 
-fn small(random: &mut Random, keys: &[u16]) -> DraftModel {
-    let mut terms: Vec<(u16, i32)> = keys
+fn small(random: &mut Random, keys: &[u32]) -> DraftModel {
+    let mut terms: Vec<(u32, i32)> = keys
         .iter()
         .map(|&key| (key, (random.between(1, SMALL) * random.sign()) as i32))
         .collect();
     terms.sort_unstable();
-    DraftModel::new(0, &terms)
+    DraftModel::wide(0, &terms)
 }
 
 // ---- where the table's searches go
-/// The exponents of a key, in the places of a wide key: seven bits each above 36 others, and their sum in the lowest.
-fn wide(key: u16) -> u64 {
-    let exponents = [12, 8, 4, 0].map(|shift| u64::from(key >> shift & 15));
+/// The exponents of a key, in the places of a wide key: seven bits each above the lowest eight, which hold their sum.
+fn wide(key: u32) -> u64 {
+    let exponents = [1, 2, 3, 4, 5, 6, 7, 8].map(|v| u64::from(key >> shift(v) & 15));
     let upper = exponents.iter().fold(0, |number, e| number << 7 | e);
-    (upper << 36) + exponents.iter().sum::<u64>()
+    (upper << 8) + exponents.iter().sum::<u64>()
 }
 
 /// The number that says where the search for a wide key begins.
@@ -142,7 +184,7 @@ fn mixed(key: u64) -> u64 {
 }
 
 /// How many entries the searches of all products pass.
-fn passed(f: &[u16], g: &[u16]) -> usize {
+fn passed(f: &[u32], g: &[u32]) -> usize {
     let homes = 4 * f.len() * g.len();
     let mut slots = vec![0_usize; homes + 2 * (f.len() * g.len() + 1)];
     let mut entries = vec![0_u64];
@@ -151,9 +193,10 @@ fn passed(f: &[u16], g: &[u16]) -> usize {
         for &b in g {
             let key = wide(a) + wide(b);
             let mut slot = ((mixed(key) * homes as u64) >> 32) as usize;
-            let mut bits = (key >> 36) as usize;
+            // The exponents of variables 1 to 4 first, then the others and the sum.
+            let mut bits = key.rotate_left(28);
             while slots[slot] != 0 && entries[slots[slot]] != key {
-                slot = homes + 2 * slots[slot] + bits % 2;
+                slot = homes + 2 * slots[slot] + (bits % 2) as usize;
                 bits /= 2;
                 passed += 1;
             }
@@ -166,42 +209,25 @@ fn passed(f: &[u16], g: &[u16]) -> usize {
     passed
 }
 
-/// All keys of degree up to 15 in four variables.
-fn all_keys() -> Vec<u16> {
-    let degree = |key: u16| [12, 8, 4, 0].iter().map(|s| key >> s & 15).sum::<u16>();
-    (0..=u16::MAX)
-        .filter(|&key| degree(key) <= u16::from(ORDER))
-        .collect()
-}
-
-/// The same keys in the order of where their searches begin.
-fn by_home() -> Vec<u16> {
-    let mut keys = all_keys();
-    keys.sort_by_key(|&key| mixed(wide(key)));
-    keys
-}
-
 /// Factors that are changed key by key, unless fewer entries are passed then.
 struct Climb {
-    all: Vec<u16>,
-    factors: [Vec<u16>; 2],
+    factors: [Vec<u32>; 2],
     passed: usize,
 }
 
 impl Climb {
-    fn new(random: &mut Random) -> Climb {
-        let factors = [(); 2].map(|()| keys(random, TERMS, ORDER));
+    fn new(random: &mut Random, field: &Field) -> Climb {
+        let factors = [(); 2].map(|()| field.keys(random, TERMS, ORDER));
         Climb {
-            all: all_keys(),
             passed: passed(&factors[0], &factors[1]),
             factors,
         }
     }
 
-    fn step(&mut self, random: &mut Random) {
+    fn step(&mut self, random: &mut Random, field: &Field) {
         let which = random.size(0, 1);
         let place = random.size(0, TERMS - 1);
-        let key = *random.pick(&self.all);
+        let key = *random.pick(&field.all);
         if self.factors[which].contains(&key) {
             return;
         }
@@ -217,33 +243,34 @@ impl Climb {
 
 // ---- steps that make many products
 /// Substitutions for a variable, each of as many products as its highest power.
-fn substitution(random: &mut Random) -> Candidate {
-    let mut f = keys(random, TERMS - 1, ORDER);
+fn substitution(random: &mut Random, field: &Field) -> Candidate {
+    let mut f = field.keys(random, TERMS - 1, ORDER);
+    let variable = *field.variables.end();
     let highest = random.byte(8, 15);
-    f.retain(|key| key & 15 <= u16::from(highest));
-    f.push(u16::from(highest));
+    f.retain(|key| key >> shift(variable) & 15 <= u32::from(highest));
+    f.push(u32::from(highest) << shift(variable));
     f.sort_unstable();
     f.dedup();
-    let g = keys(random, TERMS, ORDER);
+    let g = field.keys(random, TERMS, ORDER);
     let models = [&f, &g].map(|keys| small(random, keys)).to_vec();
     let mut steps = vec![Step::one(INPUT, 0), Step::one(INPUT, 1)];
-    steps.resize(STEPS, Step::substitute(0, 1, VARIABLES));
-    let draft = Draft::new(VARIABLES, ORDER, models, steps);
+    steps.resize(STEPS, Step::substitute(0, 1, variable));
+    let draft = Draft::new(field.n, ORDER, models, steps);
     Candidate::new((STEPS - 2) * usize::from(highest), draft)
 }
 
 /// Quotients, each of three products.
-fn quotient(random: &mut Random) -> Candidate {
-    let near_one = |random: &mut Random, keys: &[u16]| {
+fn quotient(random: &mut Random, field: &Field) -> Candidate {
+    let near_one = |random: &mut Random, keys: &[u32]| {
         let mut model = small(random, keys);
         model.terms[0] = (0, 1 << 20);
         model
     };
     let order = *random.pick(&[4, 8, ORDER]);
-    let at = keys(random, TERMS, order);
+    let at = field.keys(random, TERMS, order);
     let models = (0..4).map(|_| near_one(random, &at)).collect();
     let mut steps: Vec<Step> = (0..4).map(|number| Step::one(INPUT, number)).collect();
     steps.resize(STEPS, Step::quotient(0, 1, 2, 3));
-    let draft = Draft::new(VARIABLES, order, models, steps);
+    let draft = Draft::new(field.n, order, models, steps);
     Candidate::new(3 * (STEPS - 4), draft)
 }

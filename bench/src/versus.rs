@@ -1,15 +1,18 @@
 //! Two builds of the library by turns in one run, on the same inputs: for each row the ratio of their times, new / old,
 //! once for each seed. Every answer of one is compared with the other's, and the run stops where they differ.
-//! usage: versus NEW.so OLD.so SEEDS [ranges-differ | integrals-differ]; with the last word the ends of ranges, or those
-//! of integrals and the exact ones, are not compared, for two builds with different rules for them. Of integrals the new
-//! ends must then lie within the old ones
+//! usage: versus NEW.so OLD.so SEEDS [layout-2] [ranges-differ | integrals-differ]; with layout-2 the old build has
+//! keys of 16 bits, and no row in 8 variables is timed. With the last word the ends of ranges, or those of integrals
+//! and the exact ones, are not compared, for two builds with different rules for them. Of integrals the new ends must
+//! then lie within the old ones
 
 mod inputs;
 mod loaded;
 mod timing;
 
-use inputs::{factors, integrand, largest, typical, Kind, Parity, STEPS};
-use loaded::Library;
+use hechroung::Model;
+use inputs::{cubic, factors, factors_in, integrand, largest, largest_in, typical, up_to_degree};
+use inputs::{Kind, Parity, STEPS};
+use loaded::{Layout, Lent, Library};
 use reference::generate::Random;
 use std::hint::black_box;
 use timing::{best, median};
@@ -18,7 +21,7 @@ const PRODUCTS: usize = 64;
 const SHEETS: usize = 16;
 const PRODUCT_ROUNDS: usize = 300;
 const SHEET_ROUNDS: usize = 60;
-/// The longest record: a model of 64 terms of 6 bytes, and more than its head.
+/// More than the longest record.
 const ROOM: usize = 1_024;
 
 /// What both builds have one rule for.
@@ -40,19 +43,27 @@ type Measure = Box<dyn Fn(&Builds, &mut Random) -> Times>;
 
 fn main() {
     let words: Vec<String> = std::env::args().skip(1).collect();
-    let ([new, old, seeds], alike) = (match &words[..] {
+    let (words, alike) = match &words[..] {
         [first @ .., last] if last == "ranges-differ" => (first, Alike::AllButRanges),
         [first @ .., last] if last == "integrals-differ" => (first, Alike::AllButIntegrals),
         all => (all, Alike::All),
+    };
+    let ([new, old, seeds], layout) = (match words {
+        [first @ .., last] if last == "layout-2" => (first, Layout::Two),
+        all => (all, Layout::Now),
     }) else {
-        panic!("usage: versus NEW.so OLD.so SEEDS [ranges-differ | integrals-differ]");
+        panic!("usage: versus NEW.so OLD.so SEEDS [layout-2] [ranges-differ | integrals-differ]");
     };
     let seeds: u64 = seeds.parse().expect("SEEDS is a number");
     assert!(seeds > 0, "at least one seed");
-    let builds = [Library::load(new), Library::load(old)];
+    let builds = [Library::load(new, Layout::Now), Library::load(old, layout)];
     println!("| Seeds: {seeds} | New, µs | Old, µs | New / old, median | Lowest | Highest |");
     println!("|---|---|---|---|---|---|");
-    for (name, measure) in rows(alike) {
+    let mut rows = rows(alike);
+    if layout == Layout::Now {
+        rows.extend(rows_of_eight(alike));
+    }
+    for (name, measure) in rows {
         let times: Vec<Times> = (0..seeds)
             .map(|seed| measure(&builds, &mut Random::new(seed)))
             .collect();
@@ -101,13 +112,45 @@ fn rows(alike: Alike) -> Vec<(&'static str, Measure)> {
     ]
 }
 
+/// What both builds can do in 8 variables.
+fn rows_of_eight(alike: Alike) -> Vec<(&'static str, Measure)> {
+    vec![
+        (
+            "8 variables, product, sparse 64 x 64, kept",
+            product_of(15, |random| factors_in(random, 8, 64, 15, Kind::Kept)),
+        ),
+        (
+            "8 variables, product, all up to degree 1",
+            product_of(2, |random| up_to_degree(random, 1)),
+        ),
+        (
+            "8 variables, product, all up to degree 2",
+            product_of(2, |random| up_to_degree(random, 2)),
+        ),
+        (
+            "8 variables, product, 1 and 63 of degree 3",
+            product_of(3, cubic),
+        ),
+        (
+            "8 variables, run, largest",
+            run(|random| largest_in(random, 8, STEPS), alike),
+        ),
+    ]
+}
+
 fn product(terms: usize, order: u8, kind: Kind) -> Measure {
+    product_of(order, move |random| factors(random, terms, order, kind))
+}
+
+fn product_of(order: u8, factors: impl Fn(&mut Random) -> (Model, Model) + 'static) -> Measure {
     Box::new(move |builds, random| {
         let pairs: Vec<_> = (0..PRODUCTS)
-            .map(|_| factors(random, terms, order, kind))
+            .map(|_| factors(random))
+            .map(|(f, g)| (Lent::new(f), Lent::new(g)))
             .collect();
         for (f, g) in &pairs {
-            let [new, old] = builds.each_ref().map(|build| build.multiply(order, f, g));
+            let answer = |build: &Library| build.multiply(order, f, g).widened();
+            let [new, old] = builds.each_ref().map(answer);
             assert_eq!(new, old, "both builds give one product");
         }
         best(PRODUCT_ROUNDS, PRODUCTS, |way, input| {
@@ -120,7 +163,7 @@ fn product(terms: usize, order: u8, kind: Kind) -> Measure {
 fn range(terms: usize, order: u8, alike: Alike) -> Measure {
     Box::new(move |builds, random| {
         let models: Vec<_> = (0..PRODUCTS)
-            .map(|_| factors(random, terms, order, Kind::Kept).0)
+            .map(|_| Lent::new(factors(random, terms, order, Kind::Kept).0))
             .collect();
         for f in &models {
             let [new, old] = builds.each_ref().map(|build| build.range(f));
@@ -139,7 +182,7 @@ fn range(terms: usize, order: u8, alike: Alike) -> Measure {
 fn integral(terms: usize, order: u8, parity: Parity, alike: Alike) -> Measure {
     Box::new(move |builds, random| {
         let models: Vec<_> = (0..PRODUCTS)
-            .map(|_| integrand(random, terms, order, parity))
+            .map(|_| Lent::new(integrand(random, terms, order, parity)))
             .collect();
         for f in &models {
             let [new, old] = builds.each_ref().map(|build| build.integral(f));
@@ -167,7 +210,7 @@ fn run(sheet: impl Fn(&mut Random) -> Vec<u8> + 'static, alike: Alike) -> Measur
     Box::new(move |builds, random| {
         let sheets: Vec<_> = (0..SHEETS).map(|_| sheet(random)).collect();
         for sheet in &sheets {
-            let answers = builds.each_ref().map(|build| build.run(sheet));
+            let answers = builds.each_ref().map(|build| build.run(sheet).widened());
             if alike == Alike::AllButIntegrals {
                 assert_inside(answers[0].integral(), answers[1].integral());
             }

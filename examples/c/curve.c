@@ -7,17 +7,17 @@
 int main(void) {
     struct hechroung_model x, half, sum, square;
     struct hechroung_ends range, value;
-    const int64_t quarter[4] = {HECHROUNG_UNIT / 4, 0, 0, 0};
+    const int64_t quarter[HECHROUNG_MOST_VARIABLES] = {HECHROUNG_UNIT / 4};
     size_t place = 0;
 
     if (hechroung_variable(1, 1, &x) || hechroung_constant(1, HECHROUNG_UNIT / 2, &half) ||
         hechroung_add(&x, &half, &sum, NULL) || hechroung_multiply(2, &sum, &sum, &square, NULL) ||
-        hechroung_range(&square, &range) || hechroung_evaluate(&square, quarter, &value))
+        hechroung_range(&square, &range) || hechroung_evaluate(&square, quarter, HECHROUNG_MOST_VARIABLES, &value))
         return 1;
 
     printf("radius %" PRIu64 "\n", square.radius);
     for (size_t i = 0; i < square.count; i++)
-        printf("term %d %" PRId64 "\n", square.keys[i] >> 12, square.coefficients[i]);
+        printf("term %" PRIu32 " %" PRId64 "\n", square.keys[i] >> 28, square.coefficients[i]);
     printf("range %" PRId64 " %" PRId64 "\n", range.low, range.high);
     printf("at 1/4 %" PRId64 " %" PRId64 "\n", value.low, value.high);
 
@@ -54,7 +54,7 @@ int main(void) {
            of_sheet.model.radius, shares[3].carried, shares[3].rounding, shares[3].swept, shares[3].slack);
 
     /* the second model is no model of one variable */
-    half.n = 7;
+    half.n = 9;
     uint8_t number = hechroung_add(&x, &half, &sum, &place);
     printf("refused %d %zu\n", number, place);
     printf("misused %d\n", hechroung_add(&x, NULL, &sum, &place));

@@ -19,19 +19,19 @@ static int gathered(uint8_t order, const struct hechroung_model *flow, struct he
 }
 
 int main(void) {
-    /* Litres a minute, to 0.05: 3.20 - 0.60 x - 2.40 x^2 + 0.40 x^3, in hundredths. Keys: x has hex 1000. */
-    const struct measured_term terms[4] = {{0x0000, 320}, {0x1000, -60}, {0x2000, -240}, {0x3000, 40}};
+    /* Litres a minute, to 0.05: 3.20 - 0.60 x - 2.40 x^2 + 0.40 x^3, in hundredths. Keys: x has hex 10000000. */
+    const struct measured_term terms[4] = {{0, 320}, {0x10000000, -60}, {0x20000000, -240}, {0x30000000, 40}};
     const struct hechroung_model flow = measured(1, 100, 5, terms, 4);
     struct hechroung_model litres, lower;
     if (gathered(ORDER, &flow, &litres)) return 1;
     printf("flow: radius %" PRIu64 "\n", flow.radius);
     printf("radius %" PRIu64 "\n", litres.radius);
     for (size_t i = 0; i < litres.count; i++)
-        printf("term %d %" PRId64 "\n", litres.keys[i] >> 12, litres.coefficients[i]);
+        printf("term %" PRIu32 " %" PRId64 "\n", litres.keys[i] >> 28, litres.coefficients[i]);
     for (int half = 0; half <= 2; half++) {
-        const int64_t point[4] = {(half - 1) * (int64_t)HECHROUNG_UNIT, 0, 0, 0};
+        const int64_t point[HECHROUNG_MOST_VARIABLES] = {(half - 1) * (int64_t)HECHROUNG_UNIT};
         struct hechroung_ends value;
-        if (hechroung_evaluate(&litres, point, &value)) return 1;
+        if (hechroung_evaluate(&litres, point, HECHROUNG_MOST_VARIABLES, &value)) return 1;
         printf("after %d minutes %" PRId64 " %" PRId64 "\n", half * HALF_TIME, value.low, value.high);
     }
 

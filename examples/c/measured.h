@@ -11,7 +11,7 @@
 
 /* A coefficient as it was measured, a whole number of parts. */
 struct measured_term {
-    uint16_t key;
+    uint32_t key;
     int64_t value;
 };
 

@@ -29,27 +29,27 @@ static int propose(struct hechroung_model f, struct hechroung_model g, int round
 
 int main(void) {
     /* x is the time of the milking, y the milk's temperature. Conductivity in mS/cm, to 0.02; the factor of the
-       temperature, to 0.001; both in thousandths. Keys: x has hex 1000, y hex 0100. */
+       temperature, to 0.001; both in thousandths. Keys: x has hex 10000000, y hex 01000000. */
     const struct measured_term conductivities[5] = {
-        {0x0000, 5600}, {0x0100, 600}, {0x1000, 500}, {0x1100, 50}, {0x2000, -200}};
-    const struct measured_term factors[3] = {{0x0000, 1240}, {0x0100, 60}, {0x1000, 10}};
+        {0, 5600}, {0x01000000, 600}, {0x10000000, 500}, {0x11000000, 50}, {0x20000000, -200}};
+    const struct measured_term factors[3] = {{0, 1240}, {0x01000000, 60}, {0x10000000, 10}};
     const struct hechroung_model conductivity = measured(2, 1000, 20, conductivities, 5);
     const struct hechroung_model temperature = measured(2, 1000, 1, factors, 3);
 
     struct hechroung_model h, w, corrected, poorer, y;
     struct hechroung_ends range, value;
     /* a point is in whole units; 5/8 and -1/4 are, where 0.6 and -0.3 would be another point */
-    const int64_t point[4] = {HECHROUNG_UNIT / 8 * 5, -HECHROUNG_UNIT / 4, 0, 0};
+    const int64_t point[HECHROUNG_MOST_VARIABLES] = {HECHROUNG_UNIT / 8 * 5, -HECHROUNG_UNIT / 4};
     if (propose(conductivity, temperature, 2, &h, &w) ||
         hechroung_divide(ORDER, &conductivity, &temperature, &h, &w, &corrected, NULL) ||
-        hechroung_range(&corrected, &range) || hechroung_evaluate(&corrected, point, &value))
+        hechroung_range(&corrected, &range) || hechroung_evaluate(&corrected, point, HECHROUNG_MOST_VARIABLES, &value))
         return 1;
     printf("conductivity: radius %" PRIu64 "\n", conductivity.radius);
     printf("temperature: radius %" PRIu64 "\n", temperature.radius);
     printf("proposal: h of %zu terms, w of %zu\n", h.count, w.count);
     printf("radius %" PRIu64 "\n", corrected.radius);
     for (size_t i = 0; i < corrected.count; i++)
-        printf("term %d %d %" PRId64 "\n", corrected.keys[i] >> 12, corrected.keys[i] >> 8 & 15,
+        printf("term %" PRIu32 " %" PRIu32 " %" PRId64 "\n", corrected.keys[i] >> 28, corrected.keys[i] >> 24 & 15,
                corrected.coefficients[i]);
     printf("range %" PRId64 " %" PRId64 "\n", range.low, range.high);
     printf("at 5/8 -1/4 %" PRId64 " %" PRId64 "\n", value.low, value.high);

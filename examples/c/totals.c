@@ -13,13 +13,13 @@
 enum { MILKINGS = 2000, ORDER = 4, HALF_TIME = 3 };
 
 /* Litres a minute of milking k, each a little different. The meter counts in steps of 1/1024, which are whole units:
-   nothing is rounded, and the radius is 0. Keys: x has hex 1000. */
+   nothing is rounded, and the radius is 0. Keys: x has hex 10000000. */
 static struct hechroung_model flow(int64_t k) {
     const int64_t values[5] = {2900 + 7 * k % 611, -650 + 13 * k % 301, -2000 - 11 * k % 407, 310 + 5 * k % 97,
                                -40 - 3 * k % 53};
     struct hechroung_model flow = hechroung_zero(1);
     for (; flow.count < 5; flow.count++) {
-        flow.keys[flow.count] = (uint16_t)(flow.count << 12);
+        flow.keys[flow.count] = (uint32_t)flow.count << 28;
         flow.coefficients[flow.count] = HECHROUNG_UNIT / 1024 * values[flow.count];
     }
     return flow;

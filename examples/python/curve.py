@@ -13,7 +13,7 @@ value = evaluate(square, [UNIT // 4])
 
 print("radius", square.radius)
 for key, coefficient in square.terms:
-    print("term", key >> 12, coefficient)
+    print("term", key >> 28, coefficient)
 print("range", low, high)
 print("at 1/4", *value)
 
@@ -35,7 +35,7 @@ print("with order 1: radius", report.summary.model.radius, "from", *report.share
 
 # The second model is no model of one variable.
 try:
-    add(x, Model(7, half.radius, half.terms))
+    add(x, Model(9, half.radius, half.terms))
 except Refused as refusal:
     print("refused", refusal.number, refusal.place)
 # The wrapper hands over slices that are long enough; what is not a call is an error all the same.

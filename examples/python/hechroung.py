@@ -11,19 +11,20 @@ from collections import namedtuple
 
 UNIT = 1 << 20
 DENOMINATOR = 212_837_625
+MOST_VARS = 8
 MOST_TERMS = 64
 MOST_STEPS = 64
-LONGEST_RECORD = 5 + 6 * MOST_TERMS
+LONGEST_RECORD = 5 + 8 * MOST_TERMS
 MISUSED = 255
 
 _FOLDER = os.path.join(os.path.dirname(os.path.abspath(__file__)), "..", "..", "target", "lib")
 _library = ctypes.CDLL(os.path.join(os.environ.get("HECHROUNG_LIB", _FOLDER), "libhechroung.so"))
 
-_u8, _u16, _u64, _i64, _size = ctypes.c_uint8, ctypes.c_uint16, ctypes.c_uint64, ctypes.c_int64, ctypes.c_size_t
+_u8, _u32, _u64, _i64, _size = ctypes.c_uint8, ctypes.c_uint32, ctypes.c_uint64, ctypes.c_int64, ctypes.c_size_t
 _text = ctypes.c_char_p
-_u16s, _u64s, _i64s, _sizes = (ctypes.POINTER(field) for field in (_u16, _u64, _i64, _size))
-_NUMBERS = (_u8, _u16, _u64, _i64, _size)
-_Keys = _u16 * MOST_TERMS
+_u32s, _u64s, _i64s, _sizes = (ctypes.POINTER(field) for field in (_u32, _u64, _i64, _size))
+_NUMBERS = (_u8, _u32, _u64, _i64, _size)
+_Keys = _u32 * MOST_TERMS
 _Coefficients = _i64 * MOST_TERMS
 
 
@@ -58,19 +59,19 @@ def _exported(name, answer, *fields):
     return tested
 
 
-_handed = [_u8, _size, _u64, _u16s, _size, _i64s, _size]
+_handed = [_u8, _size, _u64, _u32s, _size, _i64s, _size]
 _call = _exported("hechroung_call", _u8, _u8, _u8, _u8, _i64, *_handed, *_handed,
-                  _u16s, _size, _i64s, _size, _u64s, _size)
-_quotient = _exported("hechroung_quotient", _u8, _u8, _text, _size, _sizes, _size, _u64s, _size, _u16s, _size,
-                      _i64s, _size, _u16s, _size, _i64s, _size, _u64s, _size)
-_ends = _exported("hechroung_ends", _u8, _u8, *_handed, _i64, _i64, _i64, _i64, _i64s, _size)
+                  _u32s, _size, _i64s, _size, _u64s, _size)
+_quotient = _exported("hechroung_quotient", _u8, _u8, _text, _size, _sizes, _size, _u64s, _size, _u32s, _size,
+                      _i64s, _size, _u32s, _size, _i64s, _size, _u64s, _size)
+_ends = _exported("hechroung_ends", _u8, _u8, *_handed, _i64s, _size, _i64s, _size)
 _print = _exported("hechroung_print", _size, _text, _size, _text, _size)
 _record = _exported("hechroung_record", _size, _text, _size, _size, _text, _size)
 _open = _exported("hechroung_open", _u8, _text, _size, _u64s, _size)
 _next = _exported("hechroung_next", _u8, _text, _size, _size, _text, _size, _u64s, _size)
-_book = [_u8, _u8, _size, _size, _text, _size, _sizes, _size, _u64s, _size, _u16s, _size, _i64s, _size, _text, _size,
+_book = [_u8, _u8, _size, _size, _text, _size, _sizes, _size, _u64s, _size, _u32s, _size, _i64s, _size, _text, _size,
          _i64s, _size]
-_summary = [_u16s, _size, _i64s, _size, _u64s, _size, _i64s, _size]
+_summary = [_u32s, _size, _i64s, _size, _u64s, _size, _i64s, _size]
 _run_book = _exported("hechroung_run_book", _u8, *_book, *_summary)
 _shares = _exported("hechroung_shares", _u8, _text, _size, *_summary, _u64s, _size)
 _shares_book = _exported("hechroung_shares_book", _u8, *_book, *_summary, _u64s, _size)
@@ -78,7 +79,7 @@ _shares_book = _exported("hechroung_shares_book", _u8, *_book, *_summary, _u64s,
 # What a run gives: the last step's model, the ends of its range and of its integral, and the exact integral.
 Summary = namedtuple("Summary", "model range integral exact")
 # The integral of a polynomial without any rounding: quotient + remainder / DENOMINATOR units; the quotient is rounded
-# down, also below 0.
+# down, also below 0. Above four variables both are 0 and say nothing.
 Exact = namedtuple("Exact", "quotient remainder")
 # Where the radius of a step came from: four numbers that sum to UNIT times the radius.
 Shares = namedtuple("Shares", "carried rounding swept slack")
@@ -102,7 +103,8 @@ class Misused(Exception):
 
 
 class Model:
-    """n variables, a radius, and terms: pairs of a key and a coefficient, keys rising."""
+    """n variables, a radius, and terms: pairs of a key and a coefficient, keys rising. A key has eight exponents of 4
+    bits each, that of variable 1 in the highest bits."""
 
     def __init__(self, n, radius=0, terms=()):
         self.n, self.radius, self.terms = n, radius, list(terms)
@@ -113,7 +115,7 @@ def _arguments(model):
         raise Misused()
     # More than 64 terms are handed over by their count, which is refused.
     first = model.terms[:MOST_TERMS]
-    keys = _array(_u16, (key for key, _ in first))
+    keys = _array(_u32, (key for key, _ in first))
     coefficients = _array(_i64, (coefficient for _, coefficient in first))
     return model.n, len(model.terms), model.radius, keys, len(keys), coefficients, len(coefficients)
 
@@ -127,7 +129,7 @@ def _lent(models):
     return (bytes(_array(_u8, (model.n for model in models))), len(models),
             _array(_size, (len(model.terms) for model in models)), len(models),
             _array(_u64, (model.radius for model in models)), len(models),
-            _array(_u16, (key for key, _ in terms)), len(terms),
+            _array(_u32, (key for key, _ in terms)), len(terms),
             _array(_i64, (coefficient for _, coefficient in terms)), len(terms))
 
 
@@ -144,10 +146,10 @@ def _ended(code, f, point=()):
     """The two ends, and behind them the exact integral, if it is one."""
     ends = (_i64 * 4)()
     coordinates = list(point)
-    if len(coordinates) > 4:
-        raise ValueError("a point has at most four coordinates")
-    coordinates += [0] * (4 - len(coordinates))
-    _check(_ends(code, *_arguments(f), *coordinates, ends, 4), 0)
+    if len(coordinates) > MOST_VARS:
+        raise ValueError("a point has at most eight coordinates")
+    coordinates += [0] * (MOST_VARS - len(coordinates))
+    _check(_ends(code, *_arguments(f), _array(_i64, coordinates), MOST_VARS, ends, 4), 0)
     return tuple(ends)
 
 

@@ -17,13 +17,13 @@ def gathered(order, flow):
     return multiply(order, subtract(from_middle, at_start), constant(1, HALF_TIME * UNIT))
 
 
-# Litres a minute, to 0.05: 3.20 - 0.60 x - 2.40 x^2 + 0.40 x^3, in hundredths. Keys: x has hex 1000.
-flow = measured(1, 100, 5, [(0x0000, 320), (0x1000, -60), (0x2000, -240), (0x3000, 40)])
+# Litres a minute, to 0.05: 3.20 - 0.60 x - 2.40 x^2 + 0.40 x^3, in hundredths. Keys: x has hex 1000_0000.
+flow = measured(1, 100, 5, [(0, 320), (0x1000_0000, -60), (0x2000_0000, -240), (0x3000_0000, 40)])
 litres = gathered(ORDER, flow)
 print("flow: radius", flow.radius)
 print("radius", litres.radius)
 for key, coefficient in litres.terms:
-    print("term", key >> 12, coefficient)
+    print("term", key >> 28, coefficient)
 for minutes, x in [(0, -UNIT), (3, 0), (6, UNIT)]:
     print("after", minutes, "minutes", *evaluate(litres, [x]))
 

@@ -9,9 +9,10 @@ from propose import propose
 ORDER = 3
 
 # x is the time of the milking, y the milk's temperature. Conductivity in mS/cm, to 0.02; the factor of the temperature,
-# to 0.001; both in thousandths. Keys: x has hex 1000, y hex 0100.
-conductivity = measured(2, 1000, 20, [(0x0000, 5600), (0x0100, 600), (0x1000, 500), (0x1100, 50), (0x2000, -200)])
-temperature = measured(2, 1000, 1, [(0x0000, 1240), (0x0100, 60), (0x1000, 10)])
+# to 0.001; both in thousandths. Keys: x has hex 1000_0000, y hex 0100_0000.
+conductivity = measured(2, 1000, 20, [(0, 5600), (0x0100_0000, 600), (0x1000_0000, 500), (0x1100_0000, 50),
+                                      (0x2000_0000, -200)])
+temperature = measured(2, 1000, 1, [(0, 1240), (0x0100_0000, 60), (0x1000_0000, 10)])
 
 h, w = propose(ORDER, conductivity, temperature)
 corrected = quotient(ORDER, conductivity, temperature, h, w)
@@ -20,7 +21,7 @@ print("temperature: radius", temperature.radius)
 print("proposal: h of", len(h.terms), "terms, w of", len(w.terms))
 print("radius", corrected.radius)
 for key, coefficient in corrected.terms:
-    print("term", key >> 12, key >> 8 & 15, coefficient)
+    print("term", key >> 28, key >> 24 & 15, coefficient)
 print("range", *range_of(corrected))
 # A point is in whole units; 5/8 and -1/4 are, where 0.6 and -0.3 would be another point.
 print("at 5/8 -1/4", *evaluate(corrected, [UNIT * 5 // 8, -UNIT // 4]))

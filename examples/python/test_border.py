@@ -11,7 +11,7 @@ import hechroung
 from hechroung import UNIT, Misused, Model, Refused
 
 # The least and the greatest number of each width.
-BYTE, KEY, RADIUS, VALUE = (0, 2 ** 8 - 1), (0, 2 ** 16 - 1), (0, 2 ** 64 - 1), (-2 ** 63, 2 ** 63 - 1)
+BYTE, KEY, RADIUS, VALUE = (0, 2 ** 8 - 1), (0, 2 ** 32 - 1), (0, 2 ** 64 - 1), (-2 ** 63, 2 ** 63 - 1)
 WIDTHS = {ctypes.c_uint8: BYTE, ctypes.c_uint64: RADIUS, ctypes.c_size_t: RADIUS, ctypes.c_int64: VALUE}
 # How many exported functions hechroung.py declares.
 DECLARED = 10
@@ -20,11 +20,11 @@ NO_WHOLE_NUMBERS = [1.0, 0.5, float("nan"), Fraction(3, 2), "1", b"1", None, [1]
 
 def line():
     """x + 3 units, within 2 units."""
-    return Model(1, 2, [(0x0000, 3), (0x1000, UNIT // 2)])
+    return Model(1, 2, [(0, 3), (0x1000_0000, UNIT // 2)])
 
 
 def one():
-    return Model(1, 0, [(0x0000, UNIT)])
+    return Model(1, 0, [(0, UNIT)])
 
 
 STEPS = [(0, 0, 0, 0, 0), (2, 0, 0, 1, 0), (1, 0, 0, 0, 5), (4, 0, 1, 0, 0)]
@@ -44,7 +44,7 @@ CALLS = {
     "range_of": {"f": line()},
     "integral": {"f": line()},
     "exact_integral": {"f": line()},
-    "evaluate": {"f": line(), "point": [7, 0, 0, 0]},
+    "evaluate": {"f": line(), "point": [7, 0, 0, 0, 0, 0, 0, 0]},
     "lines": {"sheet": SHEET},
     "records": {"sheet": SHEET},
     "stepped": {"sheet": SHEET},
@@ -188,8 +188,8 @@ def missing(exported):
         yield f"{name}: no call of it is tried"
     if len({function for function, _ in exported}) != DECLARED:
         yield "another number of exported functions is declared"
-    if outcome(hechroung.evaluate, line(), [0, 0, 0, 0, 7]) is not ValueError:
-        yield "a fifth coordinate is left out"
+    if outcome(hechroung.evaluate, line(), [0, 0, 0, 0, 0, 0, 0, 0, 7]) is not ValueError:
+        yield "a ninth coordinate is left out"
     if outcome(hechroung.run_book, 1, 2, [], [(1, 0, 0, 0, 5, 7)]) is not ValueError:
         yield "a sixth field of a step is left out"
 

@@ -15,14 +15,14 @@ STEPS = [(0, 0, 0, 0, 0), (1, 0, 0, 0, HALF_TIME * UNIT), (6, 0, 1, 0, 0)]
 
 def flow(k):
     """Litres a minute of milking k, each a little different. The meter counts in steps of 1/1024, which are whole
-    units: nothing is rounded, and the radius is 0. Keys: x has hex 1000."""
+    units: nothing is rounded, and the radius is 0. Keys: x has hex 1000_0000."""
     values = [2900 + 7 * k % 611, -650 + 13 * k % 301, -2000 - 11 * k % 407, 310 + 5 * k % 97, -40 - 3 * k % 53]
-    return Model(1, 0, [(power << 12, UNIT // 1024 * value) for power, value in enumerate(values)])
+    return Model(1, 0, [(power << 28, UNIT // 1024 * value) for power, value in enumerate(values)])
 
 
 def exact(model):
     """The integral of a polynomial in one variable, as a fraction of units: odd powers give 0."""
-    return sum(Fraction(2 * c, (key >> 12) + 1) for key, c in model.terms if (key >> 12) % 2 == 0)
+    return sum(Fraction(2 * c, (key >> 28) + 1) for key, c in model.terms if (key >> 28) % 2 == 0)
 
 
 low = high = quotient = remainder = radii = 0

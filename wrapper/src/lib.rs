@@ -1,4 +1,4 @@
-//! Polynomial models in 1 to 4 variables on the box [-1, 1]^n, with an error radius: a safe wrapper over the proved
+//! Polynomial models in 1 to 8 variables on the box [-1, 1]^n, with an error radius: a safe wrapper over the proved
 //! library of this repository. Every call takes anything whatever; what is unfit gets the refusal that documents 01
 //! and 02 list for it, as the error of a [`Result`], so that no answer of a refused call can be taken for a model. What
 //! the exported functions store beside a refusal, the zero model and zeros, is there in [`raw`] alone.
@@ -39,24 +39,27 @@ use std::fmt;
 pub const UNIT: i64 = 1 << 20;
 /// D: an exact integral is so many units and so many parts of D of a unit.
 pub const DENOMINATOR: i64 = 212_837_625;
+/// The variables of a model, at most, and the coordinates of a point.
+pub const MOST_VARS: usize = 8;
 /// The places of a model's terms.
 pub const MOST_TERMS: usize = 64;
 /// The places of a book's models and of its steps.
 pub const MOST_MODELS: usize = 16;
 pub const MOST_STEPS: usize = 64;
 /// The length of the longest sheet.
-pub const LONGEST_SHEET: usize = 6_744;
-/// The length of the longest record, that of a model with 64 terms.
-pub const LONGEST_RECORD: usize = 5 + 6 * MOST_TERMS;
+pub const LONGEST_SHEET: usize = 8_792;
+/// The length of the longest record, that of a model with 64 terms in more than four variables.
+pub const LONGEST_RECORD: usize = 5 + 8 * MOST_TERMS;
 
 /// A model: the first `count` of its terms, with keys strictly rising, and a radius. Any field may hold anything; a
-/// call refuses what is no model. A key has four exponents of four bits each, that of variable 1 in the highest bits.
+/// call refuses what is no model. A key has eight exponents of four bits each, that of variable 1 in the highest bits,
+/// so that in up to four variables the lower 16 bits are 0.
 #[derive(Clone, Copy, Debug, PartialEq, Eq)]
 pub struct Model {
     pub n: u8,
     pub count: usize,
     pub radius: u64,
-    pub keys: [u16; MOST_TERMS],
+    pub keys: [u32; MOST_TERMS],
     pub coefficients: [i64; MOST_TERMS],
 }
 
@@ -75,7 +78,8 @@ pub struct Ends {
 }
 
 /// The integral of a polynomial over the box without any rounding: quotient + remainder / [`DENOMINATOR`] units, with a
-/// remainder from 0 to [`DENOMINATOR`] - 1; the quotient is rounded down, also below 0.
+/// remainder from 0 to [`DENOMINATOR`] - 1; the quotient is rounded down, also below 0. Above four variables both are 0
+/// and say nothing.
 #[derive(Clone, Copy, Debug, Default, PartialEq, Eq)]
 pub struct Exact {
     pub quotient: i64,
@@ -110,7 +114,7 @@ impl Model {
     }
 
     /// The terms in use, each a key and a coefficient; a count above 64 has no more than 64.
-    pub fn terms(&self) -> impl Iterator<Item = (u16, i64)> + '_ {
+    pub fn terms(&self) -> impl Iterator<Item = (u32, i64)> + '_ {
         let terms = self.keys.iter().zip(&self.coefficients).take(self.count);
         terms.map(|(&key, &coefficient)| (key, coefficient))
     }
@@ -220,7 +224,7 @@ pub fn sweep(f: &Model, threshold: i64) -> Result<Model, Refusal> {
 ///
 /// let x = Model::variable(1, 1)?;
 /// let half_square = antiderivative(2, 1, &x)?;
-/// assert_eq!((half_square.keys[0], half_square.coefficients[0]), (0x2000, UNIT / 2));
+/// assert_eq!((half_square.keys[0], half_square.coefficients[0]), (0x2000_0000, UNIT / 2));
 /// # Ok::<(), hechroung::Refusal>(())
 /// ```
 pub fn antiderivative(d: u8, i: u8, f: &Model) -> Result<Model, Refusal> {
@@ -229,7 +233,7 @@ pub fn antiderivative(d: u8, i: u8, f: &Model) -> Result<Model, Refusal> {
 
 /// The range over the box. Refusal 5.
 pub fn range(f: &Model) -> Result<Ends, Refusal> {
-    bounds(1, f, [0; 4])
+    bounds(1, f, &[])
 }
 
 /// The integral over the box, with the exact one of the model's polynomial. Refusal 5.
@@ -239,14 +243,14 @@ pub fn range(f: &Model) -> Result<Ends, Refusal> {
 ///
 /// // 2/3 of a unit.
 /// let mut square = Model::ZERO;
-/// (square.count, square.keys[0], square.coefficients[0]) = (1, 0x2000, 1);
+/// (square.count, square.keys[0], square.coefficients[0]) = (1, 0x2000_0000, 1);
 /// let found = integral(&square)?;
 /// assert_eq!((found.ends.low, found.ends.high), (0, 1));
 /// assert_eq!((found.exact.quotient, found.exact.remainder), (0, DENOMINATOR / 3 * 2));
 /// # Ok::<(), hechroung::Refusal>(())
 /// ```
 pub fn integral(f: &Model) -> Result<Integral, Refusal> {
-    let [low, high, quotient, remainder] = ended(2, f, [0; 4])?;
+    let [low, high, quotient, remainder] = ended(2, f, &[])?;
     Ok(Integral {
         ends: Ends { low, high },
         exact: Exact {
@@ -257,8 +261,8 @@ pub fn integral(f: &Model) -> Result<Integral, Refusal> {
 }
 
 /// The values at the point X_1/U, .., X_n/U; coordinates above n are 0. Refusals 5, 6, 9, 7.
-pub fn evaluate(f: &Model, point: [i64; 4]) -> Result<Ends, Refusal> {
-    bounds(3, f, point)
+pub fn evaluate(f: &Model, point: [i64; MOST_VARS]) -> Result<Ends, Refusal> {
+    bounds(3, f, &point)
 }
 
 fn called(
@@ -297,13 +301,13 @@ fn answered(call: impl FnOnce(&mut Model, &mut [u64]) -> u8) -> Result<Model, Re
     Ok(model)
 }
 
-fn bounds(code: u8, f: &Model, point: [i64; 4]) -> Result<Ends, Refusal> {
+fn bounds(code: u8, f: &Model, point: &[i64]) -> Result<Ends, Refusal> {
     let [low, high, _, _] = ended(code, f, point)?;
     Ok(Ends { low, high })
 }
 
 /// What a call of one model stored: both ends, and the exact integral. The place of its refusal is 0.
-fn ended(code: u8, f: &Model, point: [i64; 4]) -> Result<[i64; 4], Refusal> {
+fn ended(code: u8, f: &Model, point: &[i64]) -> Result<[i64; 4], Refusal> {
     let mut ends = [0; 4];
     let number = raw::ends(code, f.handed(), point, &mut ends);
     accepted(number, 0)?;

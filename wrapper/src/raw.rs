@@ -13,7 +13,7 @@ pub struct Handed<'a> {
     pub n: u8,
     pub count: usize,
     pub radius: u64,
-    pub keys: &'a [u16],
+    pub keys: &'a [u32],
     pub coefficients: &'a [i64],
 }
 
@@ -35,7 +35,7 @@ pub struct HandedModels<'a> {
     pub ns: &'a [u8],
     pub counts: &'a [usize],
     pub radii: &'a [u64],
-    pub keys: &'a [u16],
+    pub keys: &'a [u32],
     pub coefficients: &'a [i64],
 }
 
@@ -63,18 +63,18 @@ exported! {
         n1: u8,
         count1: usize,
         radius1: u64,
-        keys1: *const u16,
+        keys1: *const u32,
         keys1_length: usize,
         coefficients1: *const i64,
         coefficients1_length: usize,
         n2: u8,
         count2: usize,
         radius2: u64,
-        keys2: *const u16,
+        keys2: *const u32,
         keys2_length: usize,
         coefficients2: *const i64,
         coefficients2_length: usize,
-        keys: *mut u16,
+        keys: *mut u32,
         keys_length: usize,
         coefficients: *mut i64,
         coefficients_length: usize,
@@ -90,11 +90,11 @@ exported! {
         counts_length: usize,
         radii: *const u64,
         radii_length: usize,
-        keys: *const u16,
+        keys: *const u32,
         keys_length: usize,
         coefficients: *const i64,
         coefficients_length: usize,
-        out_keys: *mut u16,
+        out_keys: *mut u32,
         out_keys_length: usize,
         out_coefficients: *mut i64,
         out_coefficients_length: usize,
@@ -107,14 +107,12 @@ exported! {
         n: u8,
         count: usize,
         radius: u64,
-        keys: *const u16,
+        keys: *const u32,
         keys_length: usize,
         coefficients: *const i64,
         coefficients_length: usize,
-        x1: i64,
-        x2: i64,
-        x3: i64,
-        x4: i64,
+        point: *const i64,
+        point_length: usize,
         ends: *mut i64,
         ends_length: usize,
     ) -> u8;
@@ -122,7 +120,7 @@ exported! {
     hechroung_run: Run = (
         sheet: *const u8,
         sheet_length: usize,
-        keys: *mut u16,
+        keys: *mut u32,
         keys_length: usize,
         coefficients: *mut i64,
         coefficients_length: usize,
@@ -135,7 +133,7 @@ exported! {
     hechroung_shares: Shares = (
         sheet: *const u8,
         sheet_length: usize,
-        keys: *mut u16,
+        keys: *mut u32,
         keys_length: usize,
         coefficients: *mut i64,
         coefficients_length: usize,
@@ -199,7 +197,7 @@ exported! {
         counts_length: usize,
         radii: *const u64,
         radii_length: usize,
-        book_keys: *const u16,
+        book_keys: *const u32,
         book_keys_length: usize,
         book_coefficients: *const i64,
         book_coefficients_length: usize,
@@ -207,7 +205,7 @@ exported! {
         fields_length: usize,
         values: *const i64,
         values_length: usize,
-        keys: *mut u16,
+        keys: *mut u32,
         keys_length: usize,
         coefficients: *mut i64,
         coefficients_length: usize,
@@ -228,7 +226,7 @@ exported! {
         counts_length: usize,
         radii: *const u64,
         radii_length: usize,
-        book_keys: *const u16,
+        book_keys: *const u32,
         book_keys_length: usize,
         book_coefficients: *const i64,
         book_coefficients_length: usize,
@@ -236,7 +234,7 @@ exported! {
         fields_length: usize,
         values: *const i64,
         values_length: usize,
-        keys: *mut u16,
+        keys: *mut u32,
         keys_length: usize,
         coefficients: *mut i64,
         coefficients_length: usize,
@@ -259,7 +257,7 @@ exported! {
         counts_length: usize,
         radii: *const u64,
         radii_length: usize,
-        keys: *const u16,
+        keys: *const u32,
         keys_length: usize,
         coefficients: *const i64,
         coefficients_length: usize,
@@ -286,7 +284,7 @@ pub struct HandedBook<'a> {
     pub ns: &'a [u8],
     pub counts: &'a [usize],
     pub radii: &'a [u64],
-    pub keys: &'a [u16],
+    pub keys: &'a [u32],
     pub coefficients: &'a [i64],
     pub fields: &'a [u8],
     pub values: &'a [i64],
@@ -304,7 +302,7 @@ pub fn call(
     value: i64,
     f: Handed<'_>,
     g: Handed<'_>,
-    keys: &mut [u16],
+    keys: &mut [u32],
     coefficients: &mut [i64],
     numbers: &mut [u64],
 ) -> u8 {
@@ -346,7 +344,7 @@ pub fn call(
 pub fn quotient(
     d: u8,
     models: HandedModels<'_>,
-    keys: &mut [u16],
+    keys: &mut [u32],
     coefficients: &mut [i64],
     numbers: &mut [u64],
 ) -> u8 {
@@ -374,12 +372,12 @@ pub fn quotient(
     }
 }
 
-/// A call that answers with two ends. Codes: 1 range, 2 integral, 3 evaluate at `point`. It returns the refusal's
-/// number, 0 without one; the low and the high end go into `ends`, and behind them the quotient and the remainder of
-/// the exact integral, or 0 for the other codes.
+/// A call that answers with two ends. Codes: 1 range, 2 integral, 3 evaluate at the first eight coordinates of `point`,
+/// which the others do not look at. It returns the refusal's number, 0 without one; the low and the high end go into
+/// `ends`, and behind them the quotient and the remainder of the exact integral, or 0 for the other codes and above
+/// four variables.
 #[must_use]
-pub fn ends(code: u8, f: Handed<'_>, point: [i64; 4], ends: &mut [i64]) -> u8 {
-    let [x1, x2, x3, x4] = point;
+pub fn ends(code: u8, f: Handed<'_>, point: &[i64], ends: &mut [i64]) -> u8 {
     // SAFETY: as in `call`.
     unsafe {
         hechroung_ends(
@@ -391,10 +389,8 @@ pub fn ends(code: u8, f: Handed<'_>, point: [i64; 4], ends: &mut [i64]) -> u8 {
             f.keys.len(),
             f.coefficients.as_ptr(),
             f.coefficients.len(),
-            x1,
-            x2,
-            x3,
-            x4,
+            point.as_ptr(),
+            point.len(),
             ends.as_mut_ptr(),
             ends.len(),
         )
@@ -407,7 +403,7 @@ pub fn ends(code: u8, f: Handed<'_>, point: [i64; 4], ends: &mut [i64]) -> u8 {
 #[must_use]
 pub fn run(
     sheet: &[u8],
-    keys: &mut [u16],
+    keys: &mut [u32],
     coefficients: &mut [i64],
     numbers: &mut [u64],
     ends: &mut [i64],
@@ -434,7 +430,7 @@ pub fn run(
 #[must_use]
 pub fn shares(
     sheet: &[u8],
-    keys: &mut [u16],
+    keys: &mut [u32],
     coefficients: &mut [i64],
     numbers: &mut [u64],
     ends: &mut [i64],
@@ -566,7 +562,7 @@ pub fn next(sheet: &[u8], at: usize, bytes: &mut [u8], numbers: &mut [u64]) -> u
 #[must_use]
 pub fn run_book(
     book: HandedBook<'_>,
-    keys: &mut [u16],
+    keys: &mut [u32],
     coefficients: &mut [i64],
     numbers: &mut [u64],
     ends: &mut [i64],
@@ -608,7 +604,7 @@ pub fn run_book(
 #[must_use]
 pub fn shares_book(
     book: HandedBook<'_>,
-    keys: &mut [u16],
+    keys: &mut [u32],
     coefficients: &mut [i64],
     numbers: &mut [u64],
     ends: &mut [i64],

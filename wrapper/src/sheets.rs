@@ -331,7 +331,7 @@ pub struct Flat {
     ns: [u8; MOST_MODELS],
     counts: [usize; MOST_MODELS],
     radii: [u64; MOST_MODELS],
-    keys: Vec<u16>,
+    keys: Vec<u32>,
     coefficients: Vec<i64>,
     fields: Vec<u8>,
     values: [i64; MOST_STEPS],

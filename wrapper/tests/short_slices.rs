@@ -11,7 +11,7 @@ const MARK: u8 = 0xA5;
 
 /// Slices of a run's answer, of these lengths.
 struct Room {
-    keys: Vec<u16>,
+    keys: Vec<u32>,
     coefficients: Vec<i64>,
     numbers: Vec<u64>,
     ends: Vec<i64>,
@@ -325,7 +325,7 @@ fn a_write_needs_every_model_every_step_and_2_numbers() {
 
 #[test]
 fn a_call_needs_its_places_and_room() {
-    let (keys, coefficients) = ([0u16; 2], [1i64; 2]);
+    let (keys, coefficients) = ([0u32; 2], [1i64; 2]);
     let model = Handed {
         n: 1,
         count: 2,
@@ -357,7 +357,7 @@ fn a_call_needs_its_places_and_room() {
             &mut room.numbers,
         );
         assert_eq!(called, MISUSED);
-        assert_eq!(raw::ends(1, f, [0; 4], &mut room.ends), MISUSED);
+        assert_eq!(raw::ends(1, f, &[], &mut room.ends), MISUSED);
         assert!(room.unchanged());
     }
     for short in 0..3 {
@@ -379,7 +379,7 @@ fn a_call_needs_its_places_and_room() {
         assert!(room.unchanged(), "slice {short}");
     }
     let mut three = [i64::from(MARK); 3];
-    assert_eq!(raw::ends(1, Handed::NONE, [0; 4], &mut three), MISUSED);
+    assert_eq!(raw::ends(1, Handed::NONE, &[], &mut three), MISUSED);
     assert_eq!(three, [i64::from(MARK); 3]);
     for code in [0, 10, 255] {
         let mut room = Room::new([64, 64, 4, 4]);
@@ -407,10 +407,10 @@ fn an_integral_has_its_quotient_and_its_remainder() {
         n: 1,
         count: 1,
         radius: 2,
-        keys: &[0x2000],
+        keys: &[0x2000_0000],
         coefficients: &[-1],
     };
-    let broken = Handed { n: 5, ..square };
+    let broken = Handed { n: 9, ..square };
     let mark = i64::from(MARK);
     // -2/3 of a unit; the range is 0 and -1, and 2 to either side; at 1 the value is -1.
     for (code, model, number, ends) in [
@@ -421,13 +421,40 @@ fn an_integral_has_its_quotient_and_its_remainder() {
         (1, broken, 5, [0; 4]),
     ] {
         let mut stored = [mark; 5];
-        let point = if code == 3 {
-            [1 << 20, 0, 0, 0]
+        let point: &[i64] = if code == 3 {
+            &[1 << 20, 0, 0, 0, 0, 0, 0, 0]
         } else {
-            [7; 4]
+            &[7; 4]
         };
         assert_eq!(raw::ends(code, model, point, &mut stored), number);
         assert_eq!((&stored[..4], stored[4]), (&ends[..], mark), "code {code}");
+    }
+}
+
+/// Evaluate looks at eight coordinates, whatever n is; the others take a point of any length.
+#[test]
+fn a_point_has_eight_coordinates() {
+    let last = Handed {
+        n: 8,
+        count: 1,
+        radius: 0,
+        keys: &[0x0000_0001],
+        coefficients: &[3 << 20],
+    };
+    let point = [7, 6, 5, 4, 3, 2, 1, 1 << 19, 1 << 40];
+    let mark = i64::from(MARK);
+    for length in 0..=9 {
+        let mut stored = [mark; 4];
+        let number = raw::ends(3, last, &point[..length], &mut stored);
+        let expected = if length < 8 {
+            (MISUSED, [mark; 4])
+        } else {
+            (0, [3 << 19, 3 << 19, 0, 0])
+        };
+        assert_eq!((number, stored), expected, "{length} coordinates");
+        let mut stored = [mark; 4];
+        assert_eq!(raw::ends(1, last, &point[..length], &mut stored), 0);
+        assert_eq!(stored, [-3 << 20, 3 << 20, 0, 0], "{length} coordinates");
     }
 }
 
@@ -438,7 +465,7 @@ fn an_antiderivative_takes_its_order_and_its_variable() {
         n: 1,
         count: 1,
         radius: 7,
-        keys: &[0x1000],
+        keys: &[0x1000_0000],
         coefficients: &[6],
     };
     let second = Handed {
@@ -473,7 +500,11 @@ fn an_antiderivative_takes_its_order_and_its_variable() {
             (number, &numbers[..]),
             "{d} {i}"
         );
-        let term = if numbers[2] == 1 { (0x2000, 3) } else { (0, 0) };
+        let term = if numbers[2] == 1 {
+            (0x2000_0000, 3)
+        } else {
+            (0, 0)
+        };
         assert_eq!((room.keys[0], room.coefficients[0]), term, "{d} {i}");
     }
 }
@@ -537,7 +568,7 @@ fn a_quotient_needs_four_models_and_room() {
     assert_eq!((room.keys[0], room.coefficients[0]), (0, 1 << 20));
     assert_eq!(room.coefficients[1..], [0; 63]);
     // A refusal is stored as an answer: the fourth model has another n, and then breaks a rule.
-    for (n, expected) in [(2, [0, 1, 0, 0]), (5, [3, 1, 0, 0])] {
+    for (n, expected) in [(2, [0, 1, 0, 0]), (9, [3, 1, 0, 0])] {
         let mut room = Room::new(ENOUGH);
         let number = room.quotient(HandedModels {
             ns: &[1, 1, 1, n],

@@ -11,7 +11,7 @@ use hechroung::{Model, UNIT};
 
 /// The model of a polynomial in n variables with up to 64 terms that is known to an error; the error and the
 /// coefficients are whole numbers of parts, so many to 1. Everything is exact, in parts of a unit, up to the radius.
-pub fn measured(n: u8, parts: i64, error: i64, terms: &[(u16, i64)]) -> Model {
+pub fn measured(n: u8, parts: i64, error: i64, terms: &[(u32, i64)]) -> Model {
     let mut model = Model { n, ..Model::ZERO };
     let mut left = UNIT * error;
     for &(key, value) in terms {

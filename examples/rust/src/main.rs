@@ -13,11 +13,11 @@ fn main() -> Result<(), Refusal> {
     let sum = add(&x, &half)?;
     let square = multiply(2, &sum, &sum)?;
     let ends = range(&square)?;
-    let value = evaluate(&square, [UNIT / 4, 0, 0, 0])?;
+    let value = evaluate(&square, [UNIT / 4, 0, 0, 0, 0, 0, 0, 0])?;
 
     println!("radius {}", square.radius);
     for (key, coefficient) in square.terms() {
-        println!("term {} {coefficient}", key >> 12);
+        println!("term {} {coefficient}", key >> 28);
     }
     println!("range {} {}", ends.low, ends.high);
     println!("at 1/4 {} {}", value.low, value.high);
@@ -61,12 +61,12 @@ fn main() -> Result<(), Refusal> {
     );
 
     // The second model is no model of one variable.
-    let unfit = Model { n: 7, ..half };
+    let unfit = Model { n: 9, ..half };
     if let Err(refusal) = add(&x, &unfit) {
         println!("refused {} {}", refusal.number, refusal.place);
     }
     // The exported functions themselves take slices of any length.
-    let number = raw::ends(1, Handed::NONE, [0; 4], &mut []);
+    let number = raw::ends(1, Handed::NONE, &[], &mut []);
     println!("misused {number}");
     Ok(())
 }

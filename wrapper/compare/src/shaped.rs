@@ -7,7 +7,7 @@ use hechroung::raw::{self, Handed, HandedModels, MISUSED};
 use hechroung::Model;
 use reference::calls::{Call, CallAnswer};
 use reference::generate::Random;
-use reference::model::MOST_TERMS;
+use reference::model::{MOST_TERMS, MOST_VARIABLES};
 
 /// The lengths of the slices, and the code in the place of the call's own where it is not 0. For a quotient, which has
 /// no code, `inputs` name the lengths for its fourth model, and `entries` how many models' numbers there are.
@@ -17,10 +17,14 @@ pub struct Shape {
     pub inputs: [u8; 4],
     pub entries: [u8; 3],
     pub outputs: [u8; 3],
+    pub point: u8,
 }
 
+/// The code of the one call that looks at the point.
+const EVALUATE: u8 = 3;
+
 /// What the slices for the answer hold before.
-const KEY: u16 = 0xABCD;
+const KEY: u32 = 0xABCD_4321;
 const COEFFICIENT: i64 = -0x0123_4567_89AB_CDEF;
 const NUMBER: u64 = 0xFEDC_BA98_7654_3210;
 
@@ -31,6 +35,7 @@ impl Shape {
         inputs: [MOST_TERMS as u8; 4],
         entries: [4; 3],
         outputs: [MOST_TERMS as u8, MOST_TERMS as u8, 4],
+        point: MOST_VARIABLES as u8,
     };
 
     /// Mostly long enough.
@@ -50,6 +55,7 @@ impl Shape {
             inputs: [length(64), length(64), length(64), length(64)],
             entries: [length(4), length(4), length(4)],
             outputs: [length(64), length(64), length(4)],
+            point: length(MOST_VARIABLES as u8),
             code,
         }
     }
@@ -59,6 +65,7 @@ impl Shape {
         bytes.extend(self.inputs);
         bytes.extend(self.entries);
         bytes.extend(self.outputs);
+        bytes.push(self.point);
     }
 
     pub fn take(bytes: &mut Bytes) -> Option<Shape> {
@@ -67,6 +74,7 @@ impl Shape {
             inputs: bytes.take()?,
             entries: bytes.take()?,
             outputs: bytes.take()?,
+            point: bytes.byte()?,
         })
     }
 }
@@ -79,7 +87,7 @@ struct Arguments {
     value: i64,
     f: Model,
     g: Model,
-    point: [i64; 4],
+    point: [i64; MOST_VARIABLES],
 }
 
 /// All that the exported function stores, held against the second implementation's answer.
@@ -176,7 +184,7 @@ fn compare_model(
 }
 
 /// What the slices for an answer hold after a call.
-type Stored = (Vec<u16>, Vec<i64>, Vec<u64>);
+type Stored = (Vec<u32>, Vec<i64>, Vec<u64>);
 
 fn compare_quotient(
     models: &[Model; 4],
@@ -261,9 +269,12 @@ fn compare_ends(
     let (keys, coefficients) = slices(&arguments.f, length_keys, length_coefficients);
     let mut stored = vec![COEFFICIENT; length_ends];
     let handed = handed(&arguments.f, &keys, &coefficients);
-    let number = raw::ends(arguments.code, handed, arguments.point, &mut stored);
+    // What is behind eight coordinates may be anything.
+    let point = over(&arguments.point, COEFFICIENT, shape.point.into());
+    let number = raw::ends(arguments.code, handed, &point, &mut stored);
     let fits = (1..=3).contains(&arguments.code)
         && lent(&arguments.f, length_keys, length_coefficients)
+        && (arguments.code != EVALUATE || point.len() >= MOST_VARIABLES)
         && length_ends >= 4;
     if !fits {
         return misused(number, &stored, &vec![COEFFICIENT; length_ends]);
@@ -282,7 +293,7 @@ fn lent(model: &Model, keys: usize, coefficients: usize) -> bool {
 }
 
 /// Slices of these lengths: cut off, or with more behind.
-fn slices(model: &Model, keys: usize, coefficients: usize) -> (Vec<u16>, Vec<i64>) {
+fn slices(model: &Model, keys: usize, coefficients: usize) -> (Vec<u32>, Vec<i64>) {
     let longer = |length: usize| length.max(MOST_TERMS);
     let mut lent_keys = over(&model.keys, KEY, longer(keys));
     let mut lent_coefficients = over(&model.coefficients, COEFFICIENT, longer(coefficients));
@@ -291,7 +302,7 @@ fn slices(model: &Model, keys: usize, coefficients: usize) -> (Vec<u16>, Vec<i64
     (lent_keys, lent_coefficients)
 }
 
-fn handed<'a>(model: &Model, keys: &'a [u16], coefficients: &'a [i64]) -> Handed<'a> {
+fn handed<'a>(model: &Model, keys: &'a [u32], coefficients: &'a [i64]) -> Handed<'a> {
     Handed {
         n: model.n,
         count: model.count,
@@ -329,7 +340,7 @@ fn arguments(call: &Call) -> Arguments {
         value: 0,
         f: Model::ZERO,
         g: Model::ZERO,
-        point: [0; 4],
+        point: [0; MOST_VARIABLES],
     };
     match call {
         Call::Constant { n, value } => Arguments {
@@ -407,7 +418,7 @@ fn arguments(call: &Call) -> Arguments {
             ..none
         },
         Call::Evaluate { f, point } => Arguments {
-            code: 3,
+            code: EVALUATE,
             point: *point,
             f: to_model(f),
             ..none

@@ -11,7 +11,7 @@ use reference::run::{ReportAnswer, RunAnswer};
 #[derive(Debug, PartialEq)]
 struct Stored {
     number: u8,
-    keys: [u16; MOST_TERMS],
+    keys: [u32; MOST_TERMS],
     coefficients: [i64; MOST_TERMS],
     /// The place of the refusal, n, the count and the radius.
     numbers: [u64; 4],
@@ -25,7 +25,7 @@ type Rows = [u64; 4 * MOST_STEPS];
 /// What the slices hold before, so that a place that is not stored shows.
 const BEFORE: Stored = Stored {
     number: 0,
-    keys: [0xABCD; MOST_TERMS],
+    keys: [0xABCD_4321; MOST_TERMS],
     coefficients: [-0x0123_4567_89AB_CDEF; MOST_TERMS],
     numbers: [u64::MAX; 4],
     ends: [i64::MIN; 6],

@@ -3,7 +3,7 @@
 //! that the test itself needs to hand over the arguments count as the call's.
 
 use hechroung::raw::{self, Handed, HandedBook, HandedModels};
-use hechroung::{LONGEST_RECORD, LONGEST_SHEET, MOST_MODELS, MOST_STEPS, MOST_TERMS};
+use hechroung::{LONGEST_RECORD, LONGEST_SHEET, MOST_MODELS, MOST_STEPS, MOST_TERMS, MOST_VARS};
 use reference::book::{Book, Step, ANTIDERIVATIVE, INPUT, MULTIPLY, QUOTIENT, SUBSTITUTE};
 use reference::generate::{self, books, quotients, Draft, DraftModel, Random};
 use reference::sheet;
@@ -111,7 +111,7 @@ struct Lent {
     n: u8,
     count: usize,
     radius: u64,
-    keys: [u16; MOST_TERMS],
+    keys: [u32; MOST_TERMS],
     coefficients: [i64; MOST_TERMS],
 }
 
@@ -140,7 +140,7 @@ impl Lent {
 /// What a call or a run stores.
 struct Answer {
     number: u8,
-    keys: [u16; MOST_TERMS],
+    keys: [u32; MOST_TERMS],
     coefficients: [i64; MOST_TERMS],
     numbers: [u64; 4],
     ends: [i64; 6],
@@ -229,7 +229,7 @@ struct LentModels {
     ns: [u8; 4],
     counts: [usize; 4],
     radii: [u64; 4],
-    keys: Vec<u16>,
+    keys: Vec<u32>,
     coefficients: Vec<i64>,
 }
 
@@ -262,7 +262,7 @@ struct LentBook {
     ns: Vec<u8>,
     counts: Vec<usize>,
     radii: Vec<u64>,
-    keys: Vec<u16>,
+    keys: Vec<u32>,
     coefficients: Vec<i64>,
     fields: Vec<u8>,
     values: Vec<i64>,
@@ -306,20 +306,26 @@ impl LentBook {
     }
 }
 
-/// 64 terms in 4 variables, with all powers of one variable up to 15.
-fn heaviest_keys() -> Vec<u16> {
-    let mut keys: Vec<u16> = (0..16).map(|power| power << 12).collect();
-    let low = (1..).filter(|key| key >> 12 == 0 && (key & 15) + (key >> 4 & 15) + (key >> 8) < 16);
-    keys.extend(low.take(MOST_TERMS - 16));
+/// The numbers of variables of the heaviest inputs: both widths of keys on a sheet.
+const HEAVIEST: [u8; 2] = [4, 8];
+
+/// 64 terms in n variables, with all powers of the first variable up to 15.
+fn heaviest_keys(n: u8) -> Vec<u32> {
+    let mut keys: Vec<u32> = (0..16).map(|power| power << 28).collect();
+    let last = (1..).filter(|key| key >> 12 == 0 && (key & 15) + (key >> 4 & 15) + (key >> 8) < 16);
+    keys.extend(
+        last.take(MOST_TERMS - 16)
+            .map(|key: u32| key << (4 * (8 - n))),
+    );
     keys.sort_unstable();
     keys
 }
 
 /// At these keys coefficients so small that no step leaves the box and that results keep their terms.
-fn heaviest_model(constant: i32) -> DraftModel {
+fn heaviest_model(n: u8, constant: i32) -> DraftModel {
     DraftModel {
         radius: 5,
-        terms: heaviest_keys()
+        terms: heaviest_keys(n)
             .into_iter()
             .map(|key| (key, if key == 0 { constant } else { 3 }))
             .collect(),
@@ -327,17 +333,17 @@ fn heaviest_model(constant: i32) -> DraftModel {
 }
 
 /// About 1/2, 1/2, 1 and 2: the first over the second is the third, and the fourth is one over the second.
-fn heaviest_operands() -> [DraftModel; 4] {
-    [1 << 19, 1 << 19, 1 << 20, 1 << 21].map(heaviest_model)
+fn heaviest_operands(n: u8) -> [DraftModel; 4] {
+    [1 << 19, 1 << 19, 1 << 20, 1 << 21].map(|constant| heaviest_model(n, constant))
 }
 
 /// Sixteen such models; inputs, and then products, substitutions, quotients and antiderivatives in turn up to 64 steps.
-fn heaviest_sheet() -> Vec<u8> {
-    let mut models = heaviest_operands().to_vec();
-    models.resize(MOST_MODELS, heaviest_model(1 << 19));
+fn heaviest_sheet(n: u8) -> Vec<u8> {
+    let mut models = heaviest_operands(n).to_vec();
+    models.resize(MOST_MODELS, heaviest_model(n, 1 << 19));
     let mut steps: Vec<Step> = (0..4).map(|model| Step::one(INPUT, model)).collect();
     while steps.len() < MOST_STEPS {
-        let v = steps.len() as u8 % 4 + 1;
+        let v = steps.len() as u8 % n + 1;
         steps.push(match steps.len() % 4 {
             0 => Step::two(MULTIPLY, 0, 1),
             1 => Step::substitute(0, 1, v),
@@ -349,14 +355,14 @@ fn heaviest_sheet() -> Vec<u8> {
             Some(MULTIPLY | SUBSTITUTE | QUOTIENT | ANTIDERIVATIVE)
         ));
     }
-    Draft::new(4, 15, models, steps).bytes()
+    Draft::new(n, 15, models, steps).bytes()
 }
 
 fn sheets() -> Vec<Vec<u8>> {
     let named = generate::named_sheets().into_iter();
     let generated = (0..GENERATED).map(|number| generate::sheet(7, number));
     let mut all: Vec<_> = named.chain(generated).map(|sample| sample.bytes).collect();
-    all.push(heaviest_sheet());
+    all.extend(HEAVIEST.map(heaviest_sheet));
     all
 }
 
@@ -376,10 +382,13 @@ fn most(name: &str, figure: usize, used: impl Iterator<Item = usize>) -> usize {
 #[test]
 fn a_call_stays_within_its_figure() {
     let mut stack = Stack::new(CALL);
-    let heaviest = sheet::read(&heaviest_sheet());
-    assert_eq!(heaviest.refusal, None);
-    let heavy = &heaviest.book.models[..2];
-    let mut pairs = vec![(Lent::new(&heavy[0]), Lent::new(&heavy[1]))];
+    let mut pairs: Vec<(Lent, Lent)> = Vec::new();
+    for n in HEAVIEST {
+        let heaviest = sheet::read(&heaviest_sheet(n));
+        assert_eq!(heaviest.refusal, None);
+        let heavy = &heaviest.book.models[..2];
+        pairs.push((Lent::new(&heavy[0]), Lent::new(&heavy[1])));
+    }
     for number in 0..GENERATED {
         let book = books::sound_book(&mut Random::new(number));
         let last = book.model_count.saturating_sub(1);
@@ -388,11 +397,14 @@ fn a_call_stays_within_its_figure() {
     for code in 1..=9 {
         let mut accepted = 0;
         let used = pairs.iter().enumerate().map(|(k, (f, g))| {
-            let (d, i) = (15 - (k % 15) as u8, 1 + (k % 4) as u8);
+            let (d, i) = (15 - (k % 15) as u8, 1 + k as u8 % f.n);
             let mut answer = Answer::NONE;
             let used = stack.run(|| answer.call(code, d, i, f, g));
             accepted += u64::from(answer.number == 0);
-            assert!(k > 0 || answer.number == 0, "the heaviest is accepted");
+            assert!(
+                k >= HEAVIEST.len() || answer.number == 0,
+                "the heaviest is accepted"
+            );
             used
         });
         most(&format!("call {code}"), CALL, used);
@@ -400,11 +412,13 @@ fn a_call_stays_within_its_figure() {
     }
     for code in 1..=3 {
         let used = pairs.iter().map(|(f, _)| {
-            let point = [1 << 19, -3, 7, 1 << 20].map(|x| if code == 3 { x } else { 0 });
-            let point = [0, 1, 2, 3].map(|v| if v < f.n { point[usize::from(v)] } else { 0 });
+            let within = [1 << 19, -3, 7, 1 << 20, -1 << 18, 5, -(1 << 20), 9];
+            let mut point = [0; MOST_VARS];
+            let used = usize::from(f.n).min(MOST_VARS);
+            point[..used].copy_from_slice(&within[..used]);
             let mut ends = [0; 4];
             stack.run(|| {
-                let _ = raw::ends(code, f.handed(), point, &mut ends);
+                let _ = raw::ends(code, f.handed(), &point, &mut ends);
             })
         });
         most(&format!("ends {code}"), CALL, used);
@@ -421,7 +435,10 @@ fn a_quotient_stays_within_its_figure() {
                 .map(|draft| StoredModel::store(&draft.model(n))),
         )
     };
-    let mut operands = vec![(15, stored(4, &heaviest_operands()))];
+    let mut operands = HEAVIEST
+        .map(|n| (15, stored(n, &heaviest_operands(n))))
+        .into_iter()
+        .collect::<Vec<_>>();
     let mut random = Random::new(7);
     for number in 0..GENERATED as usize {
         let made = match number % 2 {
@@ -435,7 +452,10 @@ fn a_quotient_stays_within_its_figure() {
         let mut answer = Answer::NONE;
         let used = stack.run(|| answer.quotient(*d, models.handed()));
         accepted += u64::from(answer.number == 0);
-        assert!(k > 0 || answer.number == 0, "the heaviest is accepted");
+        assert!(
+            k >= HEAVIEST.len() || answer.number == 0,
+            "the heaviest is accepted"
+        );
         used
     });
     most("quotient", CALL, used);
@@ -449,7 +469,10 @@ fn a_run_stays_within_its_figure() {
     let mut answer = Answer::NONE;
     let used = sheets.iter().map(|sheet| stack.run(|| answer.run(sheet)));
     most("run", RUN, used);
-    assert_eq!(answer.number, 0, "the heaviest is accepted");
+    for n in HEAVIEST {
+        answer.run(&heaviest_sheet(n));
+        assert_eq!(answer.number, 0, "the heaviest is accepted");
+    }
     let mut lines = [0; 2048];
     let used = sheets.iter().map(|sheet| {
         stack.run(|| {
@@ -537,7 +560,7 @@ fn the_heaviest_run() {
     let room = std::env::var("STACK_ROOM").expect("the test below sets it");
     let mut stack = Stack::new(room.parse().expect("it is a number"));
     let mut answer = Answer::NONE;
-    let sheet = heaviest_sheet();
+    let sheet = heaviest_sheet(8);
     stack.run(|| answer.run(&sheet));
     assert_eq!(answer.number, 0);
 }
@@ -545,7 +568,7 @@ fn the_heaviest_run() {
 #[test]
 fn a_stack_that_is_a_page_too_short_is_seen() {
     let mut answer = Answer::NONE;
-    let sheet = heaviest_sheet();
+    let sheet = heaviest_sheet(8);
     let used = Stack::new(RUN).run(|| answer.run(&sheet));
     let pages = used.div_ceil(4096) * 4096;
     assert!(ends_within(pages));

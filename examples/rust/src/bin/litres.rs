@@ -13,17 +13,22 @@ const ORDER: u8 = 4;
 const HALF_TIME: i64 = 3;
 
 fn main() -> Result<(), Refusal> {
-    // Litres a minute, to 0.05: 3.20 - 0.60 x - 2.40 x^2 + 0.40 x^3, in hundredths. Keys: x has hex 1000.
-    let terms = [(0x0000, 320), (0x1000, -60), (0x2000, -240), (0x3000, 40)];
+    // Litres a minute, to 0.05: 3.20 - 0.60 x - 2.40 x^2 + 0.40 x^3, in hundredths. Keys: x has hex 1000_0000.
+    let terms = [
+        (0, 320),
+        (0x1000_0000, -60),
+        (0x2000_0000, -240),
+        (0x3000_0000, 40),
+    ];
     let flow = measured(1, 100, 5, &terms);
     let litres = gathered(ORDER, &flow)?;
     println!("flow: radius {}", flow.radius);
     println!("radius {}", litres.radius);
     for (key, coefficient) in litres.terms() {
-        println!("term {} {coefficient}", key >> 12);
+        println!("term {} {coefficient}", key >> 28);
     }
     for (minutes, x) in [(0, -UNIT), (3, 0), (6, UNIT)] {
-        let value = evaluate(&litres, [x, 0, 0, 0])?;
+        let value = evaluate(&litres, [x, 0, 0, 0, 0, 0, 0, 0])?;
         println!("after {minutes} minutes {} {}", value.low, value.high);
     }
 

@@ -12,15 +12,15 @@ const ORDER: u8 = 3;
 
 fn main() -> Result<(), Refusal> {
     // x is the time of the milking, y the milk's temperature. Conductivity in mS/cm, to 0.02; the factor of the
-    // temperature, to 0.001; both in thousandths. Keys: x has hex 1000, y hex 0100.
+    // temperature, to 0.001; both in thousandths. Keys: x has hex 1000_0000, y hex 0100_0000.
     let conductivities = [
-        (0x0000, 5600),
-        (0x0100, 600),
-        (0x1000, 500),
-        (0x1100, 50),
-        (0x2000, -200),
+        (0, 5600),
+        (0x0100_0000, 600),
+        (0x1000_0000, 500),
+        (0x1100_0000, 50),
+        (0x2000_0000, -200),
     ];
-    let factors = [(0x0000, 1240), (0x0100, 60), (0x1000, 10)];
+    let factors = [(0, 1240), (0x0100_0000, 60), (0x1000_0000, 10)];
     let conductivity = measured(2, 1000, 20, &conductivities);
     let temperature = measured(2, 1000, 1, &factors);
 
@@ -28,13 +28,13 @@ fn main() -> Result<(), Refusal> {
     let corrected = quotient(ORDER, &conductivity, &temperature, &h, &w)?;
     let ends = range(&corrected)?;
     // A point is in whole units; 5/8 and -1/4 are, where 0.6 and -0.3 would be another point.
-    let value = evaluate(&corrected, [UNIT / 8 * 5, -UNIT / 4, 0, 0])?;
+    let value = evaluate(&corrected, [UNIT / 8 * 5, -UNIT / 4, 0, 0, 0, 0, 0, 0])?;
     println!("conductivity: radius {}", conductivity.radius);
     println!("temperature: radius {}", temperature.radius);
     println!("proposal: h of {} terms, w of {}", h.count, w.count);
     println!("radius {}", corrected.radius);
     for (key, coefficient) in corrected.terms() {
-        println!("term {} {} {coefficient}", key >> 12, key >> 8 & 15);
+        println!("term {} {} {coefficient}", key >> 28, key >> 24 & 15);
     }
     println!("range {} {}", ends.low, ends.high);
     println!("at 5/8 -1/4 {} {}", value.low, value.high);

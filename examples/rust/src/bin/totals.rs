@@ -52,7 +52,7 @@ fn main() -> Result<(), Refusal> {
 }
 
 /// Litres a minute of milking k, each a little different. The meter counts in steps of 1/1024, which are whole units:
-/// nothing is rounded, and the radius is 0. Keys: x has hex 1000.
+/// nothing is rounded, and the radius is 0. Keys: x has hex 1000_0000.
 fn flow(k: i64) -> Model {
     let values = [
         2900 + 7 * k % 611,
@@ -66,7 +66,7 @@ fn flow(k: i64) -> Model {
         ..Model::ZERO
     };
     for (place, value) in values.into_iter().enumerate() {
-        flow.keys[place] = (place as u16) << 12;
+        flow.keys[place] = (place as u32) << 28;
         flow.coefficients[place] = UNIT / 1024 * value;
     }
     flow
