@@ -4,9 +4,9 @@
 #include <inttypes.h>
 #include <stdio.h>
 
-/* The exact integral stands behind the ends from this layout on. */
-#if HECHROUNG_ABI != 2
-#error "this example is for layout 2 of hechroung.h"
+/* The exact integral stands behind the ends from layout 2 on, and keys have 32 bits from this one on. */
+#if HECHROUNG_ABI != 3
+#error "this example is for layout 3 of hechroung.h"
 #endif
 
 /* HALF_TIME: minutes from the middle of a milking to its end, where x is 1. */

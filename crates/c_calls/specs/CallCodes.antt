@@ -4,7 +4,9 @@ use mathlib.Core.List.{List, [], _∷_}
 use Prim.Native.Nat.{ℕ}
 use lib.Dec.{eqb, leb}
 use lib.IntN.{ℤ, pos}
+use lib.ListN.{getD}
 use Rattle.calculus.specs.Model as C
+use Rattle.calculus.specs.Model.{most-vars}
 use Rattle.calculus.specs.Refusal.{Result, done, _followed-by_}
 use Rattle.calculus.specs.Operations as Op
 use Rattle.calculus.specs.Operations.{Ends, zero-mixed}
@@ -40,6 +42,16 @@ alone a = a followed-by (λ e. done (record { ends = e; exact = zero-mixed }))
 unfoldable pub ends-alone : Bounds → Integral
 ends-alone b =
     record { low = b .low; high = b .high; quotient = pos 0; remainder = 0; verdict = b .verdict }
+
+-- coordinate i, from 0, of a point that is handed over, 0 where there is none
+unfoldable pub coordinate : List ℤ → (i : ℕ) → ℤ
+coordinate xs i = getD xs i (pos 0)
+
+-- all eight of them
+unfoldable pub coordinates : List ℤ → List ℤ
+coordinates xs =
+    coordinate xs 0 ∷ coordinate xs 1 ∷ coordinate xs 2 ∷ coordinate xs 3
+    ∷ coordinate xs 4 ∷ coordinate xs 5 ∷ coordinate xs 6 ∷ coordinate xs 7 ∷ []
 
 -- the call with two ends that a code names: 1 range, 2 integral, 3 evaluate; only an integral has q and r
 unfoldable pub ends-call : (code : ℕ) → List ℤ → C.Model → Result Op.Integral
@@ -90,10 +102,14 @@ unfoldable pub stored-integral : Integral → List ℤ → Called-ends
 stored-integral b es =
     ends-state (verdict-number (b .verdict)) (over (b .low ∷ b .high ∷ b .quotient ∷ pos (b .remainder) ∷ []) es)
 
+-- whether a point is long enough: for code 3, which looks at it, it has eight coordinates
+unfoldable pub point-fits : (code point : ℕ) → Bool
+point-fits code point = cond (eqb code 3) (leb most-vars point) true
+
 -- whether the code is known and the slices are long enough
-unfoldable pub ends-call-fits : (code count keys coefficients ends : ℕ) → Bool
-ends-call-fits code count keys coefficients ends =
-    leb 1 code && leb code 3 && lent count keys coefficients && leb 4 ends
+unfoldable pub ends-call-fits : (code count keys coefficients point ends : ℕ) → Bool
+ends-call-fits code count keys coefficients point ends =
+    leb 1 code && leb code 3 && lent count keys coefficients && point-fits code point && leb 4 ends
 
 -- a call that fits is answered, any other returns 255 and changes nothing
 unfoldable pub called-ends : (fits : Bool) → Result Op.Integral → List ℤ → Called-ends

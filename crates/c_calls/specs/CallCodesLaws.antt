@@ -19,6 +19,7 @@ use Rattle.model_types.specs.ModelStruct.{bounds, integral-answer}
 use Rattle.model_slices.specs.HandedModels.{lent, answer-numbers, model-room}
 use Rattle.model_slices.specs.HandedModelsLaws.{room-parts}
 use Rattle.c_calls.specs.CallCodes.{alone, ends-alone, ends-call, call-fits, ends-call-fits}
+use Rattle.c_calls.specs.CallCodes.{point-fits}
 
 pub fits-room : (code c₁ k₁ z₁ c₂ k₂ z₂ k z n : ℕ) → call-fits code c₁ k₁ z₁ c₂ k₂ z₂ (model-room k z n) ≡ true
     → (most-terms ≤ k) × (most-terms ≤ z) × (answer-numbers ≤ n)
@@ -27,10 +28,11 @@ fits-room code c₁ k₁ z₁ c₂ k₂ z₂ k z n h =
     room-parts k z n
     (and-right (leb 1 code && leb code 9 && lent c₁ k₁ z₁ && lent c₂ k₂ z₂) (model-room k z n) (subst T (sym h) tt))
 
-pub fits-ends : (code c k z e : ℕ) → ends-call-fits code c k z e ≡ true → 4 ≤ e
+pub fits-ends : (code c k z p e : ℕ) → ends-call-fits code c k z p e ≡ true → 4 ≤ e
 unfolding ends-call-fits
-fits-ends code c k z e h =
-    leb→le 4 e (and-right (leb 1 code && leb code 3 && lent c k z) (leb 4 e) (subst T (sym h) tt))
+fits-ends code c k z p e h =
+    leb→le 4 e
+    (and-right (leb 1 code && leb code 3 && lent c k z && point-fits code p) (leb 4 e) (subst T (sym h) tt))
 
 -- ---- two ends alone
 pub alone-answer : (a : Result Ends) → ends-alone (bounds a) ≡ integral-answer (alone a)

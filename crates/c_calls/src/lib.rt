@@ -7,7 +7,7 @@ ghost use Rattle.model_types.specs.ModelStruct.{view, answer, «integral-answer
 ghost use Rattle.model_slices.specs.HandedModels.{«answer-numbers»};
 ghost use Rattle.c_calls.specs.CallCodes.{«model-call», «ends-call», «call-fits», «ends-call-fits»};
 ghost use Rattle.c_calls.specs.CallCodes.{«called-state», «stored-answer», «ends-alone», «ends-state»};
-ghost use Rattle.c_calls.specs.CallCodes.{«stored-integral»};
+ghost use Rattle.c_calls.specs.CallCodes.{«stored-integral», coordinate, coordinates, «point-fits»};
 use model::Answer;
 use model::Bounds;
 use model::Integral;
@@ -72,6 +72,31 @@ fn alone(b: Bounds) -> Integral
     }
 }
 
+// Coordinate i, from 0, of a point that is handed over, 0 where there is none.
+fn coordinate(point: &[i64], i: usize) -> i64
+    ensures { λ r. ⌜ r ≡ coordinate (now (point .entry)) i ⌝ }
+{
+    if i < point.len() {
+        return point[i];
+    }
+    0
+}
+
+// All eight of them.
+pub fn coordinates(point: &[i64]) -> [i64; model_types::MOST_VARS as usize]
+    ensures { λ r. ⌜ r ≡ coordinates (now (point .entry)) ⌝ }
+{
+    let x1 = coordinate(point, 0);
+    let x2 = coordinate(point, 1);
+    let x3 = coordinate(point, 2);
+    let x4 = coordinate(point, 3);
+    let x5 = coordinate(point, 4);
+    let x6 = coordinate(point, 5);
+    let x7 = coordinate(point, 6);
+    let x8 = coordinate(point, 7);
+    [x1, x2, x3, x4, x5, x6, x7, x8]
+}
+
 // The call that a code names: 1 range, 2 integral, any other evaluate. Of the three only an integral has a quotient and
 // a remainder.
 pub fn ends_call(code: u8, xs: [i64; model_types::MOST_VARS as usize], f: Model) -> Integral
@@ -133,9 +158,26 @@ pub fn call_fits(
     room
 }
 
+// Whether a point is long enough. Only evaluate looks at it.
+fn point_fits(code: u8, point: usize) -> bool
+    ensures { λ r. ⌜ r ≡ point-fits code point ⌝ }
+{
+    if code == EVALUATE {
+        return model_types::MOST_VARS as usize <= point;
+    }
+    true
+}
+
 // Whether a call that answers with two ends is one.
-pub fn ends_call_fits(code: u8, count: usize, keys: usize, coefficients: usize, ends: usize) -> bool
-    ensures { λ r. ⌜ r ≡ ends-call-fits code count keys coefficients ends ⌝ }
+pub fn ends_call_fits(
+    code: u8,
+    count: usize,
+    keys: usize,
+    coefficients: usize,
+    point: usize,
+    ends: usize,
+) -> bool
+    ensures { λ r. ⌜ r ≡ ends-call-fits code count keys coefficients point ends ⌝ }
 {
     if code < 1 {
         return false;
@@ -144,6 +186,9 @@ pub fn ends_call_fits(code: u8, count: usize, keys: usize, coefficients: usize, 
         return false;
     }
     if !model_slices::lent(count, keys, coefficients) {
+        return false;
+    }
+    if !point_fits(code, point) {
         return false;
     }
     ENDS <= ends

@@ -1,11 +1,10 @@
 // The single calls.
 ghost use mathlib.Core.Path.{_≡_};
-ghost use mathlib.Core.List.{[], _∷_};
 ghost use lib.ListN.{length};
 ghost use Rattle.model_types.specs.ModelStruct.{view};
 ghost use Rattle.model_slices.specs.HandedModels.{handed, «model-room»};
 ghost use Rattle.c_calls.specs.CallCodes.{«model-call», «ends-call», «call-fits», «ends-call-fits»};
-ghost use Rattle.c_calls.specs.CallCodes.{«called-state», called, «ends-state», «called-ends»};
+ghost use Rattle.c_calls.specs.CallCodes.{«called-state», called, «ends-state», «called-ends», coordinates};
 use super::MISUSED;
 use model_types::Key;
 
@@ -84,8 +83,8 @@ pub extern "C" fn hechroung_call(
 }
 
 // A call that answers with two ends: the refusal's number, 0 without one, or MISUSED. The ends, the quotient and the
-// remainder go into the slice; the last two are 0 but for an integral. The coordinates are evaluate's. The place of
-// every refusal is 0.
+// remainder go into the slice; the last two are 0 but for an integral. Evaluate takes the first eight coordinates of
+// the point, the others do not look at it. The place of every refusal is 0.
 #[no_mangle]
 pub extern "C" fn hechroung_ends(
     code: u8,
@@ -94,29 +93,30 @@ pub extern "C" fn hechroung_ends(
     radius: u64,
     keys: &[Key],
     coefficients: &[i64],
-    x1: i64,
-    x2: i64,
-    x3: i64,
-    x4: i64,
-    x5: i64,
-    x6: i64,
-    x7: i64,
-    x8: i64,
+    point: &[i64],
     ends: &mut [i64],
 ) -> u8
     ensures { λ r. ⌜ ends-state r (now (ends .exit))
         ≡ called-ends
         (ends-call-fits code count (length (now (keys .entry))) (length (now (coefficients .entry)))
-        (length (now (ends .entry))))
-        (ends-call code (x1 ∷ x2 ∷ x3 ∷ x4 ∷ x5 ∷ x6 ∷ x7 ∷ x8 ∷ [])
+        (length (now (point .entry))) (length (now (ends .entry))))
+        (ends-call code (coordinates (now (point .entry)))
         (view (handed n count radius (now (keys .entry)) (now (coefficients .entry)))))
         (now (ends .entry)) ⌝ }
 {
     let long = keys.len();
-    if !c_calls::ends_call_fits(code, count, long, coefficients.len(), ends.len()) {
+    if !c_calls::ends_call_fits(
+        code,
+        count,
+        long,
+        coefficients.len(),
+        point.len(),
+        ends.len(),
+    ) {
         return MISUSED;
     }
     let f = model_slices::taken(n, count, radius, keys, coefficients);
-    let b = c_calls::ends_call(code, [x1, x2, x3, x4, x5, x6, x7, x8], f);
+    let xs = c_calls::coordinates(point);
+    let b = c_calls::ends_call(code, xs, f);
     c_calls::store_ends(b, ends)
 }

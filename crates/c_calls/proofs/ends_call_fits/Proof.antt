@@ -27,15 +27,34 @@ returns-3 c =
       sym (c .before .lent .ensures) ∙ not-true _ (c .if3 .taken),
     )
 
+point-fits-requires : tie.Need-point-fits-requires
+point-fits-requires c κs = search needs
+
 returns-4 : tie.Need-returns-4
 unfolding ends-call-fits
 returns-4 c =
-    let e = c .before .before in
+    let l = c .before .before in
+    let e = l .before .before in
     rw (
       le-leb 1 _ (e .before .if1 .left),
       le-leb _ 3 (e .if2 .left),
-      sym (c .before .lent .ensures) ∙ not-false _ (c .if3 .left),
+      sym (l .before .lent .ensures) ∙ not-false _ (l .if3 .left),
+      sym (c .before .point-fits .ensures) ∙ not-true _ (c .if4 .taken),
+    )
+
+returns-5 : tie.Need-returns-5
+unfolding ends-call-fits
+returns-5 c =
+    let l = c .before .before in
+    let e = l .before .before in
+    rw (
+      le-leb 1 _ (e .before .if1 .left),
+      le-leb _ 3 (e .if2 .left),
+      sym (l .before .lent .ensures) ∙ not-false _ (l .if3 .left),
+      sym (c .before .point-fits .ensures) ∙ not-false _ (c .if4 .left),
     )
 
 pub ends-call-fits-spec : {M : Type 1} → statement M
-ends-call-fits-spec = tie.close (tie.spec returns returns-2 lent-requires returns-3 returns-4)
+ends-call-fits-spec =
+    tie.close
+    (tie.spec returns returns-2 lent-requires returns-3 point-fits-requires returns-4 returns-5)
