@@ -17,6 +17,9 @@ use model_types::Key;
 // The ends of an answer, and the quotient and the remainder.
 const ENDS: usize = 4;
 
+// The coordinates of a point.
+const COORDINATES: usize = model_types::MOST_VARS as usize;
+
 // The last code of a call that answers with a model, and of one that answers with two ends.
 const ANTIDERIVATIVE: u8 = 9;
 
@@ -163,7 +166,7 @@ fn point_fits(code: u8, point: usize) -> bool
     ensures { λ r. ⌜ r ≡ point-fits code point ⌝ }
 {
     if code == EVALUATE {
-        return model_types::MOST_VARS as usize <= point;
+        return COORDINATES <= point;
     }
     true
 }
