@@ -5,6 +5,8 @@ use hechroung::raw::signature::{Call, Ends, Record, Run};
 use hechroung::{Model, MOST_TERMS, MOST_VARS};
 use std::ffi::{c_char, c_int, c_void, CStr, CString};
 
+/// The point of calls that do not look at it.
+static NOWHERE: [i64; MOST_VARS] = [0; MOST_VARS];
 /// Every name is looked up at once, and none is lent to another library.
 const RTLD_NOW: c_int = 2;
 
@@ -206,16 +208,22 @@ impl Library {
 
     /// The two ends of the range.
     pub fn range(&self, f: &Lent) -> [i64; 2] {
-        let [low, high, _, _] = self.ended(1, f);
+        let [low, high, _, _] = self.ended(1, f, &NOWHERE);
         [low, high]
     }
 
     /// The two ends of the integral, and the exact one, or zeros where the build has none.
     pub fn integral(&self, f: &Lent) -> [i64; 4] {
-        self.ended(2, f)
+        self.ended(2, f, &NOWHERE)
     }
 
-    fn ended(&self, code: u8, lent: &Lent) -> [i64; 4] {
+    /// The two ends of the value at a point in the first four variables.
+    pub fn evaluate(&self, f: &Lent, point: &[i64; MOST_VARS]) -> [i64; 2] {
+        let [low, high, _, _] = self.ended(3, f, point);
+        [low, high]
+    }
+
+    fn ended(&self, code: u8, lent: &Lent, point: &[i64; MOST_VARS]) -> [i64; 4] {
         let mut ends = [0; 4];
         let (n, count, radius) = (lent.model.n, lent.model.count, lent.model.radius);
         let coefficients = lent.model.coefficients.as_ptr();
@@ -234,16 +242,16 @@ impl Library {
                         MOST_TERMS,
                         coefficients,
                         MOST_TERMS,
-                        0,
-                        0,
-                        0,
-                        0,
+                        point[0],
+                        point[1],
+                        point[2],
+                        point[3],
                         out,
                         4,
                     )
                 }
                 EitherEnds::Now(call) => {
-                    let (keys, point) = (lent.model.keys.as_ptr(), [0; MOST_VARS]);
+                    let keys = lent.model.keys.as_ptr();
                     call(
                         code,
                         n,

@@ -9,7 +9,7 @@ mod inputs;
 mod loaded;
 mod timing;
 
-use hechroung::Model;
+use hechroung::{Model, MOST_VARS, UNIT};
 use inputs::{cubic, factors, factors_in, integrand, largest, largest_in, typical, up_to_degree};
 use inputs::{Kind, Parity, STEPS};
 use loaded::{Layout, Lent, Library};
@@ -98,6 +98,7 @@ fn rows(alike: Alike) -> Vec<(&'static str, Measure)> {
             "integral, dense, 15 terms",
             integral(15, 4, Parity::Any, alike),
         ),
+        ("evaluate, dense, 15 terms", evaluate(15, 4)),
         ("run, typical", run(typical, alike)),
         ("run, largest", run(|random| largest(random, STEPS), alike)),
         (
@@ -194,6 +195,22 @@ fn integral(terms: usize, order: u8, parity: Parity, alike: Alike) -> Measure {
         }
         best(PRODUCT_ROUNDS, PRODUCTS, |way, input| {
             let _ = black_box(builds[way].integral(&models[input]));
+        })
+    })
+}
+
+fn evaluate(terms: usize, order: u8) -> Measure {
+    const POINT: [i64; MOST_VARS] = [UNIT / 2, -UNIT / 3, UNIT / 5, -UNIT / 7, 0, 0, 0, 0];
+    Box::new(move |builds, random| {
+        let models: Vec<_> = (0..PRODUCTS)
+            .map(|_| Lent::new(factors(random, terms, order, Kind::Kept).0))
+            .collect();
+        for f in &models {
+            let [new, old] = builds.each_ref().map(|build| build.evaluate(f, &POINT));
+            assert_eq!(new, old, "both builds give one value");
+        }
+        best(PRODUCT_ROUNDS, PRODUCTS, |way, input| {
+            let _ = black_box(builds[way].evaluate(&models[input], &POINT));
         })
     })
 }
