@@ -46,7 +46,7 @@ extern "C" {
 #define HECHROUNG_MOST_STEPS 64
 #define HECHROUNG_LONGEST_SHEET 8792
 #define HECHROUNG_LONGEST_RECORD (5 + 8 * HECHROUNG_MOST_TERMS)
-#define HECHROUNG_LONGEST_TEXT 2048
+#define HECHROUNG_LONGEST_TEXT 4096
 #define HECHROUNG_MISUSED 255
 
 /* A model: the first `count` of its terms, with keys strictly rising, and a radius. A key has eight exponents of four
