@@ -17,8 +17,10 @@ MOST_STEPS = 64
 LONGEST_RECORD = 5 + 8 * MOST_TERMS
 MISUSED = 255
 
+# The shared library is named by the layout of include/hechroung.h that these declarations follow.
+_LAYOUT = 3
 _FOLDER = os.path.join(os.path.dirname(os.path.abspath(__file__)), "..", "..", "target", "lib")
-_library = ctypes.CDLL(os.path.join(os.environ.get("HECHROUNG_LIB", _FOLDER), "libhechroung.so"))
+_library = ctypes.CDLL(os.path.join(os.environ.get("HECHROUNG_LIB", _FOLDER), f"libhechroung.so.{_LAYOUT}"))
 
 _u8, _u32, _u64, _i64, _size = ctypes.c_uint8, ctypes.c_uint32, ctypes.c_uint64, ctypes.c_int64, ctypes.c_size_t
 _text = ctypes.c_char_p

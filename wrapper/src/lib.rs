@@ -48,6 +48,8 @@ pub const MOST_MODELS: usize = 16;
 pub const MOST_STEPS: usize = 64;
 /// The length of the longest sheet.
 pub const LONGEST_SHEET: usize = 8_792;
+/// No text of [`lines`] is longer.
+pub const LONGEST_TEXT: usize = 4_096;
 /// The length of the longest record, that of a model with 64 terms in more than four variables.
 pub const LONGEST_RECORD: usize = 5 + 8 * MOST_TERMS;
 

@@ -3,7 +3,8 @@
 //! that the test itself needs to hand over the arguments count as the call's.
 
 use hechroung::raw::{self, Handed, HandedBook, HandedModels};
-use hechroung::{LONGEST_RECORD, LONGEST_SHEET, MOST_MODELS, MOST_STEPS, MOST_TERMS, MOST_VARS};
+use hechroung::{LONGEST_RECORD, LONGEST_SHEET, LONGEST_TEXT};
+use hechroung::{MOST_MODELS, MOST_STEPS, MOST_TERMS, MOST_VARS};
 use reference::book::{Book, Step, ANTIDERIVATIVE, INPUT, MULTIPLY, QUOTIENT, SUBSTITUTE};
 use reference::generate::{self, books, quotients, Draft, DraftModel, Random};
 use reference::sheet;
@@ -475,7 +476,7 @@ fn a_run_stays_within_its_figure() {
         answer.run(&heaviest_sheet(n));
         assert_eq!(answer.number, 0, "the heaviest is accepted");
     }
-    let mut lines = [0; 2048];
+    let mut lines = [0; LONGEST_TEXT];
     let used = sheets.iter().map(|sheet| {
         stack.run(|| {
             raw::print(sheet, &mut lines);

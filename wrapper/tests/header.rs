@@ -1,0 +1,70 @@
+//! The numbers of include/hechroung.h, which a program in C makes its buffers by, are the wrapper's and the library's.
+
+use hechroung::{Book, Model, Step};
+use std::fs;
+
+/// A file of this repository.
+fn text(path: &str) -> String {
+    fs::read_to_string(format!("{}/../{path}", env!("CARGO_MANIFEST_DIR"))).expect(path)
+}
+
+/// The number behind these words, which begin one line.
+fn number(text: &str, words: &str) -> usize {
+    let mut lines = text.lines().filter_map(|line| line.strip_prefix(words));
+    let number = lines.next().expect(words).trim_end_matches(';');
+    assert_eq!(lines.next(), None, "{words} stands once");
+    number.trim().parse().expect(words)
+}
+
+#[test]
+fn the_header_has_the_same_limits() {
+    let header = text("include/hechroung.h");
+    for (name, expected) in [
+        ("UNIT", hechroung::UNIT as usize),
+        ("DENOMINATOR", hechroung::DENOMINATOR as usize),
+        ("MOST_VARIABLES", hechroung::MOST_VARS),
+        ("MOST_TERMS", hechroung::MOST_TERMS),
+        ("MOST_MODELS", hechroung::MOST_MODELS),
+        ("MOST_STEPS", hechroung::MOST_STEPS),
+        ("LONGEST_SHEET", hechroung::LONGEST_SHEET),
+        ("LONGEST_RECORD", hechroung::LONGEST_RECORD),
+        ("LONGEST_TEXT", hechroung::LONGEST_TEXT),
+        ("MISUSED", hechroung::raw::MISUSED.into()),
+    ] {
+        let words = format!("#define HECHROUNG_{name} ");
+        assert_eq!(number(&header, &words), expected, "{name}");
+    }
+    let proved = number(
+        &text("crates/text/src/lib.rt"),
+        "pub const MOST_TEXT: usize =",
+    );
+    assert_eq!(hechroung::LONGEST_TEXT, proved);
+}
+
+/// 64 terms in eight variables with coefficients of eight digits: more text than a sheet of four variables can have.
+#[test]
+fn a_long_text_has_room() {
+    let mut model = Model {
+        n: 8,
+        count: 64,
+        ..Model::ZERO
+    };
+    // The tenth power of variable 7, and five more of variables 1 to 4 at the most.
+    let degree = |half: &u32| {
+        [12, 8, 4, 0]
+            .map(|shift| half >> shift & 15)
+            .iter()
+            .sum::<u32>()
+    };
+    let halves = (0..=0xFFFF).filter(|half| degree(half) <= 5);
+    for (place, half) in halves.take(model.count).enumerate() {
+        model.keys[place] = half << 16 | 0xA0;
+        model.coefficients[place] = -16_777_215;
+    }
+    let book = Book::new(8, 15, &[model], &[Step::default()]);
+    let mut sheet = [0; hechroung::LONGEST_SHEET];
+    let length = hechroung::write(&book, &mut sheet).expect("the book is sound");
+    let lines = hechroung::lines(&sheet[..length]);
+    assert_eq!(lines.lines().count(), 64 + 3, "the sheet is accepted");
+    assert!((2_049..=hechroung::LONGEST_TEXT).contains(&lines.len()));
+}
