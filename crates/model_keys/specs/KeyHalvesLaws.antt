@@ -109,6 +109,12 @@ unfolding half-divisor key-width
 divisor-halves z h = sym (ap (divisor 8) (key-halves z h)
     ∙ divisor-split 4 4 (four-digits (z / 65536)) (four-digits (z % 65536)) (four-long (z / 65536)))
 
+-- of a key of up to four variables
+pub divisor-upper : (z : ℕ) → z < key-limit → z % 65536 ≡ 0 → half-divisor (z / 65536) ≡ key-divisor z
+unfolding half-divisor four-digits divisor first rest decode
+divisor-upper z h e = sym (NatL.mul-one (half-divisor (z / 65536)))
+    ∙ ap (λ x. half-divisor (z / 65536) * half-divisor x) (sym e) ∙ divisor-halves z h
+
 half-digits : (z : ℕ) → half-divisor z
     ≡ (z / 4096 + 1) * ((z % 4096 / 256 + 1) * ((z % 4096 % 256 / 16 + 1) * (z % 4096 % 256 % 16 + 1)))
 unfolding half-divisor four-digits divisor first rest decode

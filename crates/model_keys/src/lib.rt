@@ -113,13 +113,16 @@ fn half_divisor(half: u32) -> u64
     (first + 1) * ((second + 1) * ((third + 1) * (fourth + 1)))
 }
 
-// The product of (exponent + 1).
+// The product of (exponent + 1). Up to four variables the lower half is 0.
 pub fn divisor(key: Key) -> u64
     ensures { λ r. ⌜ r ≡ key-divisor key ⌝ }
 {
     let high = half_divisor(key / HALF);
-    let low = half_divisor(key % HALF);
-    high * low
+    let lower = key % HALF;
+    if lower == 0 {
+        return high;
+    }
+    high * half_divisor(lower)
 }
 
 // ---- wide keys: seven bits an exponent, variable 1 the highest, and a last byte for the degree, since in a product
