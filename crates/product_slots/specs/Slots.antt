@@ -44,9 +44,17 @@ home-slot homes key = mixed key * homes / 2 ^ 32
 abbrev pub slot-below : (homes x b : ℕ) → ℕ
 slot-below homes x b = homes + 2 * x + b
 
--- the upper bits, the lower ones above them, and a 1 above all
+-- what the lower bits are multiplied by, to count in the first steps
+abbrev pub way-factor : ℕ
+way-factor = 0x9E3779B
+
+-- the first 28 bits: the upper ones, moved on by what the lower ones make
+abbrev pub first-bits : ℕ → ℕ
+first-bits key = (upper key + lower key * way-factor / 2 ^ 36) % 2 ^ 28
+
+-- the lower ones above them, and a 1 above all
 abbrev pub path : ℕ → ℕ
-path key = upper key + lower key * 2 ^ 28 + 2 ^ 63
+path key = first-bits key + lower key * 2 ^ 28 + 2 ^ 63
 
 -- the slot that the search for a key comes to after t entries: below each, bit t says which of the two
 unfoldable pub walked : (homes : ℕ) (slots : List ℕ) (key t : ℕ) → ℕ
@@ -69,6 +77,11 @@ pub record Searchable (homes : ℕ) (slots keys : List ℕ) (key : ℕ) : Type 0
   pub first : getD keys 0 0 ≡ key
   pub told : Told key
   pub ends : (t : ℕ) → Passed homes slots keys key (suc t) → t < 63
+
+-- the home slot leads to entry x, which has another key
+pub record Missed (homes : ℕ) (slots keys : List ℕ) (key x : ℕ) : Type 0 where
+  pub is : x ≡ getD slots (home-slot homes key) 0
+  pub other : getD keys x 0 ≡ key → ⊥
 
 -- the first slot on the key's way that leads to the key
 pub record Found (homes : ℕ) (slots keys : List ℕ) (key h : ℕ) : Type 0 where

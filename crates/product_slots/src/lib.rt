@@ -2,7 +2,7 @@
 ghost use mathlib.Core.Path.{_≡_};
 ghost use Prim.Native.Nat.{ℕ, _<_, _≤_};
 ghost use lib.ListN.{getD};
-ghost use Rattle.product_slots.specs.Slots.{«home-slots», «home-slot», Searchable, Found};
+ghost use Rattle.product_slots.specs.Slots.{«home-slots», «home-slot», Told, path, Searchable, Missed, Found};
 
 // Two odd factors found by trial: the sums of two wide keys of up to four variables then seldom begin at the same slot,
 // and those of eight variables no more often than numbers at random.
@@ -12,13 +12,16 @@ const HIGH_FACTOR: u64 = 1555934479;
 
 const HALF_WORD: u64 = 1 << 32;
 
-// The way of a key: its upper 28 bits, the exponents of variables 1 to 4, then the lower ones, and a 1 above all. Two
-// shifts in opposite directions, which the compiler makes one rotation.
+// ---- the way of a key: its upper 28 bits, the exponents of variables 1 to 4, then the lower ones, and a 1 above all.
+// The lower ones also count in the first 28 steps, times a factor of that length: keys that differ in variables 5 to 8
+// alone part early. Up to four variables only the degree stands there
 const LOWER_BITS: u64 = 1 << 36;
 
 const ABOVE_UPPER: u64 = 1 << 28;
 
 const ABOVE_ALL: u64 = 1 << 63;
+
+const WAY_FACTOR: u64 = 0x9E3779B;
 
 // Where the search for a key begins, of so many slots: its halves, each times its factor, are added modulo 2^32, and as
 // the sum is to 2^32 so is the slot to their number. A remainder by that number would cost a division.
@@ -38,15 +41,27 @@ pub fn entry_number(x: u16) -> usize
     x as usize
 }
 
-// The first slot on the key's way that leads to the key. The way begins at its home slot and goes on below each entry
-// that it passes, to the left or the right by one bit of the key after the other. Two keys on one way agree in all bits
-// that it has used, so that it passes 63 entries at the most: `path` halves with each, and is never 0.
-pub fn find(slots: &[u16], keys: &[u64], homes: usize, key: u64) -> usize
+// The way of a key as a number, whose bits say left or right, the lowest first.
+fn way(key: u64) -> usize
+    requires { ⌜ Told key ⌝ }
+    ensures { λ r. ⌜ r ≡ path key ⌝ }
+{
+    let lower = key % LOWER_BITS;
+    let first = (key / LOWER_BITS + lower * WAY_FACTOR / LOWER_BITS) % ABOVE_UPPER;
+    (first + lower * ABOVE_UPPER + ABOVE_ALL) as usize
+}
+
+// The first slot on the key's way that leads to the key, where the home slot leads to another entry. The way goes on
+// below each entry that it passes, to the left or the right by one bit after the other. Two keys on one way agree in
+// all bits that it has used, so that it passes 63 entries at the most: `path` halves with each, and is never 0.
+fn find_below(slots: &[u16], keys: &[u64], homes: usize, key: u64, entry: usize) -> usize
     requires { ⌜ Searchable homes (now slots) (now keys) key ⌝ }
+    requires { ⌜ Missed homes (now slots) (now keys) key entry ⌝ }
     ensures { λ r. ⌜ Found homes (now (slots .entry)) (now (keys .entry)) key r ⌝ }
 {
-    let mut h = home_slot(homes, key);
-    let mut path = (key / LOWER_BITS + key % LOWER_BITS * ABOVE_UPPER + ABOVE_ALL) as usize;
+    let whole = way(key);
+    let mut h = homes + 2 * entry + whole % 2;
+    let mut path = whole / 2;
     loop {
         let x = entry_number(slots[h]);
         if keys[x] == key {
@@ -55,6 +70,19 @@ pub fn find(slots: &[u16], keys: &[u64], homes: usize, key: u64) -> usize
         h = homes + 2 * x + path % 2;
         path = path / 2;
     }
+}
+
+// The first slot on the key's way that leads to the key. Most searches end at the home slot: no way is made for these.
+pub fn find(slots: &[u16], keys: &[u64], homes: usize, key: u64) -> usize
+    requires { ⌜ Searchable homes (now slots) (now keys) key ⌝ }
+    ensures { λ r. ⌜ Found homes (now (slots .entry)) (now (keys .entry)) key r ⌝ }
+{
+    let h = home_slot(homes, key);
+    let x = entry_number(slots[h]);
+    if keys[x] == key {
+        return h;
+    }
+    find_below(slots, keys, homes, key, x)
 }
 
 // Every slot is emptied.

@@ -14,7 +14,8 @@ module _ (c : tie.After-half-divisor2) where
   key = c .before .before .before .args .key
 
   factors : c .before .before .half-divisor .result * c .half-divisor2 .result ≤ 4294967296
-  factors = subst (λ x. x ≤ 4294967296) (sym (ap₂ _*_ (c .before .before .half-divisor .ensures) (c .half-divisor2 .ensures)))
+  factors = subst (λ x. x ≤ 4294967296) (sym (ap₂ _*_ (c .before .before .half-divisor .ensures)
+      (c .half-divisor2 .ensures)))
       (NatL.mul-le-mul (half-divisor-le (key / 65536) (omega arith)) (half-divisor-le (key % 65536) (omega arith)))
 
 half-divisor-requires : tie.Need-half-divisor-requires
