@@ -183,6 +183,13 @@ fn mixed(key: u64) -> u64 {
     halves & 0xFFFF_FFFF
 }
 
+/// The bits by which a search goes on: the exponents of variables 1 to 4, moved on by what stands below them, then that.
+fn way(key: u64) -> u64 {
+    let lower = key % (1 << 36);
+    let first = (key >> 36) + ((lower * 0x9E3_779B) >> 36);
+    first % (1 << 28) + (lower << 28)
+}
+
 /// How many entries the searches of all products pass.
 fn passed(f: &[u32], g: &[u32]) -> usize {
     let homes = 4 * f.len() * g.len();
@@ -193,8 +200,7 @@ fn passed(f: &[u32], g: &[u32]) -> usize {
         for &b in g {
             let key = wide(a) + wide(b);
             let mut slot = ((mixed(key) * homes as u64) >> 32) as usize;
-            // The exponents of variables 1 to 4 first, then the others and the sum.
-            let mut bits = key.rotate_left(28);
+            let mut bits = way(key);
             while slots[slot] != 0 && entries[slots[slot]] != key {
                 slot = homes + 2 * slots[slot] + (bits % 2) as usize;
                 bits /= 2;
