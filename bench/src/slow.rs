@@ -183,7 +183,7 @@ fn mixed(key: u64) -> u64 {
     halves & 0xFFFF_FFFF
 }
 
-/// The bits by which a search goes on: the exponents of variables 1 to 4, moved on by what stands below them, then that.
+/// The bits by which a search goes on: the exponents of variables 1 to 4, moved on by what stands below, then that.
 fn way(key: u64) -> u64 {
     let lower = key % (1 << 36);
     let first = (key >> 36) + ((lower * 0x9E3_779B) >> 36);

@@ -6,6 +6,7 @@ use mathlib.Core.Path.{_≡_, refl, sym, _∙_, ap, ap₂}
 use mathlib.Core.List.{List, [], _∷_}
 use Prim.Native.Nat.{ℕ, zero, suc, _+_, _<_, _^_}
 use native.Mathlib.Omega.{arith}
+use native.Mathlib.Nat as NatL
 use lib.Dec.{T, leb→le}
 use lib.IntN.{pos, negsuc}
 use lib.ListN.{replicate}
@@ -102,57 +103,59 @@ both-near m k x y z e h g = ap (abs ℚO) (ring 3 ℚR (λ a b v. a ⊟ b) (λ a
     ≡≤ sum-≤ _ _ _ _ h (abs-neg-eq ℚO _
     ≡≤ ap (λ p. abs ℚO (natural U *ℚ z -ℚ scaled-value p x)) e ≡≤ g)
 
--- the constant 1 / U, beside any models
-unfoldable pub one-step : List Model → Book
-one-step ms = record { vars = 1; order = 1; models = ms; steps = constant (pos 1) ∷ [] }
+-- the constant 1 / U in any number of variables, beside any models
+unfoldable pub one-step : (v : ℕ) → List Model → Book
+one-step v ms = record { vars = v; order = 1; models = ms; steps = constant (pos 1) ∷ [] }
 
 -- the zero model is not its result
-pub radius-refutes : (ms : List Model) (n : ℕ) (r i : Ends) (x : Mixed)
-    → Claim (one-step ms) (record { model = zero-model n; range = r; integral = i; exact = x }) → ⊥
+pub radius-refutes : (v : ℕ) (ms : List Model) (n : ℕ) (r i : Ends) (x : Mixed)
+    → Claim (one-step v ms) (record { model = zero-model n; range = r; integral = i; exact = x }) → ⊥
 unfolding one-step outcome outcomes outcomes-after step-outcome step-value last zero-model
-radius-refutes ms n r i x c =
+radius-refutes v ms n r i x c =
     false-≤ 1 0 (omega arith) (sym (abs-whole (pos 1)) ≡≤ ap (abs ℚO) (sym difference) ≡≤ near)
   where
-    at : At (zero-model n) (origin 1) (pos 1 /U)
-    at = c .within-radius (functions (own (one-step ms))) (origin 1) (own-given (one-step ms) (unfold promises in tt))
+    at : At (zero-model n) (origin v) (pos 1 /U)
+    at = c .within-radius (functions (own (one-step v ms))) (origin v)
+        (own-given (one-step v ms) (unfold promises in tt))
 
     near : abs ℚO (natural U *ℚ pos 1 /U -ℚ natural U *ℚ 0ℚ) ≤ℚ natural 0
-    near = both-near (zero-model n) (zero-model n) (origin 1) (pos 1 /U) 0ℚ refl
-        (at-near (zero-model n) (origin 1) (pos 1 /U) at) (zero-near n (origin 1))
+    near = both-near (zero-model n) (zero-model n) (origin v) (pos 1 /U) 0ℚ refl
+        (at-near (zero-model n) (origin v) (pos 1 /U) at) (zero-near n (origin v))
 
     difference : natural U *ℚ pos 1 /U -ℚ natural U *ℚ 0ℚ ≡ natural 1
     difference = ring 2 ℚR (λ u a. u ⊠ a ⊟ u ⊠ 𝟎) (λ u a. u ⊠ a) refl (natural U) (pos 1 /U) ∙ U-times (pos 1)
 
 -- 0 to 0 is not its range
-pub range-refutes : (m : Model) (i : Ends) (x : Mixed)
-    → Claim (one-step []) (record { model = m; range = zero-ends; integral = i; exact = x }) → ⊥
+pub range-refutes : (v : ℕ) (m : Model) (i : Ends) (x : Mixed)
+    → Claim (one-step v []) (record { model = m; range = zero-ends; integral = i; exact = x }) → ⊥
 unfolding one-step zero-ends outcome outcomes outcomes-after step-outcome step-value last
-range-refutes m i x c = false-≤ 1 0 (omega arith) (sym (U-times (pos 1)) ≡≤ lies .to)
+range-refutes v m i x c = false-≤ 1 0 (omega arith) (sym (U-times (pos 1)) ≡≤ lies .to)
   where
     lies : Lies (pos 1 /U) zero-ends
-    lies = c .in-range (functions (own (one-step []))) (origin 1) (own-given (one-step []) (unfold promises in tt))
+    lies = c .in-range (functions (own (one-step v []))) (origin v) (own-given (one-step v []) (unfold promises in tt))
 
 -- 0 to 0 is not its integral
-pub integral-refutes : (m : Model) (r : Ends) (x : Mixed)
-    → Claim (one-step []) (record { model = m; range = r; integral = zero-ends; exact = x }) → ⊥
+pub integral-refutes : (v : ℕ) (m : Model) (r : Ends) (x : Mixed)
+    → Claim (one-step v []) (record { model = m; range = r; integral = zero-ends; exact = x }) → ⊥
 unfolding one-step zero-ends outcome outcomes outcomes-after step-outcome step-polynomial last exact-integral
     promises
-integral-refutes m r x c = false-≤ 2 0 (omega arith) (sym amount ≡≤ lies .to)
+integral-refutes v m r x c = false-≤ (2 ^ v) 0 (NatL.one-le-pow v 2 (omega arith)) (sym amount ≡≤ lies .to)
   where
-    lies : Lies (exact-integral 1 (P.constant ℚR (pos 1 /U))) zero-ends
-    lies = c .integral-in-ends (own-polynomial (one-step [])) tt (own-polynomial-within (one-step []))
+    lies : Lies (exact-integral v (P.constant ℚR (pos 1 /U))) zero-ends
+    lies = c .integral-in-ends (own-polynomial (one-step v [])) tt (own-polynomial-within (one-step v []))
         (P.constant ℚR (pos 1 /U)) refl
 
-    amount : natural U *ℚ exact-integral 1 (P.constant ℚR (pos 1 /U)) ≡ natural 2
-    amount = ap (λ z. natural U *ℚ z) (integral-constant ℚF 1 (pos 1 /U))
-        ∙ sym (*-assoc (natural U) (pos 1 /U) (nat ℚR (2 ^ 1)))
-        ∙ ap₂ _*ℚ_ (U-times (pos 1)) (nat-whole 2) ∙ sym (natural-* 1 2)
+    amount : natural U *ℚ exact-integral v (P.constant ℚR (pos 1 /U)) ≡ natural (2 ^ v)
+    amount = ap (λ z. natural U *ℚ z) (integral-constant ℚF v (pos 1 /U))
+        ∙ sym (*-assoc (natural U) (pos 1 /U) (nat ℚR (2 ^ v)))
+        ∙ ap₂ _*ℚ_ (U-times (pos 1)) (nat-whole (2 ^ v)) ∙ sym (natural-* 1 (2 ^ v))
+        ∙ ap natural (NatL.one-mul (2 ^ v))
 
 -- so the zero model with ends 0 is not the answer to every book
-pub claim-refuted : Claim (one-step [])
+pub claim-refuted : Claim (one-step 1 [])
     (record { model = zero-model 1; range = zero-ends; integral = zero-ends; exact = zero-mixed })
     → ⊥
-claim-refuted = range-refutes (zero-model 1) zero-ends zero-mixed
+claim-refuted = range-refutes 1 (zero-model 1) zero-ends zero-mixed
 
 -- ---- and an operand passed through is not the answer of the step that takes it
 -- 1 / U, and minus that

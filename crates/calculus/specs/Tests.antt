@@ -9,7 +9,7 @@ use Rattle.fixed.specs.Fixed.{U, span-limit}
 use Rattle.calculus.specs.Terms.{is-nonzero}
 use Rattle.calculus.specs.Model.{most-vars, most-degree, between}
 
--- n is 1 to 4
+-- n is 1 to 8
 unfoldable pub vars-sound : ℕ → Bool
 vars-sound = between 1 most-vars
 

@@ -1,4 +1,4 @@
-// Polynomial models in 1 to 4 variables: the single calls of document 01. Each takes anything, whatever its fields
+// Polynomial models in 1 to 8 variables: the single calls of document 01. Each takes anything, whatever its fields
 // hold, makes the tests in document 01's order, and answers the result or the refusal with its place. The numbers in a
 // call's comment are its refusals, in the order of the tests. The constructors `Model::constant` and `Model::variable`
 // stand with the type.
@@ -276,7 +276,7 @@ pub fn quotient(d: u8, f: Model, g: Model, h: Model, w: Model) -> Answer
 // Whether a term may stand in a model of n variables, n at least 1, behind keys that are below `least`.
 pub use model_soundness::term_sound;
 
-// The exponent of variable i, 1 to 4, in a key.
+// The exponent of variable i, 1 to 8, in a key.
 pub use model_keys::exponent_of;
 
 // All signs turned: the sound model of `negate`.

@@ -147,7 +147,7 @@ module _ (d : ℕ) (m : Model) where
           all-pass l = h .rest ∙ ap (rest-sound (m .n) d (h .last)) (rest-end (m .n) (m .count) (m .terms) w i l)
               ∙ rest-nil (m .n) d (h .last)
 
-      -- a turn, for a key of 16 bits
+      -- a turn, for a key of 32 bits
       module _ (l : i < m .count) (small : getD (m .terms) i zero-term .key < key-limit) where
         abbrev key-at : ℕ
         key-at = getD (m .terms) i zero-term .key

@@ -105,7 +105,7 @@ view-pack d m s l h = ap (λ p. record { vars = m .vars; radius = m .radius; ter
     ∙ take-padded zero-term most-terms (map pack-term (m .terms)) (length (m .terms)) (length-map (m .terms) pack-term))
     ∙ view-pack-terms (m .vars) d (m .terms) l s h)
 
--- ---- a sound model: 1 to 4 variables, and its other parts
+-- ---- a sound model: 1 to 8 variables, and its other parts
 pub vars-range : (n : ℕ) → vars-sound n ≡ true → (1 ≤ n) × (n ≤ key-width)
 unfolding vars-sound most-vars key-width
 vars-range n v = let h = subst T (sym v) tt in (between-low 1 key-width n h, between-high 1 key-width n h)

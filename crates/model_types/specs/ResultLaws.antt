@@ -26,7 +26,7 @@ use Rattle.model_types.specs.ModelStruct.{view, pack, answer, bounds}
 use Rattle.model_types.specs.ModelStructLaws.{sound-vars, view-pack-sound}
 
 -- ---- soundness
--- in n variables, of which there are 1 to 4
+-- in n variables, of which there are 1 to 8
 pub sound-in : (n d : ℕ) (m : C.Model) → vars-sound n ≡ true → Sound n d m → T (sound d m)
 unfolding vars-sound
 sound-in n d m v s = parts-sound d m (subst T (sym (ap (between 1 most-vars) (s .0 .vars) ∙ v)) tt)

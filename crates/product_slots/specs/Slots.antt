@@ -5,11 +5,11 @@ use Prim.Native.Nat.{ℕ, zero, suc, _+_, _*_, _/_, _%_, _^_, _<_, _≤_}
 use lib.ListN.{length, getD}
 
 -- ---- keys
--- the bits of a key that its search goes by first: the exponents of variables 1 to 4
+-- the exponents of variables 1 to 4, which with what the lower bits make are the first bits of a key's way
 abbrev pub upper : ℕ → ℕ
 upper key = key / 2 ^ 36
 
--- and those that it goes by then: the exponents of the others, and the degree
+-- the other exponents and the degree, which follow
 abbrev pub lower : ℕ → ℕ
 lower key = key % 2 ^ 36
 

@@ -14,7 +14,7 @@ const HALF_WORD: u64 = 1 << 32;
 
 // ---- the way of a key: its upper 28 bits, the exponents of variables 1 to 4, then the lower ones, and a 1 above all.
 // The lower ones also count in the first 28 steps, times a factor of that length: keys that differ in variables 5 to 8
-// alone part early. Up to four variables only the degree stands there
+// alone part early. Up to four variables only the degree stands there, which makes 0
 const LOWER_BITS: u64 = 1 << 36;
 
 const ABOVE_UPPER: u64 = 1 << 28;

@@ -355,11 +355,11 @@ module _ (W : Program) (c : Enclosing W) where
 
   pub zero-not-enclosing : Gives-zero W → ⊥
   unfolding answers at-one accepted-at one-step
-  zero-not-enclosing w = radius-refutes [] _ _ _ _ (claimed-of at-one _ (w at-one))
+  zero-not-enclosing w = radius-refutes 1 [] _ _ _ _ (claimed-of at-one _ (w at-one))
 
   pub handing-back-not-enclosing : Hands-back W → ⊥
   unfolding answers at-one-beside accepted-at one-step
-  handing-back-not-enclosing w = radius-refutes _ 1 _ _ _ (claimed-of at-one-beside _ (w at-one-beside _ refl))
+  handing-back-not-enclosing w = radius-refutes 1 _ 1 _ _ _ (claimed-of at-one-beside _ (w at-one-beside _ refl))
 
 -- so neither does the program that refuses every sheet, with the zero model beside the refusal
 pub refusing-not-enclosing : Enclosing refusing → ⊥
