@@ -48,6 +48,9 @@ mark-edges =
     ∷ edge 3 0 ("01 00 00 00 00 00 00 00" ∷ "04 02 00 01 00 00 4D 57" ∷ [])
     ∷ edge 0 0 ("01 00 00 00 00 00 00 00" ∷ "05 02 00 01 00 00 4D 57" ∷ [])
     ∷ edge 0 0 ("01 00 00 00 00 00 00 00" ∷ "08 02 00 01 00 00 4D 57" ∷ [])
+    -- an n that does not fit, together with a wrong offset: test 3 comes first
+    ∷ edge 3 0 ("01 00 00 00 00 00 00 00" ∷ "05 02 00 01 01 00 4D 4B" ∷ [])
+    ∷ edge 3 0 ("01 00 00 00 00 00 00 00" ∷ "04 02 00 01 01 00 4D 57" ∷ [])
     -- n just outside its limits
     ∷ edge 3 0 ("01 00 00 00 00 00 00 00" ∷ "00 02 00 01 00 00 4D 57" ∷ [])
     ∷ edge 3 0 ("01 00 00 00 00 00 00 00" ∷ "09 02 00 01 00 00 4D 57" ∷ [])
@@ -101,6 +104,12 @@ pub edge-lengths : (map (number-at "04 0F 00 01 00 00 4D 4B") (6744 ∷ 6745 ∷
     × (map (number-at "08 0F 00 01 00 00 4D 57") (6744 ∷ 6745 ∷ 8792 ∷ 8793 ∷ []) ≡ 4 ∷ 4 ∷ 4 ∷ 1 ∷ [])
 unfolding reads sheet-forms zeros-before number-at
 edge-lengths = (refl, refl)
+
+-- with the right offset as well no sheet of short keys has more than 6,744: bytes are left over before the first step
+pub edge-left-over : number-at "04 0F 00 01 49 1A 4D 4B" 6745 ∷ number-at "04 0F 00 01 48 22 4D 4B" 8792 ∷ []
+    ≡ 5 ∷ 5 ∷ []
+unfolding reads sheet-forms zeros-before number-at
+edge-left-over = refl
 
 -- the program prints the one number of 8,792 bytes, and the other of 8,793 and more
 pub edge-read-at-most : map (λ k. printed (zeros-before "08 0F 00 01 00 00 4D 57" k)) (8792 ∷ 8793 ∷ 8801 ∷ [])
