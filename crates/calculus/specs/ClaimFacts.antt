@@ -28,11 +28,11 @@ use Rattle.calculus.specs.Model.{Model, zero-model, _/U, _-ℚ_, distanc
 use Rattle.calculus.specs.Model.{Within}
 use Rattle.calculus.specs.Operations as Op
 use Rattle.calculus.specs.Operations.{Ends, zero-ends, Mixed, zero-mixed}
-use Rattle.calculus.specs.Book.{constant, negate, Book, model-of, last}
+use Rattle.calculus.specs.Book.{constant, negate, Book, model-of, Summary, last}
 use Rattle.calculus.specs.Outcome.{Function, 0ℚ, ℚ-Polynomial, value-of, exact-integral, functions, polynomials}
 use Rattle.calculus.specs.Outcome.{input-outcome, step-value, step-polynomial, step-outcome, outcome-of}
 use Rattle.calculus.specs.Outcome.{outcomes-after, outcomes, outcome, no-antiderivative, no-quotient-feeds}
-use Rattle.calculus.specs.Claim.{Lies, All-within, promised, Given, Claim}
+use Rattle.calculus.specs.Claim.{Lies, All-within, promised, Given, Is-polynomial, Claim}
 use Rattle.calculus.specs.Computing.{promises}
 use Rattle.calculus.specs.UnitLaws.{natural, natural-*, natural-≤, natural-nonneg, abs-whole, U-times}
 use Rattle.calculus.specs.UnitLaws.{U-cancel}
@@ -67,7 +67,7 @@ own-polynomial-within b = own-within b
 unfoldable pub origin : ℕ → Point
 origin n = replicate n 0ℚ
 
-origin-inside : (n : ℕ) → In-box n (origin n)
+pub origin-inside : (n : ℕ) → In-box n (origin n)
 unfolding origin
 origin-inside zero = none
 origin-inside (suc n) = more (abs-zero ≤≤ natural-≤ 0 1 (omega arith)) (origin-inside n)
@@ -150,6 +150,12 @@ integral-refutes v m r x c = false-≤ (2 ^ v) 0 (NatL.one-le-pow v 2 (omega ari
         ∙ sym (*-assoc (natural U) (pos 1 /U) (nat ℚR (2 ^ v)))
         ∙ ap₂ _*ℚ_ (U-times (pos 1)) (nat-whole (2 ^ v)) ∙ sym (natural-* 1 (2 ^ v))
         ∙ ap natural (NatL.one-mul (2 ^ v))
+
+-- and whatever the answer is, its outcome is a polynomial
+pub outcome-made : (v : ℕ) (s : Summary) → Claim (one-step v []) s
+    → Is-polynomial v (outcome (polynomials (own-polynomial (one-step v []))) (one-step v [] .steps))
+unfolding one-step promises
+outcome-made v s c = c .outcome-is-polynomial (own-polynomial (one-step v [])) tt
 
 -- so the zero model with ends 0 is not the answer to every book
 pub claim-refuted : Claim (one-step 1 [])

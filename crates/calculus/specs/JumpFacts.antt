@@ -43,7 +43,7 @@ use Rattle.calculus.specs.UnitLaws.{natural, natural-≤, abs-whole, U-t
 use Rattle.calculus.specs.ValueLaws.{Near, at-near, abs-zero}
 use Rattle.calculus.specs.EnclosureLaws.{zero-near}
 use Rattle.calculus.specs.ChainLaws.{_≤≤_, _≡≤_, _≤≡_, equal}
-use Rattle.calculus.specs.ClaimFacts.{own, own-within, radius-nonneg, false-≤, both-near}
+use Rattle.calculus.specs.ClaimFacts.{own, own-within, radius-nonneg, origin, origin-inside, false-≤, both-near}
 use Rattle.calculus.specs.ClaimProof.{claim}
 open Ring ℚR using (+-neg)
 
@@ -318,26 +318,27 @@ same-point-refuted h = let k : U ≤ 0 = unfold zero-model in bounded (pos U) 0 
     apart = ring 1 ℚR (λ u. u ⊠ 𝟏 ⊟ u ⊠ 𝟎) (λ u. u) refl (natural U)
 
 -- and this point is one of the box: where 2x is put in for x the claim holds of no answer, whatever the last step is
-unfoldable pub put-twice : Book
-put-twice = record {
-  vars = 1;
+-- and however many other variables there are
+unfoldable pub put-twice : (others : ℕ) → Book
+put-twice v = record {
+  vars = suc v;
   order = 1;
   models = [];
   steps = variable 1 ∷ add 0 0 ∷ substitute 0 1 1 ∷ constant (pos 0) ∷ [];
 }
 
-only-coordinate : {y : ℚ} → In-box 1 (y ∷ []) → abs ℚO y ≤ℚ natural 1
-only-coordinate (more h none) = h
+first-coordinate : (n : ℕ) (y : ℚ) (x : Point) → In-box (suc n) (y ∷ x) → abs ℚO y ≤ℚ natural 1
+first-coordinate n y x (more h r) = h
 
-pub outside-refuted : (s : Summary) → Claim put-twice s → ⊥
+pub outside-refuted : (v : ℕ) (s : Summary) → Claim (put-twice v) s → ⊥
 unfolding put-twice outcomes outcomes-after step-outcome step-value outcome-of coordinate with-coordinate index-of
     replace
-outside-refuted s c = let k : 2 ≤ 1 = bounded (pos 2) 1 _ (sym (whole-+ (pos 1) (pos 1))) (only-coordinate stays) in
-    omega arith
+outside-refuted v s c = let k : 2 ≤ 1 = bounded (pos 2) 1 _ (sym (whole-+ (pos 1) (pos 1)))
+    (first-coordinate v (natural 1 +ℚ natural 1) (origin v) stays) in omega arith
   where
-    stays : In-box 1 ((natural 1 +ℚ natural 1) ∷ [])
-    stays = c .stays-in-box (functions (own put-twice)) (natural 1 ∷ []) (record {
-      inputs = own-within put-twice;
+    stays : In-box (suc v) ((natural 1 +ℚ natural 1) ∷ origin v)
+    stays = c .stays-in-box (functions (own (put-twice v))) (natural 1 ∷ origin v) (record {
+      inputs = own-within (put-twice v);
       as-promised = unfold promises in tt;
-      point = more (equal (abs-whole (pos 1))) none;
+      point = more (equal (abs-whole (pos 1))) (origin-inside v);
     }) 2 0 1 1 refl

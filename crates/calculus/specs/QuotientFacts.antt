@@ -5,7 +5,7 @@ use mathlib.Core.Path.{_≡_, refl, sym, _∙_, ap, ap₂}
 use mathlib.Core.Bool.{true, false}
 use mathlib.Core.Logic.{_≢_}
 use mathlib.Core.List.{List, [], _∷_}
-use Prim.Native.Nat.{ℕ, _+_, _*_, _/_, _≤_}
+use Prim.Native.Nat.{ℕ, suc, _+_, _*_, _/_, _≤_}
 use native.Mathlib.Omega.{arith}
 use lib.IntN.{ℤ, pos, negsuc, natAbs}
 use lib.Signed.{_≤ℤ_}
@@ -23,7 +23,8 @@ use Rattle.calculus.specs.Monomial.{index-of}
 use Rattle.calculus.specs.Model.{Model, zero-model, _/U, _-ℚ_, Point, In-box, polynomial, value, At}
 use Rattle.calculus.specs.Refusal.{done}
 use Rattle.calculus.specs.Operations.{Ends, Mixed}
-use Rattle.calculus.specs.Book.{input, constant, quotient, Book, model-of, Summary, summary, last, run}
+use Rattle.calculus.specs.Book.{input, constant, variable, quotient, Book, model-of, Summary, summary, last}
+use Rattle.calculus.specs.Book.{run}
 use Rattle.calculus.specs.Outcome.{0ℚ, coordinate, ℚ-Polynomial, value-of, Inputs, functions, input-outcome}
 use Rattle.calculus.specs.Outcome.{step-value, step-outcome, outcome-of, outcomes-after, outcomes, outcome}
 use Rattle.calculus.specs.Claim.{Lies, Given, Claim}
@@ -32,7 +33,7 @@ use Rattle.calculus.specs.UnitLaws.{natural, natural-*, abs-whole, U-tim
 use Rattle.calculus.specs.ValueLaws.{Near, at-near}
 use Rattle.calculus.specs.EnclosureLaws.{zero-near}
 use Rattle.calculus.specs.ChainLaws.{_≡≤_, _≤≡_, equal}
-use Rattle.calculus.specs.ClaimFacts.{own, both-near}
+use Rattle.calculus.specs.ClaimFacts.{own, origin, own-given, both-near}
 use Rattle.calculus.specs.ClaimProof.{claim}
 use Rattle.calculus.specs.JumpFacts.{Jump, up, down, height, jumping, jumping-within, one-above, bounded, woven}
 use Rattle.calculus.specs.JumpFacts.{no-polynomial}
@@ -197,3 +198,12 @@ pub proposal-refuted : ((I : Inputs) (x : Point) → Given (halved 100) I x
 unfolding halved-result zero-model
 proposal-refuted h = let k : 100 ≤ 6 + 0 = bounded (pos 100) _ _ proposal-up (both-near halved-result (zero-model 1)
     right _ 0ℚ refl (at-near halved-result right _ (h _ right (given 100 up))) (zero-near 1 right)) in omega arith
+
+-- ---- a divisor is nowhere zero: of x / x the claim holds of no answer, however many other variables there are
+unfoldable pub by-itself : (others : ℕ) → Book
+by-itself v = record { vars = suc v; order = 1; models = []; steps = variable 1 ∷ quotient 0 0 0 0 ∷ [] }
+
+pub zero-divisor-refuted : (v : ℕ) (s : Summary) → Claim (by-itself v) s → ⊥
+unfolding by-itself outcomes outcomes-after step-outcome step-value outcome-of coordinate index-of origin
+zero-divisor-refuted v s c = c .never-zero (functions (own (by-itself v))) (origin (suc v))
+    (own-given (by-itself v) (unfold promises in tt)) 1 0 0 0 0 refl refl
