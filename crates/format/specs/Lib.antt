@@ -29,6 +29,7 @@ pub mod SheetRowLaws
 pub mod SheetShareLaws
 pub mod SheetRowEdges
 pub mod RangeSheetFacts
+pub mod SheetClaimFacts
 -- What loops that walk forward need.
 pub mod ReadLoopLaws
 pub mod WriteLoopLaws
