@@ -222,7 +222,11 @@ def exact_integral(f):
 
 
 def evaluate(f, point):
-    return _ended(3, f, point)[:2]
+    """The ends at a point, which has a coordinate for each variable of f; those above, which are 0, may be left out."""
+    coordinates = list(point)
+    if isinstance(f, Model) and len(coordinates) < min(_whole(_u8, f.n), MOST_VARS):
+        raise ValueError("a point has a coordinate for each variable")
+    return _ended(3, f, coordinates)[:2]
 
 
 def lines(sheet):

@@ -1,8 +1,8 @@
 """Models of what was measured in decimals.
 
 A decimal number is rarely a whole number of units. Each coefficient goes to the nearest unit; by what that leaves the
-polynomial is off, so it all goes into the radius, beside the error of the measurement. That sum is rounded up, and once:
-rounded down, a curve at the edge of the error would not be within the model, and its band would not be promised.
+polynomial is off, so it all goes into the radius, beside the error of the measurement. That sum is rounded up, and
+once: rounded down, a curve at the edge of the error would not be within the model, and its band would not be promised.
 """
 
 from hechroung import UNIT, Model

@@ -181,7 +181,7 @@ def faults_of_exported(exported):
 
 
 def missing(exported):
-    """Functions that are not tried, and numbers behind the last that a call has a place for."""
+    """Functions that are not tried, numbers behind the last that a call has a place for, and one that is not there."""
     functions = inspect.getmembers(hechroung, inspect.isfunction)
     public = {name for name, found in functions if found.__module__ == "hechroung" and not name.startswith("_")}
     for name in sorted(public ^ set(CALLS)):
@@ -190,6 +190,8 @@ def missing(exported):
         yield "another number of exported functions is declared"
     if outcome(hechroung.evaluate, line(), [0, 0, 0, 0, 0, 0, 0, 0, 7]) is not ValueError:
         yield "a ninth coordinate is left out"
+    if outcome(hechroung.evaluate, Model(2), [0]) is not ValueError:
+        yield "a coordinate that is not there is taken for 0"
     if outcome(hechroung.run_book, 1, 2, [], [(1, 0, 0, 0, 5, 7)]) is not ValueError:
         yield "a sixth field of a step is left out"
 
