@@ -23,7 +23,8 @@ int main(void) {
 
     /* x, 1/2, their sum, its square, as the steps of a sheet in one variable of order 2 */
     const struct hechroung_step steps[4] = {
-        {.code = 2, .v = 1}, {.code = 1, .value = HECHROUNG_UNIT / 2}, {.code = 4, .b = 1}, {.code = 6, .a = 2, .b = 2}};
+        {.code = 2, .v = 1}, {.code = 1, .value = HECHROUNG_UNIT / 2},
+        {.code = 4, .b = 1}, {.code = 6, .a = 2, .b = 2}};
     uint8_t sheet[HECHROUNG_LONGEST_SHEET], lines[HECHROUNG_LONGEST_TEXT];
     size_t length;
     if (hechroung_write_sheet(1, 2, NULL, 0, steps, 4, sheet, sizeof sheet, &length, NULL)) return 1;

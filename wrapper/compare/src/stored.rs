@@ -1,5 +1,5 @@
-//! What the exported functions store for a run, with room enough: the answer, and beside a refusal its number, its place
-//! and the zero model and zeros, which the wrapper does not hand out.
+//! What the exported functions store for a run, with room enough: the answer, and beside a refusal its number, its
+//! place and the zero model and zeros, which the wrapper does not hand out.
 
 use crate::agree::{pair, same, to_ends, to_exact, to_model};
 use crate::rows;
