@@ -7,10 +7,9 @@ use std::error::Error;
 use std::fmt;
 
 /// What a run gives: the last step's model, its range, its integral and the exact integral of its polynomial, without
-/// its radius.
-/// Of a sheet with an antiderivative the promise holds for polynomials within its models, unless a quotient feeds one;
-/// nothing is said about the integral of a sheet with a quotient. Variables that are renamed among themselves
-/// throughout a sheet, with terms put back in key order, rename the keys of the answer and change nothing else.
+/// its radius. Point 3 at the beginning of README.md says what is promised of it, with the exceptions for sheets with a
+/// quotient or an antiderivative. Variables that are renamed among themselves throughout a sheet, with terms put back in
+/// key order, rename the keys of the answer and change nothing else.
 #[derive(Clone, Copy, Debug, PartialEq, Eq)]
 pub struct Summary {
     pub model: Model,
