@@ -11,6 +11,7 @@
 //! - [`operations`]: what the papers compute with sound models, [`shares`]: where
 //!   a radius came from, and [`calls`]: the single calls, which first test what
 //!   they are handed;
+//! - [`chebyshev`]: models of one variable in Chebyshev polynomials;
 //! - [`book`], [`sheet`], [`mod@write`], [`run`], [`records`], [`text`]: sheets;
 //! - [`renaming`]: sheets whose variables are renamed throughout;
 //! - [`exact`]: exact fractions and the check of the enclosure statement;
@@ -20,6 +21,7 @@
 
 pub mod book;
 pub mod calls;
+pub mod chebyshev;
 pub mod exact;
 pub mod generate;
 pub mod model;

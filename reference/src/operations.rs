@@ -158,7 +158,7 @@ fn monomial_product(left: &Monomial, right: &Monomial) -> Monomial {
 
 /// Rounded to the nearest whole number; halfway cases go to the even one. The
 /// divisor is positive.
-fn nearest(number: i128, divisor: i128) -> i128 {
+pub(crate) fn nearest(number: i128, divisor: i128) -> i128 {
     let below = divided_down(number, divisor);
     let rest = number - below * divisor;
     match (2 * rest).cmp(&divisor) {
@@ -174,7 +174,7 @@ fn divided_down(number: i128, divisor: i128) -> i128 {
 }
 
 /// Rounded toward plus infinity; the divisor is positive.
-fn divided_up(number: i128, divisor: i128) -> i128 {
+pub(crate) fn divided_up(number: i128, divisor: i128) -> i128 {
     -divided_down(-number, divisor)
 }
 

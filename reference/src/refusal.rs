@@ -29,6 +29,8 @@ pub enum Refusal {
     Buffer,
     /// 12: mu of a quotient is U or more, so that nothing is known of it.
     Uncertified(usize),
+    /// 13: a power model to convert has n other than 1.
+    NotOneVariable,
 }
 
 impl Refusal {
@@ -47,6 +49,7 @@ impl Refusal {
             Refusal::Variables => 10,
             Refusal::Buffer => 11,
             Refusal::Uncertified(_) => 12,
+            Refusal::NotOneVariable => 13,
         }
     }
 
@@ -64,7 +67,8 @@ impl Refusal {
             | Refusal::Limits
             | Refusal::Offset
             | Refusal::Variables
-            | Refusal::Buffer => 0,
+            | Refusal::Buffer
+            | Refusal::NotOneVariable => 0,
         }
     }
 }
