@@ -59,7 +59,7 @@ impl InputFunction {
 
 /// A share of the radius from -1 to 1 that depends on the point and not on how
 /// its fractions are written. The ends come most often, as they test most.
-fn jump_at(point: &Point, seed: u64) -> Fraction {
+pub(super) fn jump_at(point: &Point, seed: u64) -> Fraction {
     let mixed = point.iter().fold(seed, |mixed, coordinate| {
         (mixed ^ coordinate.fingerprint())
             .wrapping_mul(0x9E37_79B9_7F4A_7C15)

@@ -2,7 +2,9 @@
 //!
 //! Nothing here uses [`crate::operations`]: the outcome is made from a sheet's
 //! models and steps alone, and only then compared with what a run claims.
+//! [`chebyshev`] does this for the calls on Chebyshev curves.
 
+pub mod chebyshev;
 pub mod check;
 pub mod fraction;
 pub mod function;

@@ -5,6 +5,7 @@
 //! the input was made, never from running it.
 
 pub mod books;
+pub mod chebyshev;
 pub mod damage;
 pub mod draft;
 pub mod eight_variables;
