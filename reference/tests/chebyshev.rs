@@ -3,7 +3,7 @@
 
 mod common;
 
-use common::{pair, stored};
+use common::{curve, pair, stored};
 use reference::chebyshev::calls::{self, ChebyshevAnswer};
 use reference::chebyshev::table::{polynomials_in_powers, powers_in_polynomials, DIVISOR};
 use reference::chebyshev::{StoredChebyshev, PLACES};
@@ -12,18 +12,6 @@ use reference::stored::StoredModel;
 
 const U: i64 = 1 << 20;
 const LARGEST: i64 = 1 << 30;
-
-/// A model by its radius, and its coefficients as pairs of degree and number.
-fn curve(radius: u64, coefficients: &[(usize, i64)]) -> StoredChebyshev {
-    let mut model = StoredChebyshev {
-        radius,
-        ..StoredChebyshev::ZEROS
-    };
-    for &(degree, coefficient) in coefficients {
-        model.coefficients[degree] += coefficient;
-    }
-    model
-}
 
 /// A power model of one variable, by pairs of power and number.
 fn powers(radius: u64, terms: &[(u16, i64)]) -> StoredModel {

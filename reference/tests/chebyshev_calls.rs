@@ -3,7 +3,7 @@
 
 mod common;
 
-use common::pair;
+use common::{curve, pair, stored};
 use reference::chebyshev::calls::{self, Call, CallAnswer, ChebyshevAnswer};
 use reference::chebyshev::table::polynomials_in_powers;
 use reference::chebyshev::{StoredChebyshev, PLACES};
@@ -17,17 +17,6 @@ use reference::stored::StoredModel;
 use std::collections::BTreeMap;
 
 const U: i64 = UNIT as i64;
-
-fn curve(radius: u64, coefficients: &[(usize, i64)]) -> StoredChebyshev {
-    let mut model = StoredChebyshev {
-        radius,
-        ..StoredChebyshev::ZEROS
-    };
-    for &(degree, coefficient) in coefficients {
-        model.coefficients[degree] = coefficient;
-    }
-    model
-}
 
 #[test]
 fn every_kind_gives_what_it_expects() {
@@ -161,7 +150,7 @@ fn the_check_finds_a_radius_that_is_too_small() {
         let found = check_call(&call, &narrowed(answer), &at_top(), &ends);
         assert!(matches!(found, Err(Violation::Radius(_))));
     }
-    let f = Box::new(common::stored(1, 4, &[(0x2000, 1)]));
+    let f = Box::new(stored(1, 4, &[(0x2000, 1)]));
     let answer = calls::from_powers(&f);
     let call = Call::FromPowers { f };
     let found = check_call(&call, &narrowed(answer), &at_top(), &ends);

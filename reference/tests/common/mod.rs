@@ -2,6 +2,7 @@
 #![allow(dead_code)]
 
 use reference::book::{SoundBook, Step, INPUT};
+use reference::chebyshev::StoredChebyshev;
 use reference::generate::{Draft, DraftModel};
 use reference::model::{key_of_half, MOST_VARIABLES};
 use reference::refusal::Refusal;
@@ -43,6 +44,18 @@ pub fn stored(n: u8, radius: u64, terms: &[(u16, i64)]) -> StoredModel {
     for (place, &(half, coefficient)) in model.terms.iter_mut().zip(terms) {
         let key = key_of_half(half);
         *place = StoredTerm { key, coefficient };
+    }
+    model
+}
+
+/// A Chebyshev model by its radius, and its coefficients as pairs of degree and number.
+pub fn curve(radius: u64, coefficients: &[(usize, i64)]) -> StoredChebyshev {
+    let mut model = StoredChebyshev {
+        radius,
+        ..StoredChebyshev::ZEROS
+    };
+    for &(degree, coefficient) in coefficients {
+        model.coefficients[degree] += coefficient;
     }
     model
 }
