@@ -3,7 +3,7 @@ use mathlib.Core.Bool.{Bool, true, false, _&&_}
 use mathlib.Core.List.{List, [], _∷_}
 use Prim.Native.Nat.{ℕ, suc}
 
--- the causes of a refusal, in the words of document 01 (and, for 1 to 3 and 12, of document 02)
+-- the causes of a refusal, in the words of document 01 (and, for 1 to 3 and from 12 on, of document 02)
 pub data Refusal : Type 0 where
   -- length below 16 or above 8,792
   bad-length : Refusal
@@ -30,6 +30,8 @@ pub data Refusal : Type 0 where
   short-buffer : Refusal
   -- a proposal does not certify its quotient: mu is U or more
   uncertified : Refusal
+  -- a power model to convert to the Chebyshev form has n other than 1
+  not-one-variable : Refusal
 
 -- the number of each
 unfoldable pub number : Refusal → ℕ
@@ -45,6 +47,7 @@ number leaves-box = 9
 number variables-differ = 10
 number short-buffer = 11
 number uncertified = 12
+number not-one-variable = 13
 
 -- ---- the answer of an operation
 pub data Answer (A : Type 0) : Type 0 where

@@ -54,6 +54,7 @@ pub enum Refusal {
     VariablesDiffer,
     ShortBuffer,
     Uncertified,
+    NotOneVariable,
 }
 
 // The refusal stands with its place.
@@ -219,6 +220,7 @@ pub fn number(refusal: Refusal) -> u8
         Refusal::VariablesDiffer => 10,
         Refusal::ShortBuffer => 11,
         Refusal::Uncertified => 12,
+        Refusal::NotOneVariable => 13,
     }
 }
 
