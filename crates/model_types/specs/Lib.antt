@@ -2,6 +2,7 @@ pub mod Arrays
 pub mod ArrayLaws
 pub mod ModelStruct
 pub mod ModelStructLaws
+pub mod CurveStruct
 pub mod SharesStruct
 pub mod SharesStructLaws
 pub mod ZeroTestLaws

@@ -25,6 +25,9 @@ pub const MOST_VARS: u8 = 8;
 // The largest degree of a term, and the largest order.
 pub const MOST_DEGREE: u8 = 15;
 
+// The coefficients of a curve in Chebyshev polynomials: degrees 0 to 15.
+pub const CURVE_PLACES: usize = 16;
+
 // One term: eight exponents of four bits each, that of variable 1 in the highest bits, and a coefficient in units of
 // 1/U.
 pub struct Term {
@@ -81,6 +84,18 @@ pub struct Shares {
 pub struct Accounted {
     pub answer: Answer,
     pub shares: Shares,
+}
+
+// A curve in one variable: the coefficients of the Chebyshev polynomials T_0 to T_15, and a radius, in units of 1/U.
+pub struct Curve {
+    pub coefficients: [i64; CURVE_PLACES],
+    pub radius: u64,
+}
+
+// A curve, or all zeros beside a refusal.
+pub struct CurveAnswer {
+    pub curve: Curve,
+    pub verdict: Verdict,
 }
 
 // Two ends, or zeros beside a refusal.

@@ -1,0 +1,3 @@
+pub mod TableLookupLaws
+pub mod CurveLoopLaws
+pub mod CurveAnswerLaws

@@ -1,0 +1,171 @@
+-- `in_powers` keeps the terms that are not zero, and tests their span.
+use mathlib.Core.Path.{_≡_, sym, _∙_, ap}
+use mathlib.Core.List.{map}
+use Prim.Native.Nat.{_+_, _*_, _-_, _^_, _≤_, _<_}
+use native.Mathlib.Omega.{arith}
+use borrow.Author.Needs.{needs}
+use lib.IntN.{ℤ, natAbs, pos}
+use lib.ListN.{length, getD}
+use mir.Facts.{toZ-ofZ}
+use mir.Syntax.{w64}
+use mir.Val.{toZ, ofZ}
+use Rattle.fixed.specs.MachineLaws.{answered}
+use Rattle.calculus.specs.Model.{most-terms}
+use Rattle.chebyshev.specs.Coefficients.{Row}
+use Rattle.chebyshev.specs.PowerRows.{places, combine}
+use Rattle.chebyshev.specs.RowLengthLaws.{into-powers-length}
+use Rattle.chebyshev.specs.Tables.{chebyshev-table}
+use Rattle.model_types.specs.Arrays.{padded}
+use Rattle.model_types.specs.ModelStruct.{cause}
+use Rattle.model_curve_range.specs.CurveRangeLaws.{sizes-small}
+use Rattle.model_curve_to_powers.specs.CombineLaws.{chebyshev-small, chebyshev-rows, combine-small}
+use Rattle.model_curve_to_powers.specs.PowerLoopLaws.{Converted, converted-first, converted-drop, converted-keep}
+use Rattle.model_curve_to_powers.specs.PowerLoopLaws.{powers-within, powers-over}
+use Rattle.model_curve_to_powers.proofs.in_powers.Statement.{statement}
+use Rattle.model_curve_to_powers.proofs.in_powers.Tie as tie
+
+abbrev Inv-loop : tie.InvT-loop
+Inv-loop c radius out₀ count₀ span₀ i₀ out count span i =
+    Converted (combine (c .coefficients) chebyshev-table) (c .radius) out count span i
+
+abbrev μ-loop : tie.MeasureT-loop
+μ-loop c radius out₀ count₀ span₀ i₀ out count span i = 16 - i
+
+module _ (c : tie.Start Inv-loop μ-loop) where
+  abbrev row : Row
+  row = combine (c .args .c .coefficients) chebyshev-table
+
+  whole : length row ≡ 16
+  unfolding places
+  whole = into-powers-length (c .args .c .coefficients)
+
+  radius-small : c .args .c .radius < 2 ^ 31
+  radius-small = omega (arith, sizes-small _ (c .pre))
+
+loop-holds : tie.Need-loop-holds Inv-loop μ-loop
+unfolding most-terms padded
+loop-holds c = converted-first _ _ (whole c) (radius-small c)
+
+power-coefficient-requires : tie.Need-power-coefficient-requires Inv-loop μ-loop
+power-coefficient-requires c κs = (c .before .before .pre, c .loop-test .taken)
+
+magnitude-requires : tie.Need-magnitude-requires Inv-loop μ-loop
+magnitude-requires c κs = search needs
+
+cast-key : tie.Need-cast-key Inv-loop μ-loop
+cast-key c = omega (arith, c .before .before .loop-test .taken)
+
+mul-key : tie.Need-mul-key Inv-loop μ-loop
+mul-key c = omega (arith, c .before .before .loop-test .taken)
+
+add-i : tie.Need-add-i Inv-loop μ-loop
+add-i c = omega (arith, c .before .before .loop-test .taken)
+
+-- the coefficient at hand, and its size
+module _ (c : tie.After-magnitude Inv-loop μ-loop) where
+  abbrev place : tie.At-loop Inv-loop μ-loop
+  place = c .before .before .before
+
+  abbrev start : tie.Start Inv-loop μ-loop
+  start = place .before
+
+  abbrev at : ℤ
+  at = getD (row start) (place .loop .i) (pos 0)
+
+  inside : place .loop .i < 16
+  inside = c .before .before .loop-test .taken
+
+  at-is : toZ w64 (ofZ w64 (c .before .power-coefficient .result)) ≡ at
+  at-is = answered (c .before .power-coefficient .ok) (c .before .power-coefficient .ensures)
+
+  size-is : c .magnitude .result ≡ natAbs at
+  size-is = c .magnitude .ensures ∙ ap natAbs at-is
+
+  size-small : c .magnitude .result ≤ 2 ^ 48
+  size-small = omega (
+    arith,
+    size-is,
+    combine-small 16 (start .args .c .coefficients) chebyshev-table (place .loop .i) chebyshev-rows chebyshev-small inside,
+    sizes-small _ (start .pre),
+  )
+
+loop-less : tie.Need-loop-less Inv-loop μ-loop
+loop-less c = omega (arith, inside (c .before))
+
+loop-again : tie.Need-loop-again Inv-loop μ-loop
+loop-again c =
+    let m = c .before in
+    let s = start m in
+    converted-drop _ _ (whole s) (radius-small s) _ _ _ _ (place m .loop .inv) (inside m)
+    (omega (arith, size-is m, c .if1 .taken))
+
+add-span : tie.Need-add-span Inv-loop μ-loop
+add-span c =
+    let m = c .before in
+    omega (arith, place m .loop .inv .small, inside m, size-small m)
+
+mul-out : tie.Need-mul-out Inv-loop μ-loop
+mul-out c = let m = c .before in omega (arith, place m .loop .inv .few, inside m)
+
+array-set-from-out : tie.Need-array-set-from-out Inv-loop μ-loop
+array-set-from-out c = let m = c .before in omega (arith, place m .loop .inv .few, inside m)
+
+add-count : tie.Need-add-count Inv-loop μ-loop
+add-count c = let m = c .before in omega (arith, place m .loop .inv .few, inside m)
+
+loop-less-2 : tie.Need-loop-less-2 Inv-loop μ-loop
+loop-less-2 c = omega (arith, inside (c .before))
+
+loop-again-2 : tie.Need-loop-again-2 Inv-loop μ-loop
+loop-again-2 c =
+    let m = c .before in
+    let s = start m in
+    converted-keep _ _ (whole s) (radius-small s) _ _ _ _ (place m .loop .inv) (inside m) _ _ (at-is m) (size-is m)
+    (omega (arith, c .if1 .left)) (size-small m)
+
+within-span-requires : tie.Need-within-span-requires Inv-loop μ-loop
+within-span-requires c κs = search needs
+
+returns : tie.Need-returns Inv-loop μ-loop
+returns c =
+    let w = c .before in
+    let l = w .before .before in
+    powers-within _ (radius-small (l .before)) _ _ _ _ (l .loop .inv) (w .before .loop-test .left)
+    (sym (w .within-span .ensures) ∙ c .if2 .taken)
+
+refuse-requires : tie.Need-refuse-requires Inv-loop μ-loop
+refuse-requires c κs = search needs
+
+returns-2 : tie.Need-returns-2 Inv-loop μ-loop
+unfolding cause
+returns-2 c =
+    let w = c .before .before in
+    let l = w .before .before in
+    c .refuse .ensures
+    ∙ powers-over _ (radius-small (l .before)) _ _ _ _ (l .loop .inv) (w .before .loop-test .left)
+    (sym (w .within-span .ensures) ∙ c .before .if2 .left)
+
+pub in-powers-spec : {M : Type 1} → statement M
+in-powers-spec =
+    tie.close
+    (tie.spec
+    Inv-loop
+    μ-loop
+    loop-holds
+    power-coefficient-requires
+    magnitude-requires
+    cast-key
+    mul-key
+    add-i
+    loop-less
+    loop-again
+    add-span
+    mul-out
+    array-set-from-out
+    add-count
+    loop-less-2
+    loop-again-2
+    within-span-requires
+    returns
+    refuse-requires
+    returns-2)

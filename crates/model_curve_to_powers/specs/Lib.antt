@@ -1,0 +1,2 @@
+pub mod CombineLaws
+pub mod PowerLoopLaws
