@@ -18,6 +18,7 @@ use Rattle.chebyshev.specs.Recurrence.{apart}
 use Rattle.chebyshev.specs.Coefficients.{Row, size, add-at, products-of, products-from}
 use Rattle.chebyshev.specs.Curve as C
 use Rattle.chebyshev.specs.Curve.{sound, span}
+use Rattle.chebyshev.specs.RowLengthLaws.{add-at-length}
 use Rattle.chebyshev.specs.CurveSoundLaws.{sound-span}
 use Rattle.chebyshev.specs.CurveOperations.{products, carried, variation, rounded, multiply, multiplied, limited-curve}
 use Rattle.model_curve_range.specs.CurveRangeLaws.{size-drop, drop-le, all-parts, sizes-small}
@@ -77,170 +78,171 @@ unfolding size
 zeros-size zero = refl
 zeros-size (suc n) = omega (arith, zeros-size n)
 
--- ---- what is collected before pair (i, j)
-abbrev later : (f g : Row) (i : ℕ) → Row
-later f g i = products-from i (drop i f) g (replicate 31 (pos 0))
+-- ---- the length stays
+products-of-long : (i : ℕ) (a : ℤ) (j : ℕ) (g z : Row) → i + j + length g ≤ length z
+    → length (products-of i a j g z) ≡ length z
+unfolding products-of
+products-of-long i a j [] z h = refl
+products-of-long i a j (b ∷ g) z h =
+    let rest : length (products-of i a (suc j) g z) ≡ length z = products-of-long i a (suc j) g z (omega arith) in
+    let near = add-at-length (apart i j) (a *ℤ b) (products-of i a (suc j) g z) (apart-inside i j _ (omega arith)) in
+    add-at-length (i + j) (a *ℤ b) (add-at (apart i j) (a *ℤ b) (products-of i a (suc j) g z)) (omega arith)
+    ∙ near ∙ rest
+  where
+    apart-inside : (i j n : ℕ) → i + j < n → apart i j < n
+    apart-inside i j n l = unfold apart in omega arith
 
-abbrev done : (f g : Row) (i j : ℕ) → Row
-done f g i j = products-of i (getD f i (pos 0)) j (drop j g) (later f g (suc i))
-
-module _ (f g : Row) (u : length f ≡ 16) (w : length g ≡ 16) where
-  row-done : (i : ℕ) → i < 16 → done f g i 0 ≡ later f g i
-  unfolding products-from
-  row-done i h = sym (ap (λ l. products-from i l g (replicate 31 (pos 0))) (drop-more f i (omega arith)))
-
-  row-open : (i : ℕ) → later f g (suc i) ≡ done f g i 16
-  unfolding products-of
-  row-open i = sym (ap (λ l. products-of i (getD f i (pos 0)) 16 l (later f g (suc i)))
-      (ap (λ n. drop n g) (sym w) ∙ drop-none g))
-
-  none-done : replicate 31 (pos 0) ≡ done f g 15 16
-  unfolding products-from
-  none-done = sym (ap (λ l. products-from 16 l g (replicate 31 (pos 0))) (ap (λ n. drop n f) (sym u) ∙ drop-none f))
-      ∙ row-open 15
-
-  pair-done : (i j : ℕ) → j < 16
-      → let v = getD f i (pos 0) *ℤ getD g j (pos 0) in
-      add-at (i + j) v (add-at (apart i j) v (done f g i (suc j))) ≡ done f g i j
-  unfolding products-of
-  pair-done i j h = sym (ap (λ l. products-of i (getD f i (pos 0)) j l (later f g (suc i))) (drop-more g j (omega arith)))
-
-  done-size : (i j : ℕ) → i < 16 → size (done f g i j) ≤ 2 * (size f * size g)
-  done-size i j h =
-      let x = NatL.mul-le-mul-left (natAbs (getD f i (pos 0))) (drop-le g j) in
-      let y = NatL.mul-le-mul-right (size g) (drop-le f i) in
-      let z = ap (λ n. n * size g) (size-drop f i (omega arith)) in
-      omega (
-        arith,
-        of-size i (getD f i (pos 0)) j (drop j g) (later f g (suc i)),
-        from-size (suc i) (drop (suc i) f) g (replicate 31 (pos 0)),
-        zeros-size 31,
-      )
-
--- ---- the loop: n pairs are left
-pub record Collecting (f g z : Row) (n : ℕ) : Type 0 where
-  pub row : ℕ
-  pub column : ℕ
-  pub flat : n ≡ row * 16 + column
-  pub low : row < 16
-  pub most : column ≤ 16
-  pub made : z ≡ done f g row column
+-- ---- one degree i of the first factor, with the coefficient a: j degrees of the second are left
+pub record Adding (i : ℕ) (a : ℤ) (g z₀ z : Row) (j : ℕ) : Type 0 where
+  pub most : j ≤ 16
+  pub made : z ≡ products-of i a j (drop j g) z₀
   pub long : length z ≡ 31
 
-module _ (f g : Row) (u : length f ≡ 16) (w : length g ≡ 16) (s : size f * size g < 2 ^ 61) where
-  pub collecting-first : Collecting f g (replicate 31 (pos 0)) 256
-  collecting-first = record {
-    row = 15;
-    column = 16;
-    flat = refl;
-    low = omega arith;
+module _ (i : ℕ) (a : ℤ) (g z₀ : Row) (h : i < 16) (w : length g ≡ 16)
+    (s : 2 * (natAbs a * size g) + size z₀ < 2 ^ 63) where
+  pub adding-first : length z₀ ≡ 31 → Adding i a g z₀ z₀ 16
+  unfolding products-of
+  adding-first l = record {
     most = omega arith;
-    made = none-done f g u w;
-    long = refl;
+    made = sym (ap (λ r. products-of i a 16 r z₀) (ap (λ n. drop n g) (sym w) ∙ drop-none g));
+    long = l;
   }
 
-  -- the pair at hand: where a row is done, the last one of the row before
-  ready : (z : Row) (n row column : ℕ) → 0 < n → n ≡ row * 16 + column → row < 16 → column ≤ 16 → z ≡ done f g row column
-      → z ≡ done f g ((n - 1) / 16) (suc ((n - 1) % 16))
-  ready z n zero zero p e l m q = absurd (omega arith)
-  ready z n (suc r) zero p e l m q =
-      let a : r ≡ (n - 1) / 16 = omega arith in
-      let b : 16 ≡ suc ((n - 1) % 16) = omega arith in
-      q ∙ row-done f g u w (suc r) l ∙ row-open f g u w r ∙ ap₂ (λ i j. done f g i j) a b
-  ready z n row (suc c) p e l m q =
-      let a : row ≡ (n - 1) / 16 = omega arith in
-      let b : suc c ≡ suc ((n - 1) % 16) = omega arith in
-      q ∙ ap₂ (λ i j. done f g i j) a b
-
-  module _ (z : Row) (n : ℕ) (c : Collecting f g z n) (p : 0 < n) where
-    abbrev i : ℕ
-    i = (n - 1) / 16
-
-    abbrev j : ℕ
-    j = (n - 1) % 16
+  module _ (z : Row) (j : ℕ) (c : Adding i a g z₀ z j) (p : 0 < j) where
+    abbrev k : ℕ
+    k = j - 1
 
     abbrev v : ℤ
-    v = getD f i (pos 0) *ℤ getD g j (pos 0)
+    v = a *ℤ getD g k (pos 0)
 
-    pub row-inside : i < 16
-    row-inside = omega (arith, c .flat, c .low, c .most)
+    below : suc k ≡ j
+    below = omega arith
 
-    pub column-inside : j < 16
-    column-inside = omega arith
+    pub inside : k < 16
+    inside = omega (arith, c .most)
 
-    at-hand : z ≡ done f g i (suc j)
-    at-hand = ready z n (c .row) (c .column) p (c .flat) (c .low) (c .most) (c .made)
+    v-size : natAbs v ≡ natAbs a * natAbs (getD g k (pos 0))
+    v-size = natAbs-mul a (getD g k (pos 0))
 
-    product-le : natAbs (getD f i (pos 0)) * natAbs (getD g j (pos 0)) ≤ size f * size g
-    product-le = omega (
-      arith,
-      NatL.mul-le-mul-right (natAbs (getD g j (pos 0))) (entry-le f i),
-      NatL.mul-le-mul-left (size f) (entry-le g j),
-    )
+    -- twice this product and what is there already fit
+    room : 2 * natAbs v + size z < 2 ^ 63
+    room =
+        let rest = ap (λ n. natAbs a * n) (size-drop g k (omega (arith, c .most, w))) in
+        let less = NatL.mul-le-mul-left (natAbs a) (drop-le g k) in
+        let same = ap (λ n. natAbs a * size (drop n g)) below in
+        omega (arith, v-size, ap size (c .made), of-size i a j (drop j g) z₀, s)
 
-    z-small : size z ≤ 2 * (size f * size g)
-    z-small = omega (arith, ap size at-hand, done-size f g u w i (suc j) row-inside)
+    pub product-room : natAbs a * natAbs (getD g k (pos 0)) < 2 ^ 63
+    product-room = omega (arith, room, v-size)
 
-    pub product-room : natAbs (getD f i (pos 0)) * natAbs (getD g j (pos 0)) < 2 ^ 63
-    product-room = omega (arith, product-le, s)
-
-    module _ (near : ℕ) (ne : near ≡ apart i j) where
+    module _ (near : ℕ) (ne : near ≡ apart i k) where
       pub near-inside : near < 31
       unfolding apart
-      near-inside = omega (arith, ne, row-inside, column-inside)
+      near-inside = omega (arith, ne, inside)
 
       pub near-room : natAbs v + natAbs (getD z near (pos 0)) < 2 ^ 63
-      near-room = omega (
-        arith,
-        product-le,
-        s,
-        natAbs-mul (getD f i (pos 0)) (getD g j (pos 0)),
-        entry-le z near,
-        z-small,
-      )
+      near-room = omega (arith, room, entry-le z near)
 
       module _ (x : ℤ) (e : x ≡ v +ℤ getD z near (pos 0)) where
         abbrev next : Row
         next = set z near x
 
-        next-is : next ≡ add-at (apart i j) v z
+        next-is : next ≡ add-at (apart i k) v z
         next-is = ap (λ x. set z near x) e ∙ add-at-set near v z (omega (arith, near-inside, c .long))
             ∙ ap (λ k. add-at k v z) ne
 
         pub next-long : length next ≡ 31
         next-long = length-set z near x ∙ c .long
 
-        pub far-room : natAbs v + natAbs (getD next (i + j) (pos 0)) < 2 ^ 63
+        pub far-room : natAbs v + natAbs (getD next (i + k) (pos 0)) < 2 ^ 63
         far-room = omega (
           arith,
-          product-le,
-          s,
-          natAbs-mul (getD f i (pos 0)) (getD g j (pos 0)),
-          entry-le next (i + j),
+          room,
+          entry-le next (i + k),
           ap size next-is,
-          add-at-size (apart i j) v z,
-          z-small,
+          add-at-size (apart i k) v z,
         )
 
-        pub collecting-turn : (y : ℤ) → y ≡ v +ℤ getD next (i + j) (pos 0) → Collecting f g (set next (i + j) y) (n - 1)
-        collecting-turn y q = record {
-          row = i;
-          column = j;
-          flat = omega arith;
-          low = row-inside;
-          most = omega (arith, column-inside);
-          made = ap (λ y. set next (i + j) y) q
-              ∙ add-at-set (i + j) v next (omega (arith, row-inside, column-inside, next-long))
-              ∙ ap (λ l. add-at (i + j) v l) (next-is ∙ ap (λ l. add-at (apart i j) v l) at-hand)
-              ∙ pair-done f g u w i j column-inside;
-          long = length-set next (i + j) y ∙ next-long;
+        pub adding-turn : (y : ℤ) → y ≡ v +ℤ getD next (i + k) (pos 0) → Adding i a g z₀ (set next (i + k) y) k
+        adding-turn y q = record {
+          most = omega (arith, c .most);
+          made = ap (λ y. set next (i + k) y) q
+              ∙ add-at-set (i + k) v next (omega (arith, inside, next-long))
+              ∙ ap (λ l. add-at (i + k) v l) (next-is ∙ ap (λ l. add-at (apart i k) v l) at-hand)
+              ∙ one-more;
+          long = length-set next (i + k) y ∙ next-long;
         }
+          where
+            at-hand : z ≡ products-of i a (suc k) (drop (suc k) g) z₀
+            at-hand = c .made ∙ ap (λ n. products-of i a n (drop n g) z₀) (sym below)
 
-  pub collecting-end : (z : Row) (n : ℕ) → Collecting f g z n → n ≤ 0 → z ≡ products-from 0 f g (replicate 31 (pos 0))
-  collecting-end z n c p =
-      let a : c .row ≡ 0 = omega (arith, c .flat) in
-      let b : c .column ≡ 0 = omega (arith, c .flat) in
-      c .made ∙ ap₂ (λ i j. done f g i j) a b ∙ row-done f g u w 0 (omega arith)
+            one-more : add-at (i + k) v (add-at (apart i k) v (products-of i a (suc k) (drop (suc k) g) z₀))
+                ≡ products-of i a k (drop k g) z₀
+            one-more = unfold products-of in
+                sym (ap (λ l. products-of i a k l z₀) (drop-more g k (omega (arith, inside, w))))
+
+  pub adding-end : (z : Row) (j : ℕ) → Adding i a g z₀ z j → j ≤ 0 → z ≡ products-of i a 0 g z₀
+  adding-end z j c p =
+      let e : j ≡ 0 = omega arith in c .made ∙ ap (λ n. products-of i a n (drop n g) z₀) e
+
+-- ---- all degrees of the first factor: i of them are left
+pub record Collecting (f g z : Row) (i : ℕ) : Type 0 where
+  pub most : i ≤ 16
+  pub made : z ≡ products-from i (drop i f) g (replicate 31 (pos 0))
+  pub long : length z ≡ 31
+
+module _ (f g : Row) (u : length f ≡ 16) (w : length g ≡ 16) (s : size f * size g < 2 ^ 61) where
+  pub collecting-first : Collecting f g (replicate 31 (pos 0)) 16
+  unfolding products-from
+  collecting-first = record {
+    most = omega arith;
+    made = sym (ap (λ l. products-from 16 l g (replicate 31 (pos 0))) (ap (λ n. drop n f) (sym u) ∙ drop-none f));
+    long = refl;
+  }
+
+  module _ (z : Row) (i : ℕ) (c : Collecting f g z i) (p : 0 < i) where
+    abbrev degree : ℕ
+    degree = i - 1
+
+    abbrev first : ℤ
+    first = getD f degree (pos 0)
+
+    one-below : suc degree ≡ i
+    one-below = omega arith
+
+    pub collecting-room : 2 * (natAbs first * size g) + size z < 2 ^ 63
+    collecting-room =
+        let rest = ap (λ n. n * size g) (size-drop f degree (omega (arith, c .most, u))) in
+        let less = NatL.mul-le-mul-right (size g) (drop-le f degree) in
+        let same = ap (λ n. size (drop n f) * size g) one-below in
+        omega (
+          arith,
+          s,
+          ap size (c .made),
+          from-size i (drop i f) g (replicate 31 (pos 0)),
+          zeros-size 31,
+        )
+
+    pub collecting-turn : (y : Row) → y ≡ products-of degree first 0 g z → Collecting f g y degree
+    collecting-turn y e = record {
+      most = omega (arith, c .most);
+      made = e ∙ ap (λ z. products-of degree first 0 g z)
+          (c .made ∙ ap (λ n. products-from n (drop n f) g (replicate 31 (pos 0))) (sym one-below)) ∙ one-more;
+      long = ap length e ∙ products-of-long degree first 0 g z (omega (arith, c .most, w, c .long)) ∙ c .long;
+    }
+      where
+        one-more : products-of degree first 0 g
+            (products-from (suc degree) (drop (suc degree) f) g (replicate 31 (pos 0)))
+            ≡ products-from degree (drop degree f) g (replicate 31 (pos 0))
+        one-more = unfold products-from in
+            sym (ap (λ l. products-from degree l g (replicate 31 (pos 0)))
+            (drop-more f degree (omega (arith, c .most, u))))
+
+  pub collecting-end : (z : Row) (i : ℕ) → Collecting f g z i → i ≤ 0
+      → z ≡ products-from 0 f g (replicate 31 (pos 0))
+  collecting-end z i c p =
+      let e : i ≡ 0 = omega arith in
+      c .made ∙ ap (λ n. products-from n (drop n f) g (replicate 31 (pos 0))) e
 
 -- ---- two sound curves
 limit-square : span-limit * span-limit ≤ 2 ^ 60

@@ -2,13 +2,14 @@
 ghost use mathlib.Core.Path.{_≡_};
 ghost use Prim.Native.Nat.{_+_, _*_, _^_, _≤_, _<_};
 ghost use lib.Dec.{T};
+ghost use lib.ListN.{length};
 ghost use lib.IntN.{pos, natAbs, _-ℤ_, _*ℤ_};
 ghost use Rattle.fixed.specs.Division.{nearest};
 ghost use Rattle.chebyshev.specs.Recurrence as R;
 ghost use Rattle.chebyshev.specs.Curve.{sound, span};
 ghost use Rattle.chebyshev.specs.CurveOperations.{products, swept, rounded, carried};
 ghost use Rattle.chebyshev.specs.CurveCalls.{«call-multiply»};
-ghost use Rattle.chebyshev.specs.Coefficients.{size};
+ghost use Rattle.chebyshev.specs.Coefficients.{size, «products-of»};
 ghost use Rattle.model_types.specs.CurveStruct.{«view-curve», «pack-curve», «curve-answer»};
 use model_types::Curve;
 use model_types::CurveAnswer;
@@ -32,25 +33,39 @@ fn apart(i: usize, j: usize) -> usize
     i - j
 }
 
-// Twice each coefficient of the product, in units of 1/U²: pair by pair, from the last one down.
-fn collected(f: Curve, g: Curve) -> Degrees
-    requires { ⌜ T (sound (view-curve f)) ⌝ }
-    requires { ⌜ T (sound (view-curve g)) ⌝ }
-    ensures { λ r. ⌜ r .places ≡ products (view-curve f) (view-curve g) ⌝ }
+// The products of a at degree i with all of g, each added at its two degrees, from the last one down.
+fn add_products(z: &mut [i64; 31], i: usize, a: i64, g: &[i64; 16])
+    requires { ⌜ i < 16 ⌝ }
+    requires { ⌜ length (now z) ≡ 31 ⌝ }
+    requires { ⌜ length (now g) ≡ 16 ⌝ }
+    requires { ⌜ 2 * (natAbs a * size (now g)) + size (now z) < 2 ^ 63 ⌝ }
+    ensures { λ r. ⌜ now (z .exit) ≡ products-of i a 0 (now (g .entry)) (now (z .entry)) ⌝ }
 {
-    let mut z = [0; 31];
-    let mut n: usize = 256;
-    while 0 < n {
-        n -= 1;
-        let i = n / 16;
-        let j = n % 16;
-        let v = fixed::product(f.coefficients[i], g.coefficients[j]);
+    let mut j: usize = 16;
+    while 0 < j {
+        j -= 1;
+        let v = fixed::product(a, g[j]);
         let near = apart(i, j);
         let far = i + j;
         let x = fixed::sum(v, z[near]);
         z[near] = x;
         let y = fixed::sum(v, z[far]);
         z[far] = y;
+    }
+}
+
+// Twice each coefficient of the product, in units of 1/U²: degree by degree of f, from the last one down.
+fn collected(f: Curve, g: Curve) -> Degrees
+    requires { ⌜ T (sound (view-curve f)) ⌝ }
+    requires { ⌜ T (sound (view-curve g)) ⌝ }
+    ensures { λ r. ⌜ r .places ≡ products (view-curve f) (view-curve g) ⌝ }
+{
+    let mut z = [0; 31];
+    let mut i: usize = 16;
+    while 0 < i {
+        i -= 1;
+        let a = f.coefficients[i];
+        add_products(&mut z, i, a, &g.coefficients);
     }
     Degrees { places: z }
 }
