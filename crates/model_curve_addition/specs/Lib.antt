@@ -1,3 +1,2 @@
-pub mod TableLookupLaws
 pub mod CurveLoopLaws
 pub mod CurveAnswerLaws

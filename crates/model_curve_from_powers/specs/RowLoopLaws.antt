@@ -31,8 +31,7 @@ use Rattle.model_types.specs.ModelStruct.{view, view-term, zero-term}
 use Rattle.model_types.specs.ModelStructLaws.{Limits, limits, read, rest-more, rest-end, view-terms, within-span, read-within-span}
 use Rattle.model_types.specs.CurveStruct.{curve-answer}
 use Rattle.model_curve_multiplication.specs.CollectLaws.{entry-le, add-at-set, add-at-size}
-use Rattle.model_curve_to_powers.specs.CombineLaws.{combine-small}
-use Rattle.model_curve_from_powers.specs.FillLaws.{power-rows, power-small}
+use Rattle.model_curve_rows.specs.SmallRowsLaws.{from-powers-size}
 
 -- ---- sizes
 zeros-size : (n : ℕ) → size (replicate n (pos 0)) ≡ 0
@@ -165,21 +164,13 @@ pub row-of-small : (m : M.Model) → T (M.sound most-degree m) → size (row-of 
 unfolding M.span
 row-of-small m s = omega (arith, row-size (m .terms), sound-parts most-degree m s .1 .small-span, span-four-bytes)
 
-entries-size : (l : Row) → ((j : ℕ) → j < length l → natAbs (getD l j (pos 0)) ≤ 2 ^ 48) → size l ≤ length l * 2 ^ 48
-unfolding size
-entries-size [] h = omega arith
-entries-size (a ∷ l) h = omega (arith, h 0 (omega arith), entries-size l (λ j k. h (suc j) (omega arith)))
-
 pub degrees-small : (r : Row) → size r < 2 ^ 31 → size (padded (pos 0) 31 (combine r power-table)) ≤ 2 ^ 52
 unfolding padded places
-degrees-small r s =
-    let long = from-powers-length r in
-    omega (
-      arith,
-      append-size (combine r power-table) (31 - length (combine r power-table)),
-      entries-size (combine r power-table)
-          (λ j k. omega (arith, combine-small 16 r power-table j power-rows power-small (omega arith))),
-    )
+degrees-small r s = omega (
+  arith,
+  append-size (combine r power-table) (31 - length (combine r power-table)),
+  from-powers-size r,
+)
 
 pub scale-is : 16384 ≡ power-scale
 unfolding power-scale

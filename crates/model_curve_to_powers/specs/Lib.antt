@@ -1,2 +1,1 @@
-pub mod CombineLaws
 pub mod PowerLoopLaws

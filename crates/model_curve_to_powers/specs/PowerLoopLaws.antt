@@ -37,63 +37,6 @@ use Rattle.algebra.specs.Integer.{natAbs-add, natAbs-mul}
 use Rattle.chebyshev.specs.Coefficients.{Row}
 use Rattle.chebyshev.specs.Coefficients as K
 use Rattle.chebyshev.specs.PowerRows.{combine}
-use Rattle.model_curve_range.specs.CurveRangeLaws.{size-drop, drop-le}
-use Rattle.model_curve_to_powers.specs.CombineLaws.{combine-at, combine-none, rows-small, rows-entry}
-
--- ---- one coefficient: the rows from k on combined
-pub record Combined (cs : Row) (rows : List Row) (j : ℕ) (total : ℤ) (k : ℕ) : Type 0 where
-  pub within : k ≤ 16
-  pub value : total ≡ getD (combine (drop k cs) (drop k rows)) j (pos 0)
-  pub bound : natAbs total ≤ K.size (drop k cs) * 131072
-
-module _ (cs : Row) (rows : List Row) (j : ℕ) (w : length cs ≡ 16) (e : map length rows ≡ replicate 16 16)
-    (s : T (rows-small 131072 rows)) (h : j < 16) where
-  pub combined-first : Combined cs rows j (pos 0) 16
-  combined-first = record {
-    within = omega arith;
-    value = sym (ap (λ n. getD (combine (drop n cs) (drop 16 rows)) j (pos 0)) (sym w) ∙ combine-none cs (drop 16 rows) j);
-    bound = omega arith;
-  }
-
-  module _ (total : ℤ) (k : ℕ) (c : Combined cs rows j total k) (p : 0 < k) where
-    abbrev factor : ℤ
-    factor = getD cs (k - 1) (pos 0)
-
-    abbrev entry : ℤ
-    entry = getD (getD rows (k - 1) []) j (pos 0)
-
-    below : suc (k - 1) ≡ k
-    below = omega arith
-
-    sizes : K.size (drop (k - 1) cs) ≡ natAbs factor + K.size (drop k cs)
-    sizes = size-drop cs (k - 1) (omega (arith, c .within, w)) ∙ ap (λ n. natAbs factor + K.size (drop n cs)) below
-
-    part-size : natAbs (factor *ℤ entry) ≤ natAbs factor * 131072
-    part-size = omega (
-      arith,
-      natAbs-mul factor entry,
-      NatL.mul-le-mul-left (natAbs factor) (rows-entry 131072 rows (k - 1) j s),
-    )
-
-    pub product-room : natAbs factor * natAbs entry ≤ K.size cs * 131072
-    product-room = omega (arith, natAbs-mul factor entry, part-size, sizes, drop-le cs (k - 1))
-
-    pub sum-room : natAbs (factor *ℤ entry) + natAbs total ≤ K.size cs * 131072
-    sum-room = omega (arith, part-size, sizes, drop-le cs (k - 1), c .bound)
-
-    pub combined-turn : (next : ℤ) → next ≡ factor *ℤ entry +ℤ total → Combined cs rows j next (k - 1)
-    combined-turn next q = record {
-      within = omega (arith, c .within);
-      value = q ∙ ap (λ z. factor *ℤ entry +ℤ z)
-          (c .value ∙ ap (λ n. getD (combine (drop n cs) (drop n rows)) j (pos 0)) (sym below))
-          ∙ combine-at 16 cs rows (k - 1) j e (omega (arith, c .within)) (omega (arith, c .within, w)) h;
-      bound = omega (arith, ap natAbs q, natAbs-add (factor *ℤ entry) total, part-size, sizes, c .bound);
-    }
-
-  pub combined-end : (total : ℤ) (k : ℕ) → Combined cs rows j total k → k ≤ 0
-      → total ≡ getD (combine cs rows) j (pos 0)
-  combined-end total k c p =
-      let z : k ≡ 0 = omega arith in c .value ∙ ap (λ n. getD (combine (drop n cs) (drop n rows)) j (pos 0)) z
 
 -- ---- the terms of a row
 terms-length : (k : ℕ) (r : Row) → length (terms-from k r) ≡ length r
@@ -128,7 +71,7 @@ pub record Converted (r : Row) (radius : ℕ) (out : List S.Term) (count span i 
   pub counted : count ≡ length (kept r i)
   pub made : out ≡ pad (map pack-term (kept r i))
   pub summed : span ≡ P.size (kept r i) + radius
-  pub small : span ≤ 2 ^ 31 + i * 2 ^ 48
+  pub small : span ≤ 2 ^ 31 + i * 2 ^ 50
 
 module _ (r : Row) (radius : ℕ) (w : length r ≡ 16) (s : radius < 2 ^ 31) where
   pub converted-first : Converted r radius (padded zero-term most-terms []) 0 radius 0
@@ -181,7 +124,7 @@ module _ (r : Row) (radius : ℕ) (w : length r ≡ 16) (s : radius < 2 ^ 31) wh
           small = omega (arith, h .small);
         }
 
-    pub converted-keep : (z : ℤ) (n : ℕ) → z ≡ getD r i (pos 0) → n ≡ natAbs (getD r i (pos 0)) → 0 < n → n ≤ 2 ^ 48
+    pub converted-keep : (z : ℤ) (n : ℕ) → z ≡ getD r i (pos 0) → n ≡ natAbs (getD r i (pos 0)) → 0 < n → n ≤ 2 ^ 50
         → Converted r radius (set out count (record { key = i * 268435456; coefficient = z })) (count + 1) (span + n) (i + 1)
     unfolding is-nonzero most-terms
     converted-keep z n e q t b =

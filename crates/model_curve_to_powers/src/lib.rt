@@ -20,24 +20,128 @@ use model_types::Refusal;
 use model_types::Term;
 use model_types::Verdict;
 
+// Coefficients of powers 0 to 15.
+pub struct Powers {
+    pub places: [i64; 16],
+}
+
 // The key of x in one variable: x^i has i times it.
 const ONE_POWER: u32 = 1 << 28;
 
-// The coefficient of x^j: each coefficient times that of its polynomial, from the last one down.
-fn power_coefficient(c: Curve, j: usize) -> i64
+// Row k holds the coefficients of T_k in powers, that of power 0 first.
+const CHEBYSHEV: [[i64; 16]; 16] = [
+    [1, 0, 0, 0, 0, 0, 0, 0, 0, 0, 0, 0, 0, 0, 0, 0],
+    [0, 1, 0, 0, 0, 0, 0, 0, 0, 0, 0, 0, 0, 0, 0, 0],
+    [-1, 0, 2, 0, 0, 0, 0, 0, 0, 0, 0, 0, 0, 0, 0, 0],
+    [0, -3, 0, 4, 0, 0, 0, 0, 0, 0, 0, 0, 0, 0, 0, 0],
+    [1, 0, -8, 0, 8, 0, 0, 0, 0, 0, 0, 0, 0, 0, 0, 0],
+    [0, 5, 0, -20, 0, 16, 0, 0, 0, 0, 0, 0, 0, 0, 0, 0],
+    [-1, 0, 18, 0, -48, 0, 32, 0, 0, 0, 0, 0, 0, 0, 0, 0],
+    [0, -7, 0, 56, 0, -112, 0, 64, 0, 0, 0, 0, 0, 0, 0, 0],
+    [1, 0, -32, 0, 160, 0, -256, 0, 128, 0, 0, 0, 0, 0, 0, 0],
+    [0, 9, 0, -120, 0, 432, 0, -576, 0, 256, 0, 0, 0, 0, 0, 0],
+    [-1, 0, 50, 0, -400, 0, 1120, 0, -1280, 0, 512, 0, 0, 0, 0, 0],
+    [
+        0,
+        -11,
+        0,
+        220,
+        0,
+        -1232,
+        0,
+        2816,
+        0,
+        -2816,
+        0,
+        1024,
+        0,
+        0,
+        0,
+        0,
+    ],
+    [
+        1,
+        0,
+        -72,
+        0,
+        840,
+        0,
+        -3584,
+        0,
+        6912,
+        0,
+        -6144,
+        0,
+        2048,
+        0,
+        0,
+        0,
+    ],
+    [
+        0,
+        13,
+        0,
+        -364,
+        0,
+        2912,
+        0,
+        -9984,
+        0,
+        16640,
+        0,
+        -13312,
+        0,
+        4096,
+        0,
+        0,
+    ],
+    [
+        -1,
+        0,
+        98,
+        0,
+        -1568,
+        0,
+        9408,
+        0,
+        -26880,
+        0,
+        39424,
+        0,
+        -28672,
+        0,
+        8192,
+        0,
+    ],
+    [
+        0,
+        -15,
+        0,
+        560,
+        0,
+        -6048,
+        0,
+        28800,
+        0,
+        -70400,
+        0,
+        92160,
+        0,
+        -61440,
+        0,
+        16384,
+    ],
+];
+
+// The coefficients in powers.
+fn in_rows(c: Curve) -> Powers
     requires { ⌜ T (sound (view-curve c)) ⌝ }
-    requires { ⌜ j < 16 ⌝ }
-    ensures { λ r. ⌜ r ≡ getD (combine (c .coefficients) chebyshev-table) j (pos 0) ⌝ }
+    ensures { λ r. ⌜ r .places ≡ combine (c .coefficients) chebyshev-table ⌝ }
 {
-    let mut total: i64 = 0;
-    let mut k = 16;
-    while 0 < k {
-        k -= 1;
-        let entry = model_curve_addition::table_entry(k, j);
-        let part = fixed::product(c.coefficients[k], entry);
-        total = fixed::sum(part, total);
-    }
-    total
+    let rows = CHEBYSHEV;
+    let mut total = [0; 16];
+    model_curve_rows::combine_rows(&mut total, &c.coefficients, &rows);
+    Powers { places: total }
 }
 
 // All terms but zeros, unless their span is above the limit.
@@ -46,12 +150,13 @@ fn in_powers(c: Curve) -> Answer
     ensures { λ r. ⌜ r ≡ answer (at-place 0 (Op.to-powers (view-curve c))) ⌝ }
 {
     let radius = c.radius;
+    let row = in_rows(c);
     let mut out = [Term::ZERO; MOST_TERMS];
     let mut count = 0;
     let mut span = radius;
     let mut i = 0;
     while i < 16 {
-        let z = power_coefficient(c, i);
+        let z = row.places[i];
         let size = fixed::magnitude(z);
         let key = (i as u32) * ONE_POWER;
         i += 1;

@@ -157,7 +157,7 @@ far-is : (c : tie.After-sum-arg2 Inv-loop μ-loop)
     let a = x .before .before in
     let t = turn (a .before) in
     let z = getD (set (place t .loop .z) (a .apart .result) (toZ w64 (ofZ w64 (x .sum .result))))
-        (start t .args .i + degree t) (pos 0) in
+    (start t .args .i + degree t) (pos 0) in
     toZ w64 (ofZ w64 z) ≡ z
 far-is c = toZ-ofZ (record { sfits = c .sum-arg2 .given })
 

@@ -1,5 +1,5 @@
 -- `in_powers` keeps the terms that are not zero, and tests their span.
-use mathlib.Core.Path.{_≡_, sym, _∙_, ap}
+use mathlib.Core.Path.{_≡_, sym, _∙_, ap, subst}
 use mathlib.Core.List.{map}
 use Prim.Native.Nat.{_+_, _*_, _-_, _^_, _≤_, _<_}
 use native.Mathlib.Omega.{arith}
@@ -9,45 +9,55 @@ use lib.ListN.{length, getD}
 use mir.Facts.{toZ-ofZ}
 use mir.Syntax.{w64}
 use mir.Val.{toZ, ofZ}
-use Rattle.fixed.specs.MachineLaws.{answered}
 use Rattle.calculus.specs.Model.{most-terms}
-use Rattle.chebyshev.specs.Coefficients.{Row}
+use Rattle.chebyshev.specs.Coefficients.{Row, size}
 use Rattle.chebyshev.specs.PowerRows.{places, combine}
 use Rattle.chebyshev.specs.RowLengthLaws.{into-powers-length}
 use Rattle.chebyshev.specs.Tables.{chebyshev-table}
 use Rattle.model_types.specs.Arrays.{padded}
 use Rattle.model_types.specs.ModelStruct.{cause}
 use Rattle.model_curve_range.specs.CurveRangeLaws.{sizes-small}
-use Rattle.model_curve_to_powers.specs.CombineLaws.{chebyshev-small, chebyshev-rows, combine-small}
+use Rattle.model_curve_rows.specs.SmallRowsLaws.{entry-le, into-powers-size}
 use Rattle.model_curve_to_powers.specs.PowerLoopLaws.{Converted, converted-first, converted-drop, converted-keep}
 use Rattle.model_curve_to_powers.specs.PowerLoopLaws.{powers-within, powers-over}
 use Rattle.model_curve_to_powers.proofs.in_powers.Statement.{statement}
 use Rattle.model_curve_to_powers.proofs.in_powers.Tie as tie
 
 abbrev Inv-loop : tie.InvT-loop
-Inv-loop c radius out₀ count₀ span₀ i₀ out count span i =
-    Converted (combine (c .coefficients) chebyshev-table) (c .radius) out count span i
+Inv-loop radius row out₀ count₀ span₀ i₀ out count span i = Converted (row .places) radius out count span i
 
 abbrev μ-loop : tie.MeasureT-loop
-μ-loop c radius out₀ count₀ span₀ i₀ out count span i = 16 - i
+μ-loop radius row out₀ count₀ span₀ i₀ out count span i = 16 - i
 
-module _ (c : tie.Start Inv-loop μ-loop) where
+in-rows-requires : tie.Need-in-rows-requires Inv-loop μ-loop
+in-rows-requires c κs = c .pre
+
+module _ (c : tie.After-in-rows Inv-loop μ-loop) where
   abbrev row : Row
-  row = combine (c .args .c .coefficients) chebyshev-table
+  row = c .in-rows .result .places
+
+  row-is : row ≡ combine (c .before .args .c .coefficients) chebyshev-table
+  row-is = c .in-rows .ensures
 
   whole : length row ≡ 16
   unfolding places
-  whole = into-powers-length (c .args .c .coefficients)
+  whole = ap length row-is ∙ into-powers-length (c .before .args .c .coefficients)
 
-  radius-small : c .args .c .radius < 2 ^ 31
-  radius-small = omega (arith, sizes-small _ (c .pre))
+  sizes : size (c .before .args .c .coefficients) + c .before .args .c .radius < 2 ^ 31
+  sizes = sizes-small _ (c .before .pre)
+
+  radius-small : c .before .args .c .radius < 2 ^ 31
+  radius-small = omega (arith, sizes)
 
 loop-holds : tie.Need-loop-holds Inv-loop μ-loop
 unfolding most-terms padded
 loop-holds c = converted-first _ _ (whole c) (radius-small c)
 
-power-coefficient-requires : tie.Need-power-coefficient-requires Inv-loop μ-loop
-power-coefficient-requires c κs = (c .before .before .pre, c .loop-test .taken)
+mul-z : tie.Need-mul-z Inv-loop μ-loop
+mul-z c = omega (arith, c .loop-test .taken)
+
+element-copy-out-z : tie.Need-element-copy-out-z Inv-loop μ-loop
+element-copy-out-z c = omega (arith, c .loop-test .taken)
 
 magnitude-requires : tie.Need-magnitude-requires Inv-loop μ-loop
 magnitude-requires c κs = search needs
@@ -66,7 +76,7 @@ module _ (c : tie.After-magnitude Inv-loop μ-loop) where
   abbrev place : tie.At-loop Inv-loop μ-loop
   place = c .before .before .before
 
-  abbrev start : tie.Start Inv-loop μ-loop
+  abbrev start : tie.After-in-rows Inv-loop μ-loop
   start = place .before
 
   abbrev at : ℤ
@@ -75,18 +85,20 @@ module _ (c : tie.After-magnitude Inv-loop μ-loop) where
   inside : place .loop .i < 16
   inside = c .before .before .loop-test .taken
 
-  at-is : toZ w64 (ofZ w64 (c .before .power-coefficient .result)) ≡ at
-  at-is = answered (c .before .power-coefficient .ok) (c .before .power-coefficient .ensures)
+  at-is : toZ w64 (ofZ w64 at) ≡ at
+  at-is = toZ-ofZ (record { sfits = c .before .z .given })
 
   size-is : c .magnitude .result ≡ natAbs at
   size-is = c .magnitude .ensures ∙ ap natAbs at-is
 
-  size-small : c .magnitude .result ≤ 2 ^ 48
+  size-small : c .magnitude .result ≤ 2 ^ 50
   size-small = omega (
     arith,
     size-is,
-    combine-small 16 (start .args .c .coefficients) chebyshev-table (place .loop .i) chebyshev-rows chebyshev-small inside,
-    sizes-small _ (start .pre),
+    entry-le (row start) (place .loop .i),
+    ap size (row-is start),
+    into-powers-size (start .before .args .c .coefficients),
+    sizes start,
   )
 
 loop-less : tie.Need-loop-less Inv-loop μ-loop
@@ -126,11 +138,18 @@ loop-again-2 c =
 within-span-requires : tie.Need-within-span-requires Inv-loop μ-loop
 within-span-requires c κs = search needs
 
+-- the terms in powers of the curve itself
+made : (c : tie.At-loop Inv-loop μ-loop)
+    → Converted (combine (c .before .before .args .c .coefficients) chebyshev-table) (c .before .before .args .c .radius)
+    (c .loop .out) (c .loop .count) (c .loop .span) (c .loop .i)
+made c = subst (λ r. Converted r (c .before .before .args .c .radius) (c .loop .out) (c .loop .count) (c .loop .span)
+    (c .loop .i)) (row-is (c .before)) (c .loop .inv)
+
 returns : tie.Need-returns Inv-loop μ-loop
 returns c =
     let w = c .before in
     let l = w .before .before in
-    powers-within _ (radius-small (l .before)) _ _ _ _ (l .loop .inv) (w .before .loop-test .left)
+    powers-within _ (radius-small (l .before)) _ _ _ _ (made l) (w .before .loop-test .left)
     (sym (w .within-span .ensures) ∙ c .if2 .taken)
 
 refuse-requires : tie.Need-refuse-requires Inv-loop μ-loop
@@ -142,7 +161,7 @@ returns-2 c =
     let w = c .before .before in
     let l = w .before .before in
     c .refuse .ensures
-    ∙ powers-over _ (radius-small (l .before)) _ _ _ _ (l .loop .inv) (w .before .loop-test .left)
+    ∙ powers-over _ (radius-small (l .before)) _ _ _ _ (made l) (w .before .loop-test .left)
     (sym (w .within-span .ensures) ∙ c .before .if2 .left)
 
 pub in-powers-spec : {M : Type 1} → statement M
@@ -151,8 +170,10 @@ in-powers-spec =
     (tie.spec
     Inv-loop
     μ-loop
+    in-rows-requires
     loop-holds
-    power-coefficient-requires
+    mul-z
+    element-copy-out-z
     magnitude-requires
     cast-key
     mul-key

@@ -1,0 +1,2 @@
+pub mod SmallRows
+pub mod SmallRowsLaws
