@@ -8,6 +8,9 @@ pub mod Curve
 pub mod CurveOperations
 pub mod CurveCalls
 pub mod CurveClaim
+-- Facts by computation.
+pub mod Computing
+pub mod Edges
 -- What is proved of them.
 pub mod RingIntegersLaws
 pub mod RecurrenceLaws
@@ -22,6 +25,3 @@ pub mod CurveSoundLaws
 pub mod CurveMirrorLaws
 pub mod CurveClaimProof
 pub mod CurveClaimFacts
--- Facts by computation.
-pub mod Computing
-pub mod Edges

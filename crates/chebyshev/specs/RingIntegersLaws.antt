@@ -1,5 +1,5 @@
--- The integers in a ring add, multiply and turn their sign there; in an ordered ring they have their size, and in ℚ they
--- are the whole numbers.
+-- The integers in a ring add, multiply and turn their sign there; in an ordered ring they have their size, and in ℚ
+-- they are the whole numbers.
 use mathlib.Core.Path.{_≡_, refl, sym, _∙_, ap}
 use Prim.Native.Nat.{ℕ, suc}
 use lib.IntN.{ℤ, pos, negsuc, negℤ, _+ℤ_, _*ℤ_, natAbs}

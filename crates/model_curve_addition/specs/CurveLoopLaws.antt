@@ -63,7 +63,8 @@ module _ (c : Curve) (w : length (c .coefficients) ≡ 16) where
   summed-end total i h l =
       let e : i ≡ length (c .coefficients) = omega (arith, h .within) in
       sym (capped-within total) ∙ ap (λ s. leb s span-limit) (h .sum) ∙ capped-within _
-      ∙ ap (λ s. leb (s + c .radius) span-limit) (ap (λ i. size (take i (c .coefficients))) e ∙ size-whole (c .coefficients))
+      ∙ ap (λ s. leb (s + c .radius) span-limit)
+      (ap (λ i. size (take i (c .coefficients))) e ∙ size-whole (c .coefficients))
       ∙ sym (rw (eq-eqb (length (c .coefficients)) 16 w))
 
 -- ---- a row put into an array, place by place
@@ -103,7 +104,8 @@ module _ (l : Row) (w : length l ≡ 16) where
 pub negated-at : (l : Row) (i : ℕ) → negℤ (getD l i (pos 0)) ≡ getD (map negℤ l) i (pos 0)
 negated-at l i = sym (List·getD-map negℤ l i (pos 0))
 
-pub added-at : (p q : Row) (i : ℕ) → length p ≡ length q → getD p i (pos 0) +ℤ getD q i (pos 0) ≡ getD (sum p q) i (pos 0)
+pub added-at : (p q : Row) (i : ℕ) → length p ≡ length q
+    → getD p i (pos 0) +ℤ getD q i (pos 0) ≡ getD (sum p q) i (pos 0)
 unfolding sum
 added-at [] [] i e = refl
 added-at [] (b ∷ q) i e = absurd (omega arith)

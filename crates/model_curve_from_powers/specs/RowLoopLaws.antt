@@ -11,8 +11,7 @@ use Rattle.polynomial.specs.Polynomial.{exponent}
 use Rattle.fixed.specs.Fixed.{span-limit}
 use Rattle.fixed.specs.FixedLaws.{span-four-bytes}
 use Rattle.fixed.specs.Division.{nearest, divided-up}
-use Rattle.calculus.specs.Key.{decode, key-width, monomial-of}
-use Rattle.calculus.specs.MonomialKeyLaws.{by-fits}
+use Rattle.calculus.specs.Key.{monomial-of}
 use Rattle.calculus.specs.Terms.{Terms, sum-over}
 use Rattle.calculus.specs.Terms as P
 use Rattle.calculus.specs.Model as M
@@ -28,7 +27,8 @@ use Rattle.chebyshev.specs.CurveCalls.{call-from-powers}
 use Rattle.model_types.specs.Arrays.{padded}
 use Rattle.model_types.specs.declared.Model.{Model}
 use Rattle.model_types.specs.ModelStruct.{view, view-term, zero-term}
-use Rattle.model_types.specs.ModelStructLaws.{Limits, limits, read, rest-more, rest-end, view-terms, within-span, read-within-span}
+use Rattle.model_types.specs.ModelStructLaws.{Limits, limits, read, rest-more, rest-end, view-terms, within-span}
+use Rattle.model_types.specs.ModelStructLaws.{read-within-span}
 use Rattle.model_types.specs.CurveStruct.{curve-answer}
 use Rattle.model_curve_multiplication.specs.CollectLaws.{entry-le, add-at-set, add-at-size}
 use Rattle.model_curve_rows.specs.SmallRowsLaws.{from-powers-size}
@@ -49,12 +49,6 @@ unfolding P.size sum-over
 terms-drop zero p = omega arith
 terms-drop (suc i) [] = omega arith
 terms-drop (suc i) (t ∷ p) = omega (arith, terms-drop i p)
-
--- ---- the exponent of a key
-first-exponent : (n z : ℕ) → 1 ≤ n → exponent 0 (monomial-of n z) ≡ z / 268435456
-unfolding exponent decode key-width
-first-exponent zero z h = absurd (omega arith)
-first-exponent (suc n) z h = by-fits (λ k. exponent 0 k ≡ z / 268435456) (suc n) z (λ f. refl) (λ f. refl)
 
 -- ---- the loop
 pub record Rowed (m : Model) (out : Row) (i : ℕ) : Type 0 where
@@ -88,8 +82,8 @@ module _ (m : Model) (s : T (M.sound most-degree (view m))) (w : m .count ≤ le
     abbrev c : ℤ
     c = getD (m .terms) (i - 1) zero-term .coefficient
 
-    abbrev k : ℕ
-    k = getD (m .terms) (i - 1) zero-term .key / 268435456
+    abbrev z : ℕ
+    z = getD (m .terms) (i - 1) zero-term .key
 
     pub rowed-room : (j : ℕ) → natAbs c + natAbs (getD out j (pos 0)) < 2 ^ 63
     rowed-room j = omega (
@@ -102,16 +96,18 @@ module _ (m : Model) (s : T (M.sound most-degree (view m))) (w : m .count ≤ le
       rows-small-here i,
     )
 
-    pub rowed-turn : k < 16 → (x : ℤ) → x ≡ c +ℤ getD out k (pos 0) → Rowed m (set out k x) (i - 1)
+    -- k is the exponent of the term's key
+    pub rowed-turn : (k : ℕ) → ((n : ℕ) → 1 ≤ n → exponent 0 (monomial-of n z) ≡ k) → k < 16
+        → (x : ℤ) → x ≡ c +ℤ getD out k (pos 0) → Rowed m (set out k x) (i - 1)
     unfolding row-of view-term
-    rowed-turn l x e =
+    rowed-turn k g l x e =
         let q : i - 1 + 1 ≡ i = omega arith in
         record {
           within = omega (arith, h .within);
           made = ap (λ x. set out k x) e ∙ add-at-set k c out (omega (arith, h .long))
               ∙ ap (λ r. add-at k c r) (h .made ∙ ap (λ n. row-of (drop n (read (m .n) (m .count) (m .terms)))) (sym q))
               ∙ ap (λ n. add-at n c (row-of (drop (i - 1 + 1) (read (m .n) (m .count) (m .terms)))))
-              (sym (first-exponent (m .n) (getD (m .terms) (i - 1) zero-term .key) (known .some)))
+              (sym (g (m .n) (known .some)))
               ∙ ap row-of (sym (rest-more (m .n) (m .count) (m .terms) w (i - 1) (omega (arith, h .within))));
           long = length-set out k x ∙ h .long;
         }
@@ -178,7 +174,8 @@ scale-is = refl
 
 -- ---- the call
 module _ (m : M.Model) where
-  pub model-unsound : M.sound most-degree m ≡ false → curve-answer (stopped bad-model 0) ≡ curve-answer (call-from-powers m)
+  pub model-unsound : M.sound most-degree m ≡ false
+      → curve-answer (stopped bad-model 0) ≡ curve-answer (call-from-powers m)
   unfolding call-from-powers require-at
   model-unsound t = rw t
 

@@ -19,9 +19,6 @@ use model_types::CurveAnswer;
 use model_types::Model;
 use model_types::Refusal;
 
-// The key of x in one variable: x^i has i times it.
-const ONE_POWER: u32 = 1 << 28;
-
 // The powers' coefficients are whole numbers over this one.
 const POWER_SCALE: u64 = 1 << 14;
 
@@ -158,7 +155,7 @@ fn row_from(m: Model) -> Curve
     while 0 < i {
         i -= 1;
         let t = m.terms[i];
-        let k = (t.key / ONE_POWER) as usize;
+        let k = model_keys::first_exponent(t.key);
         let c = t.coefficient;
         let x = fixed::sum(c, out[k]);
         out[k] = x;

@@ -156,6 +156,7 @@ module _ (l : Row) (w : length l ≡ 31) (d e : ℕ) (p : 0 < d) where
   unfolding rounded residuals places
   rounding-end out total i h k =
       let i-is : i ≡ 16 = omega (arith, h .copied .within) in
-      let t : total ≡ e + residuals d l + swept l = omega (arith, h .sum, ap (λ n. size (map (left d) (take n l))) i-is) in
+      let t : total ≡ e + residuals d l + swept l =
+      omega (arith, h .sum, ap (λ n. size (map (left d) (take n l))) i-is) in
       ap₂ (λ o n. record { coefficients = o; radius = divided-up n d })
       (copied-end (kept d l) kept-length out i (h .copied) k) t

@@ -10,7 +10,7 @@ use lib.Dec.{T, leb, eqb}
 use lib.IntN.{ℤ, pos, natAbs, _+ℤ_, _*ℤ_}
 use lib.ListN.{length, take, drop, getD, set, replicate, length-append}
 use Rattle.polynomial.specs.Polynomial.{Term}
-use Rattle.calculus.specs.Key.{encode, key-width}
+use Rattle.calculus.specs.Key.{key, key-width}
 use Rattle.calculus.specs.Terms as P
 use Rattle.calculus.specs.Terms.{Terms, term, drop-zeros, is-nonzero, select, sum-over}
 use Rattle.calculus.specs.SumLaws.{sum-snoc, ℕ-addition}
@@ -52,11 +52,6 @@ terms-at k (a ∷ r) zero d h = let e : k ≡ k + 0 = omega arith in ap (λ n. t
 terms-at k (a ∷ r) (suc i) d h =
     let e : suc k + i ≡ k + suc i = omega arith in
     terms-at (suc k) r i d (omega arith) ∙ ap (λ n. term (getD r i (pos 0)) (n ∷ [])) e
-
--- the struct of one of them
-one-power : (i : ℕ) (z : ℤ) → pack-term (term z (i ∷ [])) ≡ record { key = i * 268435456; coefficient = z }
-unfolding pack-term encode key-width
-one-power i z = let e : i * 268435456 + 0 ≡ i * 268435456 = omega arith in ap (λ k. record { key = k; coefficient = z }) e
 
 above : (n : ℕ) → 0 < n → T (not (eqb n 0))
 above n h = subst (λ b. T (not b)) (sym (ne-eqb n 0 (λ e. omega (arith, e)))) tt
@@ -124,21 +119,26 @@ module _ (r : Row) (radius : ℕ) (w : length r ≡ 16) (s : radius < 2 ^ 31) wh
           small = omega (arith, h .small);
         }
 
-    pub converted-keep : (z : ℤ) (n : ℕ) → z ≡ getD r i (pos 0) → n ≡ natAbs (getD r i (pos 0)) → 0 < n → n ≤ 2 ^ 50
-        → Converted r radius (set out count (record { key = i * 268435456; coefficient = z })) (count + 1) (span + n) (i + 1)
+    pub converted-keep : (z : ℤ) (n w : ℕ) → z ≡ getD r i (pos 0) → n ≡ natAbs (getD r i (pos 0)) → 0 < n → n ≤ 2 ^ 50
+        → w ≡ key key-width (i ∷ [])
+        → Converted r radius (set out count (record { key = w; coefficient = z })) (count + 1) (span + n) (i + 1)
     unfolding is-nonzero most-terms
-    converted-keep z n e q t b =
+    converted-keep z n w e q t b k =
         let new = kept-in (subst (λ n. T (not (eqb n 0))) q (above n t)) in
         record {
           within = omega arith;
           few = omega (arith, h .few);
           counted = omega (arith, h .counted, ap length new, length-append (kept r i) (here ∷ []));
-          made = ap₂ (λ o x. set o count x) (h .made) (ap (λ z. record { key = i * 268435456; coefficient = z }) e ∙ sym (one-power i (getD r i (pos 0))))
+          made = ap₂ (λ o x. set o count x) (h .made)
+              (ap₂ (λ w z. record { key = w; coefficient = z }) k e ∙ packed)
               ∙ packed-more (kept r i) count here (sym (h .counted)) (omega (arith, h .few))
               ∙ ap (λ p. pad (map pack-term p)) (sym new);
           summed = omega (arith, h .summed, q, ap P.size new, size-in);
           small = omega (arith, h .small);
         }
+      where
+        packed : record { key = key key-width (i ∷ []); coefficient = getD r i (pos 0) } ≡ pack-term here
+        packed = unfold pack-term in refl
 
   pub converted-terms : (out : List S.Term) (count span i : ℕ) → Converted r radius out count span i → 16 ≤ i
       → take i (terms-from 0 r) ≡ terms-from 0 r
@@ -177,9 +177,11 @@ module _ (c : Curve) (s : c .radius < 2 ^ 31) (out : List S.Term) (count span i 
       → record { model = record { n = 1; count = count; radius = c .radius; terms = out }; verdict = Accepted }
       ≡ answer (at-place 0 (to-powers (view-curve c)))
   unfolding to-powers require at-place answer
-  powers-within t = rw (ap (λ n. leb n span-limit) (sym span-is) ∙ t) (ap (λ m. record { model = m; verdict = Accepted }) model-is)
+  powers-within t = rw (ap (λ n. leb n span-limit) (sym span-is) ∙ t)
+      (ap (λ m. record { model = m; verdict = Accepted }) model-is)
 
-  pub powers-over : leb span span-limit ≡ false → answer (stopped over-span 0) ≡ answer (at-place 0 (to-powers (view-curve c)))
+  pub powers-over : leb span span-limit ≡ false
+      → answer (stopped over-span 0) ≡ answer (at-place 0 (to-powers (view-curve c)))
   unfolding to-powers require at-place
   powers-over t = rw (ap (λ n. leb n span-limit) (sym span-is) ∙ t)
 

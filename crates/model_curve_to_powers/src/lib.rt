@@ -25,9 +25,6 @@ pub struct Powers {
     pub places: [i64; 16],
 }
 
-// The key of x in one variable: x^i has i times it.
-const ONE_POWER: u32 = 1 << 28;
-
 // Row k holds the coefficients of T_k in powers, that of power 0 first.
 const CHEBYSHEV: [[i64; 16]; 16] = [
     [1, 0, 0, 0, 0, 0, 0, 0, 0, 0, 0, 0, 0, 0, 0, 0],
@@ -158,7 +155,7 @@ fn in_powers(c: Curve) -> Answer
     while i < 16 {
         let z = row.places[i];
         let size = fixed::magnitude(z);
-        let key = (i as u32) * ONE_POWER;
+        let key = model_keys::power_key(i);
         i += 1;
         if size == 0 {
             continue;

@@ -1,7 +1,7 @@
 -- One exponent of a key: it does not depend on the number of variables, can be taken out of the key, and raised.
 use mathlib.Core.Path.{_≡_, refl, sym, _∙_, ap, ap₂}
 use mathlib.Core.List.{List, [], _∷_}
-use Prim.Native.Nat.{ℕ, zero, suc, _+_, _-_, _*_, _%_, _^_, _≤_, _<_}
+use Prim.Native.Nat.{ℕ, zero, suc, _+_, _-_, _*_, _/_, _%_, _^_, _≤_, _<_}
 use native.Mathlib.Omega.{arith}
 use lib.Dec.{T, lit<}
 use lib.ListN.{length, getD}
@@ -10,7 +10,7 @@ use Rattle.calculus.specs.Monomial.{index-of}
 use Rattle.calculus.specs.MonomialLaws.{index-suc}
 use Rattle.calculus.specs.Key.{encode, decode, key-width, key, key-fits, monomial-of}
 use Rattle.calculus.specs.MonomialKeyLaws.{encode-raised, key-monomial, monomial-digits, monomial-length, fits-below}
-use Rattle.calculus.specs.MonomialKeyLaws.{decode-zero, exponent-zeros}
+use Rattle.calculus.specs.MonomialKeyLaws.{decode-zero, exponent-zeros, by-fits}
 use Rattle.model_keys.specs.Keys.{Slot, key-exponent, key-without, Raisable, key-raised}
 
 -- ---- digits to any base
@@ -88,3 +88,13 @@ zero-raisable i h = record { slot = h; room = omega (arith, zero-exponent) }
     zero-exponent : key-exponent i 0 ≡ 0
     zero-exponent = unfold key-exponent in
         ap (exponent (index-of i)) (decode-zero 16 (lit< tt) key-width) ∙ exponent-zeros key-width (index-of i)
+
+-- ---- powers of variable 1
+pub power-word : (k : ℕ) → k * 268435456 ≡ key key-width (k ∷ [])
+unfolding encode key-width
+power-word k = omega arith
+
+pub first-exponent : (z n : ℕ) → 1 ≤ n → exponent 0 (monomial-of n z) ≡ z / 268435456
+unfolding exponent decode key-width
+first-exponent z zero h = absurd (omega arith)
+first-exponent z (suc n) h = by-fits (λ k. exponent 0 k ≡ z / 268435456) (suc n) z (λ f. refl) (λ f. refl)

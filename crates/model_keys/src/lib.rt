@@ -1,8 +1,10 @@
 // Keys of monomials: all arithmetic of their digits. A key holds the exponents of a monomial as the digits of one
 // number, that of variable 1 the highest, four bits each; a wide key has seven bits for each, and the degree.
 ghost use mathlib.Core.Path.{_≡_};
-ghost use Prim.Native.Nat.{_+_, _-_, _*_, _/_, _%_, _≤_, _<_};
-ghost use Rattle.calculus.specs.Key.{«key-width», «key-fits», «key-degree», Below};
+ghost use mathlib.Core.List.{[], _∷_};
+ghost use Prim.Native.Nat.{ℕ, _+_, _-_, _*_, _/_, _%_, _≤_, _<_};
+ghost use Rattle.polynomial.specs.Polynomial.{exponent};
+ghost use Rattle.calculus.specs.Key.{key, «monomial-of», «key-width», «key-fits», «key-degree», Below};
 ghost use Rattle.model_keys.specs.Keys.{Slot, «key-exponent», «key-without», Raisable, «key-raised»};
 ghost use Rattle.model_keys.specs.Keys.{«key-even», «key-divisor»};
 ghost use Rattle.model_keys.specs.KeyHalvesLaws.{«half-divisor», «half-wide»};
@@ -47,6 +49,28 @@ pub fn raised(key: Key, i: u8) -> Key
     let bits = behind(i);
     let one = 1 << bits;
     key + one
+}
+
+// ---- powers of variable 1
+// What one more in its exponent counts.
+const FIRST_POWER: Key = 1 << 28;
+
+// The key of its k-th power.
+pub fn power_key(k: usize) -> Key
+    requires { ⌜ k < 16 ⌝ }
+    ensures { λ r. ⌜ r ≡ key key-width (k ∷ []) ⌝ }
+{
+    let exponent = k as u32;
+    exponent * FIRST_POWER
+}
+
+// Its exponent in a key of any number of variables.
+pub fn first_exponent(key: Key) -> usize
+    ensures below { λ r. ⌜ r < 16 ⌝ }
+    ensures exact { λ r. ⌜ ((n : ℕ) → 1 ≤ n → exponent 0 (monomial-of n key) ≡ r) ⌝ }
+{
+    let exponent = key / FIRST_POWER;
+    exponent as usize
 }
 
 // ---- all exponents

@@ -31,7 +31,9 @@ turned-curve-requires : tie.Need-turned-curve-requires
 turned-curve-requires c κs = subst T (sym (is-sound c)) tt
 
 returns-2 : tie.Need-returns-2
-returns-2 c = ap (λ r. record { curve = r; verdict = Accepted }) (c .turned-curve .ensures) ∙ negate-sound _ (is-sound (c .before))
+returns-2 c =
+    ap (λ r. record { curve = r; verdict = Accepted }) (c .turned-curve .ensures)
+    ∙ negate-sound _ (is-sound (c .before))
 
 pub negate-spec : {M : Type 1} → statement M
 negate-spec =

@@ -40,7 +40,8 @@ unfolding cause
 returns-2 c =
     let s = c .before .before in
     c .refuse-curve2 .ensures
-    ∙ subtrahend-unsound _ _ (first-sound (s .before)) (sym (s .curve-sound2 .ensures) ∙ not-true _ (c .before .if2 .taken))
+    ∙ subtrahend-unsound _ _ (first-sound (s .before))
+    (sym (s .curve-sound2 .ensures) ∙ not-true _ (c .before .if2 .taken))
 
 second-sound : (c : tie.Else2) → sound (view-curve (c .before .before .before .before .args .g)) ≡ true
 second-sound c = sym (c .before .curve-sound2 .ensures) ∙ not-false _ (c .if2 .left)
@@ -67,7 +68,8 @@ returns-3 c =
     let e = t .before in
     c .limited-curve .ensures
     ∙ ap (λ h. curve-answer (at-place 0 (limited-curve (view-curve h)))) (a .added-curves .ensures)
-    ∙ ap (λ h. curve-answer (at-place 0 (limited-curve (added (view-curve (e .before .before .before .before .args .f)) (view-curve h))))) (t .turned-curve .ensures)
+    ∙ ap (λ h. curve-answer (at-place 0 (limited-curve
+    (added (view-curve (e .before .before .before .before .args .f)) (view-curve h))))) (t .turned-curve .ensures)
     ∙ subtracted _ _ (first-sound (e .before .before)) (second-sound e)
 
 pub subtract-spec : {M : Type 1} → statement M

@@ -1,4 +1,4 @@
--- `from_powers` tests the model and its variables, makes a row of its terms, converts and rounds it, then tests the span.
+-- `from_powers` tests the model and its variables, makes a row of its terms, converts and rounds it, tests the span.
 use mathlib.Core.Path.{_≡_, sym, _∙_, ap, ap₂, subst}
 use mathlib.Core.Bool.{true, false}
 use Prim.Native.Nat.{_+_, _*_, _^_, _≤_, _<_}
@@ -15,12 +15,15 @@ use Rattle.chebyshev.specs.Coefficients.{Row, size}
 use Rattle.chebyshev.specs.PowerRows.{places, combine}
 use Rattle.chebyshev.specs.RowLengthLaws.{from-powers-length}
 use Rattle.chebyshev.specs.Tables.{power-table, power-scale}
+use Rattle.chebyshev.specs.Curve as C
 use Rattle.chebyshev.specs.CurveOperations.{limited-curve, rounded, row-of}
 use Rattle.model_types.specs.Arrays.{padded}
+use Rattle.model_types.specs.declared.CurveAnswer.{CurveAnswer}
 use Rattle.model_types.specs.ModelStruct.{view, cause}
 use Rattle.model_types.specs.CurveStruct.{view-curve, curve-answer}
 use Rattle.model_curve_from_powers.specs.RowLoopLaws.{rounded-padded, row-of-small, degrees-small, scale-is}
-use Rattle.model_curve_from_powers.specs.RowLoopLaws.{model-unsound, more-variables, one-variable, vars-view, radius-view}
+use Rattle.model_curve_from_powers.specs.RowLoopLaws.{model-unsound, more-variables, one-variable}
+use Rattle.model_curve_from_powers.specs.RowLoopLaws.{vars-view, radius-view}
 use Rattle.model_curve_from_powers.proofs.from_powers.Statement.{statement}
 use Rattle.model_curve_from_powers.proofs.from_powers.Tie as tie
 
@@ -100,6 +103,10 @@ whole : (r : Row) → length (combine r power-table) ≡ 16
 unfolding places
 whole r = from-powers-length r
 
+-- the answer that the limit gives
+abbrev limited : C.Curve → CurveAnswer
+limited h = curve-answer (at-place 0 (limited-curve h))
+
 returns-3 : tie.Need-returns-3
 returns-3 c =
     let r = c .before in
@@ -109,13 +116,13 @@ returns-3 c =
     let m = start e .args .m in
     c .limited-curve .ensures
     ∙ ap (λ h. curve-answer (at-place 0 (limited-curve (view-curve h)))) (r .rounded-degrees .ensures)
-    ∙ ap (λ z. curve-answer (at-place 0 (limited-curve (rounded 16384 (16384 * m .radius) z)))) (d .degrees-from .ensures)
-    ∙ ap (λ h. curve-answer (at-place 0 (limited-curve h)))
+    ∙ ap (λ z. limited (rounded 16384 (16384 * m .radius) z)) (d .degrees-from .ensures)
+    ∙ ap limited
     (rounded-padded (combine (w .row-from .result .coefficients) power-table) (whole _) 16384 (16384 * m .radius))
-    ∙ ap (λ q. curve-answer (at-place 0 (limited-curve (rounded 16384 (16384 * m .radius) (combine q power-table))))) (w .row-from .ensures)
-    ∙ ap (λ n. curve-answer (at-place 0 (limited-curve (rounded 16384 (16384 * n) (combine (row-of (view m .terms)) power-table)))))
+    ∙ ap (λ q. limited (rounded 16384 (16384 * m .radius) (combine q power-table))) (w .row-from .ensures)
+    ∙ ap (λ n. limited (rounded 16384 (16384 * n) (combine (row-of (view m .terms)) power-table)))
     (sym (radius-view m))
-    ∙ ap (λ n. curve-answer (at-place 0 (limited-curve (rounded n (n * view m .radius) (combine (row-of (view m .terms)) power-table)))))
+    ∙ ap (λ n. limited (rounded n (n * view m .radius) (combine (row-of (view m .terms)) power-table)))
     scale-is
     ∙ one-variable (view m) (is-sound (e .before)) (one e)
 

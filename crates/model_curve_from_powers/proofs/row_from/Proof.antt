@@ -63,24 +63,21 @@ module _ (c : tie.After-struct-told Inv-loop μ-loop) where
   more : 0 < place .loop .i
   more = c .before .before .before .loop-test .taken
 
-  power-small : at .key / 268435456 < 16
-  power-small = omega (arith, c .struct-told .given .0 .1)
-
   read-back : toZ w64 (ofZ w64 (at .coefficient)) ≡ at .coefficient
   read-back = toZ-ofZ (record { sfits = c .struct-told .given .1 .0 .1 })
 
-cast-k : tie.Need-cast-k Inv-loop μ-loop
-cast-k c = search needs
+first-exponent-requires : tie.Need-first-exponent-requires Inv-loop μ-loop
+first-exponent-requires c κs = search needs
 
 mul-sum : tie.Need-mul-sum Inv-loop μ-loop
-mul-sum c = omega (arith, power-small c)
+mul-sum c = omega (arith, c .before .first-exponent .ensures .0)
 
 array-copy-out-sum : tie.Need-array-copy-out-sum Inv-loop μ-loop
-array-copy-out-sum c = power-small c
+array-copy-out-sum c = c .before .first-exponent .ensures .0
 
 there-is : (c : tie.After-sum-arg Inv-loop μ-loop)
     → let t = c .before in
-    let z = getD (place t .loop .out) (at t .key / 268435456) (pos 0) in toZ w64 (ofZ w64 z) ≡ z
+    let z = getD (place t .loop .out) (t .before .first-exponent .result) (pos 0) in toZ w64 (ofZ w64 z) ≡ z
 there-is c = toZ-ofZ (record { sfits = c .sum-arg .given })
 
 sum-requires : tie.Need-sum-requires Inv-loop μ-loop
@@ -90,10 +87,10 @@ sum-requires c κs =
     rw (read-back t, there-is c) (rowed-room _ (s .pre) (long s) _ _ (place t .loop .inv) (more t) _)
 
 mul-out : tie.Need-mul-out Inv-loop μ-loop
-mul-out c = omega (arith, power-small (c .before .before))
+mul-out c = omega (arith, c .before .before .before .first-exponent .ensures .0)
 
 array-set-from-out : tie.Need-array-set-from-out Inv-loop μ-loop
-array-set-from-out c = power-small (c .before .before)
+array-set-from-out c = c .before .before .before .first-exponent .ensures .0
 
 loop-less : tie.Need-loop-less Inv-loop μ-loop
 loop-less c = omega (arith, more (c .before .before))
@@ -101,8 +98,10 @@ loop-less c = omega (arith, more (c .before .before))
 loop-again : tie.Need-loop-again Inv-loop μ-loop
 loop-again c =
     let t = c .before .before in
+    let k = t .before in
     let s = start t in
-    rowed-turn _ (s .pre) (long s) _ _ (place t .loop .inv) (more t) (power-small t) _
+    rowed-turn _ (s .pre) (long s) _ _ (place t .loop .inv) (more t) _ (k .first-exponent .ensures .1)
+    (k .first-exponent .ensures .0) _
     (answered (c .sum .ok) (c .sum .ensures ∙ ap₂ _+ℤ_ (read-back t) (there-is (c .before))))
 
 returns : tie.Need-returns Inv-loop μ-loop
@@ -121,7 +120,7 @@ row-from-spec =
     sub-i
     mul-t
     element-copy-out-t
-    cast-k
+    first-exponent-requires
     mul-sum
     array-copy-out-sum
     sum-requires

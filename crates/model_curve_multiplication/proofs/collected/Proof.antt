@@ -55,7 +55,8 @@ module _ (c : tie.In-loop Inv-loop μ-loop) where
   within = omega (arith, place .loop .inv .most, c .loop-test .taken)
 
   room : 2 * (natAbs (getD (F start) (place .loop .i - 1) (pos 0)) * size (G start)) + size (place .loop .z) < 2 ^ 63
-  room = collecting-room _ _ (first-whole start) (second-whole start) (small start) _ _ (place .loop .inv) (c .loop-test .taken)
+  room = collecting-room _ _ (first-whole start) (second-whole start) (small start) _ _ (place .loop .inv)
+      (c .loop-test .taken)
 
 mul-a : tie.Need-mul-a Inv-loop μ-loop
 mul-a c = omega (arith, within c)

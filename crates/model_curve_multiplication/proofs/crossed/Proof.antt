@@ -22,12 +22,14 @@ module _ (c : tie.After-span-of2) where
   abbrev start : tie.Start
   start = c .before .before
 
-  total-is : 2 * (c .before .span-of .result * start .args .g .radius + (c .span-of2 .result - start .args .g .radius) * start .args .f .radius)
+  total-is : 2 * (c .before .span-of .result * start .args .g .radius
+      + (c .span-of2 .result - start .args .g .radius) * start .args .f .radius)
       ≡ 2 * carried (view-curve (start .args .f)) (view-curve (start .args .g))
   total-is = carried-is (view-curve (start .args .f)) (view-curve (start .args .g)) _ _ (c .before .span-of .ensures)
       (size-rest (view-curve (start .args .g)) _ (c .span-of2 .ensures))
 
-  total-small : 2 * (c .before .span-of .result * start .args .g .radius + (c .span-of2 .result - start .args .g .radius) * start .args .f .radius)
+  total-small : 2 * (c .before .span-of .result * start .args .g .radius
+      + (c .span-of2 .result - start .args .g .radius) * start .args .f .radius)
       ≤ 2 ^ 61
   total-small = omega (arith, total-is, carried-small _ _ (start .pre .0) (start .pre .1))
 

@@ -49,7 +49,8 @@ returns c =
     let f = c .before in
     let p = f .before in
     c .magnitude .ensures
-    ∙ ap natAbs (answered (f .difference .ok) (f .difference .ensures ∙ ap₂ _-ℤ_ (c-is (p .before .before)) (back-is p)))
+    ∙ ap natAbs (answered (f .difference .ok)
+    (f .difference .ensures ∙ ap₂ _-ℤ_ (c-is (p .before .before)) (back-is p)))
 
 pub left-of-spec : {M : Type 1} → statement M
 left-of-spec =

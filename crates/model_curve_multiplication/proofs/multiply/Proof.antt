@@ -13,7 +13,8 @@ use Rattle.chebyshev.specs.Curve.{sound}
 use Rattle.chebyshev.specs.CurveOperations.{limited-curve, rounded, products, carried}
 use Rattle.model_types.specs.ModelStruct.{cause}
 use Rattle.model_types.specs.CurveStruct.{view-curve, pack-curve, curve-answer}
-use Rattle.model_curve_multiplication.specs.CollectLaws.{factor-unsound, other-unsound, factors-sound, products-size, two-units}
+use Rattle.model_curve_multiplication.specs.CollectLaws.{factor-unsound, other-unsound, factors-sound}
+use Rattle.model_curve_multiplication.specs.CollectLaws.{products-size, two-units}
 use Rattle.model_curve_multiplication.proofs.multiply.Statement.{statement}
 use Rattle.model_curve_multiplication.proofs.multiply.Tie as tie
 
@@ -88,8 +89,10 @@ returns-3 c =
     let g = view-curve (start e .args .g) in
     c .limited-curve .ensures
     ∙ ap (λ h. curve-answer (at-place 0 (limited-curve (view-curve h)))) (r .rounded-degrees .ensures)
-    ∙ ap (λ d. curve-answer (at-place 0 (limited-curve (rounded d (x .crossed .result) (x .before .collected .result .places))))) two-units
-    ∙ ap₂ (λ n z. curve-answer (at-place 0 (limited-curve (rounded (2 * U) n z)))) (x .crossed .ensures) (x .before .collected .ensures)
+    ∙ ap (λ d. curve-answer (at-place 0 (limited-curve
+    (rounded d (x .crossed .result) (x .before .collected .result .places))))) two-units
+    ∙ ap₂ (λ n z. curve-answer (at-place 0 (limited-curve (rounded (2 * U) n z)))) (x .crossed .ensures)
+    (x .before .collected .ensures)
     ∙ factors-sound f g (first-sound (e .before .before)) (second-sound e)
 
 pub multiply-spec : {M : Type 1} → statement M

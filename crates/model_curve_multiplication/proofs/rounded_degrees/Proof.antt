@@ -14,7 +14,8 @@ use Rattle.chebyshev.specs.Coefficients.{Row, size}
 use Rattle.chebyshev.specs.CurveOperations.{swept, rounded}
 use Rattle.model_types.specs.CurveStruct.{pack-curve}
 use Rattle.model_curve_multiplication.specs.CollectLaws.{entry-le}
-use Rattle.model_curve_multiplication.specs.RoundLaws.{Rounding, rounding-first, rounding-turn, rounding-end, rounding-length}
+use Rattle.model_curve_multiplication.specs.RoundLaws.{Rounding, rounding-first, rounding-turn, rounding-end}
+use Rattle.model_curve_multiplication.specs.RoundLaws.{rounding-length}
 use Rattle.model_curve_multiplication.specs.RoundLaws.{rounding-small, swept-le}
 use Rattle.model_curve_multiplication.proofs.rounded_degrees.Statement.{statement}
 use Rattle.model_curve_multiplication.proofs.rounded_degrees.Tie as tie
@@ -96,7 +97,8 @@ turned : (c : tie.After-left-of Inv-loop μ-loop)
 turned c =
     let t = c .before .before in
     let s = start t in
-    rounding-turn _ (whole s) _ _ (s .pre .1 .0) _ _ _ (place t .loop .inv) (inside t) _ _ (q-is (c .before)) (left-is c)
+    rounding-turn _ (whole s) _ _ (s .pre .1 .0) _ _ _ (place t .loop .inv) (inside t) _ _ (q-is (c .before))
+    (left-is c)
 
 add-total-2 : tie.Need-add-total-2 Inv-loop μ-loop
 add-total-2 c =

@@ -8,7 +8,8 @@ use lib.ListN.{length, getD, drop}
 use mir.Facts.{toZ-ofZ}
 use mir.Syntax.{w64}
 use mir.Val.{toZ, ofZ}
-use Rattle.model_curve_multiplication.specs.RoundLaws.{Sweeping, sweeping-first, sweeping-turn, sweeping-room, sweeping-end}
+use Rattle.model_curve_multiplication.specs.RoundLaws.{Sweeping, sweeping-first, sweeping-turn, sweeping-room}
+use Rattle.model_curve_multiplication.specs.RoundLaws.{sweeping-end}
 use Rattle.model_curve_multiplication.proofs.swept_of.Statement.{statement}
 use Rattle.model_curve_multiplication.proofs.swept_of.Tie as tie
 

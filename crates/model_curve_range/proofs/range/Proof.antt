@@ -59,7 +59,8 @@ module _ (c : tie.After-variation-of) where
   room : natAbs (constant-part (view-curve (start .args .t1))) + variation (view-curve (start .args .t1)) < 2 ^ 31
   room = variation-small _ sound-here (whole start)
 
-  middle-is : toZ w64 (ofZ w64 (getD (start .args .t1 .coefficients) 0 (pos 0))) ≡ constant-part (view-curve (start .args .t1))
+  middle-is : toZ w64 (ofZ w64 (getD (start .args .t1 .coefficients) 0 (pos 0)))
+      ≡ constant-part (view-curve (start .args .t1))
   unfolding constant-part
   middle-is = toZ-ofZ (record { sfits = c .before .middle .given })
 
@@ -67,7 +68,8 @@ module _ (c : tie.After-variation-of) where
 signed-requires : tie.Need-signed-requires
 signed-requires c κs = omega (arith, c .variation-of .ensures, room c)
 
-around-is : (c : tie.After-signed) → toZ w64 (ofZ w64 (c .signed .result)) ≡ pos (variation (view-curve (start (c .before) .args .t1)))
+around-is : (c : tie.After-signed)
+    → toZ w64 (ofZ w64 (c .signed .result)) ≡ pos (variation (view-curve (start (c .before) .args .t1)))
 around-is c = answered (c .signed .ok) (c .signed .ensures ∙ ap pos (c .before .variation-of .ensures))
 
 -- src/lib.rt:38:14

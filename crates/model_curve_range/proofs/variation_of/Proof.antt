@@ -68,11 +68,13 @@ loop-again c =
     gathered-turn _ (whole (l .before)) _ _ _ (l .loop .inv) (c .before .before .loop-test .taken) (size-is c)
 
 total-is : (c : tie.After-loop Inv-loop μ-loop)
-    → c .before .loop .total + c .before .before .args .t1 .radius ≡ variation (view-curve (c .before .before .args .t1))
+    → c .before .loop .total + c .before .before .args .t1 .radius
+    ≡ variation (view-curve (c .before .before .args .t1))
 unfolding variation
 total-is c =
     let l = c .before in
-    ap (λ n. n + l .before .args .t1 .radius) (gathered-end _ (whole (l .before)) _ _ (l .loop .inv) (c .loop-test .left))
+    ap (λ n. n + l .before .args .t1 .radius)
+    (gathered-end _ (whole (l .before)) _ _ (l .loop .inv) (c .loop-test .left))
 
 add-result : tie.Need-add-result Inv-loop μ-loop
 unfolding variation

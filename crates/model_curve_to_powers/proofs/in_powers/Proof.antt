@@ -62,14 +62,11 @@ element-copy-out-z c = omega (arith, c .loop-test .taken)
 magnitude-requires : tie.Need-magnitude-requires Inv-loop μ-loop
 magnitude-requires c κs = search needs
 
-cast-key : tie.Need-cast-key Inv-loop μ-loop
-cast-key c = omega (arith, c .before .before .loop-test .taken)
-
-mul-key : tie.Need-mul-key Inv-loop μ-loop
-mul-key c = omega (arith, c .before .before .loop-test .taken)
+power-key-requires : tie.Need-power-key-requires Inv-loop μ-loop
+power-key-requires c κs = omega (arith, c .before .before .loop-test .taken)
 
 add-i : tie.Need-add-i Inv-loop μ-loop
-add-i c = omega (arith, c .before .before .loop-test .taken)
+add-i c = omega (arith, c .before .before .before .loop-test .taken)
 
 -- the coefficient at hand, and its size
 module _ (c : tie.After-magnitude Inv-loop μ-loop) where
@@ -102,45 +99,46 @@ module _ (c : tie.After-magnitude Inv-loop μ-loop) where
   )
 
 loop-less : tie.Need-loop-less Inv-loop μ-loop
-loop-less c = omega (arith, inside (c .before))
+loop-less c = omega (arith, inside (c .before .before))
 
 loop-again : tie.Need-loop-again Inv-loop μ-loop
 loop-again c =
-    let m = c .before in
+    let m = c .before .before in
     let s = start m in
     converted-drop _ _ (whole s) (radius-small s) _ _ _ _ (place m .loop .inv) (inside m)
     (omega (arith, size-is m, c .if1 .taken))
 
 add-span : tie.Need-add-span Inv-loop μ-loop
 add-span c =
-    let m = c .before in
+    let m = c .before .before in
     omega (arith, place m .loop .inv .small, inside m, size-small m)
 
 mul-out : tie.Need-mul-out Inv-loop μ-loop
-mul-out c = let m = c .before in omega (arith, place m .loop .inv .few, inside m)
+mul-out c = let m = c .before .before in omega (arith, place m .loop .inv .few, inside m)
 
 array-set-from-out : tie.Need-array-set-from-out Inv-loop μ-loop
-array-set-from-out c = let m = c .before in omega (arith, place m .loop .inv .few, inside m)
+array-set-from-out c = let m = c .before .before in omega (arith, place m .loop .inv .few, inside m)
 
 add-count : tie.Need-add-count Inv-loop μ-loop
-add-count c = let m = c .before in omega (arith, place m .loop .inv .few, inside m)
+add-count c = let m = c .before .before in omega (arith, place m .loop .inv .few, inside m)
 
 loop-less-2 : tie.Need-loop-less-2 Inv-loop μ-loop
-loop-less-2 c = omega (arith, inside (c .before))
+loop-less-2 c = omega (arith, inside (c .before .before))
 
 loop-again-2 : tie.Need-loop-again-2 Inv-loop μ-loop
 loop-again-2 c =
-    let m = c .before in
+    let m = c .before .before in
     let s = start m in
-    converted-keep _ _ (whole s) (radius-small s) _ _ _ _ (place m .loop .inv) (inside m) _ _ (at-is m) (size-is m)
-    (omega (arith, c .if1 .left)) (size-small m)
+    converted-keep _ _ (whole s) (radius-small s) _ _ _ _ (place m .loop .inv) (inside m) _ _ _ (at-is m) (size-is m)
+    (omega (arith, c .if1 .left)) (size-small m) (c .before .power-key .ensures)
 
 within-span-requires : tie.Need-within-span-requires Inv-loop μ-loop
 within-span-requires c κs = search needs
 
 -- the terms in powers of the curve itself
 made : (c : tie.At-loop Inv-loop μ-loop)
-    → Converted (combine (c .before .before .args .c .coefficients) chebyshev-table) (c .before .before .args .c .radius)
+    → Converted (combine (c .before .before .args .c .coefficients) chebyshev-table)
+    (c .before .before .args .c .radius)
     (c .loop .out) (c .loop .count) (c .loop .span) (c .loop .i)
 made c = subst (λ r. Converted r (c .before .before .args .c .radius) (c .loop .out) (c .loop .count) (c .loop .span)
     (c .loop .i)) (row-is (c .before)) (c .loop .inv)
@@ -175,8 +173,7 @@ in-powers-spec =
     mul-z
     element-copy-out-z
     magnitude-requires
-    cast-key
-    mul-key
+    power-key-requires
     add-i
     loop-less
     loop-again
