@@ -9,8 +9,7 @@ use Rattle.chebyshev.specs.Coefficients.{size}
 use Rattle.chebyshev.specs.PowerRows.{places, zeros}
 use Rattle.chebyshev.specs.Tables.{chebyshev-table}
 use Rattle.model_curve_range.specs.CurveRangeLaws.{sizes-small}
-use Rattle.model_curve_rows.specs.SmallRows.{rows-small}
-use Rattle.model_curve_rows.specs.SmallRowsLaws.{chebyshev-fits}
+use Rattle.model_curve_rows.specs.SmallRows.{each-small, rows-small}
 use Rattle.model_curve_to_powers.proofs.in_rows.Statement.{statement}
 use Rattle.model_curve_to_powers.proofs.in_rows.Tie as tie
 
@@ -22,9 +21,9 @@ module _ (c : tie.Start) where
   small = omega (arith, sizes-small _ (c .pre))
 
 combine-rows-requires : tie.Need-combine-rows-requires
-unfolding zeros places chebyshev-table
+unfolding zeros places rows-small each-small size
 combine-rows-requires c κs =
-    let s = c .before .before .before .before in (refl, (whole s, (small s, chebyshev-fits)))
+    let s = c .before .before .before .before in (refl, (whole s, (small s, tt)))
 
 returns : tie.Need-returns
 unfolding chebyshev-table
