@@ -1,0 +1,2 @@
+pub mod HandedCurves
+pub mod HandedCurvesLaws
