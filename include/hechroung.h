@@ -1,13 +1,13 @@
-/* Hechroung: polynomial models in 1 to 8 variables on the box [-1, 1]^n, with an error radius. The functions that are
-   declared extern are proved (crates/exports); those that are written out here only spread a struct into numbers and
-   slices and test for null pointers.
+/* Hechroung: polynomial models in 1 to 8 variables on the box [-1, 1]^n, with an error radius, and curves in Chebyshev
+   polynomials. The functions that are declared extern are proved (crates/exports); those that are written out here only
+   spread a struct into numbers and slices and test for null pointers.
 
    Numbers. Coefficients, radii, values, coordinates and ends are whole numbers in units of 1/HECHROUNG_UNIT.
 
    Answers. Every function that makes a call returns a byte:
      0                   accepted
-     1 to 12             the refusal of documents 01 and 02; the answer is then the zero model in one variable, or
-                         ends 0 and the exact integral 0
+     1 to 13             the refusal of documents 01 and 02; the answer is then the zero model in one variable, the
+                         curve of zeros, or ends 0 and the exact integral 0
      HECHROUNG_MISUSED   no call was made and nothing was written: a pointer is null, a slice is too short, or a code
                          names no call
 
@@ -42,6 +42,7 @@ extern "C" {
 #define HECHROUNG_DENOMINATOR 212837625
 #define HECHROUNG_MOST_VARIABLES 8
 #define HECHROUNG_MOST_TERMS 64
+#define HECHROUNG_CURVE_PLACES 16
 #define HECHROUNG_MOST_MODELS 16
 #define HECHROUNG_MOST_STEPS 64
 #define HECHROUNG_LONGEST_SHEET 8792
@@ -102,6 +103,16 @@ struct hechroung_shares {
 struct hechroung_step {
     uint8_t code, a, b, v;
     int64_t value;
+};
+
+/* A curve: a model of one variable by its coefficients of the Chebyshev polynomials T_0 to T_15 (T_0 = 1, T_1 = x,
+   T_(k+1) = 2 x T_k - T_(k-1)), in this order, any of which may be 0, and a radius. A function is within it if at every
+   fraction of [-1, 1] it differs from the sum of all c T_k by at most the radius. Any field may hold anything: a call
+   refuses with 5 a curve whose sizes and radius sum to more than 2^30. Functions within the operands of a call give a
+   function within its answer. */
+struct hechroung_curve {
+    int64_t coefficients[HECHROUNG_CURVE_PLACES];
+    uint64_t radius;
 };
 
 /* ---- the proved functions ---- */
@@ -227,6 +238,40 @@ extern uint8_t hechroung_shares_book(uint8_t n, uint8_t d, size_t model_count, s
                                      int64_t *coefficients, size_t coefficients_length,
                                      uint64_t *numbers, size_t numbers_length, int64_t *ends, size_t ends_length,
                                      uint64_t *shares, size_t shares_length);
+
+/* A call on curves. Codes: 1 negate, 2 add, 3 subtract, 4 multiply. negate does not look at the second curve, but the
+   length of its slice is tested. Refusals 5 at place 0 or 1 (that curve), 7; the place of 7 is 0.
+   Read: of each curve the first 16 coefficients, that of T_0 first; there are at least so many.
+   Written: coefficients, at least 16, hold the answer's; numbers, at least 2, hold the refusal's place and the radius.
+   What lies behind stays. */
+extern uint8_t hechroung_curve(uint8_t code,
+                               const int64_t *coefficients1, size_t coefficients1_length, uint64_t radius1,
+                               const int64_t *coefficients2, size_t coefficients2_length, uint64_t radius2,
+                               int64_t *coefficients, size_t coefficients_length,
+                               uint64_t *numbers, size_t numbers_length);
+
+/* The range of a curve over [-1, 1]: the coefficient of T_0, minus and plus all other sizes and the radius. Refusal 5;
+   its place is 0. Read: at least 16 coefficients. Written: ends, at least 2, hold the low and the high end. */
+extern uint8_t hechroung_curve_range(const int64_t *coefficients, size_t coefficients_length, uint64_t radius,
+                                     int64_t *ends, size_t ends_length);
+
+/* The model of one variable that has a curve's polynomial in powers, exactly, and its radius: the same functions are
+   within both. Refusals 5, 7, at place 0. Read: at least 16 coefficients. Written: keys, out_coefficients and numbers
+   as for hechroung_call. */
+extern uint8_t hechroung_to_powers(const int64_t *coefficients, size_t coefficients_length, uint64_t radius,
+                                   uint32_t *keys, size_t keys_length,
+                                   int64_t *out_coefficients, size_t out_coefficients_length,
+                                   uint64_t *numbers, size_t numbers_length);
+
+/* The curve of a model of one variable: each coefficient goes to the nearest unit, halfway to the even one, and what
+   that leaves goes into the radius, so that every function within the model is within the curve. Refusals 5, 13 (n is
+   not 1), 7, at place 0. Read: as a model of hechroung_call, at least min(count, 64) keys and as many coefficients.
+   Written: out_coefficients and out_numbers as for hechroung_curve. */
+extern uint8_t hechroung_from_powers(uint8_t n, size_t count, uint64_t radius,
+                                     const uint32_t *keys, size_t keys_length,
+                                     const int64_t *coefficients, size_t coefficients_length,
+                                     int64_t *out_coefficients, size_t out_coefficients_length,
+                                     uint64_t *out_numbers, size_t out_numbers_length);
 
 /* ---- the same for structs. The answer may be one of the models that are read. A place of null is not written. ---- */
 
@@ -549,6 +594,80 @@ static inline uint8_t hechroung_shares_models(uint8_t n, uint8_t d,
                                    rows, 4 * HECHROUNG_MOST_STEPS);
     hechroung_summed_(numbers, ends, answer, place);
     hechroung_shared_(rows, shares);
+    return number;
+}
+
+static inline uint8_t hechroung_curved_(uint8_t code, const struct hechroung_curve *f, const struct hechroung_curve *g,
+                                        struct hechroung_curve *answer, size_t *place) {
+    struct hechroung_curve curve;
+    uint64_t numbers[2] = {0, 0};
+    uint8_t number;
+    if (f == NULL || g == NULL || answer == NULL) return HECHROUNG_MISUSED;
+    number = hechroung_curve(code, f->coefficients, HECHROUNG_CURVE_PLACES, f->radius,
+                             g->coefficients, HECHROUNG_CURVE_PLACES, g->radius,
+                             curve.coefficients, HECHROUNG_CURVE_PLACES, numbers, 2);
+    curve.radius = numbers[1];
+    *answer = curve;
+    if (place != NULL) *place = (size_t)numbers[0];
+    return number;
+}
+
+/* All signs turned. Refusal 5. */
+static inline uint8_t hechroung_negate_curve(const struct hechroung_curve *f, struct hechroung_curve *answer) {
+    return hechroung_curved_(1, f, f, answer, NULL);
+}
+
+/* The sum and the difference. Refusals 5 at place 0 or 1 (that curve), 7. */
+static inline uint8_t hechroung_add_curves(const struct hechroung_curve *f, const struct hechroung_curve *g,
+                                           struct hechroung_curve *answer, size_t *place) {
+    return hechroung_curved_(2, f, g, answer, place);
+}
+
+static inline uint8_t hechroung_subtract_curves(const struct hechroung_curve *f, const struct hechroung_curve *g,
+                                                struct hechroung_curve *answer, size_t *place) {
+    return hechroung_curved_(3, f, g, answer, place);
+}
+
+/* The product by T_i T_j = (T_(i+j) + T_|i-j|) / 2; what is above T_15, and what rounding leaves, goes into the radius.
+   Refusals 5 at place 0 or 1, 7. */
+static inline uint8_t hechroung_multiply_curves(const struct hechroung_curve *f, const struct hechroung_curve *g,
+                                                struct hechroung_curve *answer, size_t *place) {
+    return hechroung_curved_(4, f, g, answer, place);
+}
+
+/* The range over [-1, 1]: every function within the curve has its values, times U, between the ends. Refusal 5. */
+static inline uint8_t hechroung_range_of_curve(const struct hechroung_curve *f, struct hechroung_ends *answer) {
+    int64_t ends[2] = {0, 0};
+    uint8_t number;
+    if (f == NULL || answer == NULL) return HECHROUNG_MISUSED;
+    number = hechroung_curve_range(f->coefficients, HECHROUNG_CURVE_PLACES, f->radius, ends, 2);
+    answer->low = ends[0];
+    answer->high = ends[1];
+    return number;
+}
+
+/* The curve's polynomial in powers, exactly, with its radius. Refusals 5, 7. */
+static inline uint8_t hechroung_curve_to_powers(const struct hechroung_curve *f, struct hechroung_model *answer) {
+    uint64_t numbers[4] = {0, 0, 0, 0};
+    uint8_t number;
+    if (f == NULL || answer == NULL) return HECHROUNG_MISUSED;
+    number = hechroung_to_powers(f->coefficients, HECHROUNG_CURVE_PLACES, f->radius, answer->keys, HECHROUNG_MOST_TERMS,
+                                 answer->coefficients, HECHROUNG_MOST_TERMS, numbers, 4);
+    answer->n = (uint8_t)numbers[1];
+    answer->count = (size_t)numbers[2];
+    answer->radius = numbers[3];
+    return number;
+}
+
+/* A model of one variable in Chebyshev polynomials, rounded, with a radius that pays for it. Refusals 5, 13 (n), 7. */
+static inline uint8_t hechroung_curve_from_powers(const struct hechroung_model *f, struct hechroung_curve *answer) {
+    uint64_t numbers[2] = {0, 0};
+    uint8_t number;
+    if (f == NULL || answer == NULL) return HECHROUNG_MISUSED;
+    number = hechroung_from_powers(f->n, f->count, f->radius, f->keys, HECHROUNG_MOST_TERMS,
+                                   f->coefficients, HECHROUNG_MOST_TERMS,
+                                   answer->coefficients, HECHROUNG_CURVE_PLACES, numbers, 2);
+    answer->radius = numbers[1];
     return number;
 }
 

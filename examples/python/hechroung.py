@@ -14,6 +14,7 @@ DENOMINATOR = 212_837_625
 MOST_VARS = 8
 MOST_TERMS = 64
 MOST_STEPS = 64
+CURVE_PLACES = 16
 LONGEST_RECORD = 5 + 8 * MOST_TERMS
 MISUSED = 255
 
@@ -77,6 +78,11 @@ _summary = [_u32s, _size, _i64s, _size, _u64s, _size, _i64s, _size]
 _run_book = _exported("hechroung_run_book", _u8, *_book, *_summary)
 _shares = _exported("hechroung_shares", _u8, _text, _size, *_summary, _u64s, _size)
 _shares_book = _exported("hechroung_shares_book", _u8, *_book, *_summary, _u64s, _size)
+_handed_curve = [_i64s, _size, _u64]
+_curve = _exported("hechroung_curve", _u8, _u8, *_handed_curve, *_handed_curve, _i64s, _size, _u64s, _size)
+_curve_range = _exported("hechroung_curve_range", _u8, *_handed_curve, _i64s, _size)
+_to_powers = _exported("hechroung_to_powers", _u8, *_handed_curve, _u32s, _size, _i64s, _size, _u64s, _size)
+_from_powers = _exported("hechroung_from_powers", _u8, *_handed, _i64s, _size, _u64s, _size)
 
 # What a run gives: the last step's model, the ends of its range and of its integral, and the exact integral.
 Summary = namedtuple("Summary", "model range integral exact")
@@ -90,7 +96,7 @@ Report = namedtuple("Report", "summary shares")
 
 
 class Refused(Exception):
-    """The refusal of documents 01 and 02: its number, 1 to 12, and its place; of a run with shares those of the steps
+    """The refusal of documents 01 and 02: its number, 1 to 13, and its place; of a run with shares those of the steps
     before it too."""
 
     def __init__(self, number, place, shares=()):
@@ -298,3 +304,66 @@ def shares_book(n, d, models, steps):
     rows = (_u64 * (4 * MOST_STEPS))()
     summary = _ran(_shares_book, _handed_book(n, d, models, steps), rows)
     return Report(summary, _rows(rows))
+
+
+class Curve:
+    """A model of one variable by its coefficients of the Chebyshev polynomials, that of T_0 first and up to sixteen,
+    and a radius."""
+
+    def __init__(self, coefficients=(), radius=0):
+        self.coefficients, self.radius = list(coefficients), radius
+
+
+def _curve_arguments(curve):
+    if not isinstance(curve, Curve):
+        raise Misused()
+    if len(curve.coefficients) > CURVE_PLACES:
+        raise ValueError("a curve has at most sixteen coefficients")
+    padded = [*curve.coefficients, *[0] * (CURVE_PLACES - len(curve.coefficients))]
+    return _array(_i64, padded), CURVE_PLACES, curve.radius
+
+
+def _curved(call, *arguments):
+    """The curve that a call stores."""
+    coefficients, numbers = (_i64 * CURVE_PLACES)(), (_u64 * 2)()
+    number = call(*arguments, coefficients, CURVE_PLACES, numbers, 2)
+    place, radius = numbers
+    _check(number, place)
+    return Curve(coefficients, radius)
+
+
+def negate_curve(f):
+    return _curved(_curve, 1, *_curve_arguments(f), *_curve_arguments(f))
+
+
+def add_curves(f, g):
+    return _curved(_curve, 2, *_curve_arguments(f), *_curve_arguments(g))
+
+
+def subtract_curves(f, g):
+    return _curved(_curve, 3, *_curve_arguments(f), *_curve_arguments(g))
+
+
+def multiply_curves(f, g):
+    """The product; what is above T_15, and what rounding leaves, goes into the radius."""
+    return _curved(_curve, 4, *_curve_arguments(f), *_curve_arguments(g))
+
+
+def range_of_curve(f):
+    ends = (_i64 * 2)()
+    _check(_curve_range(*_curve_arguments(f), ends, 2), 0)
+    return tuple(ends)
+
+
+def to_powers(f):
+    """The model of one variable with the curve's polynomial, exactly, and its radius."""
+    keys, coefficients, numbers = _Keys(), _Coefficients(), (_u64 * 4)()
+    number = _to_powers(*_curve_arguments(f), keys, MOST_TERMS, coefficients, MOST_TERMS, numbers, 4)
+    place, n, count, radius = numbers
+    _check(number, place)
+    return Model(n, radius, zip(keys[:count], coefficients[:count]))
+
+
+def from_powers(f):
+    """The curve of a model of one variable; what rounding leaves goes into the radius."""
+    return _curved(_from_powers, *_arguments(f))

@@ -8,13 +8,13 @@ from fractions import Fraction
 from typing import NamedTuple
 
 import hechroung
-from hechroung import UNIT, Misused, Model, Refused
+from hechroung import UNIT, Curve, Misused, Model, Refused
 
 # The least and the greatest number of each width.
 BYTE, KEY, RADIUS, VALUE = (0, 2 ** 8 - 1), (0, 2 ** 32 - 1), (0, 2 ** 64 - 1), (-2 ** 63, 2 ** 63 - 1)
 WIDTHS = {ctypes.c_uint8: BYTE, ctypes.c_uint64: RADIUS, ctypes.c_size_t: RADIUS, ctypes.c_int64: VALUE}
 # How many exported functions hechroung.py declares.
-DECLARED = 10
+DECLARED = 14
 NO_WHOLE_NUMBERS = [1.0, 0.5, float("nan"), Fraction(3, 2), "1", b"1", None, [1], 1j]
 
 
@@ -25,6 +25,11 @@ def line():
 
 def one():
     return Model(1, 0, [(0, UNIT)])
+
+
+def bent():
+    """x + x² by T_0, T_1 and T_2, within 2 units."""
+    return Curve([UNIT // 2, UNIT, UNIT // 2], 2)
 
 
 STEPS = [(0, 0, 0, 0, 0), (2, 0, 0, 1, 0), (1, 0, 0, 0, 5), (4, 0, 1, 0, 0)]
@@ -51,6 +56,13 @@ CALLS = {
     "run_book": {"n": 1, "d": 2, "models": [line(), one()], "steps": STEPS},
     "shares": {"sheet": SHEET},
     "shares_book": {"n": 1, "d": 2, "models": [line(), one()], "steps": STEPS},
+    "negate_curve": {"f": bent()},
+    "add_curves": {"f": bent(), "g": bent()},
+    "subtract_curves": {"f": bent(), "g": bent()},
+    "multiply_curves": {"f": bent(), "g": bent()},
+    "range_of_curve": {"f": bent()},
+    "to_powers": {"f": bent()},
+    "from_powers": {"f": line()},
 }
 
 
@@ -77,6 +89,13 @@ def numbers_of_model(name, model):
         yield inside(number, lambda others: Model(n, radius, zip(others, coefficients)))
     for number in numbers_of_list(f"{name}.coefficient", coefficients, VALUE):
         yield inside(number, lambda others: Model(n, radius, zip(keys, others)))
+
+
+def numbers_of_curve(name, curve):
+    coefficients, radius = curve.coefficients, curve.radius
+    yield Number(f"{name}.radius", RADIUS, radius, lambda other: Curve(coefficients, other))
+    for number in numbers_of_list(f"{name}.coefficient", coefficients, VALUE):
+        yield inside(number, lambda others: Curve(others, radius))
 
 
 def inside(number, around):
@@ -108,6 +127,8 @@ def numbers_of(name, argument):
         yield from numbers_of_elements(name, argument, numbers_of_step)
     elif isinstance(argument, Model):
         yield from numbers_of_model(name, argument)
+    elif isinstance(argument, Curve):
+        yield from numbers_of_curve(name, argument)
     else:
         assert name == "sheet", f"{name} is no argument that this test knows"
 
@@ -194,6 +215,8 @@ def missing(exported):
         yield "a coordinate that is not there is taken for 0"
     if outcome(hechroung.run_book, 1, 2, [], [(1, 0, 0, 0, 5, 7)]) is not ValueError:
         yield "a sixth field of a step is left out"
+    if outcome(hechroung.negate_curve, Curve([0] * 16 + [7])) is not ValueError:
+        yield "a seventeenth coefficient of a curve is left out"
 
 
 def main():

@@ -24,10 +24,12 @@
 #![deny(unsafe_op_in_unsafe_fn)]
 #![deny(unsafe_code)]
 
+pub mod curves;
 #[allow(unsafe_code)]
 pub mod raw;
 mod sheets;
 
+pub use curves::Curve;
 pub use sheets::{lines, open, records, rewrite, run, run_book, shares, shares_book, write};
 pub use sheets::{Book, Flat, Kind, Record, Records, RefusedRun, Report, Shares, Step, Summary};
 
@@ -43,6 +45,8 @@ pub const DENOMINATOR: i64 = 212_837_625;
 pub const MOST_VARS: usize = 8;
 /// The places of a model's terms.
 pub const MOST_TERMS: usize = 64;
+/// The coefficients of a curve: those of T_0 to T_15.
+pub const CURVE_PLACES: usize = 16;
 /// The places of a book's models and of its steps.
 pub const MOST_MODELS: usize = 16;
 pub const MOST_STEPS: usize = 64;
@@ -65,7 +69,7 @@ pub struct Model {
     pub coefficients: [i64; MOST_TERMS],
 }
 
-/// The number of a refusal in documents 01 and 02, 1 to 12, and its place.
+/// The number of a refusal in documents 01 and 02, 1 to 13, and its place.
 #[derive(Clone, Copy, Debug, PartialEq, Eq, PartialOrd, Ord)]
 pub struct Refusal {
     pub number: u8,
@@ -146,7 +150,8 @@ impl fmt::Display for Refusal {
             9 => "the box is left",
             10 => "the models differ in their number of variables",
             11 => "the buffer is too short",
-            _ => "uncertified: the divisor is not shown to be nowhere zero",
+            12 => "uncertified: the divisor is not shown to be nowhere zero",
+            _ => "a model to convert has another number of variables than one",
         };
         write!(out, "refused {} {}: {reason}", self.number, self.place)
     }

@@ -270,6 +270,54 @@ exported! {
         numbers: *mut u64,
         numbers_length: usize,
     ) -> u8;
+
+    hechroung_curve: Curve = (
+        code: u8,
+        coefficients1: *const i64,
+        coefficients1_length: usize,
+        radius1: u64,
+        coefficients2: *const i64,
+        coefficients2_length: usize,
+        radius2: u64,
+        coefficients: *mut i64,
+        coefficients_length: usize,
+        numbers: *mut u64,
+        numbers_length: usize,
+    ) -> u8;
+
+    hechroung_curve_range: CurveRange = (
+        coefficients: *const i64,
+        coefficients_length: usize,
+        radius: u64,
+        ends: *mut i64,
+        ends_length: usize,
+    ) -> u8;
+
+    hechroung_to_powers: ToPowers = (
+        coefficients: *const i64,
+        coefficients_length: usize,
+        radius: u64,
+        keys: *mut u32,
+        keys_length: usize,
+        out_coefficients: *mut i64,
+        out_coefficients_length: usize,
+        numbers: *mut u64,
+        numbers_length: usize,
+    ) -> u8;
+
+    hechroung_from_powers: FromPowers = (
+        n: u8,
+        count: usize,
+        radius: u64,
+        keys: *const u32,
+        keys_length: usize,
+        coefficients: *const i64,
+        coefficients_length: usize,
+        out_coefficients: *mut i64,
+        out_coefficients_length: usize,
+        out_numbers: *mut u64,
+        out_numbers_length: usize,
+    ) -> u8;
 }
 
 /// A book that is handed over: for each model an entry of `ns`, `counts` and `radii` and 64 keys and coefficients; for
@@ -641,6 +689,102 @@ pub fn shares_book(
             ends.len(),
             shares.as_mut_ptr(),
             shares.len(),
+        )
+    }
+}
+
+/// A curve that is handed over: the slice holds at least 16 coefficients, that of T_0 first.
+#[derive(Clone, Copy, Debug)]
+pub struct HandedCurve<'a> {
+    pub coefficients: &'a [i64],
+    pub radius: u64,
+}
+
+/// A call on curves. Codes: 1 negate, 2 add, 3 subtract, 4 multiply. It returns the refusal's number, 0 without one. 16
+/// coefficients go into the slice, and the refusal's place and the radius into `numbers`.
+#[must_use]
+pub fn curve(
+    code: u8,
+    f: HandedCurve<'_>,
+    g: HandedCurve<'_>,
+    coefficients: &mut [i64],
+    numbers: &mut [u64],
+) -> u8 {
+    // SAFETY: as in `call`.
+    unsafe {
+        hechroung_curve(
+            code,
+            f.coefficients.as_ptr(),
+            f.coefficients.len(),
+            f.radius,
+            g.coefficients.as_ptr(),
+            g.coefficients.len(),
+            g.radius,
+            coefficients.as_mut_ptr(),
+            coefficients.len(),
+            numbers.as_mut_ptr(),
+            numbers.len(),
+        )
+    }
+}
+
+/// The range of a curve: the refusal's number, 0 without one. The low and the high end go into `ends`.
+#[must_use]
+pub fn curve_range(f: HandedCurve<'_>, ends: &mut [i64]) -> u8 {
+    // SAFETY: as in `call`.
+    unsafe {
+        hechroung_curve_range(
+            f.coefficients.as_ptr(),
+            f.coefficients.len(),
+            f.radius,
+            ends.as_mut_ptr(),
+            ends.len(),
+        )
+    }
+}
+
+/// A curve in powers: the refusal's number, 0 without one. The model goes into the slices as in [`call`].
+#[must_use]
+pub fn to_powers(
+    f: HandedCurve<'_>,
+    keys: &mut [u32],
+    coefficients: &mut [i64],
+    numbers: &mut [u64],
+) -> u8 {
+    // SAFETY: as in `call`.
+    unsafe {
+        hechroung_to_powers(
+            f.coefficients.as_ptr(),
+            f.coefficients.len(),
+            f.radius,
+            keys.as_mut_ptr(),
+            keys.len(),
+            coefficients.as_mut_ptr(),
+            coefficients.len(),
+            numbers.as_mut_ptr(),
+            numbers.len(),
+        )
+    }
+}
+
+/// A model of one variable as a curve: the refusal's number, 0 without one. The curve goes into the slices as in
+/// [`curve`].
+#[must_use]
+pub fn from_powers(f: Handed<'_>, coefficients: &mut [i64], numbers: &mut [u64]) -> u8 {
+    // SAFETY: as in `call`.
+    unsafe {
+        hechroung_from_powers(
+            f.n,
+            f.count,
+            f.radius,
+            f.keys.as_ptr(),
+            f.keys.len(),
+            f.coefficients.as_ptr(),
+            f.coefficients.len(),
+            coefficients.as_mut_ptr(),
+            coefficients.len(),
+            numbers.as_mut_ptr(),
+            numbers.len(),
         )
     }
 }

@@ -24,6 +24,7 @@ fn the_header_has_the_same_limits() {
         ("DENOMINATOR", hechroung::DENOMINATOR as usize),
         ("MOST_VARIABLES", hechroung::MOST_VARS),
         ("MOST_TERMS", hechroung::MOST_TERMS),
+        ("CURVE_PLACES", hechroung::CURVE_PLACES),
         ("MOST_MODELS", hechroung::MOST_MODELS),
         ("MOST_STEPS", hechroung::MOST_STEPS),
         ("LONGEST_SHEET", hechroung::LONGEST_SHEET),

@@ -1,7 +1,7 @@
 //! A slice that is one place too short is answered with MISUSED, and nothing is changed; with just enough room the call
 //! is answered.
 
-use hechroung::raw::{self, Handed, HandedBook, HandedModels, MISUSED};
+use hechroung::raw::{self, Handed, HandedBook, HandedCurve, HandedModels, MISUSED};
 
 /// The constant 1 / U, in one variable.
 const SHEET: [u8; 16] = [1, 0, 0, 0, 1, 0, 0, 0, 1, 1, 0, 1, 0, 0, 0x4D, 0x4B];
@@ -592,4 +592,150 @@ fn a_quotient_needs_four_models_and_room() {
         (room.keys[64], room.coefficients[64], room.numbers[4]),
         (MARK.into(), MARK.into(), MARK.into())
     );
+}
+
+/// 3 T_1, within 2 units, and more behind it that is not looked at.
+const CURVE: HandedCurve<'static> = HandedCurve {
+    coefficients: &[0, 3, 0, 0, 0, 0, 0, 0, 0, 0, 0, 0, 0, 0, 0, 0, 7, -7],
+    radius: 2,
+};
+
+/// The same with one coefficient too few.
+const SHORT_CURVE: HandedCurve<'static> = HandedCurve {
+    coefficients: CURVE.coefficients.split_at(15).0,
+    ..CURVE
+};
+
+#[test]
+fn a_call_on_curves_needs_16_coefficients_of_each_and_room() {
+    const MARKED: (u8, [i64; 16], [u64; 2]) = (MISUSED, [MARK as i64; 16], [MARK as u64; 2]);
+    let called = |code, f, g, coefficients: usize, numbers: usize| {
+        let (_, mut stored, mut written) = MARKED;
+        let number = raw::curve(
+            code,
+            f,
+            g,
+            &mut stored[..coefficients],
+            &mut written[..numbers],
+        );
+        (number, stored, written)
+    };
+    // The second curve of negate is not looked at, but its length is.
+    for code in 1..=4 {
+        assert_eq!(called(code, SHORT_CURVE, CURVE, 16, 2), MARKED, "{code}");
+        assert_eq!(called(code, CURVE, SHORT_CURVE, 16, 2), MARKED, "{code}");
+        assert_eq!(called(code, CURVE, CURVE, 15, 2), MARKED, "{code}");
+        assert_eq!(called(code, CURVE, CURVE, 16, 1), MARKED, "{code}");
+    }
+    for code in [0, 5, 255] {
+        assert_eq!(called(code, CURVE, CURVE, 16, 2), MARKED, "{code}");
+    }
+    let broken = HandedCurve {
+        radius: 1 << 31,
+        ..CURVE
+    };
+    // The number; the first three coefficients, and the place and the radius. 9 T_1 T_1 is too small to count.
+    for (code, g, number, first, numbers) in [
+        (1, broken, 0, [0, -3, 0], [0, 2]),
+        (2, CURVE, 0, [0, 6, 0], [0, 4]),
+        (3, CURVE, 0, [0, 0, 0], [0, 4]),
+        (4, CURVE, 0, [0, 0, 0], [0, 1]),
+        (2, broken, 5, [0, 0, 0], [1, 0]),
+    ] {
+        let mut coefficients = [0; 16];
+        coefficients[..3].copy_from_slice(&first);
+        let expected = (number, coefficients, numbers);
+        assert_eq!(called(code, CURVE, g, 16, 2), expected, "{code}");
+    }
+}
+
+#[test]
+fn a_range_of_a_curve_needs_16_coefficients_and_2_ends() {
+    let mark = i64::from(MARK);
+    let mut ends = [mark; 3];
+    assert_eq!(raw::curve_range(SHORT_CURVE, &mut ends), MISUSED);
+    assert_eq!(raw::curve_range(CURVE, &mut ends[..1]), MISUSED);
+    assert_eq!(ends, [mark; 3]);
+    assert_eq!(raw::curve_range(CURVE, &mut ends), 0);
+    assert_eq!(ends, [-5, 5, mark]);
+    let broken = HandedCurve {
+        radius: 1 << 31,
+        ..CURVE
+    };
+    assert_eq!(raw::curve_range(broken, &mut ends), 5);
+    assert_eq!(ends, [0, 0, mark]);
+}
+
+#[test]
+fn a_conversion_to_powers_needs_16_coefficients_and_room() {
+    let called = |f, room: &mut Room| {
+        raw::to_powers(f, &mut room.keys, &mut room.coefficients, &mut room.numbers)
+    };
+    const ENOUGH: [usize; 4] = [64, 64, 4, 0];
+    let mut room = Room::new(ENOUGH);
+    assert_eq!(called(SHORT_CURVE, &mut room), MISUSED);
+    assert!(room.unchanged());
+    for short in 0..3 {
+        let mut lengths = ENOUGH;
+        lengths[short] -= 1;
+        let mut room = Room::new(lengths);
+        assert_eq!(called(CURVE, &mut room), MISUSED, "slice {short}");
+        assert!(room.unchanged(), "slice {short}");
+    }
+    let mut room = Room::new([65, 65, 5, 0]);
+    assert_eq!(called(CURVE, &mut room), 0);
+    let mark = u64::from(MARK);
+    assert_eq!(room.numbers, [0, 1, 1, 2, mark]);
+    assert_eq!((room.keys[0], room.coefficients[0]), (0x1000_0000, 3));
+    assert_eq!(room.coefficients[1..64], [0; 63]);
+    assert_eq!(
+        (room.keys[64], room.coefficients[64]),
+        (MARK.into(), MARK.into())
+    );
+}
+
+#[test]
+fn a_conversion_back_needs_its_places_and_room() {
+    const MARKED: (u8, [i64; 17], [u64; 3]) = (MISUSED, [MARK as i64; 17], [MARK as u64; 3]);
+    let called = |f, coefficients: usize, numbers: usize| {
+        let (_, mut stored, mut written) = MARKED;
+        let number = raw::from_powers(f, &mut stored[..coefficients], &mut written[..numbers]);
+        (number, stored, written)
+    };
+    // 1 + 2 x² is 2 T_0 + T_2.
+    let model = Handed {
+        n: 1,
+        count: 2,
+        radius: 7,
+        keys: &[0, 0x2000_0000],
+        coefficients: &[1, 2],
+    };
+    let short_keys = Handed {
+        keys: &[0],
+        ..model
+    };
+    let short_coefficients = Handed {
+        coefficients: &[1],
+        ..model
+    };
+    assert_eq!(called(short_keys, 16, 2), MARKED);
+    assert_eq!(called(short_coefficients, 16, 2), MARKED);
+    assert_eq!(called(model, 15, 2), MARKED);
+    assert_eq!(called(model, 16, 1), MARKED);
+    let (number, coefficients, numbers) = called(model, 17, 3);
+    assert_eq!((number, coefficients[..4].to_vec()), (0, vec![2, 0, 1, 0]));
+    assert_eq!(coefficients[3..16], [0; 13]);
+    assert_eq!(
+        (coefficients[16], numbers),
+        (MARK.into(), [0, 7, MARK.into()])
+    );
+    // Two variables, and a key that breaks a rule.
+    for (other, number) in [
+        (Handed { n: 2, ..model }, 13),
+        (Handed { n: 9, ..model }, 5),
+    ] {
+        let (found, coefficients, numbers) = called(other, 16, 2);
+        assert_eq!((found, coefficients[..16].to_vec()), (number, vec![0; 16]));
+        assert_eq!(numbers[..2], [0, 0]);
+    }
 }
