@@ -5,7 +5,7 @@ use crate::integrals::Integrals;
 use crate::renamed::Renamed;
 use crate::rows::Rows;
 use crate::shaped::{self, Shape};
-use crate::{renamed, sheets, stepping};
+use crate::{curves, renamed, sheets, stepping};
 use hechroung::{Ends, Exact, Integral, Model};
 use reference::calls::{Call, CallAnswer};
 use reference::model::monomial_of_key;
@@ -44,6 +44,8 @@ pub struct Tried {
     pub points_not_promised: u64,
     pub points_too_large: u64,
     pub integrals: u64,
+    /// Those of accepted calls on curves.
+    pub points_of_curves: u64,
 }
 
 impl Seen {
@@ -74,6 +76,8 @@ pub fn compare(case: &Case) -> Result<Seen, String> {
         Case::RunBook(book) => sheets::compare_run_book(book),
         Case::Stepped(sheet, room) => stepping::compare(sheet, *room),
         Case::Renamed(sheet, other) => renamed::compare(sheet, other),
+        Case::Curve(call) => curves::compare(call),
+        Case::ShapedCurve(call, shape) => curves::compare_shaped(call, shape),
     };
     let counted = found.map(|seen| Seen {
         variables: case.variables(),

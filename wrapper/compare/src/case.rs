@@ -1,8 +1,10 @@
 //! A case of the comparison, and the line that names it: a word and hex digits.
 
+use crate::curves;
 use crate::shaped::Shape;
 use reference::book::{Book, Step};
 use reference::calls::Call;
+use reference::chebyshev::Call as CurveCall;
 use reference::model::{FEW_VARIABLES, MOST_TERMS, MOST_VARIABLES};
 use reference::renaming::Reordering;
 use reference::sheet::Mark;
@@ -28,6 +30,10 @@ pub enum Case {
     Stepped(Vec<u8>, usize),
     /// A sheet that the reader accepts, with another order of its variables.
     Renamed(Vec<u8>, Reordering),
+    /// A call on Chebyshev curves, and where it is accepted tried for enclosure.
+    Curve(CurveCall),
+    /// The same by the exported functions themselves, with slices of any length and any code.
+    ShapedCurve(CurveCall, curves::Shape),
 }
 
 /// How many variables a case has, by which cases are counted: those of each mark apart.
@@ -86,6 +92,10 @@ impl Case {
             | Case::Stepped(sheet, _)
             | Case::Renamed(sheet, _) => Variables::of_sheet(sheet),
             Case::Book(book, _) | Case::RunBook(book) => Variables::of_n(book.n),
+            Case::Curve(call) | Case::ShapedCurve(call, _) => match call {
+                CurveCall::FromPowers { f } => Variables::of_n(f.n),
+                _ => Variables::of_n(1),
+            },
         }
     }
 
@@ -100,6 +110,8 @@ impl Case {
             Case::RunBook(_) => "book run",
             Case::Stepped(..) => "sheet stepped through",
             Case::Renamed(..) => "renamed sheet",
+            Case::Curve(call) => curves::kind(call),
+            Case::ShapedCurve(..) => "curves, slices of any length",
         }
     }
 
@@ -145,6 +157,15 @@ impl Case {
                 bytes.extend(sheet);
                 "renamed"
             }
+            Case::Curve(call) => {
+                curves::push_call(&mut bytes, call);
+                "curve"
+            }
+            Case::ShapedCurve(call, shape) => {
+                shape.push(&mut bytes);
+                curves::push_call(&mut bytes, call);
+                "shapedcurve"
+            }
         };
         format!("{word} {}", hex(&bytes))
     }
@@ -177,6 +198,11 @@ impl Case {
             "renamed" => {
                 let other = take_reordering(&mut bytes)?;
                 Case::Renamed(bytes.rest(), other)
+            }
+            "curve" => Case::Curve(curves::take_call(&mut bytes)?),
+            "shapedcurve" => {
+                let shape = curves::Shape::take(&mut bytes)?;
+                Case::ShapedCurve(curves::take_call(&mut bytes)?, shape)
             }
             _ => return None,
         };
@@ -249,7 +275,7 @@ fn push_models(bytes: &mut Vec<u8>, before: &[u8], models: &[&StoredModel]) {
 }
 
 /// All fields of the struct, those of all 64 places too.
-fn push_model(bytes: &mut Vec<u8>, model: &StoredModel) {
+pub fn push_model(bytes: &mut Vec<u8>, model: &StoredModel) {
     bytes.push(model.n);
     bytes.extend((model.count as u64).to_le_bytes());
     bytes.extend(model.radius.to_le_bytes());
@@ -376,7 +402,7 @@ fn take_point(bytes: &mut Bytes) -> Option<[i64; MOST_VARIABLES]> {
     Some(point)
 }
 
-fn take_model(bytes: &mut Bytes) -> Option<Box<StoredModel>> {
+pub fn take_model(bytes: &mut Bytes) -> Option<Box<StoredModel>> {
     let mut model = Box::new(StoredModel {
         n: bytes.byte()?,
         count: bytes.number()? as usize,
@@ -421,6 +447,10 @@ mod tests {
             "renamed 020000",
             "renamed 0201",
             "sheet 0",
+            "curve",
+            "curve 08",
+            "curve 0100",
+            "shapedcurve 0001",
         ] {
             assert_eq!(Case::from_line(line), None, "{line}");
         }

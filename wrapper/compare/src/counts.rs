@@ -2,13 +2,14 @@
 
 use crate::agree::{Seen, Tried};
 use crate::case::Variables;
+use crate::curves;
 use crate::integrals::Integrals;
 use crate::renamed::Renamed;
 use crate::rows::Rows;
 use std::collections::BTreeMap;
 
 /// The refusals of documents 01 and 02.
-const REFUSALS: std::ops::RangeInclusive<u8> = 1..=12;
+const REFUSALS: std::ops::RangeInclusive<u8> = 1..=13;
 /// Those that a kind of case has to reach, up to four variables and above.
 const REACHED: [(&str, &[u8]); 7] = [
     ("antiderivative", &[3, 5, 6]),
@@ -50,6 +51,8 @@ struct Kind {
     rows: Rows,
     integrals: Integrals,
     renamed: Renamed,
+    /// Points at which exact outcomes of calls on curves were held against their answers.
+    points: u64,
 }
 
 /// The answers of cases that are alike in how many variables they have.
@@ -76,6 +79,7 @@ impl Counts {
         kind.rows.add(&seen.rows);
         kind.integrals.add(&seen.integrals);
         kind.renamed.add(&seen.renamed);
+        kind.points += seen.tried.points_of_curves;
         if seen.misused {
             kind.misused += 1;
             return;
@@ -122,6 +126,7 @@ impl Counts {
         let mut missing = self.unreached_refusals();
         missing.extend(self.unreached_places());
         missing.extend(self.untried());
+        missing.extend(self.unreached_curves());
         let mut miss = |name: &str, found: Option<Vec<String>>| {
             let found = found.unwrap_or_else(|| vec!["any".into()]).into_iter();
             missing.extend(found.map(|what| format!("{name}: {what}")));
@@ -184,6 +189,28 @@ impl Counts {
         missing
     }
 
+    /// Where a call on curves was not refused at a place, not accepted, or not tried for enclosure.
+    fn unreached_curves(&self) -> Vec<String> {
+        let none = Kind::default();
+        let mut missing = Vec::new();
+        for (name, refusals) in curves::REACHED {
+            let kind = self.kinds.get(name).unwrap_or(&none);
+            let refused = |(number, place): &(u8, usize)| {
+                let mut answers = kind.answers.values();
+                answers.any(|answers| {
+                    let places = answers.refused.get(number);
+                    places.is_some_and(|places| places.contains_key(place))
+                })
+            };
+            let absent = refusals.iter().filter(|refusal| !refused(refusal));
+            missing.extend(absent.map(|(number, place)| format!("{name}: {number} at {place}")));
+            if kind.points == 0 {
+                missing.push(format!("{name}: an accepted call, and its enclosure"));
+            }
+        }
+        missing
+    }
+
     /// The refusals that sheets reached at few places.
     fn unreached_places(&self) -> Vec<String> {
         let mut missing = Vec::new();
@@ -212,6 +239,10 @@ impl Counts {
             kind.rows.print();
             kind.integrals.print();
             kind.renamed.print();
+            if kind.points > 0 {
+                let points = kind.points;
+                println!("    enclosure tried with exact fractions: {points} points");
+            }
             all.add_answers(kind);
         }
         all.print("all");
@@ -238,6 +269,7 @@ impl Kind {
         self.rows.add(&other.rows);
         self.integrals.add(&other.integrals);
         self.renamed.add(&other.renamed);
+        self.points += other.points;
     }
 
     /// Without the rows, integrals and what was renamed.

@@ -16,6 +16,7 @@
 mod agree;
 mod case;
 mod counts;
+mod curves;
 mod integrals;
 mod limits;
 mod program;

@@ -24,9 +24,9 @@ pub struct Shape {
 const EVALUATE: u8 = 3;
 
 /// What the slices for the answer hold before.
-const KEY: u32 = 0xABCD_4321;
-const COEFFICIENT: i64 = -0x0123_4567_89AB_CDEF;
-const NUMBER: u64 = 0xFEDC_BA98_7654_3210;
+pub const KEY: u32 = 0xABCD_4321;
+pub const COEFFICIENT: i64 = -0x0123_4567_89AB_CDEF;
+pub const NUMBER: u64 = 0xFEDC_BA98_7654_3210;
 
 impl Shape {
     /// The call's own code, and every slice as long as it has to be.
@@ -288,7 +288,7 @@ fn compare_ends(
 }
 
 /// Whether slices have every place that a count names.
-fn lent(model: &Model, keys: usize, coefficients: usize) -> bool {
+pub fn lent(model: &Model, keys: usize, coefficients: usize) -> bool {
     keys.min(coefficients) >= model.count.min(MOST_TERMS)
 }
 
@@ -313,13 +313,13 @@ fn handed<'a>(model: &Model, keys: &'a [u32], coefficients: &'a [i64]) -> Handed
 }
 
 /// The first places hold these, the others what they held; cut off where the length is smaller.
-fn over<T: Copy>(first: &[T], held: T, length: usize) -> Vec<T> {
+pub fn over<T: Copy>(first: &[T], held: T, length: usize) -> Vec<T> {
     let mut all = first.to_vec();
     all.resize(length, held);
     all
 }
 
-fn misused<T: PartialEq + std::fmt::Debug>(
+pub fn misused<T: PartialEq + std::fmt::Debug>(
     number: u8,
     held: &T,
     before: &T,

@@ -133,6 +133,7 @@ fn enclosed(bytes: &[u8], summary: &Summary, seed: u64) -> Result<Tried, String>
         points_not_promised: checked.points_not_promised as u64,
         points_too_large: checked.points_too_large as u64,
         integrals: u64::from(checked.integral),
+        ..Tried::default()
     })
 }
 

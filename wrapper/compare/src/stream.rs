@@ -1,8 +1,8 @@
 //! The cases, one for each number from 0 and independent of each other.
 
 use crate::case::Case;
-use crate::limits;
 use crate::shaped::Shape;
+use crate::{curves, limits};
 use hechroung::LONGEST_RECORD;
 use reference::book::Book;
 use reference::generate::{self, books, hostile, Random};
@@ -11,7 +11,7 @@ use reference::sheet::{self, Mark, LONGEST_SHEET};
 /// The case of a number.
 pub fn case(seed: u64, number: u64) -> Case {
     let mut random = Random::new(seed ^ number.wrapping_mul(0x2545_F491_4F6C_DD1D));
-    match random.below(24) {
+    match random.below(26) {
         0..=4 => Case::Call(hostile::call(seed, number)),
         5..=7 => Case::Call(limits::call(&mut random)),
         8 => Case::Shaped(hostile::call(seed, number), Shape::random(&mut random)),
@@ -28,10 +28,19 @@ pub fn case(seed: u64, number: u64) -> Case {
         }
         20 => Case::RunBook(Box::new(books::book(seed, number))),
         21 => Case::RunBook(Box::new(sheet_book(seed, number))),
-        _ => {
+        22 | 23 => {
             let sheet = generate::sheet(seed, number).bytes;
             let room = *random.pick(&[0, 1, 7, 8, 100, LONGEST_RECORD, LONGEST_RECORD + 9]);
             Case::Stepped(sheet, room)
+        }
+        _ => {
+            // Another number, as the kind of call goes by it.
+            let call = generate::chebyshev::call(seed, random.next_u64());
+            if random.one_in(6) {
+                let shape = curves::Shape::random(&mut random, &call);
+                return Case::ShapedCurve(call, shape);
+            }
+            Case::Curve(call)
         }
     }
 }
@@ -50,7 +59,8 @@ pub fn named() -> Vec<Case> {
             Case::Rewrite(sheet, length),
         ]
     });
-    both.collect()
+    both.chain(curves::named().into_iter().map(Case::Curve))
+        .collect()
 }
 
 /// The book of a generated sheet, for runs that a limit ends; any book where the sheet is refused before.

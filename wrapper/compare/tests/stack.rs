@@ -2,11 +2,12 @@
 //! bytes. What lies below the stack may not be touched: a call that needs more ends the test by a signal. The few words
 //! that the test itself needs to hand over the arguments count as the call's.
 
-use hechroung::raw::{self, Handed, HandedBook, HandedModels};
+use hechroung::raw::{self, Handed, HandedBook, HandedCurve, HandedModels};
+use hechroung::{CURVE_PLACES, MOST_MODELS, MOST_STEPS, MOST_TERMS, MOST_VARS};
 use hechroung::{LONGEST_RECORD, LONGEST_SHEET, LONGEST_TEXT};
-use hechroung::{MOST_MODELS, MOST_STEPS, MOST_TERMS, MOST_VARS};
 use reference::book::{Book, Step, ANTIDERIVATIVE, INPUT, MULTIPLY, QUOTIENT, SUBSTITUTE};
-use reference::generate::{self, books, quotients, Draft, DraftModel, Random};
+use reference::chebyshev::{Call as CurveCall, StoredChebyshev};
+use reference::generate::{self, books, chebyshev, quotients, Draft, DraftModel, Random};
 use reference::sheet;
 use reference::stored::StoredModel;
 use std::arch::asm;
@@ -222,6 +223,33 @@ impl Answer {
             &mut self.ends,
             &mut self.shares,
         );
+    }
+
+    fn curve(&mut self, code: u8, f: &StoredChebyshev, g: &StoredChebyshev) {
+        self.number = raw::curve(
+            code,
+            lent(f),
+            lent(g),
+            &mut self.coefficients,
+            &mut self.numbers,
+        );
+    }
+
+    fn curve_range(&mut self, f: &StoredChebyshev) {
+        self.number = raw::curve_range(lent(f), &mut self.ends);
+    }
+
+    fn curve_to_powers(&mut self, f: &StoredChebyshev) {
+        self.number = raw::to_powers(
+            lent(f),
+            &mut self.keys,
+            &mut self.coefficients,
+            &mut self.numbers,
+        );
+    }
+
+    fn curve_from_powers(&mut self, f: &Lent) {
+        self.number = raw::from_powers(f.handed(), &mut self.coefficients, &mut self.numbers);
     }
 }
 
@@ -463,6 +491,68 @@ fn a_quotient_stays_within_its_figure() {
     });
     most("quotient", CALL, used);
     assert!(accepted > 10, "quotient: {accepted} accepted");
+}
+
+/// The slices of a curve.
+fn lent(curve: &StoredChebyshev) -> HandedCurve<'_> {
+    HandedCurve {
+        coefficients: &curve.coefficients,
+        radius: curve.radius,
+    }
+}
+
+/// Generated calls, and both conversions of a curve and a model with all places in use.
+fn curve_calls() -> Vec<CurveCall> {
+    let generated = (0..7 * GENERATED).map(|number| chebyshev::call(7, number));
+    let mut all: Vec<_> = generated.collect();
+    let f = StoredChebyshev {
+        coefficients: [3; CURVE_PLACES],
+        radius: 5,
+    };
+    let powers = DraftModel {
+        radius: 5,
+        terms: (0..CURVE_PLACES as u32)
+            .map(|power| (power << 28, 3))
+            .collect(),
+    };
+    all.extend([
+        CurveCall::Multiply { f, g: f },
+        CurveCall::ToPowers { f },
+        CurveCall::FromPowers {
+            f: Box::new(StoredModel::store(&powers.model(1))),
+        },
+    ]);
+    all
+}
+
+#[test]
+fn a_call_on_curves_stays_within_its_figure() {
+    let mut stack = Stack::new(CALL);
+    let mut accepted = 0;
+    let used = curve_calls().into_iter().map(|call| {
+        let mut answer = Answer::NONE;
+        let used = match &call {
+            CurveCall::Negate { f } => stack.run(|| answer.curve(1, f, f)),
+            CurveCall::Add { f, g } => stack.run(|| answer.curve(2, f, g)),
+            CurveCall::Subtract { f, g } => stack.run(|| answer.curve(3, f, g)),
+            CurveCall::Multiply { f, g } => stack.run(|| answer.curve(4, f, g)),
+            CurveCall::Range { f } => stack.run(|| answer.curve_range(f)),
+            CurveCall::ToPowers { f } => stack.run(|| answer.curve_to_powers(f)),
+            CurveCall::FromPowers { f } => {
+                let f = Lent::new(f);
+                stack.run(|| answer.curve_from_powers(&f))
+            }
+        };
+        let expected = call
+            .answer()
+            .refusal()
+            .map_or(0, |refusal| refusal.number());
+        assert_eq!(answer.number, expected, "{call:?}");
+        accepted += u64::from(answer.number == 0);
+        used
+    });
+    most("curves", CALL, used);
+    assert!(accepted > GENERATED, "curves: {accepted} accepted");
 }
 
 #[test]
