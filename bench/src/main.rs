@@ -4,6 +4,7 @@
 
 mod antiderivatives;
 mod calls;
+mod curves;
 mod flint;
 mod growth;
 mod inputs;
@@ -36,6 +37,7 @@ fn main() {
     quotients::print(seed);
     antiderivatives::print(seed);
     integrals::print(seed);
+    curves::print(seed);
     sheets::print(&mut random);
     shares::print(seed);
     growth::print(&mut random);

@@ -81,7 +81,7 @@ fn heads(variables: u8) {
 }
 
 /// The powers 0 to 15 of variable 1.
-fn line() -> Vec<u32> {
+pub fn line() -> Vec<u32> {
     (0..16).map(|exponent| exponent << shift(1)).collect()
 }
 
