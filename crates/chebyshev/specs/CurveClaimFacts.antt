@@ -37,7 +37,7 @@ use Rattle.chebyshev.specs.PowerRows.{places, zeros}
 use Rattle.chebyshev.specs.Curve.{Curve, zero-curve, series, value, At, Within}
 use Rattle.chebyshev.specs.CurveValueLaws.{Near, at-near}
 use Rattle.chebyshev.specs.CurveClaimProof.{coordinate-one}
-use Rattle.chebyshev.specs.Edges.{curve, at-degree}
+use Rattle.chebyshev.specs.ChebyshevEdges.{curve, at-degree}
 open Ring ℚR using (+-neg, *-one, *-comm)
 
 -- ---- every hypothesis can be met

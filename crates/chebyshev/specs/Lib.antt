@@ -10,7 +10,7 @@ pub mod CurveCalls
 pub mod CurveClaim
 -- Facts by computation.
 pub mod Computing
-pub mod Edges
+pub mod ChebyshevEdges
 -- What is proved of them.
 pub mod RingIntegersLaws
 pub mod RecurrenceLaws

@@ -1,5 +1,5 @@
 -- Cases at the edges of the calls on curves, from these definitions by computation: a row, and what its call must hand
--- back.
+-- back. The file's name comes before those of the laws, so that a wrong definition is refused here first.
 use mathlib.Core.Path.{_≡_, refl}
 use mathlib.Core.List.{List, [], _∷_, _++_, map}
 use Prim.Native.Nat.{ℕ, _+_, _-_}
@@ -99,9 +99,21 @@ refuses-ends i c r = record {
   wanted = of-ends (back r 0 (ends (pos 0) (pos 0)));
 }
 
--- ---- the table
-unfoldable pub edges : List Curve-edge
-edges =
+-- ---- the rows
+-- all that they are written with
+unfoldable pub row-forms : Unit {0}
+unfolding
+    curve-calls forms back curve at-degree at-degrees power full over counting
+    gives refuses gives-powers refuses-powers gives-ends refuses-ends
+row-forms = tt
+
+-- every call of a table hands back what it must
+abbrev pub Hold : List Curve-edge → Type 0
+Hold l = map (λ e. e .given) l ≡ map (λ e. e .wanted) l
+
+-- tests of one and of two curves, negatives, sums, differences
+unfoldable pub sums-edges : List Curve-edge
+sums-edges =
     -- a span above 2^30 gets 5: at place 0, at place 1, and at place 0 where both are; a span of 2^30 is one
     refuses 1 (call-negate over) 5 0
     ∷ refuses 2 (call-add full over) 5 1
@@ -120,8 +132,17 @@ edges =
     (curve (pos 6 ∷ pos 0 ∷ pos 4 ∷ []) 5)
     ∷ gives 13 (call-subtract (curve (pos 5 ∷ minus 3 ∷ []) 2) (curve (pos 1 ∷ pos 3 ∷ pos 4 ∷ []) 3))
     (curve (pos 4 ∷ minus 6 ∷ minus 4 ∷ []) 5)
+    ∷ []
+
+pub sums-hold : Hold sums-edges
+unfolding row-forms sums-edges
+sums-hold = refl
+
+-- products of two curves, exact but for what is above degree 15
+unfoldable pub products-edges : List Curve-edge
+products-edges =
     -- T_0 × T_0, T_1 × T_1, T_15 × T_15: T_30 goes into the radius
-    ∷ gives 14 (call-multiply (at-degree 0 (pos U)) (at-degree 0 (pos U))) (at-degree 0 (pos U))
+    gives 14 (call-multiply (at-degree 0 (pos U)) (at-degree 0 (pos U))) (at-degree 0 (pos U))
     ∷ gives 15 (call-multiply (at-degree 1 (pos U)) (at-degree 1 (pos U))) (at-degrees 0 (pos 524288) 2 (pos 524288) 0)
     ∷ gives 16 (call-multiply (at-degree 15 (pos U)) (at-degree 15 (pos U))) (curve (pos 524288 ∷ []) 524288)
     -- T_0 × T_i, from either side: each T_i once
@@ -130,8 +151,20 @@ edges =
     -- T_3 × T_5 and T_5 × T_3
     ∷ gives 19 (call-multiply (at-degree 3 (pos U)) (at-degree 5 (pos U))) (at-degrees 2 (pos 524288) 8 (pos 524288) 0)
     ∷ gives 20 (call-multiply (at-degree 5 (pos U)) (at-degree 3 (pos U))) (at-degrees 2 (pos 524288) 8 (pos 524288) 0)
+    -- T_8 × T_8: T_16 is the first that goes into the radius; T_7 × T_8: T_15 is the last that is kept
+    ∷ gives 59 (call-multiply (at-degree 8 (pos U)) (at-degree 8 (pos U))) (curve (pos 524288 ∷ []) 524288)
+    ∷ gives 60 (call-multiply (at-degree 7 (pos U)) (at-degree 8 (pos U))) (at-degrees 1 (pos 524288) 15 (pos 524288) 0)
+    ∷ []
+
+pub products-hold : Hold products-edges
+unfolding row-forms products-edges
+products-hold = refl
+
+-- products that are rounded
+unfoldable pub rounding-edges : List Curve-edge
+rounding-edges =
     -- halves go to the even coefficient, on both sides of 0; two halves make a whole unit of radius
-    ∷ gives 21 (call-multiply (at-degree 1 (pos 1)) (at-degree 1 (pos U))) (curve [] 1)
+    gives 21 (call-multiply (at-degree 1 (pos 1)) (at-degree 1 (pos U))) (curve [] 1)
     ∷ gives 22 (call-multiply (at-degree 1 (minus 1)) (at-degree 1 (pos U))) (curve [] 1)
     ∷ gives 23 (call-multiply (at-degree 1 (pos 3)) (at-degree 1 (pos U))) (at-degrees 0 (pos 2) 2 (pos 2) 1)
     ∷ gives 24 (call-multiply (at-degree 1 (minus 3)) (at-degree 1 (pos U))) (at-degrees 0 (minus 2) 2 (minus 2) 1)
@@ -143,8 +176,17 @@ edges =
     -- T_9² - T_7² as a product: T_16 cancels and adds nothing, T_18 does not
     ∷ gives 28 (call-multiply (at-degrees 7 (pos U) 9 (pos U) 0) (at-degrees 7 (minus U) 9 (pos U) 0))
     (curve (replicate 14 (pos 0) ++ minus 524288 ∷ []) 524288)
+    ∷ []
+
+pub rounding-hold : Hold rounding-edges
+unfolding row-forms rounding-edges
+rounding-hold = refl
+
+-- the radius of a product, and its span
+unfoldable pub radius-edges : List Curve-edge
+radius-edges =
     -- radii 2 and 3 without coefficients; each radius with the other's coefficients
-    ∷ gives 29 (call-multiply (curve [] 2) (curve [] 3)) (curve [] 1)
+    gives 29 (call-multiply (curve [] 2) (curve [] 3)) (curve [] 1)
     ∷ gives 30 (call-multiply (curve (pos U ∷ minus U ∷ []) 0) (curve [] 3)) (curve [] 6)
     ∷ gives 31 (call-multiply (curve [] 3) (curve (pos U ∷ minus U ∷ []) 0)) (curve [] 6)
     -- rounded up once: residuals of 1/4 and 1/4 with a small cross term, and with 1/4 above degree 15
@@ -153,13 +195,31 @@ edges =
     -- a product over the span gets 7
     ∷ refuses 33 (call-multiply full (curve (pos U ∷ pos 1 ∷ []) 0)) 7 0
     ∷ gives 34 (call-multiply full (at-degree 0 (pos U))) full
+    ∷ []
+
+pub radius-hold : Hold radius-edges
+unfolding row-forms radius-edges
+radius-hold = refl
+
+-- ranges
+unfoldable pub ranges-edges : List Curve-edge
+ranges-edges =
     -- the range: the constant counts, the sizes of all others do, and even degrees are not treated apart
-    ∷ gives-ends 35 (call-range (curve (pos 4 ∷ minus 2 ∷ pos 1 ∷ []) 1)) (pos 0) (pos 8)
+    gives-ends 35 (call-range (curve (pos 4 ∷ minus 2 ∷ pos 1 ∷ []) 1)) (pos 0) (pos 8)
     ∷ gives-ends 36 (call-range (at-degree 2 (pos 3))) (minus 3) (pos 3)
     ∷ gives-ends 37 (call-range (at-degree 15 (minus 3))) (minus 3) (pos 3)
     ∷ gives-ends 38 (call-range (curve (minus 7 ∷ []) 0)) (minus 7) (minus 7)
+    ∷ []
+
+pub ranges-hold : Hold ranges-edges
+unfolding row-forms ranges-edges
+ranges-hold = refl
+
+-- to powers
+unfoldable pub in-powers-edges : List Curve-edge
+in-powers-edges =
     -- to powers: zeros are dropped, the radius stays
-    ∷ gives-powers 39 (call-to-powers (curve [] 5)) 5 []
+    gives-powers 39 (call-to-powers (curve [] 5)) 5 []
     ∷ gives-powers 40 (call-to-powers (curve (pos 1 ∷ pos 0 ∷ pos 1 ∷ []) 5)) 5 (power 2 (pos 2))
     ∷ gives-powers 41 (call-to-powers (at-degree 3 (pos U))) 0 (power 1 (minus 3145728) ++ power 3 (pos 4194304))
     -- T_15 has 275,807 in powers: 3,893 units are within the span, one more is not
@@ -168,8 +228,20 @@ edges =
     ++ power 9 (minus 274067200) ++ power 11 (pos 358778880) ++ power 13 (minus 239185920)
     ++ power 15 (pos 63782912))
     ∷ refuses-powers 43 (call-to-powers (at-degree 15 (pos 3894))) 7
+    -- the radius counts too, once: 3,893 units of T_15 leave 25,173
+    ∷ gives-powers 61 (call-to-powers (curve (pos (span-limit - 1) ∷ []) 1)) 1 (power 0 (pos (span-limit - 1)))
+    ∷ refuses-powers 62 (call-to-powers (at-degrees 15 (pos 3893) 0 (pos 0) 25174)) 7
+    ∷ []
+
+pub in-powers-hold : Hold in-powers-edges
+unfolding row-forms in-powers-edges
+in-powers-hold = refl
+
+-- back from powers
+unfoldable pub back-again-edges : List Curve-edge
+back-again-edges =
     -- back: x^15 is exact where its coefficient is a multiple of 2^14, and one unit of it is all radius
-    ∷ gives 44 (call-from-powers (model 1 0 (power 15 (pos 16384))))
+    gives 44 (call-from-powers (model 1 0 (power 15 (pos 16384))))
     (curve (pos 0 ∷ pos 6435 ∷ pos 0 ∷ pos 5005 ∷ pos 0 ∷ pos 3003 ∷ pos 0 ∷ pos 1365 ∷ pos 0 ∷ pos 455 ∷ pos 0
     ∷ pos 105 ∷ pos 0 ∷ pos 15 ∷ pos 0 ∷ pos 1 ∷ []) 0)
     ∷ gives 45 (call-from-powers (model 1 0 (power 15 (pos 1)))) (curve [] 1)
@@ -194,9 +266,6 @@ edges =
     ∷ refuses 58 (call-from-powers (model 1 0 (power 16 (pos 1)))) 5 0
     ∷ []
 
--- every call of the table hands back what it must
-pub edges-hold : map (λ e. e .given) edges ≡ map (λ e. e .wanted) edges
-unfolding
-    curve-calls forms back curve at-degree at-degrees power full over counting
-    gives refuses gives-powers refuses-powers gives-ends refuses-ends edges
-edges-hold = refl
+pub back-again-hold : Hold back-again-edges
+unfolding row-forms back-again-edges
+back-again-hold = refl
