@@ -9,6 +9,7 @@ use lib.IntN.{ℤ, pos, negℤ, _+ℤ_, _-ℤ_, natAbs}
 use Rattle.algebra.specs.Ring.{Ring}
 use Rattle.algebra.specs.RingSolver.{𝟎, 𝟏, _⊞_, _⊟_, _⊠_, ⊝_, ring}
 use Rattle.algebra.specs.Ordered.{abs}
+use Rattle.algebra.specs.OrderedLaws.{abs-is}
 use Rattle.algebra.specs.Rational.{ℚ, _+ℚ_, _*ℚ_, negℚ, whole, _≤ℚ_}
 use Rattle.algebra.specs.RationalRing.{ℚR}
 use Rattle.algebra.specs.RationalOrder.{ℚO}
@@ -17,12 +18,12 @@ use Rattle.polynomial.specs.Box.{none, more}
 use Rattle.fixed.specs.Computing.{numbers}
 use Rattle.fixed.specs.Fixed.{U}
 use Rattle.fixed.specs.FixedLaws.{U-pos, U-even}
-use Rattle.calculus.specs.Model.{Model, zero-model, _-ℚ_, distance, Point, In-box}
+use Rattle.calculus.specs.Model.{Model, zero-model, _/U, _-ℚ_, distance, Point, In-box}
 use Rattle.calculus.specs.Model as M
 use Rattle.calculus.specs.Operations.{zero-ends}
 use Rattle.calculus.specs.Outcome.{Function, coordinate}
 use Rattle.calculus.specs.Claim.{Lies}
-use Rattle.calculus.specs.ChainLaws.{_≤≤_, _≡≤_, _≤≡_}
+use Rattle.calculus.specs.ChainLaws.{_≤≤_, _≡≤_, _≤≡_, equal}
 use Rattle.calculus.specs.UnitLaws.{natural, natural-≤, abs-whole}
 use Rattle.calculus.specs.ValueLaws.{abs-zero}
 use Rattle.calculus.specs.ValueLaws as P
@@ -49,6 +50,12 @@ own c x = value c (coordinate 1 x)
 pub own-within : (c : Curve) → Within (own c) c
 unfolding Within At distance own
 own-within c x h = ap (abs ℚO) (+-neg (value c (coordinate 1 x))) ≡≤ abs-zero ≤≤ radius-nonneg (c .radius)
+
+-- and so are those a whole radius above
+pub edge-within : (c : Curve) → Within (λ x. own c x +ℚ pos (c .radius) /U) c
+unfolding Within At distance own
+edge-within c x h = equal (abs-is ℚO (radius-nonneg (c .radius))
+    (ring 2 ℚR (λ v r. v ⊞ r ⊟ v) (λ v r. r) refl (value c (coordinate 1 x)) (pos (c .radius) /U)))
 
 -- those of a model in powers are within it
 pub model-within : (m : Model) → M.Within (M.value m) m
