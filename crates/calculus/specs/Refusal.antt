@@ -32,6 +32,8 @@ pub data Refusal : Type 0 where
   uncertified : Refusal
   -- a power model to convert to the Chebyshev form has n other than 1
   not-one-variable : Refusal
+  -- a box is to be cut to a depth above 6
+  cut-too-deep : Refusal
 
 -- the number of each
 unfoldable pub number : Refusal → ℕ
@@ -48,6 +50,7 @@ number variables-differ = 10
 number short-buffer = 11
 number uncertified = 12
 number not-one-variable = 13
+number cut-too-deep = 14
 
 -- ---- the answer of an operation
 pub data Answer (A : Type 0) : Type 0 where

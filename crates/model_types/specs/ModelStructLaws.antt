@@ -39,7 +39,7 @@ use Rattle.model_types.specs.declared.Refusal.the-variants.{BadLength, B
 use Rattle.model_types.specs.declared.Refusal.the-variants.{BadModel, BadStep}
 use Rattle.model_types.specs.declared.Refusal.the-variants.{OverSpan, TooManyTerms, LeavesBox}
 use Rattle.model_types.specs.declared.Refusal.the-variants.{VariablesDiffer, ShortBuffer, Uncertified}
-use Rattle.model_types.specs.declared.Refusal.the-variants.{NotOneVariable}
+use Rattle.model_types.specs.declared.Refusal.the-variants.{NotOneVariable, CutTooDeep}
 use Rattle.model_types.specs.ModelStruct.{refusal, cause, one-term, zero-term, places, view-term, view}
 use Rattle.model_types.specs.ModelStruct.{pack-term, pad, pack}
 use Rattle.calculus.specs.MonomialKeyLaws.{key-monomial, monomial-key, fits-key, fits-below}
@@ -423,6 +423,7 @@ refusal-cause VariablesDiffer = refl
 refusal-cause ShortBuffer = refl
 refusal-cause Uncertified = refl
 refusal-cause NotOneVariable = refl
+refusal-cause CutTooDeep = refl
 
 pub cause-refusal : (r : R.Refusal) → cause (refusal r) ≡ r
 unfolding refusal cause
@@ -439,3 +440,4 @@ cause-refusal R.variables-differ = refl
 cause-refusal R.short-buffer = refl
 cause-refusal R.uncertified = refl
 cause-refusal R.not-one-variable = refl
+cause-refusal R.cut-too-deep = refl

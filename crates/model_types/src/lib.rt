@@ -58,6 +58,7 @@ pub enum Refusal {
     ShortBuffer,
     Uncertified,
     NotOneVariable,
+    CutTooDeep,
 }
 
 // The refusal stands with its place.
@@ -236,6 +237,7 @@ pub fn number(refusal: Refusal) -> u8
         Refusal::ShortBuffer => 11,
         Refusal::Uncertified => 12,
         Refusal::NotOneVariable => 13,
+        Refusal::CutTooDeep => 14,
     }
 }
 
