@@ -214,7 +214,7 @@ fn try_evaluate(f: &StoredModel, point: &[i64; MOST_VARIABLES]) -> Result<Ends, 
     operations::evaluate(&f, &point.map(i128::from)).map_err(|cause| cause.at(0))
 }
 
-fn require(holds: bool, refusal: Refusal) -> Result<(), Refusal> {
+pub(crate) fn require(holds: bool, refusal: Refusal) -> Result<(), Refusal> {
     if holds {
         Ok(())
     } else {
@@ -229,13 +229,13 @@ fn handed_n(n: u8) -> Result<usize, Refusal> {
     Ok(n)
 }
 
-fn handed_order(order: u8) -> Result<u32, Refusal> {
+pub(crate) fn handed_order(order: u8) -> Result<u32, Refusal> {
     let order = u32::from(order);
     require((1..=LARGEST_DEGREE).contains(&order), Refusal::Limits)?;
     Ok(order)
 }
 
-fn handed_variable(i: u8, n: usize) -> Result<usize, Refusal> {
+pub(crate) fn handed_variable(i: u8, n: usize) -> Result<usize, Refusal> {
     let i = usize::from(i);
     require((1..=n).contains(&i), Refusal::Step(0))?;
     Ok(i)

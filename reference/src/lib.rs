@@ -12,6 +12,7 @@
 //!   a radius came from, and [`calls`]: the single calls, which first test what
 //!   they are handed;
 //! - [`chebyshev`]: models of one variable in Chebyshev polynomials;
+//! - [`cuts`]: narrower ranges by cutting the box;
 //! - [`book`], [`sheet`], [`mod@write`], [`run`], [`records`], [`text`]: sheets;
 //! - [`renaming`]: sheets whose variables are renamed throughout;
 //! - [`exact`]: exact fractions and the check of the enclosure statement;
@@ -22,6 +23,7 @@
 pub mod book;
 pub mod calls;
 pub mod chebyshev;
+pub mod cuts;
 pub mod exact;
 pub mod generate;
 pub mod model;

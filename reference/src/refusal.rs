@@ -31,6 +31,8 @@ pub enum Refusal {
     Uncertified(usize),
     /// 13: a power model to convert has n other than 1.
     NotOneVariable,
+    /// 14: a box is to be cut deeper than 6.
+    CutTooDeep,
 }
 
 impl Refusal {
@@ -50,6 +52,7 @@ impl Refusal {
             Refusal::Buffer => 11,
             Refusal::Uncertified(_) => 12,
             Refusal::NotOneVariable => 13,
+            Refusal::CutTooDeep => 14,
         }
     }
 
@@ -68,7 +71,8 @@ impl Refusal {
             | Refusal::Offset
             | Refusal::Variables
             | Refusal::Buffer
-            | Refusal::NotOneVariable => 0,
+            | Refusal::NotOneVariable
+            | Refusal::CutTooDeep => 0,
         }
     }
 }

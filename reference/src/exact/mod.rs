@@ -2,10 +2,12 @@
 //!
 //! Nothing here uses [`crate::operations`]: the outcome is made from a sheet's
 //! models and steps alone, and only then compared with what a run claims.
-//! [`chebyshev`] does this for the calls on Chebyshev curves.
+//! [`chebyshev`] does this for the calls on Chebyshev curves, [`cuts`] for ranges of
+//! a cut box.
 
 pub mod chebyshev;
 pub mod check;
+pub mod cuts;
 pub mod fraction;
 pub mod function;
 pub mod integer;

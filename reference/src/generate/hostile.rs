@@ -152,7 +152,7 @@ fn any_operands(random: &mut Random) -> Operands {
 }
 
 /// Mostly from the low to the high end, at times outside.
-fn small_number(random: &mut Random, low: u8, high: u8) -> u8 {
+pub(super) fn small_number(random: &mut Random, low: u8, high: u8) -> u8 {
     match random.below(24) {
         0 => low - 1,
         1 => high.saturating_add(1),

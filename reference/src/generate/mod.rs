@@ -6,6 +6,7 @@
 
 pub mod books;
 pub mod chebyshev;
+pub mod cuts;
 pub mod damage;
 pub mod draft;
 pub mod eight_variables;
