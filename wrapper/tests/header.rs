@@ -29,6 +29,7 @@ fn the_header_has_the_same_limits() {
         ("MOST_STEPS", hechroung::MOST_STEPS),
         ("LONGEST_SHEET", hechroung::LONGEST_SHEET),
         ("LONGEST_RECORD", hechroung::LONGEST_RECORD),
+        ("LONGEST_ARCHIVED", hechroung::LONGEST_ARCHIVED),
         ("LONGEST_TEXT", hechroung::LONGEST_TEXT),
         ("MISUSED", hechroung::raw::MISUSED.into()),
     ] {

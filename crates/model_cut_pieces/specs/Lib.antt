@@ -1,0 +1,5 @@
+-- Definitions.
+pub mod Cutting
+-- Laws.
+pub mod PieceStructLaws
+pub mod PieceRangeLaws

@@ -1,0 +1,3 @@
+-- Laws.
+pub mod CoveredLaws
+pub mod CutCallLaws
