@@ -6,7 +6,7 @@
 
    Answers. Every function that makes a call returns a byte:
      0                   accepted
-     1 to 13             the refusal of documents 01 and 02; the answer is then the zero model in one variable, the
+     1 to 14             the refusal of documents 01 and 02; the answer is then the zero model in one variable, the
                          curve of zeros, or ends 0 and the exact integral 0
      HECHROUNG_MISUSED   no call was made and nothing was written: a pointer is null, a slice is too short, or a code
                          names no call
@@ -272,6 +272,18 @@ extern uint8_t hechroung_from_powers(uint8_t n, size_t count, uint64_t radius,
                                      const int64_t *coefficients, size_t coefficients_length,
                                      int64_t *out_coefficients, size_t out_coefficients_length,
                                      uint64_t *out_numbers, size_t out_numbers_length);
+
+/* The range of a model over the box, narrower by cutting: variable i, from 1, is cut into 2^k equal pieces, the model is
+   substituted for on each with order d, and the answer is the overlap of the undivided range with what the ranges of
+   the pieces cover. Every function within the model has its values, times U, between the ends. A deeper cut is not
+   always narrower. Refusals 3 (d), 5 (a degree above d among it), 6 (i), 14 (k above 6), all at place 0, then 8 or 7 of
+   a piece, whose number, from 0, is the place.
+   Read: the model as for hechroung_call. Written: ends, at least 2, hold the low and the high end; numbers, at least 1,
+   hold the refusal's place. */
+extern uint8_t hechroung_cut_range(uint8_t d, uint8_t i, uint8_t k, uint8_t n, size_t count, uint64_t radius,
+                                   const uint32_t *keys, size_t keys_length,
+                                   const int64_t *coefficients, size_t coefficients_length,
+                                   int64_t *ends, size_t ends_length, uint64_t *numbers, size_t numbers_length);
 
 /* ---- the same for structs. The answer may be one of the models that are read. A place of null is not written. ---- */
 
@@ -668,6 +680,23 @@ static inline uint8_t hechroung_curve_from_powers(const struct hechroung_model *
                                    f->coefficients, HECHROUNG_MOST_TERMS,
                                    answer->coefficients, HECHROUNG_CURVE_PLACES, numbers, 2);
     answer->radius = numbers[1];
+    return number;
+}
+
+/* The range over the box with variable i, 1 to n, cut into 2^k pieces, k up to 6, by substitutions with order d.
+   Refusals 3 (d), 5, 6 (i), 14 (k), then 8 or 7 with the piece as place. */
+static inline uint8_t hechroung_range_cut(uint8_t d, uint8_t i, uint8_t k, const struct hechroung_model *f,
+                                          struct hechroung_ends *answer, size_t *place) {
+    int64_t ends[2] = {0, 0};
+    uint64_t numbers[1] = {0};
+    uint8_t number;
+    if (f == NULL || answer == NULL) return HECHROUNG_MISUSED;
+    number = hechroung_cut_range(d, i, k, f->n, f->count, f->radius,
+                                 f->keys, HECHROUNG_MOST_TERMS, f->coefficients, HECHROUNG_MOST_TERMS,
+                                 ends, 2, numbers, 1);
+    answer->low = ends[0];
+    answer->high = ends[1];
+    if (place != NULL) *place = (size_t)numbers[0];
     return number;
 }
 

@@ -83,6 +83,7 @@ _curve = _exported("hechroung_curve", _u8, _u8, *_handed_curve, *_handed_curve, 
 _curve_range = _exported("hechroung_curve_range", _u8, *_handed_curve, _i64s, _size)
 _to_powers = _exported("hechroung_to_powers", _u8, *_handed_curve, _u32s, _size, _i64s, _size, _u64s, _size)
 _from_powers = _exported("hechroung_from_powers", _u8, *_handed, _i64s, _size, _u64s, _size)
+_cut_range = _exported("hechroung_cut_range", _u8, _u8, _u8, _u8, *_handed, _i64s, _size, _u64s, _size)
 
 # What a run gives: the last step's model, the ends of its range and of its integral, and the exact integral.
 Summary = namedtuple("Summary", "model range integral exact")
@@ -96,7 +97,7 @@ Report = namedtuple("Report", "summary shares")
 
 
 class Refused(Exception):
-    """The refusal of documents 01 and 02: its number, 1 to 13, and its place; of a run with shares those of the steps
+    """The refusal of documents 01 and 02: its number, 1 to 14, and its place; of a run with shares those of the steps
     before it too."""
 
     def __init__(self, number, place, shares=()):
@@ -367,3 +368,12 @@ def to_powers(f):
 def from_powers(f):
     """The curve of a model of one variable; what rounding leaves goes into the radius."""
     return _curved(_from_powers, *_arguments(f))
+
+
+def cut_range(d, i, k, f):
+    """The range of f with variable i cut into 2^k pieces, by substitutions with order d. The place of a refused piece is
+    its number."""
+    ends, numbers = (_i64 * 2)(), (_u64 * 1)()
+    number = _cut_range(d, i, k, *_arguments(f), ends, 2, numbers, 1)
+    _check(number, numbers[0])
+    return tuple(ends)

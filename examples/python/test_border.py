@@ -14,7 +14,7 @@ from hechroung import UNIT, Curve, Misused, Model, Refused
 BYTE, KEY, RADIUS, VALUE = (0, 2 ** 8 - 1), (0, 2 ** 32 - 1), (0, 2 ** 64 - 1), (-2 ** 63, 2 ** 63 - 1)
 WIDTHS = {ctypes.c_uint8: BYTE, ctypes.c_uint64: RADIUS, ctypes.c_size_t: RADIUS, ctypes.c_int64: VALUE}
 # How many exported functions hechroung.py declares.
-DECLARED = 14
+DECLARED = 15
 NO_WHOLE_NUMBERS = [1.0, 0.5, float("nan"), Fraction(3, 2), "1", b"1", None, [1], 1j]
 
 
@@ -63,6 +63,7 @@ CALLS = {
     "range_of_curve": {"f": bent()},
     "to_powers": {"f": bent()},
     "from_powers": {"f": line()},
+    "cut_range": {"d": 2, "i": 1, "k": 3, "f": line()},
 }
 
 
@@ -115,7 +116,7 @@ def numbers_of_step(name, step):
 
 
 def numbers_of(name, argument):
-    if name in ("n", "d", "i"):
+    if name in ("n", "d", "i", "k"):
         yield Number(name, BYTE, argument, lambda other: other)
     elif name in ("value", "threshold"):
         yield Number(name, VALUE, argument, lambda other: other)

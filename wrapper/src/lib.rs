@@ -25,11 +25,13 @@
 #![deny(unsafe_code)]
 
 pub mod curves;
+mod cuts;
 #[allow(unsafe_code)]
 pub mod raw;
 mod sheets;
 
 pub use curves::Curve;
+pub use cuts::cut_range;
 pub use sheets::{lines, open, records, rewrite, run, run_book, shares, shares_book, write};
 pub use sheets::{Book, Flat, Kind, Record, Records, RefusedRun, Report, Shares, Step, Summary};
 
@@ -69,7 +71,7 @@ pub struct Model {
     pub coefficients: [i64; MOST_TERMS],
 }
 
-/// The number of a refusal in documents 01 and 02, 1 to 13, and its place.
+/// The number of a refusal in documents 01 and 02, 1 to 14, and its place.
 #[derive(Clone, Copy, Debug, PartialEq, Eq, PartialOrd, Ord)]
 pub struct Refusal {
     pub number: u8,
@@ -151,7 +153,8 @@ impl fmt::Display for Refusal {
             10 => "the models differ in their number of variables",
             11 => "the buffer is too short",
             12 => "uncertified: the divisor is not shown to be nowhere zero",
-            _ => "a model to convert has another number of variables than one",
+            13 => "a model to convert has another number of variables than one",
+            _ => "the box is to be cut to a depth above 6",
         };
         write!(out, "refused {} {}: {reason}", self.number, self.place)
     }

@@ -318,6 +318,23 @@ exported! {
         out_numbers: *mut u64,
         out_numbers_length: usize,
     ) -> u8;
+
+    hechroung_cut_range: CutRange = (
+        d: u8,
+        i: u8,
+        k: u8,
+        n: u8,
+        count: usize,
+        radius: u64,
+        keys: *const u32,
+        keys_length: usize,
+        coefficients: *const i64,
+        coefficients_length: usize,
+        ends: *mut i64,
+        ends_length: usize,
+        numbers: *mut u64,
+        numbers_length: usize,
+    ) -> u8;
 }
 
 /// A book that is handed over: for each model an entry of `ns`, `counts` and `radii` and 64 keys and coefficients; for
@@ -783,6 +800,31 @@ pub fn from_powers(f: Handed<'_>, coefficients: &mut [i64], numbers: &mut [u64])
             f.coefficients.len(),
             coefficients.as_mut_ptr(),
             coefficients.len(),
+            numbers.as_mut_ptr(),
+            numbers.len(),
+        )
+    }
+}
+
+/// The range with variable i cut into 2^k pieces, by substitutions with order d: the refusal's number, 0 without one.
+/// The two ends go into `ends`, the refusal's place into `numbers`.
+#[must_use]
+pub fn cut_range(d: u8, i: u8, k: u8, f: Handed<'_>, ends: &mut [i64], numbers: &mut [u64]) -> u8 {
+    // SAFETY: as in `call`.
+    unsafe {
+        hechroung_cut_range(
+            d,
+            i,
+            k,
+            f.n,
+            f.count,
+            f.radius,
+            f.keys.as_ptr(),
+            f.keys.len(),
+            f.coefficients.as_ptr(),
+            f.coefficients.len(),
+            ends.as_mut_ptr(),
+            ends.len(),
             numbers.as_mut_ptr(),
             numbers.len(),
         )

@@ -739,3 +739,44 @@ fn a_conversion_back_needs_its_places_and_room() {
         assert_eq!(numbers[..2], [0, 0]);
     }
 }
+
+#[test]
+fn a_cut_range_needs_its_places_2_ends_and_1_number() {
+    const MARKED: (u8, [i64; 3], [u64; 2]) = (MISUSED, [MARK as i64; 3], [MARK as u64; 2]);
+    let called = |k, f, ends: usize, numbers: usize| {
+        let (_, mut stored, mut written) = MARKED;
+        let number = raw::cut_range(1, 1, k, f, &mut stored[..ends], &mut written[..numbers]);
+        (number, stored, written)
+    };
+    // (2^29 + 1) + (2^29 - 1) x, whose span is the limit: its right half has more.
+    let model = Handed {
+        n: 1,
+        count: 2,
+        radius: 0,
+        keys: &[0, 0x1000_0000],
+        coefficients: &[(1 << 29) + 1, (1 << 29) - 1],
+    };
+    let short_keys = Handed {
+        keys: &[0],
+        ..model
+    };
+    let short_coefficients = Handed {
+        coefficients: &[1],
+        ..model
+    };
+    for k in [0, 1, 7] {
+        assert_eq!(called(k, short_keys, 2, 1), MARKED, "depth {k}");
+        assert_eq!(called(k, short_coefficients, 2, 1), MARKED, "depth {k}");
+        assert_eq!(called(k, model, 1, 1), MARKED, "depth {k}");
+        assert_eq!(called(k, model, 2, 0), MARKED, "depth {k}");
+    }
+    // The number; both ends, and the place. What lies behind stays.
+    let mark = i64::from(MARK);
+    for (k, number, low, high, place) in [(0, 0, 2, 1 << 30, 0), (1, 7, 0, 0, 1), (7, 14, 0, 0, 0)]
+    {
+        let expected = (number, [low, high, mark], [place, MARK.into()]);
+        assert_eq!(called(k, model, 3, 2), expected, "depth {k}");
+        let enough = called(k, model, 2, 1);
+        assert_eq!(enough, expected, "depth {k}");
+    }
+}

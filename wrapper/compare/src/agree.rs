@@ -1,11 +1,12 @@
 //! One case fed to both implementations.
 
 use crate::case::{Case, Variables};
+use crate::cuts::Cuts;
 use crate::integrals::Integrals;
 use crate::renamed::Renamed;
 use crate::rows::Rows;
 use crate::shaped::{self, Shape};
-use crate::{curves, renamed, sheets, stepping};
+use crate::{curves, cuts, renamed, sheets, stepping};
 use hechroung::{Ends, Exact, Integral, Model};
 use reference::calls::{Call, CallAnswer};
 use reference::model::monomial_of_key;
@@ -28,6 +29,8 @@ pub struct Seen {
     pub integrals: Integrals,
     /// What was renamed.
     pub renamed: Renamed,
+    /// What was cut.
+    pub cuts: Cuts,
     pub text: String,
 }
 
@@ -58,6 +61,7 @@ impl Seen {
             rows: Rows::default(),
             integrals: Integrals::default(),
             renamed: Renamed::default(),
+            cuts: Cuts::default(),
             text: refusal.map_or("accepted".into(), |(number, place)| {
                 format!("refused {number} {place}")
             }),
@@ -78,6 +82,8 @@ pub fn compare(case: &Case) -> Result<Seen, String> {
         Case::Renamed(sheet, other) => renamed::compare(sheet, other),
         Case::Curve(call) => curves::compare(call),
         Case::ShapedCurve(call, shape) => curves::compare_shaped(call, shape),
+        Case::Cut(call) => cuts::compare(call),
+        Case::ShapedCut(call, shape) => cuts::compare_shaped(call, shape),
     };
     let counted = found.map(|seen| Seen {
         variables: case.variables(),

@@ -1,10 +1,12 @@
 //! A case of the comparison, and the line that names it: a word and hex digits.
 
 use crate::curves;
+use crate::cuts;
 use crate::shaped::Shape;
 use reference::book::{Book, Step};
 use reference::calls::Call;
 use reference::chebyshev::Call as CurveCall;
+use reference::cuts::Call as CutCall;
 use reference::model::{FEW_VARIABLES, MOST_TERMS, MOST_VARIABLES};
 use reference::renaming::Reordering;
 use reference::sheet::Mark;
@@ -34,6 +36,10 @@ pub enum Case {
     Curve(CurveCall),
     /// The same by the exported functions themselves, with slices of any length and any code.
     ShapedCurve(CurveCall, curves::Shape),
+    /// A range of a cut box, and where it is accepted tried for enclosure.
+    Cut(CutCall),
+    /// The same by the exported function itself, with slices of any length.
+    ShapedCut(CutCall, cuts::Shape),
 }
 
 /// How many variables a case has, by which cases are counted: those of each mark apart.
@@ -96,6 +102,7 @@ impl Case {
                 CurveCall::FromPowers { f } => Variables::of_n(f.n),
                 _ => Variables::of_n(1),
             },
+            Case::Cut(call) | Case::ShapedCut(call, _) => Variables::of_n(call.f.n),
         }
     }
 
@@ -112,6 +119,8 @@ impl Case {
             Case::Renamed(..) => "renamed sheet",
             Case::Curve(call) => curves::kind(call),
             Case::ShapedCurve(..) => "curves, slices of any length",
+            Case::Cut(_) => cuts::KIND,
+            Case::ShapedCut(..) => "cut box, slices of any length",
         }
     }
 
@@ -166,6 +175,16 @@ impl Case {
                 curves::push_call(&mut bytes, call);
                 "shapedcurve"
             }
+
+            Case::Cut(call) => {
+                cuts::push_call(&mut bytes, call);
+                "cut"
+            }
+            Case::ShapedCut(call, shape) => {
+                shape.push(&mut bytes);
+                cuts::push_call(&mut bytes, call);
+                "shapedcut"
+            }
         };
         format!("{word} {}", hex(&bytes))
     }
@@ -203,6 +222,11 @@ impl Case {
             "shapedcurve" => {
                 let shape = curves::Shape::take(&mut bytes)?;
                 Case::ShapedCurve(curves::take_call(&mut bytes)?, shape)
+            }
+            "cut" => Case::Cut(cuts::take_call(&mut bytes)?),
+            "shapedcut" => {
+                let shape = cuts::Shape::take(&mut bytes)?;
+                Case::ShapedCut(cuts::take_call(&mut bytes)?, shape)
             }
             _ => return None,
         };
@@ -451,6 +475,9 @@ mod tests {
             "curve 08",
             "curve 0100",
             "shapedcurve 0001",
+            "cut",
+            "cut 010101",
+            "shapedcut 0001",
         ] {
             assert_eq!(Case::from_line(line), None, "{line}");
         }

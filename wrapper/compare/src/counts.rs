@@ -3,15 +3,16 @@
 use crate::agree::{Seen, Tried};
 use crate::case::Variables;
 use crate::curves;
+use crate::cuts::{self, Cuts};
 use crate::integrals::Integrals;
 use crate::renamed::Renamed;
 use crate::rows::Rows;
 use std::collections::BTreeMap;
 
 /// The refusals of documents 01 and 02.
-const REFUSALS: std::ops::RangeInclusive<u8> = 1..=13;
+const REFUSALS: std::ops::RangeInclusive<u8> = 1..=14;
 /// Those that a kind of case has to reach, up to four variables and above.
-const REACHED: [(&str, &[u8]); 7] = [
+const REACHED: [(&str, &[u8]); 8] = [
     ("antiderivative", &[3, 5, 6]),
     ("quotient", &[3, 5, 7, 8, 10, 12]),
     ("sheet", &[1, 2, 3, 4, 5, 6, 7, 8, 9, 12]),
@@ -19,6 +20,7 @@ const REACHED: [(&str, &[u8]); 7] = [
     ("sheet stepped through", &[1, 2, 3, 4, 5, 6]),
     ("book written", &[3, 5, 6, 11]),
     ("book run", &[3, 5, 6, 7, 8, 9, 12]),
+    (cuts::KIND, &cuts::REACHED),
 ];
 
 /// Those that sheets have to reach at so many places, up to four variables and above.
@@ -53,6 +55,7 @@ struct Kind {
     renamed: Renamed,
     /// Points at which exact outcomes of calls on curves were held against their answers.
     points: u64,
+    cuts: Cuts,
 }
 
 /// The answers of cases that are alike in how many variables they have.
@@ -80,6 +83,7 @@ impl Counts {
         kind.integrals.add(&seen.integrals);
         kind.renamed.add(&seen.renamed);
         kind.points += seen.tried.points_of_curves;
+        kind.cuts.add(&seen.cuts);
         if seen.misused {
             kind.misused += 1;
             return;
@@ -139,6 +143,8 @@ impl Counts {
             let kind = self.kinds.get(name);
             miss(name, kind.map(|kind| kind.integrals.unreached()));
         }
+        let kind = self.kinds.get(cuts::KIND);
+        miss(cuts::KIND, kind.map(Kind::unreached_cuts));
         missing
     }
 
@@ -243,6 +249,7 @@ impl Counts {
                 let points = kind.points;
                 println!("    enclosure tried with exact fractions: {points} points");
             }
+            kind.cuts.print();
             all.add_answers(kind);
         }
         all.print("all");
@@ -270,9 +277,10 @@ impl Kind {
         self.integrals.add(&other.integrals);
         self.renamed.add(&other.renamed);
         self.points += other.points;
+        self.cuts.add(&other.cuts);
     }
 
-    /// Without the rows, integrals and what was renamed.
+    /// Without the rows, integrals, what was renamed and what was cut.
     fn add_answers(&mut self, other: &Kind) {
         self.cases += other.cases;
         self.misused += other.misused;
@@ -283,6 +291,13 @@ impl Kind {
 
     fn answers(&self, variables: Variables) -> Answers {
         self.answers.get(&variables).cloned().unwrap_or_default()
+    }
+
+    /// What no cut reached, all variables taken together.
+    fn unreached_cuts(&self) -> Vec<String> {
+        let mut all = Answers::default();
+        self.answers.values().for_each(|answers| all.add(answers));
+        self.cuts.unreached(&all.refused)
     }
 
     /// The refusals that were not reached wherever they have to be.

@@ -17,6 +17,7 @@ mod agree;
 mod case;
 mod counts;
 mod curves;
+mod cuts;
 mod integrals;
 mod limits;
 mod program;

@@ -293,7 +293,7 @@ pub fn lent(model: &Model, keys: usize, coefficients: usize) -> bool {
 }
 
 /// Slices of these lengths: cut off, or with more behind.
-fn slices(model: &Model, keys: usize, coefficients: usize) -> (Vec<u32>, Vec<i64>) {
+pub fn slices(model: &Model, keys: usize, coefficients: usize) -> (Vec<u32>, Vec<i64>) {
     let longer = |length: usize| length.max(MOST_TERMS);
     let mut lent_keys = over(&model.keys, KEY, longer(keys));
     let mut lent_coefficients = over(&model.coefficients, COEFFICIENT, longer(coefficients));
@@ -302,7 +302,7 @@ fn slices(model: &Model, keys: usize, coefficients: usize) -> (Vec<u32>, Vec<i64
     (lent_keys, lent_coefficients)
 }
 
-fn handed<'a>(model: &Model, keys: &'a [u32], coefficients: &'a [i64]) -> Handed<'a> {
+pub fn handed<'a>(model: &Model, keys: &'a [u32], coefficients: &'a [i64]) -> Handed<'a> {
     Handed {
         n: model.n,
         count: model.count,

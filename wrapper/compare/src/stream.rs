@@ -2,7 +2,7 @@
 
 use crate::case::Case;
 use crate::shaped::Shape;
-use crate::{curves, limits};
+use crate::{curves, cuts, limits};
 use hechroung::LONGEST_RECORD;
 use reference::book::Book;
 use reference::generate::{self, books, hostile, Random};
@@ -11,7 +11,7 @@ use reference::sheet::{self, Mark, LONGEST_SHEET};
 /// The case of a number.
 pub fn case(seed: u64, number: u64) -> Case {
     let mut random = Random::new(seed ^ number.wrapping_mul(0x2545_F491_4F6C_DD1D));
-    match random.below(26) {
+    match random.below(27) {
         0..=4 => Case::Call(hostile::call(seed, number)),
         5..=7 => Case::Call(limits::call(&mut random)),
         8 => Case::Shaped(hostile::call(seed, number), Shape::random(&mut random)),
@@ -33,7 +33,7 @@ pub fn case(seed: u64, number: u64) -> Case {
             let room = *random.pick(&[0, 1, 7, 8, 100, LONGEST_RECORD, LONGEST_RECORD + 9]);
             Case::Stepped(sheet, room)
         }
-        _ => {
+        24 | 25 => {
             // Another number, as the kind of call goes by it.
             let call = generate::chebyshev::call(seed, random.next_u64());
             if random.one_in(6) {
@@ -41,6 +41,13 @@ pub fn case(seed: u64, number: u64) -> Case {
                 return Case::ShapedCurve(call, shape);
             }
             Case::Curve(call)
+        }
+        _ => {
+            let call = generate::cuts::call(seed, number);
+            if random.one_in(6) {
+                return Case::ShapedCut(call, cuts::Shape::random(&mut random));
+            }
+            Case::Cut(call)
         }
     }
 }
@@ -60,6 +67,7 @@ pub fn named() -> Vec<Case> {
         ]
     });
     both.chain(curves::named().into_iter().map(Case::Curve))
+        .chain(cuts::named().into_iter().map(Case::Cut))
         .collect()
 }
 

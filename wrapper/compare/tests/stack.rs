@@ -7,7 +7,7 @@ use hechroung::{CURVE_PLACES, MOST_MODELS, MOST_STEPS, MOST_TERMS, MOST_VARS};
 use hechroung::{LONGEST_RECORD, LONGEST_SHEET, LONGEST_TEXT};
 use reference::book::{Book, Step, ANTIDERIVATIVE, INPUT, MULTIPLY, QUOTIENT, SUBSTITUTE};
 use reference::chebyshev::{Call as CurveCall, StoredChebyshev};
-use reference::generate::{self, books, chebyshev, quotients, Draft, DraftModel, Random};
+use reference::generate::{self, books, chebyshev, cuts, quotients, Draft, DraftModel, Random};
 use reference::sheet;
 use reference::stored::StoredModel;
 use std::arch::asm;
@@ -250,6 +250,10 @@ impl Answer {
 
     fn curve_from_powers(&mut self, f: &Lent) {
         self.number = raw::from_powers(f.handed(), &mut self.coefficients, &mut self.numbers);
+    }
+
+    fn cut_range(&mut self, d: u8, i: u8, k: u8, f: &Lent) {
+        self.number = raw::cut_range(d, i, k, f.handed(), &mut self.ends, &mut self.numbers);
     }
 }
 
@@ -553,6 +557,25 @@ fn a_call_on_curves_stays_within_its_figure() {
     });
     most("curves", CALL, used);
     assert!(accepted > GENERATED, "curves: {accepted} accepted");
+}
+
+#[test]
+fn a_cut_range_stays_within_its_figure() {
+    let mut stack = Stack::new(CALL);
+    let mut accepted = 0;
+    let used = (0..GENERATED).map(|number| {
+        let call = cuts::call(11, number);
+        let f = Lent::new(&call.f);
+        let mut answer = Answer::NONE;
+        let used = stack.run(|| answer.cut_range(call.order, call.i, call.depth, &f));
+        let refusal = call.answer().refusal;
+        let expected = refusal.map_or(0, |refusal| refusal.number());
+        assert_eq!(answer.number, expected, "{call:?}");
+        accepted += u64::from(answer.number == 0);
+        used
+    });
+    most("cut range", CALL, used);
+    assert!(accepted > GENERATED / 4, "cut range: {accepted} accepted");
 }
 
 #[test]
