@@ -5,6 +5,7 @@
 mod antiderivatives;
 mod calls;
 mod curves;
+mod cuts;
 mod flint;
 mod growth;
 mod inputs;
@@ -41,4 +42,5 @@ fn main() {
     sheets::print(&mut random);
     shares::print(seed);
     growth::print(&mut random);
+    cuts::print(seed);
 }
