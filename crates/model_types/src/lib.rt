@@ -59,6 +59,7 @@ pub enum Refusal {
     Uncertified,
     NotOneVariable,
     CutTooDeep,
+    BadDouble,
 }
 
 // The refusal stands with its place.
@@ -238,6 +239,7 @@ pub fn number(refusal: Refusal) -> u8
         Refusal::Uncertified => 12,
         Refusal::NotOneVariable => 13,
         Refusal::CutTooDeep => 14,
+        Refusal::BadDouble => 16,
     }
 }
 
