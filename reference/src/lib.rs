@@ -13,6 +13,7 @@
 //!   they are handed;
 //! - [`chebyshev`]: models of one variable in Chebyshev polynomials;
 //! - [`cuts`]: narrower ranges by cutting the box;
+//! - [`doubles`]: curves delivered in doubles;
 //! - [`book`], [`sheet`], [`mod@write`], [`run`], [`records`], [`text`]: sheets;
 //! - [`renaming`]: sheets whose variables are renamed throughout;
 //! - [`exact`]: exact fractions and the check of the enclosure statement;
@@ -24,6 +25,7 @@ pub mod book;
 pub mod calls;
 pub mod chebyshev;
 pub mod cuts;
+pub mod doubles;
 pub mod exact;
 pub mod generate;
 pub mod model;

@@ -33,6 +33,8 @@ pub enum Refusal {
     NotOneVariable,
     /// 14: a box is to be cut deeper than 6.
     CutTooDeep,
+    /// 16: a double is not finite, or a radius in doubles is negative.
+    Double,
 }
 
 impl Refusal {
@@ -53,6 +55,7 @@ impl Refusal {
             Refusal::Uncertified(_) => 12,
             Refusal::NotOneVariable => 13,
             Refusal::CutTooDeep => 14,
+            Refusal::Double => 16,
         }
     }
 
@@ -72,7 +75,8 @@ impl Refusal {
             | Refusal::Variables
             | Refusal::Buffer
             | Refusal::NotOneVariable
-            | Refusal::CutTooDeep => 0,
+            | Refusal::CutTooDeep
+            | Refusal::Double => 0,
         }
     }
 }

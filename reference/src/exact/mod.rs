@@ -3,11 +3,12 @@
 //! Nothing here uses [`crate::operations`]: the outcome is made from a sheet's
 //! models and steps alone, and only then compared with what a run claims.
 //! [`chebyshev`] does this for the calls on Chebyshev curves, [`cuts`] for ranges of
-//! a cut box.
+//! a cut box, [`doubles`] for records of doubles.
 
 pub mod chebyshev;
 pub mod check;
 pub mod cuts;
+pub mod doubles;
 pub mod fraction;
 pub mod function;
 pub mod integer;

@@ -8,6 +8,7 @@ pub mod books;
 pub mod chebyshev;
 pub mod cuts;
 pub mod damage;
+pub mod doubles;
 pub mod draft;
 pub mod eight_variables;
 pub mod faults;
