@@ -82,12 +82,12 @@ module _ (k : ℕ) (h : 0 < k) where
           = ap (λ b. if-ℕ (not b) 1) (ne-eqb (suc r) 0 (λ z. omega arith)) in
           rw one (omega arith)
 
-  rounded-≤ : (c : ℤ) → abs ℚO (whole c *ℚ reciprocal k -ℚ whole (nearest c k))
+  pub rounded-≤ : (c : ℤ) → abs ℚO (whole c *ℚ reciprocal k -ℚ whole (nearest c k))
       ≤ℚ natural (if-ℕ (not (eqb (natAbs c % k) 0)) 1)
   rounded-≤ c = ap (abs ℚO) (minus-whole c (nearest c k))
       ≡≤ over _ _ _ (equal (abs-whole (c -ℤ nearest c k *ℤ pos k))) (left-le c)
 
-  swept-≤ : (c : ℤ) → abs ℚO (whole c *ℚ reciprocal k) ≤ℚ natural (divided-up (natAbs c) k)
+  pub swept-≤ : (c : ℤ) → abs ℚO (whole c *ℚ reciprocal k) ≤ℚ natural (divided-up (natAbs c) k)
   swept-≤ c = over _ _ _ (equal (abs-whole c)) (divided-up-ok (natAbs c) k h)
 
 -- ---- sums that are near each other term by term

@@ -9,6 +9,7 @@ pub mod shares; // shares.rt: the same with where each radius came from
 pub mod sheets; // sheets.rt: sheets printed and taken apart
 pub mod curves; // curves.rt: calls on curves in Chebyshev polynomials, and their conversion
 pub mod cuts; // cuts.rt: the range of a cut box
+pub mod doubles; // doubles.rt: curves that are delivered in doubles
 
 // The answer to a call that is not one: a slice is too short, or no call has this code.
 pub const MISUSED: u8 = 255;

@@ -10,8 +10,9 @@ ghost use lib.Signed.{nonNeg};
 ghost use Rattle.fixed.specs.Division.{floor, ceiling, remainder, divided-up, nearest};
 ghost use Rattle.fixed.specs.Fixed.{U, span-limit, rounded, round-up, capped};
 
-// The unit U, by its binary digits: with a power of two the floor of z / U is a shift.
-const UNIT_BITS: u32 = 20;
+// The unit U, by its binary digits: with a power of two the floor of z / U is a shift. It is public for a constant of
+// the layer above, by which the digits of a double are moved.
+pub const UNIT_BITS: u32 = 20;
 
 // U: a coefficient c stands for c / U. It is public for the constants of the layers above; code there calls `unit`.
 pub const UNIT: u64 = 1 << UNIT_BITS;

@@ -117,6 +117,14 @@ pub struct Integral {
     pub verdict: Verdict,
 }
 
+// A curve in one variable as it is delivered in doubles: the coefficients of powers 0, 1 and 2, and a radius.
+pub struct Doubles {
+    pub c0: f64,
+    pub c1: f64,
+    pub c2: f64,
+    pub radius: f64,
+}
+
 impl Term {
     // What stands in a place that is not used.
     pub const ZERO: Term = Term {

@@ -1,0 +1,40 @@
+-- `with_term` stores a term behind the others, unless its coefficient is 0.
+use mathlib.Core.Path.{_∙_, ap}
+use Prim.Native.Nat.{_+_}
+use native.Mathlib.Omega.{arith}
+use borrow.Author.Needs.{needs}
+use lib.ListN.{set}
+use mir.Facts.{toZ-ofZ}
+use Rattle.calculus.specs.MonomialKeyLaws.{word-key}
+use Rattle.model_types.specs.ZeroTestLaws.{zero-bits, nonzero-bits}
+use Rattle.model_doubles.specs.OneMoreTermLaws.{with-none, with-one}
+use Rattle.model_doubles.proofs.with_term.Statement.{statement}
+use Rattle.model_doubles.proofs.with_term.Tie as tie
+
+returns : tie.Need-returns
+returns c o h = with-none _ o _ _ (zero-bits (c .before .fits .coefficient) (c .if1 .taken)) h
+
+mul-terms : tie.Need-mul-terms
+mul-terms c = search needs
+
+array-set-from-terms : tie.Need-array-set-from-terms
+array-set-from-terms c = search needs
+
+add-t8 : tie.Need-add-t8
+add-t8 c = search needs
+
+returns-2 : tie.Need-returns-2
+returns-2 c o h =
+    let s = c .before .before in
+    ap (λ z. record {
+      n = s .args .m .n;
+      count = s .args .m .count + 1;
+      radius = s .args .m .radius;
+      terms = set (s .args .m .terms) (s .args .m .count) (record { key = s .args .key; coefficient = z });
+    })
+    (toZ-ofZ (s .fits .coefficient))
+    ∙ with-one (s .args .m) o (s .args .key) (s .args .coefficient) (nonzero-bits _ (c .before .if1 .left)) (s .pre .0)
+    (s .pre .1) (word-key _ (omega arith)) h
+
+pub with-term-spec : {M : Type 1} → statement M
+with-term-spec = tie.close (tie.spec returns mul-terms array-set-from-terms add-t8 returns-2)
