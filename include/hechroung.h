@@ -6,7 +6,7 @@
 
    Answers. Every function that makes a call returns a byte:
      0                   accepted
-     1 to 14             the refusal of documents 01 and 02; the answer is then the zero model in one variable, the
+     1 to 14, 16         the refusal of documents 01 and 02; the answer is then the zero model in one variable, the
                          curve of zeros, or ends 0 and the exact integral 0
      HECHROUNG_MISUSED   no call was made and nothing was written: a pointer is null, a slice is too short, or a code
                          names no call
@@ -113,6 +113,12 @@ struct hechroung_step {
 struct hechroung_curve {
     int64_t coefficients[HECHROUNG_CURVE_PLACES];
     uint64_t radius;
+};
+
+/* A curve in one variable as a supplier delivers it: c0 + c1 x + c2 x^2, and how far from it the true values may lie.
+   Any bits are taken. */
+struct hechroung_doubles {
+    double c0, c1, c2, radius;
 };
 
 /* ---- the proved functions ---- */
@@ -284,6 +290,15 @@ extern uint8_t hechroung_cut_range(uint8_t d, uint8_t i, uint8_t k, uint8_t n, s
                                    const uint32_t *keys, size_t keys_length,
                                    const int64_t *coefficients, size_t coefficients_length,
                                    int64_t *ends, size_t ends_length, uint64_t *numbers, size_t numbers_length);
+
+/* The model of a curve that is delivered in doubles, in one variable: any function that differs from c0 + c1 x + c2 x^2
+   by at most the radius, everywhere from -1 to 1, is within it. Of each coefficient's exact value U times it goes to the
+   nearest whole number, ties to even; the radius is U times theirs rounded up, plus 1 for each coefficient that is no
+   whole number of units. Minus zero counts as zero. Refusals 16 (a value is not finite, or the radius is negative), 7.
+   Written: keys, coefficients and numbers as for hechroung_call. */
+extern uint8_t hechroung_doubles(double c0, double c1, double c2, double radius,
+                                 uint32_t *keys, size_t keys_length, int64_t *coefficients, size_t coefficients_length,
+                                 uint64_t *numbers, size_t numbers_length);
 
 /* ---- the same for structs. The answer may be one of the models that are read. A place of null is not written. ---- */
 
@@ -697,6 +712,19 @@ static inline uint8_t hechroung_range_cut(uint8_t d, uint8_t i, uint8_t k, const
     answer->low = ends[0];
     answer->high = ends[1];
     if (place != NULL) *place = (size_t)numbers[0];
+    return number;
+}
+
+/* The model of a curve in doubles. Refusals 16, 7. */
+static inline uint8_t hechroung_from_doubles(const struct hechroung_doubles *curve, struct hechroung_model *answer) {
+    uint64_t numbers[4] = {0, 0, 0, 0};
+    uint8_t number;
+    if (curve == NULL || answer == NULL) return HECHROUNG_MISUSED;
+    number = hechroung_doubles(curve->c0, curve->c1, curve->c2, curve->radius, answer->keys, HECHROUNG_MOST_TERMS,
+                               answer->coefficients, HECHROUNG_MOST_TERMS, numbers, 4);
+    answer->n = (uint8_t)numbers[1];
+    answer->count = (size_t)numbers[2];
+    answer->radius = numbers[3];
     return number;
 }
 

@@ -1,7 +1,8 @@
 """Polynomial models with an error radius: a small wrapper over the proved library, through ctypes.
 
 Coefficients, radii, values and ends are whole numbers in units of 1/UNIT. What documents 01 and 02 refuse is raised as
-Refused; a number that its field cannot hold, and what is no whole number, as ValueError.
+Refused; a number that its field cannot hold, and what is no whole number, or no float where one is asked for, as
+ValueError.
 """
 
 import ctypes
@@ -24,7 +25,7 @@ _FOLDER = os.path.join(os.path.dirname(os.path.abspath(__file__)), "..", "..", "
 _library = ctypes.CDLL(os.path.join(os.environ.get("HECHROUNG_LIB", _FOLDER), f"libhechroung.so.{_LAYOUT}"))
 
 _u8, _u32, _u64, _i64, _size = ctypes.c_uint8, ctypes.c_uint32, ctypes.c_uint64, ctypes.c_int64, ctypes.c_size_t
-_text = ctypes.c_char_p
+_f64, _text = ctypes.c_double, ctypes.c_char_p
 _u32s, _u64s, _i64s, _sizes = (ctypes.POINTER(field) for field in (_u32, _u64, _i64, _size))
 _NUMBERS = (_u8, _u32, _u64, _i64, _size)
 _Keys = _u32 * MOST_TERMS
@@ -44,6 +45,19 @@ def _whole(field, value):
     return number
 
 
+def _double(value):
+    """The value, where it is a float. ctypes would round a large whole number, and that is another one."""
+    if not isinstance(value, float):
+        raise ValueError(f"{value!r} is no float")
+    return value
+
+
+def _crossed(field, value):
+    if field is _f64:
+        return _double(value)
+    return _whole(field, value) if field in _NUMBERS else value
+
+
 def _array(field, values):
     whole = [_whole(field, value) for value in values]
     return (field * len(whole))(*whole)
@@ -56,7 +70,7 @@ def _exported(name, answer, *fields):
 
     def tested(*arguments):
         pairs = zip(fields, arguments, strict=True)
-        return function(*(_whole(field, given) if field in _NUMBERS else given for field, given in pairs))
+        return function(*(_crossed(field, given) for field, given in pairs))
 
     tested.fields = fields
     return tested
@@ -84,6 +98,7 @@ _curve_range = _exported("hechroung_curve_range", _u8, *_handed_curve, _i64s, _s
 _to_powers = _exported("hechroung_to_powers", _u8, *_handed_curve, _u32s, _size, _i64s, _size, _u64s, _size)
 _from_powers = _exported("hechroung_from_powers", _u8, *_handed, _i64s, _size, _u64s, _size)
 _cut_range = _exported("hechroung_cut_range", _u8, _u8, _u8, _u8, *_handed, _i64s, _size, _u64s, _size)
+_doubles = _exported("hechroung_doubles", _u8, _f64, _f64, _f64, _f64, _u32s, _size, _i64s, _size, _u64s, _size)
 
 # What a run gives: the last step's model, the ends of its range and of its integral, and the exact integral.
 Summary = namedtuple("Summary", "model range integral exact")
@@ -97,8 +112,8 @@ Report = namedtuple("Report", "summary shares")
 
 
 class Refused(Exception):
-    """The refusal of documents 01 and 02: its number, 1 to 14, and its place; of a run with shares those of the steps
-    before it too."""
+    """The refusal of documents 01 and 02: its number, 1 to 14 or 16, and its place; of a run with shares those of the
+    steps before it too."""
 
     def __init__(self, number, place, shares=()):
         super().__init__(f"refused {number} {place}")
@@ -377,3 +392,12 @@ def cut_range(d, i, k, f):
     number = _cut_range(d, i, k, *_arguments(f), ends, 2, numbers, 1)
     _check(number, numbers[0])
     return tuple(ends)
+
+
+def from_doubles(c0, c1, c2, radius):
+    """The model of c0 + c1 x + c2 x² with a radius, four floats: what is within the curve is within the model."""
+    keys, coefficients, numbers = _Keys(), _Coefficients(), (_u64 * 4)()
+    number = _doubles(c0, c1, c2, radius, keys, MOST_TERMS, coefficients, MOST_TERMS, numbers, 4)
+    place, n, count, radius = numbers
+    _check(number, place)
+    return Model(n, radius, zip(keys[:count], coefficients[:count]))

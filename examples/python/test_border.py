@@ -1,9 +1,10 @@
 """Hands every number of every function of hechroung.py, and of every exported function that it declares, over as one
 that its field cannot hold: what crosses to the library must be the number that was given, or nothing. Each field's
-least and greatest number do cross."""
+least and greatest number do cross. Of a curve in doubles every float crosses as it is, and nothing else does."""
 
 import ctypes
 import inspect
+import math
 from fractions import Fraction
 from typing import NamedTuple
 
@@ -14,7 +15,7 @@ from hechroung import UNIT, Curve, Misused, Model, Refused
 BYTE, KEY, RADIUS, VALUE = (0, 2 ** 8 - 1), (0, 2 ** 32 - 1), (0, 2 ** 64 - 1), (-2 ** 63, 2 ** 63 - 1)
 WIDTHS = {ctypes.c_uint8: BYTE, ctypes.c_uint64: RADIUS, ctypes.c_size_t: RADIUS, ctypes.c_int64: VALUE}
 # How many exported functions hechroung.py declares.
-DECLARED = 15
+DECLARED = 16
 NO_WHOLE_NUMBERS = [1.0, 0.5, float("nan"), Fraction(3, 2), "1", b"1", None, [1], 1j]
 
 
@@ -64,7 +65,13 @@ CALLS = {
     "to_powers": {"f": bent()},
     "from_powers": {"f": line()},
     "cut_range": {"d": 2, "i": 1, "k": 3, "f": line()},
+    "from_doubles": {"c0": 0.5, "c1": 0.1, "c2": -0.0, "radius": 5e-324},
 }
+# Floats of every size: ties of units and their neighbours, the smallest and the largest.
+TIES = [math.ldexp(2 * k + 1, power) for k in range(8) for power in (-21, -20, -22)]
+SIZES = [0.0, 5e-324, 2.0 ** -1022, 1.0, 0.1, 2.0 ** 10, 2.0 ** 1023, 1.7976931348623157e308]
+NEIGHBOURS = [math.nextafter(tie, toward) for tie in TIES for toward in (0.0, 1.0)]
+FLOATS = [sign * value for value in [*TIES, *NEIGHBOURS, *SIZES] for sign in (1.0, -1.0)]
 
 
 class Number(NamedTuple):
@@ -130,6 +137,8 @@ def numbers_of(name, argument):
         yield from numbers_of_model(name, argument)
     elif isinstance(argument, Curve):
         yield from numbers_of_curve(name, argument)
+    elif isinstance(argument, float):
+        return
     else:
         assert name == "sheet", f"{name} is no argument that this test knows"
 
@@ -172,7 +181,7 @@ def declared():
     """Each number of each exported function that is declared; its others are 0, and no pointer is handed over."""
     for name, function in vars(hechroung).items():
         fields = getattr(function, "fields", ())
-        arguments = [0 if field in WIDTHS else None for field in fields]
+        arguments = [0 if field in WIDTHS else 0.0 if field is ctypes.c_double else None for field in fields]
         for field, number in zip(fields, numbers_of_list(name, arguments, None)):
             if field in WIDTHS:
                 yield function, number._replace(limits=WIDTHS[field])
@@ -202,6 +211,43 @@ def faults_of_exported(exported):
         yield from crossing(number.name, number, lambda other: outcome(function, *number.replaced(other)))
 
 
+def by_the_machine(c0, c1, c2, radius):
+    """The model of a curve by ldexp, which is exact, and by rounding, which Python makes to even; or the refusal."""
+    if not all(map(math.isfinite, (c0, c1, c2, radius))) or radius < 0:
+        return 16
+    units = [Fraction(c) * UNIT if abs(c) > 2.0 ** 1000 else math.ldexp(c, 20) for c in (c0, c1, c2)]
+    rounded = [round(u) for u in units]
+    largest = math.ceil(Fraction(radius) * UNIT) + sum(u != c for u, c in zip(units, rounded))
+    if sum(map(abs, rounded)) + largest > 2 ** 30:
+        return 7
+    return largest, [(k << 28, c) for k, c in enumerate(rounded) if c]
+
+
+def converted(*values):
+    """The same by the library."""
+    try:
+        model = hechroung.from_doubles(*values)
+        return model.radius, model.terms
+    except Refused as refusal:
+        return refusal.number
+
+
+def faults_of_doubles():
+    """Each float in each place of a curve, and in all of them; what is no float; what is not finite."""
+    curve = (0.5, 0.1, -2.5, 0.25)
+    places = [(*curve[:k], None, *curve[k + 1:]) for k in range(4)]
+    for value in [*FLOATS, math.inf, -math.inf, math.nan, -math.nan]:
+        for place in [*places, (None,) * 4]:
+            values = [value if other is None else other for other in place]
+            if converted(*values) != by_the_machine(*values):
+                yield f"from_doubles{tuple(values)}: {converted(*values)}, by the machine {by_the_machine(*values)}"
+    for value in [0, 1, True, 2 ** 53 + 1, Fraction(1, 2), "1.0", b"1", None, [1.0], 1j]:
+        for place in places:
+            values = [value if other is None else other for other in place]
+            if outcome(hechroung.from_doubles, *values) is not ValueError:
+                yield f"from_doubles{tuple(values)}: {outcome(hechroung.from_doubles, *values).__name__}"
+
+
 def missing(exported):
     """Functions that are not tried, numbers behind the last that a call has a place for, and one that is not there."""
     functions = inspect.getmembers(hechroung, inspect.isfunction)
@@ -225,11 +271,13 @@ def main():
     faults = list(missing(exported))
     for name, arguments in CALLS.items():
         faults += faults_of_call(name, arguments)
+    faults += faults_of_doubles()
     # Last, and only where all else holds: a length that crosses would be one of a slice that is not there.
     faults += faults_of_exported(exported) if not faults else []
     tried = sum(len(list(numbers_of_call(arguments))) for arguments in CALLS.values())
     counts = f"{tried} numbers of {len(CALLS)} functions and {len(exported)} of {DECLARED} exported ones"
-    print(*(faults or [f"{counts}: none crosses as another"]), sep="\n")
+    floats = f"{len(FLOATS) + 4} floats in each place of a curve: each has the model that ldexp and rounding give"
+    print(*(faults or [f"{counts}: none crosses as another", floats]), sep="\n")
     return bool(faults)
 
 

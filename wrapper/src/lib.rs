@@ -26,12 +26,14 @@
 
 pub mod curves;
 mod cuts;
+mod doubles;
 #[allow(unsafe_code)]
 pub mod raw;
 mod sheets;
 
 pub use curves::Curve;
 pub use cuts::cut_range;
+pub use doubles::{from_doubles, Doubles};
 pub use sheets::{lines, open, records, rewrite, run, run_book, shares, shares_book, write};
 pub use sheets::{Book, Flat, Kind, Record, Records, RefusedRun, Report, Shares, Step, Summary};
 
@@ -71,7 +73,7 @@ pub struct Model {
     pub coefficients: [i64; MOST_TERMS],
 }
 
-/// The number of a refusal in documents 01 and 02, 1 to 14, and its place.
+/// The number of a refusal in documents 01 and 02, 1 to 14 or 16, and its place.
 #[derive(Clone, Copy, Debug, PartialEq, Eq, PartialOrd, Ord)]
 pub struct Refusal {
     pub number: u8,
@@ -154,7 +156,8 @@ impl fmt::Display for Refusal {
             11 => "the buffer is too short",
             12 => "uncertified: the divisor is not shown to be nowhere zero",
             13 => "a model to convert has another number of variables than one",
-            _ => "the box is to be cut to a depth above 6",
+            14 => "the box is to be cut to a depth above 6",
+            _ => "a double is not finite, or a radius in doubles is negative",
         };
         write!(out, "refused {} {}: {reason}", self.number, self.place)
     }

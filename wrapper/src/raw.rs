@@ -335,6 +335,19 @@ exported! {
         numbers: *mut u64,
         numbers_length: usize,
     ) -> u8;
+
+    hechroung_doubles: Doubles = (
+        c0: f64,
+        c1: f64,
+        c2: f64,
+        radius: f64,
+        keys: *mut u32,
+        keys_length: usize,
+        coefficients: *mut i64,
+        coefficients_length: usize,
+        numbers: *mut u64,
+        numbers_length: usize,
+    ) -> u8;
 }
 
 /// A book that is handed over: for each model an entry of `ns`, `counts` and `radii` and 64 keys and coefficients; for
@@ -825,6 +838,33 @@ pub fn cut_range(d: u8, i: u8, k: u8, f: Handed<'_>, ends: &mut [i64], numbers: 
             f.coefficients.len(),
             ends.as_mut_ptr(),
             ends.len(),
+            numbers.as_mut_ptr(),
+            numbers.len(),
+        )
+    }
+}
+
+/// The model of c0 + c1 x + c2 x² with a radius, delivered in doubles: the refusal's number, 0 without one. The answer
+/// goes into `keys`, `coefficients` and `numbers` as in [`call`].
+#[must_use]
+pub fn doubles(
+    [c0, c1, c2]: [f64; 3],
+    radius: f64,
+    keys: &mut [u32],
+    coefficients: &mut [i64],
+    numbers: &mut [u64],
+) -> u8 {
+    // SAFETY: as in `call`.
+    unsafe {
+        hechroung_doubles(
+            c0,
+            c1,
+            c2,
+            radius,
+            keys.as_mut_ptr(),
+            keys.len(),
+            coefficients.as_mut_ptr(),
+            coefficients.len(),
             numbers.as_mut_ptr(),
             numbers.len(),
         )

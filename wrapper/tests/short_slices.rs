@@ -83,6 +83,17 @@ impl Room {
         )
     }
 
+    /// 1 - x² / 2, with the smallest radius above 0.
+    fn doubles(&mut self) -> u8 {
+        raw::doubles(
+            [1.0, -0.0, -0.5],
+            f64::from_bits(1),
+            &mut self.keys,
+            &mut self.coefficients,
+            &mut self.numbers,
+        )
+    }
+
     fn run_book(&mut self, book: HandedBook<'_>) -> u8 {
         raw::run_book(
             book,
@@ -779,4 +790,21 @@ fn a_cut_range_needs_its_places_2_ends_and_1_number() {
         let enough = called(k, model, 2, 1);
         assert_eq!(enough, expected, "depth {k}");
     }
+}
+
+#[test]
+fn a_curve_in_doubles_needs_64_keys_64_coefficients_and_4_numbers() {
+    const ENOUGH: [usize; 4] = [64, 64, 4, 0];
+    for short in 0..3 {
+        let mut lengths = ENOUGH;
+        lengths[short] -= 1;
+        let mut room = Room::new(lengths);
+        assert_eq!(room.doubles(), MISUSED, "slice {short}");
+        assert!(room.unchanged(), "slice {short}");
+    }
+    let mut room = Room::new(ENOUGH);
+    assert_eq!(room.doubles(), 0);
+    assert_eq!(room.numbers, [0, 1, 2, 1]);
+    assert_eq!(room.keys[..3], [0, 0x2000_0000, 0]);
+    assert_eq!(room.coefficients[..3], [1 << 20, -(1 << 19), 0]);
 }

@@ -2,11 +2,13 @@
 
 use crate::curves;
 use crate::cuts;
+use crate::doubles;
 use crate::shaped::Shape;
 use reference::book::{Book, Step};
 use reference::calls::Call;
 use reference::chebyshev::Call as CurveCall;
 use reference::cuts::Call as CutCall;
+use reference::doubles::Record;
 use reference::model::{FEW_VARIABLES, MOST_TERMS, MOST_VARIABLES};
 use reference::renaming::Reordering;
 use reference::sheet::Mark;
@@ -40,6 +42,8 @@ pub enum Case {
     Cut(CutCall),
     /// The same by the exported function itself, with slices of any length.
     ShapedCut(CutCall, cuts::Shape),
+    /// A curve in doubles, with slices of these lengths for the answer.
+    Doubles(Record, [u8; 3]),
 }
 
 /// How many variables a case has, by which cases are counted: those of each mark apart.
@@ -103,6 +107,7 @@ impl Case {
                 _ => Variables::of_n(1),
             },
             Case::Cut(call) | Case::ShapedCut(call, _) => Variables::of_n(call.f.n),
+            Case::Doubles(..) => Variables::UpToFour,
         }
     }
 
@@ -121,6 +126,7 @@ impl Case {
             Case::ShapedCurve(..) => "curves, slices of any length",
             Case::Cut(_) => cuts::KIND,
             Case::ShapedCut(..) => "cut box, slices of any length",
+            Case::Doubles(..) => doubles::NAME,
         }
     }
 
@@ -185,6 +191,12 @@ impl Case {
                 cuts::push_call(&mut bytes, call);
                 "shapedcut"
             }
+            Case::Doubles(record, outputs) => {
+                bytes.extend(record.coefficients.map(u64::to_le_bytes).concat());
+                bytes.extend(record.radius.to_le_bytes());
+                bytes.extend(outputs);
+                "doubles"
+            }
         };
         format!("{word} {}", hex(&bytes))
     }
@@ -227,6 +239,16 @@ impl Case {
             "shapedcut" => {
                 let shape = cuts::Shape::take(&mut bytes)?;
                 Case::ShapedCut(cuts::take_call(&mut bytes)?, shape)
+            }
+
+            "doubles" => {
+                let coefficients = [bytes.number()?, bytes.number()?, bytes.number()?];
+                let radius = bytes.number()?;
+                let record = Record {
+                    coefficients,
+                    radius,
+                };
+                Case::Doubles(record, bytes.take()?)
             }
             _ => return None,
         };

@@ -167,6 +167,30 @@ impl Counts {
         missing
     }
 
+    /// What no curve in doubles reached.
+    pub fn unreached_doubles(&self, name: &str) -> Vec<String> {
+        let Some(kind) = self.kinds.get(name) else {
+            return vec!["any curve in doubles".into()];
+        };
+        let Answers { accepted, refused } = kind.answers(Variables::UpToFour);
+        let tried = self.tried.get(&Variables::UpToFour);
+        let points = tried.map_or(0, |tried| tried.points);
+        let absent = [7, 16]
+            .into_iter()
+            .filter(|number| !refused.contains_key(number));
+        let mut missing: Vec<String> = absent.map(|number| format!("refusal {number}")).collect();
+        for (what, times) in [
+            ("an accepted curve", accepted),
+            ("a slice that is too short", kind.misused),
+            ("a point", points),
+        ] {
+            if times == 0 {
+                missing.push(what.into());
+            }
+        }
+        missing
+    }
+
     /// The refusals that a kind of case did not reach, and those that none did.
     fn unreached_refusals(&self) -> Vec<String> {
         let mut all = Kind::default();

@@ -7,6 +7,8 @@
 //!     compare --renamed PATH [SHEETS [SEED]]
 //!                               so many generated sheets, each with its variables renamed, by the library and by the
 //!                               program at the path
+//!     compare --doubles [RECORDS [SEED]]
+//!                               so many generated curves in doubles, also by the machine's doubles and exact fractions
 //!
 //! The exit status is 0 only if all answers agree and every refusal, every mix of shares and every kind of integral
 //! that can be reached was reached, refusals and enclosures up to four variables and above.
@@ -18,6 +20,7 @@ mod case;
 mod counts;
 mod curves;
 mod cuts;
+mod doubles;
 mod integrals;
 mod limits;
 mod program;
@@ -57,6 +60,9 @@ fn main() -> ExitCode {
         ["--renamed", path] => renamed_sheets(path, RENAMED_SHEETS, SEED),
         ["--renamed", path, sheets] => renamed_numbers(path, sheets, "1"),
         ["--renamed", path, sheets, seed] => renamed_numbers(path, sheets, seed),
+        ["--doubles"] => doubles_records(doubles::RECORDS, SEED),
+        ["--doubles", records] => doubles_numbers(records, "1"),
+        ["--doubles", records, seed] => doubles_numbers(records, seed),
         [] => generated_cases(CASES, SEED),
         [cases] => numbers(cases, "1"),
         [cases, seed] => numbers(cases, seed),
@@ -66,7 +72,7 @@ fn main() -> ExitCode {
 
 fn usage() -> ExitCode {
     eprintln!("usage: compare [CASES [SEED]] | --cases < LINES | --program PATH [SHEETS [SEED]] |");
-    eprintln!("       --renamed PATH [SHEETS [SEED]]");
+    eprintln!("       --renamed PATH [SHEETS [SEED]] | --doubles [RECORDS [SEED]]");
     ExitCode::from(2)
 }
 
@@ -87,6 +93,13 @@ fn program_numbers(path: &str, sheets: &str, seed: &str) -> ExitCode {
 fn renamed_numbers(path: &str, sheets: &str, seed: &str) -> ExitCode {
     match (sheets.parse(), seed.parse()) {
         (Ok(sheets), Ok(seed)) => renamed_sheets(path, sheets, seed),
+        _ => usage(),
+    }
+}
+
+fn doubles_numbers(records: &str, seed: &str) -> ExitCode {
+    match (records.parse(), seed.parse()) {
+        (Ok(records), Ok(seed)) => doubles_records(records, seed),
         _ => usage(),
     }
 }
@@ -178,6 +191,30 @@ fn renamed_sheets(path: &str, sheets: u64, seed: u64) -> ExitCode {
         started.elapsed().as_secs()
     );
     let unreached = counts.unreached_renamed(NAME);
+    if !unreached.is_empty() {
+        println!("not reached: {}", unreached.join("; "));
+    }
+    ended(&failures, unreached.is_empty())
+}
+
+/// Compares curves in doubles: generated ones, and those at ties and beside them.
+fn doubles_records(records: u64, seed: u64) -> ExitCode {
+    let started = Instant::now();
+    let compare = |case: Case| (case.kind(), agree::compare(&case));
+    let (counts, failures) = on_every_processor(move |first, step| {
+        let named = (first == 0).then(doubles::named).unwrap_or_default();
+        let generated = (first..records).step_by(step);
+        let generated = generated.map(move |number| doubles::case(seed, number));
+        noted(named.into_iter().chain(generated).map(compare))
+    });
+    counts.print();
+    println!(
+        "{records} generated curves in doubles and {} named ones with seed {seed}: {} differ, {} s",
+        counts.cases() - records,
+        failures.len(),
+        started.elapsed().as_secs()
+    );
+    let unreached = counts.unreached_doubles(doubles::NAME);
     if !unreached.is_empty() {
         println!("not reached: {}", unreached.join("; "));
     }

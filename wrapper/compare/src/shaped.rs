@@ -5,7 +5,7 @@ use crate::agree::{pair, same, to_ends, to_exact, to_model, Seen};
 use crate::case::Bytes;
 use hechroung::raw::{self, Handed, HandedModels, MISUSED};
 use hechroung::Model;
-use reference::calls::{Call, CallAnswer};
+use reference::calls::{Call, CallAnswer, ModelAnswer};
 use reference::generate::Random;
 use reference::model::{MOST_TERMS, MOST_VARIABLES};
 
@@ -199,34 +199,42 @@ fn compare_quotient(
     let [keys_length, coefficients_length, _, _] = shape
         .inputs
         .map(|length| 3 * MOST_TERMS + usize::from(length));
-    let outputs = shape.outputs.map(usize::from);
     // What is behind four models may be anything.
     let ns = over(&models.map(|model| model.n), 0xAB, ns_length);
     let counts = over(&models.map(|model| model.count), usize::MAX, counts_length);
     let radii = over(&models.map(|model| model.radius), NUMBER, radii_length);
     let keys = models.map(|model| model.keys).concat();
     let coefficients = models.map(|model| model.coefficients).concat();
-    let (mut out_keys, mut out_coefficients, mut numbers) = untouched(outputs);
-    let number = raw::quotient(
-        order,
-        HandedModels {
-            ns: &ns,
-            counts: &counts,
-            radii: &radii,
-            keys: &over(&keys, KEY, keys_length),
-            coefficients: &over(&coefficients, COEFFICIENT, coefficients_length),
-        },
-        &mut out_keys,
-        &mut out_coefficients,
-        &mut numbers,
-    );
-    let found = (out_keys, out_coefficients, numbers);
+    let handed = HandedModels {
+        ns: &ns,
+        counts: &counts,
+        radii: &radii,
+        keys: &over(&keys, KEY, keys_length),
+        coefficients: &over(&coefficients, COEFFICIENT, coefficients_length),
+    };
     let entries = ns_length.min(counts_length).min(radii_length);
-    let fits = entries >= 4
-        && keys_length.min(coefficients_length) >= 4 * MOST_TERMS
-        && outputs[0].min(outputs[1]) >= MOST_TERMS
-        && outputs[2] >= 4;
-    if !fits {
+    let lent = entries >= 4 && keys_length.min(coefficients_length) >= 4 * MOST_TERMS;
+    compare_answer(
+        answer,
+        lent,
+        shape.outputs,
+        |keys, coefficients, numbers| raw::quotient(order, handed, keys, coefficients, numbers),
+    )
+}
+
+/// All that a call stores whose answer is a model, in slices of these lengths; `lent` says whether those that it reads
+/// are long enough.
+pub fn compare_answer(
+    answer: &ModelAnswer,
+    lent: bool,
+    outputs: [u8; 3],
+    call: impl FnOnce(&mut [u32], &mut [i64], &mut [u64]) -> u8,
+) -> Result<Seen, String> {
+    let outputs = outputs.map(usize::from);
+    let (mut keys, mut coefficients, mut numbers) = untouched(outputs);
+    let number = call(&mut keys, &mut coefficients, &mut numbers);
+    let found = (keys, coefficients, numbers);
+    if !lent || outputs[0].min(outputs[1]) < MOST_TERMS || outputs[2] < 4 {
         return misused(number, &found, &untouched(outputs));
     }
     let refusal = answer.refusal.map(pair);

@@ -7,6 +7,7 @@ use hechroung::{CURVE_PLACES, MOST_MODELS, MOST_STEPS, MOST_TERMS, MOST_VARS};
 use hechroung::{LONGEST_RECORD, LONGEST_SHEET, LONGEST_TEXT};
 use reference::book::{Book, Step, ANTIDERIVATIVE, INPUT, MULTIPLY, QUOTIENT, SUBSTITUTE};
 use reference::chebyshev::{Call as CurveCall, StoredChebyshev};
+use reference::doubles::Record;
 use reference::generate::{self, books, chebyshev, cuts, quotients, Draft, DraftModel, Random};
 use reference::sheet;
 use reference::stored::StoredModel;
@@ -177,6 +178,16 @@ impl Answer {
         self.number = raw::quotient(
             d,
             models,
+            &mut self.keys,
+            &mut self.coefficients,
+            &mut self.numbers,
+        );
+    }
+
+    fn doubles(&mut self, record: &Record) {
+        self.number = raw::doubles(
+            record.coefficients.map(f64::from_bits),
+            f64::from_bits(record.radius),
             &mut self.keys,
             &mut self.coefficients,
             &mut self.numbers,
@@ -576,6 +587,21 @@ fn a_cut_range_stays_within_its_figure() {
     });
     most("cut range", CALL, used);
     assert!(accepted > GENERATED / 4, "cut range: {accepted} accepted");
+}
+
+#[test]
+fn a_curve_in_doubles_stays_within_the_figure_of_a_call() {
+    let mut stack = Stack::new(CALL);
+    let mut accepted = 0;
+    let used = (0..GENERATED).map(|number| {
+        let record = generate::doubles::record(7, number);
+        let mut answer = Answer::NONE;
+        let used = stack.run(|| answer.doubles(&record));
+        accepted += u64::from(answer.number == 0);
+        used
+    });
+    most("doubles", CALL, used);
+    assert!(accepted > 10, "doubles: {accepted} accepted");
 }
 
 #[test]
