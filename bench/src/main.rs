@@ -6,6 +6,7 @@ mod antiderivatives;
 mod calls;
 mod curves;
 mod cuts;
+mod doubles;
 mod flint;
 mod growth;
 mod inputs;
@@ -43,4 +44,5 @@ fn main() {
     shares::print(seed);
     growth::print(&mut random);
     cuts::print(seed);
+    doubles::print(seed);
 }
