@@ -34,6 +34,8 @@ pub data Refusal : Type 0 where
   not-one-variable : Refusal
   -- a box is to be cut to a depth above 6
   cut-too-deep : Refusal
+  -- a row of readings is longer than 256, or a low value exceeds its high one
+  bad-reading : Refusal
   -- of a curve in doubles a value is not finite, or the radius is negative
   bad-double : Refusal
 
@@ -53,6 +55,7 @@ number short-buffer = 11
 number uncertified = 12
 number not-one-variable = 13
 number cut-too-deep = 14
+number bad-reading = 15
 number bad-double = 16
 
 -- ---- the answer of an operation

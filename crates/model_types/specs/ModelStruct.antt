@@ -22,7 +22,8 @@ use Rattle.model_types.specs.declared.Refusal.the-variants.{BadLength, B
 use Rattle.model_types.specs.declared.Refusal.the-variants.{BadModel, BadStep}
 use Rattle.model_types.specs.declared.Refusal.the-variants.{OverSpan, TooManyTerms, LeavesBox}
 use Rattle.model_types.specs.declared.Refusal.the-variants.{VariablesDiffer, ShortBuffer, Uncertified}
-use Rattle.model_types.specs.declared.Refusal.the-variants.{NotOneVariable, CutTooDeep, BadDouble}
+use Rattle.model_types.specs.declared.Refusal.the-variants.{NotOneVariable, CutTooDeep, BadReading}
+use Rattle.model_types.specs.declared.Refusal.the-variants.{BadDouble}
 use Rattle.model_types.specs.declared.Verdict.{Verdict}
 use Rattle.model_types.specs.declared.Verdict.the-variants.{Accepted, Refused}
 use Rattle.model_types.specs.declared.Answer.{Answer}
@@ -89,6 +90,7 @@ refusal R.short-buffer = ShortBuffer
 refusal R.uncertified = Uncertified
 refusal R.not-one-variable = NotOneVariable
 refusal R.cut-too-deep = CutTooDeep
+refusal R.bad-reading = BadReading
 refusal R.bad-double = BadDouble
 
 -- and back
@@ -107,6 +109,7 @@ cause ShortBuffer = R.short-buffer
 cause Uncertified = R.uncertified
 cause NotOneVariable = R.not-one-variable
 cause CutTooDeep = R.cut-too-deep
+cause BadReading = R.bad-reading
 cause BadDouble = R.bad-double
 
 -- document 01's number of a verdict, 0 without a refusal

@@ -39,7 +39,8 @@ use Rattle.model_types.specs.declared.Refusal.the-variants.{BadLength, B
 use Rattle.model_types.specs.declared.Refusal.the-variants.{BadModel, BadStep}
 use Rattle.model_types.specs.declared.Refusal.the-variants.{OverSpan, TooManyTerms, LeavesBox}
 use Rattle.model_types.specs.declared.Refusal.the-variants.{VariablesDiffer, ShortBuffer, Uncertified}
-use Rattle.model_types.specs.declared.Refusal.the-variants.{NotOneVariable, CutTooDeep, BadDouble}
+use Rattle.model_types.specs.declared.Refusal.the-variants.{NotOneVariable, CutTooDeep, BadReading}
+use Rattle.model_types.specs.declared.Refusal.the-variants.{BadDouble}
 use Rattle.model_types.specs.ModelStruct.{refusal, cause, one-term, zero-term, places, view-term, view}
 use Rattle.model_types.specs.ModelStruct.{pack-term, pad, pack}
 use Rattle.calculus.specs.MonomialKeyLaws.{key-monomial, monomial-key, fits-key, fits-below}
@@ -424,6 +425,7 @@ refusal-cause ShortBuffer = refl
 refusal-cause Uncertified = refl
 refusal-cause NotOneVariable = refl
 refusal-cause CutTooDeep = refl
+refusal-cause BadReading = refl
 refusal-cause BadDouble = refl
 
 pub cause-refusal : (r : R.Refusal) → cause (refusal r) ≡ r
@@ -442,4 +444,5 @@ cause-refusal R.short-buffer = refl
 cause-refusal R.uncertified = refl
 cause-refusal R.not-one-variable = refl
 cause-refusal R.cut-too-deep = refl
+cause-refusal R.bad-reading = refl
 cause-refusal R.bad-double = refl

@@ -59,6 +59,7 @@ pub enum Refusal {
     Uncertified,
     NotOneVariable,
     CutTooDeep,
+    BadReading,
     BadDouble,
 }
 
@@ -247,6 +248,7 @@ pub fn number(refusal: Refusal) -> u8
         Refusal::Uncertified => 12,
         Refusal::NotOneVariable => 13,
         Refusal::CutTooDeep => 14,
+        Refusal::BadReading => 15,
         Refusal::BadDouble => 16,
     }
 }
