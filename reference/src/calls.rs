@@ -242,7 +242,7 @@ pub(crate) fn handed_variable(i: u8, n: usize) -> Result<usize, Refusal> {
 }
 
 /// The model of a call without an order.
-fn only_model(f: &StoredModel) -> Result<Model, Refusal> {
+pub(crate) fn only_model(f: &StoredModel) -> Result<Model, Refusal> {
     f.sound(LARGEST_DEGREE).ok_or(Refusal::Model(0))
 }
 

@@ -14,6 +14,7 @@
 //! - [`chebyshev`]: models of one variable in Chebyshev polynomials;
 //! - [`cuts`]: narrower ranges by cutting the box;
 //! - [`doubles`]: curves delivered in doubles;
+//! - [`readings`]: readings held against a curve;
 //! - [`book`], [`sheet`], [`mod@write`], [`run`], [`records`], [`text`]: sheets;
 //! - [`renaming`]: sheets whose variables are renamed throughout;
 //! - [`exact`]: exact fractions and the check of the enclosure statement;
@@ -30,6 +31,7 @@ pub mod exact;
 pub mod generate;
 pub mod model;
 pub mod operations;
+pub mod readings;
 pub mod records;
 pub mod refusal;
 pub mod renaming;

@@ -33,6 +33,9 @@ pub enum Refusal {
     NotOneVariable,
     /// 14: a box is to be cut deeper than 6.
     CutTooDeep,
+    /// 15: a row is longer than 256, or the band of the reading with this number has
+    /// its low value above its high one.
+    Reading(usize),
     /// 16: a double is not finite, or a radius in doubles is negative.
     Double,
 }
@@ -55,6 +58,7 @@ impl Refusal {
             Refusal::Uncertified(_) => 12,
             Refusal::NotOneVariable => 13,
             Refusal::CutTooDeep => 14,
+            Refusal::Reading(_) => 15,
             Refusal::Double => 16,
         }
     }
@@ -67,7 +71,8 @@ impl Refusal {
             | Refusal::Span(place)
             | Refusal::Terms(place)
             | Refusal::OutsideBox(place)
-            | Refusal::Uncertified(place) => place,
+            | Refusal::Uncertified(place)
+            | Refusal::Reading(place) => place,
             Refusal::Length
             | Refusal::Mark
             | Refusal::Limits

@@ -3,7 +3,7 @@
 //! Nothing here uses [`crate::operations`]: the outcome is made from a sheet's
 //! models and steps alone, and only then compared with what a run claims.
 //! [`chebyshev`] does this for the calls on Chebyshev curves, [`cuts`] for ranges of
-//! a cut box, [`doubles`] for records of doubles.
+//! a cut box, [`doubles`] for records of doubles, [`readings`] for readings.
 
 pub mod chebyshev;
 pub mod check;
@@ -14,6 +14,7 @@ pub mod function;
 pub mod integer;
 pub mod outcome;
 pub mod polynomial;
+pub mod readings;
 
 pub use check::{check_result, check_sheet, Checked, Violation};
 pub use fraction::Fraction;

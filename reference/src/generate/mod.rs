@@ -24,6 +24,7 @@ pub mod proposals;
 pub mod quotients;
 pub mod radii;
 pub mod random;
+pub mod readings;
 pub mod reorderings;
 pub mod samples;
 pub mod sound;
