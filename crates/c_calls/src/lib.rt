@@ -76,7 +76,7 @@ fn alone(b: Bounds) -> Integral
 }
 
 // Coordinate i, from 0, of a point that is handed over, 0 where there is none.
-fn coordinate(point: &[i64], i: usize) -> i64
+pub fn coordinate(point: &[i64], i: usize) -> i64
     ensures { λ r. ⌜ r ≡ coordinate (now (point .entry)) i ⌝ }
 {
     if i < point.len() {

@@ -1,17 +1,15 @@
 -- Each call is its tests, followed by its operation.
 use mathlib.Core.Path.{_≡_, sym, _∙_, ap}
-use mathlib.Core.List.{List}
 use Prim.Native.Nat.{ℕ}
 use lib.IntN.{ℤ, natAbs}
-use lib.ListN.{take}
 use Rattle.calculus.specs.Model.{Model, most-degree, sound}
 use Rattle.calculus.specs.Refusal.{done, at-place, require-at, _followed-by_}
 use Rattle.calculus.specs.Operations as Op
 use Rattle.calculus.specs.Tests.{order-sound}
-use Rattle.calculus.specs.Calls.{require-two, call-negate, call-sweep, call-range, call-integral, call-evaluate}
+use Rattle.calculus.specs.Calls.{require-two, call-negate, call-sweep, call-range, call-integral}
 use Rattle.calculus.specs.Calls.{call-antiderivative, call-add, call-subtract, call-substitute}
 use Rattle.calculus.specs.Calls.{call-quotient}
-use Rattle.model_call_tests.specs.Admission.{single-model, sweeping, at-point, integrating, two-models}
+use Rattle.model_call_tests.specs.Admission.{single-model, sweeping, integrating, two-models}
 use Rattle.model_call_tests.specs.Admission.{substituting, dividing}
 use Rattle.calculus.specs.RefusalLaws.{at-followed}
 use Rattle.model_call_tests.specs.AdmissionLaws.{two-followed, four-followed}
@@ -34,13 +32,6 @@ module _ (f : Model) where
   pub sweep-is : (t : ℤ) → call-sweep t f ≡ (sweeping t f followed-by (λ u. done (Op.sweep (natAbs t) f)))
   unfolding call-sweep sweeping _followed-by_
   sweep-is t = sym (at-followed 0 _ _ _ _ ∙ ap (require-at 0 (sound most-degree f) _) (at-followed 0 _ _ _ _))
-
-  pub evaluate-is : (Xs : List ℤ)
-      → call-evaluate Xs f
-      ≡ (at-point Xs f followed-by (λ u. at-place 0 (Op.evaluate (take (f .vars) Xs) f)))
-  unfolding call-evaluate at-point _followed-by_
-  evaluate-is Xs = sym (at-followed 0 _ _ _ _ ∙ ap (require-at 0 (sound most-degree f) _)
-      (at-followed 0 _ _ _ _ ∙ ap (require-at 0 _ _) (at-followed 0 _ _ _ _)))
 
   pub antiderivative-is : (d i : ℕ)
       → call-antiderivative d i f ≡ (integrating d i f followed-by (λ u. done (Op.antiderivative d i f)))

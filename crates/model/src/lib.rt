@@ -8,7 +8,7 @@ ghost use Rattle.calculus.specs.Model.{«zero-model», «one-model»};
 ghost use Rattle.calculus.specs.Refusal.{«at-place»};
 ghost use Rattle.calculus.specs.Operations as Op;
 ghost use Rattle.calculus.specs.Calls.{call-negate, call-add, call-subtract, call-multiply, call-substitute};
-ghost use Rattle.calculus.specs.Calls.{call-sweep, call-range, call-integral, call-evaluate, call-antiderivative};
+ghost use Rattle.calculus.specs.Calls.{call-sweep, call-range, call-integral, call-antiderivative};
 ghost use Rattle.calculus.specs.Calls.{call-quotient, call-sound};
 ghost use Rattle.model_types.specs.ModelStruct.{view, pack, answer, bounds, «integral-answer»};
 ghost use Rattle.model_substitution.specs.Substitute.{Substitution};
@@ -239,20 +239,7 @@ pub fn substitute(d: u8, i: u8, f: Model, g: Model) -> Answer
 
 // Two ends around the value at the point X_1/U, .., X_n/U: for every function within the model its value there, times
 // U, lies between them. 5, 6 for a coordinate above n that is not 0, 9 for one of the others outside -U to U, then 7.
-pub fn evaluate(m: Model, xs: [i64; model_types::MOST_VARS as usize]) -> Bounds
-    ensures { λ r. ⌜ r ≡ bounds (call-evaluate xs (view m)) ⌝ }
-{
-    let v = model_call_tests::at_point(m, xs);
-    match v {
-        Verdict::Accepted => {
-            let mut slots = [0u16; product_table::SLOTS_EACH * model_types::MOST_TERMS + 1];
-            let mut keys = [0u64; model_types::MOST_TERMS + 1];
-            let mut sums = [0i64; model_types::MOST_TERMS + 1];
-            model_evaluation::evaluated(m, xs, &mut slots, &mut keys, &mut sums)
-        }
-        Verdict::Refused(refusal, place) => model_types::refuse_bounds(refusal, place),
-    }
-}
+pub use model_evaluation::evaluate;
 
 // f / g by the polynomial of h, with the radius that the forms w × (g × h - f) and 1 - w × g certify: for all functions
 // within f and g the second is nowhere 0 in the box, and the quotient is within the answer. h and w are used without

@@ -131,7 +131,7 @@ pub fn dividing(d: u8, f: Model, g: Model, h: Model, w: Model) -> Verdict
 }
 
 // Whether the coordinates above n are 0.
-fn unused_zero(n: u8, xs: [i64; model_types::MOST_VARS as usize]) -> bool
+pub fn unused_zero(n: u8, xs: [i64; model_types::MOST_VARS as usize]) -> bool
     requires { ⌜ n ≤ key-width ⌝ }
     ensures { λ r. ⌜ r ≡ all-zero (drop n xs) ⌝ }
 {
@@ -147,7 +147,7 @@ fn unused_zero(n: u8, xs: [i64; model_types::MOST_VARS as usize]) -> bool
 }
 
 // Whether the first n coordinates lie from -U to U.
-fn used_within(n: u8, xs: [i64; model_types::MOST_VARS as usize]) -> bool
+pub fn used_within(n: u8, xs: [i64; model_types::MOST_VARS as usize]) -> bool
     requires { ⌜ n ≤ key-width ⌝ }
     ensures { λ r. ⌜ r ≡ all-in-unit (take n xs) ⌝ }
 {

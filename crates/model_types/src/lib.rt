@@ -108,6 +108,25 @@ pub struct Bounds {
     pub verdict: Verdict,
 }
 
+// A reading of the bench: a point, and a low and a high value in units of 1/U.
+pub struct Reading {
+    pub x: [i64; MOST_VARS as usize],
+    pub low: i64,
+    pub high: i64,
+}
+
+// Whether a reading of a row contradicts a model: the first that does, by its number from 0.
+pub enum Contradiction {
+    None,
+    At(usize),
+}
+
+// What a row of readings gives, with no contradiction beside a refusal.
+pub struct Finding {
+    pub contradiction: Contradiction,
+    pub verdict: Verdict,
+}
+
 // The two ends of an integral, and that of the polynomial part alone: quotient + remainder / 212,837,625, exactly. All
 // are 0 beside a refusal.
 pub struct Integral {

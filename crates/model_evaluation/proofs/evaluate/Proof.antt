@@ -7,9 +7,9 @@ use Rattle.model_types.specs.ModelStruct.{view, verdict, bounds}
 use Rattle.model_types.specs.declared.Verdict.the-variants.{Accepted}
 use Rattle.model_call_tests.specs.Admission.{at-point}
 use Rattle.model_call_tests.specs.AdmissionLaws.{point-passed, goes-on, is-refused}
-use Rattle.model.specs.CallLaws.{evaluate-is}
-use Rattle.model.proofs.evaluate.Statement.{statement}
-use Rattle.model.proofs.evaluate.Tie as tie
+use Rattle.model_evaluation.specs.EvaluateCallLaws.{evaluate-is}
+use Rattle.model_evaluation.proofs.evaluate.Statement.{statement}
+use Rattle.model_evaluation.proofs.evaluate.Tie as tie
 
 -- the tests have passed
 module _ (c : tie.After-enum-told) where

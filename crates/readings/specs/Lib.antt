@@ -1,0 +1,4 @@
+pub mod Readings
+pub mod Edges
+pub mod ReadingsLaws
+pub mod ReadingsFacts
