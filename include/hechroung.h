@@ -6,7 +6,7 @@
 
    Answers. Every function that makes a call returns a byte:
      0                   accepted
-     1 to 14, 16         the refusal of documents 01 and 02; the answer is then the zero model in one variable, the
+     1 to 16             the refusal of documents 01 and 02; the answer is then the zero model in one variable, the
                          curve of zeros, or ends 0 and the exact integral 0
      HECHROUNG_MISUSED   no call was made and nothing was written: a pointer is null, a slice is too short, or a code
                          names no call
@@ -45,6 +45,7 @@ extern "C" {
 #define HECHROUNG_CURVE_PLACES 16
 #define HECHROUNG_MOST_MODELS 16
 #define HECHROUNG_MOST_STEPS 64
+#define HECHROUNG_MOST_READINGS 256
 #define HECHROUNG_LONGEST_SHEET 8792
 #define HECHROUNG_LONGEST_RECORD 517
 #define HECHROUNG_LONGEST_TEXT 4096
@@ -119,6 +120,12 @@ struct hechroung_curve {
    Any bits are taken. */
 struct hechroung_doubles {
     double c0, c1, c2, radius;
+};
+
+/* A reading of the bench: a point, as hechroung_evaluate takes it, and a low and a high value. */
+struct hechroung_reading {
+    int64_t point[HECHROUNG_MOST_VARIABLES];
+    int64_t low, high;
 };
 
 /* ---- the proved functions ---- */
@@ -299,6 +306,23 @@ extern uint8_t hechroung_cut_range(uint8_t d, uint8_t i, uint8_t k, uint8_t n, s
 extern uint8_t hechroung_doubles(double c0, double c1, double c2, double radius,
                                  uint32_t *keys, size_t keys_length, int64_t *coefficients, size_t coefficients_length,
                                  uint64_t *numbers, size_t numbers_length);
+
+/* Holds a row of readings against a model, in order, up to the first that contradicts it: its band from low to high and
+   the ends of the evaluation at its point have no number in common (ends that touch have one). No function within the
+   model passes through that one; of the others nothing is promised, not even that a function within the model passes
+   through them. Refusals 15 at place 0 (more than HECHROUNG_MOST_READINGS readings), 5, then with the reading as place
+   15 (a low value above its high one), 6 (a coordinate above n that is not 0) and 9 (another outside -U to U), each
+   tested of all readings before the next, then 7 (of an evaluation).
+   Read: the model as above; as many readings as lows is long, with 8 coordinates of points each, those of reading i from
+   8 * i on, and a high value. points has at least 8 times that many, highs at least as many.
+   Written: numbers, at least 3, hold the refusal's place, 1 if a reading contradicts and else 0, and the number of the
+   first that does, from 0; the last two are 0 where none does and beside a refusal. What lies behind stays. */
+extern uint8_t hechroung_readings(uint8_t n, size_t count, uint64_t radius,
+                                  const uint32_t *keys, size_t keys_length,
+                                  const int64_t *coefficients, size_t coefficients_length,
+                                  const int64_t *points, size_t points_length,
+                                  const int64_t *lows, size_t lows_length, const int64_t *highs, size_t highs_length,
+                                  uint64_t *numbers, size_t numbers_length);
 
 /* ---- the same for structs. The answer may be one of the models that are read. A place of null is not written. ---- */
 
@@ -725,6 +749,34 @@ static inline uint8_t hechroung_from_doubles(const struct hechroung_doubles *cur
     answer->n = (uint8_t)numbers[1];
     answer->count = (size_t)numbers[2];
     answer->radius = numbers[3];
+    return number;
+}
+
+/* Holds `count` readings against a model: `contradicted` is 1 if one contradicts it and else 0, and `reading` the number
+   of the first that does. Refusals 15 at place 0, 5, then with the reading as place 15, 6, 9, 7. A longer row than
+   HECHROUNG_MOST_READINGS is handed over by one reading more than that, which is refused. It takes some 20 KB of stack
+   itself. */
+static inline uint8_t hechroung_hold(const struct hechroung_model *f, const struct hechroung_reading *readings,
+                                     size_t count, int *contradicted, size_t *reading, size_t *place) {
+    int64_t points[HECHROUNG_MOST_VARIABLES * (HECHROUNG_MOST_READINGS + 1)];
+    int64_t lows[HECHROUNG_MOST_READINGS + 1], highs[HECHROUNG_MOST_READINGS + 1];
+    uint64_t numbers[3] = {0, 0, 0};
+    uint8_t number;
+    size_t i;
+    if (f == NULL || (readings == NULL && count != 0) || contradicted == NULL || reading == NULL)
+        return HECHROUNG_MISUSED;
+    if (count > HECHROUNG_MOST_READINGS + 1) count = HECHROUNG_MOST_READINGS + 1;
+    for (i = 0; i < count; i++) {
+        memcpy(points + HECHROUNG_MOST_VARIABLES * i, readings[i].point, sizeof readings[i].point);
+        lows[i] = readings[i].low;
+        highs[i] = readings[i].high;
+    }
+    number = hechroung_readings(f->n, f->count, f->radius,
+                                f->keys, HECHROUNG_MOST_TERMS, f->coefficients, HECHROUNG_MOST_TERMS,
+                                points, HECHROUNG_MOST_VARIABLES * count, lows, count, highs, count, numbers, 3);
+    *contradicted = (int)numbers[1];
+    *reading = (size_t)numbers[2];
+    if (place != NULL) *place = (size_t)numbers[0];
     return number;
 }
 

@@ -99,6 +99,7 @@ _to_powers = _exported("hechroung_to_powers", _u8, *_handed_curve, _u32s, _size,
 _from_powers = _exported("hechroung_from_powers", _u8, *_handed, _i64s, _size, _u64s, _size)
 _cut_range = _exported("hechroung_cut_range", _u8, _u8, _u8, _u8, *_handed, _i64s, _size, _u64s, _size)
 _doubles = _exported("hechroung_doubles", _u8, _f64, _f64, _f64, _f64, _u32s, _size, _i64s, _size, _u64s, _size)
+_readings = _exported("hechroung_readings", _u8, *_handed, _i64s, _size, _i64s, _size, _i64s, _size, _u64s, _size)
 
 # What a run gives: the last step's model, the ends of its range and of its integral, and the exact integral.
 Summary = namedtuple("Summary", "model range integral exact")
@@ -109,11 +110,13 @@ Exact = namedtuple("Exact", "quotient remainder")
 Shares = namedtuple("Shares", "carried rounding swept slack")
 # What a run gives, and the shares of each of 64 steps; zeros where there is no step.
 Report = namedtuple("Report", "summary shares")
+# A reading of the bench: a point, as evaluate takes it, and a low and a high value.
+Reading = namedtuple("Reading", "point low high")
 
 
 class Refused(Exception):
-    """The refusal of documents 01 and 02: its number, 1 to 14 or 16, and its place; of a run with shares those of the
-    steps before it too."""
+    """The refusal of documents 01 and 02: its number, 1 to 16, and its place; of a run with shares those of the steps
+    before it too."""
 
     def __init__(self, number, place, shares=()):
         super().__init__(f"refused {number} {place}")
@@ -169,12 +172,16 @@ def _called(code, d, i, value, f, g=Model(1)):
 def _ended(code, f, point=()):
     """The two ends, and behind them the exact integral, if it is one."""
     ends = (_i64 * 4)()
+    _check(_ends(code, *_arguments(f), _array(_i64, _coordinates(point)), MOST_VARS, ends, 4), 0)
+    return tuple(ends)
+
+
+def _coordinates(point):
+    """All eight, those that are not given 0."""
     coordinates = list(point)
     if len(coordinates) > MOST_VARS:
         raise ValueError("a point has at most eight coordinates")
-    coordinates += [0] * (MOST_VARS - len(coordinates))
-    _check(_ends(code, *_arguments(f), _array(_i64, coordinates), MOST_VARS, ends, 4), 0)
-    return tuple(ends)
+    return coordinates + [0] * (MOST_VARS - len(coordinates))
 
 
 def _check(number, place, shares=()):
@@ -249,6 +256,19 @@ def evaluate(f, point):
     if isinstance(f, Model) and len(coordinates) < min(_whole(_u8, f.n), MOST_VARS):
         raise ValueError("a point has a coordinate for each variable")
     return _ended(3, f, coordinates)[:2]
+
+
+def first_contradicting(f, rows):
+    """The number, from 0, of the first reading that contradicts f, or None: its band and the ends of the evaluation at
+    its point have no number in common, so that no function within f passes through it. Of the others nothing is
+    promised."""
+    numbers = (_u64 * 3)()
+    points = _array(_i64, (coordinate for row in rows for coordinate in _coordinates(row.point)))
+    lows, highs = _array(_i64, (row.low for row in rows)), _array(_i64, (row.high for row in rows))
+    number = _readings(*_arguments(f), points, len(points), lows, len(lows), highs, len(highs), numbers, 3)
+    place, contradicted, reading = numbers
+    _check(number, place)
+    return reading if contradicted else None
 
 
 def lines(sheet):

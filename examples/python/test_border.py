@@ -9,13 +9,13 @@ from fractions import Fraction
 from typing import NamedTuple
 
 import hechroung
-from hechroung import UNIT, Curve, Misused, Model, Refused
+from hechroung import UNIT, Curve, Misused, Model, Reading, Refused
 
 # The least and the greatest number of each width.
 BYTE, KEY, RADIUS, VALUE = (0, 2 ** 8 - 1), (0, 2 ** 32 - 1), (0, 2 ** 64 - 1), (-2 ** 63, 2 ** 63 - 1)
 WIDTHS = {ctypes.c_uint8: BYTE, ctypes.c_uint64: RADIUS, ctypes.c_size_t: RADIUS, ctypes.c_int64: VALUE}
 # How many exported functions hechroung.py declares.
-DECLARED = 16
+DECLARED = 17
 NO_WHOLE_NUMBERS = [1.0, 0.5, float("nan"), Fraction(3, 2), "1", b"1", None, [1], 1j]
 
 
@@ -51,6 +51,7 @@ CALLS = {
     "integral": {"f": line()},
     "exact_integral": {"f": line()},
     "evaluate": {"f": line(), "point": [7, 0, 0, 0, 0, 0, 0, 0]},
+    "first_contradicting": {"f": line(), "rows": [Reading([7], -9, 9), Reading([0] * 8, 2, 3)]},
     "lines": {"sheet": SHEET},
     "records": {"sheet": SHEET},
     "stepped": {"sheet": SHEET},
@@ -122,6 +123,13 @@ def numbers_of_step(name, step):
         yield number._replace(limits=VALUE) if number.name.endswith("[4]") else number
 
 
+def numbers_of_reading(name, reading):
+    for number in numbers_of_list(f"{name}.point", list(reading.point), VALUE):
+        yield inside(number, lambda point: reading._replace(point=point))
+    yield Number(f"{name}.low", VALUE, reading.low, lambda other: reading._replace(low=other))
+    yield Number(f"{name}.high", VALUE, reading.high, lambda other: reading._replace(high=other))
+
+
 def numbers_of(name, argument):
     if name in ("n", "d", "i", "k"):
         yield Number(name, BYTE, argument, lambda other: other)
@@ -131,6 +139,8 @@ def numbers_of(name, argument):
         yield from numbers_of_list(name, argument, VALUE)
     elif name == "models":
         yield from numbers_of_elements(name, argument, numbers_of_model)
+    elif name == "rows":
+        yield from numbers_of_elements(name, argument, numbers_of_reading)
     elif name == "steps":
         yield from numbers_of_elements(name, argument, numbers_of_step)
     elif isinstance(argument, Model):
@@ -169,9 +179,10 @@ def crossing(where, number, called):
 
 
 def kept_back(where, number, called):
-    """What a number's place keeps back of its field. The greatest is never a sound number, and the least at times."""
+    """What a number's place keeps back of its field. The greatest is never a sound number, but for a reading's high
+    value, and the least at times."""
     low, high = number.limits
-    if called(high) is not Refused:
+    if called(high) is not Refused and not number.name.endswith(".high"):
         yield f"{where} = {high}: {called(high).__name__}, and the library would refuse it"
     if called(low) in (ValueError, TypeError, Misused):
         yield f"{where} = {low}: {called(low).__name__}, and its field holds it"
@@ -260,6 +271,8 @@ def missing(exported):
         yield "a ninth coordinate is left out"
     if outcome(hechroung.evaluate, Model(2), [0]) is not ValueError:
         yield "a coordinate that is not there is taken for 0"
+    if outcome(hechroung.first_contradicting, line(), [Reading([0, 0, 0, 0, 0, 0, 0, 0, 7], 0, 0)]) is not ValueError:
+        yield "a ninth coordinate of a reading is left out"
     if outcome(hechroung.run_book, 1, 2, [], [(1, 0, 0, 0, 5, 7)]) is not ValueError:
         yield "a sixth field of a step is left out"
     if outcome(hechroung.negate_curve, Curve([0] * 16 + [7])) is not ValueError:

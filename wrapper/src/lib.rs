@@ -29,11 +29,13 @@ mod cuts;
 mod doubles;
 #[allow(unsafe_code)]
 pub mod raw;
+mod readings;
 mod sheets;
 
 pub use curves::Curve;
 pub use cuts::cut_range;
 pub use doubles::{from_doubles, Doubles};
+pub use readings::{first_contradicting, Reading, MOST_READINGS};
 pub use sheets::{lines, open, records, rewrite, run, run_book, shares, shares_book, write};
 pub use sheets::{Book, Flat, Kind, Record, Records, RefusedRun, Report, Shares, Step, Summary};
 
@@ -73,7 +75,7 @@ pub struct Model {
     pub coefficients: [i64; MOST_TERMS],
 }
 
-/// The number of a refusal in documents 01 and 02, 1 to 14 or 16, and its place.
+/// The number of a refusal in documents 01 and 02, 1 to 16, and its place.
 #[derive(Clone, Copy, Debug, PartialEq, Eq, PartialOrd, Ord)]
 pub struct Refusal {
     pub number: u8,
@@ -157,6 +159,7 @@ impl fmt::Display for Refusal {
             12 => "uncertified: the divisor is not shown to be nowhere zero",
             13 => "a model to convert has another number of variables than one",
             14 => "the box is to be cut to a depth above 6",
+            15 => "a row of readings is too long, or a low value is above its high one",
             _ => "a double is not finite, or a radius in doubles is negative",
         };
         write!(out, "refused {} {}: {reason}", self.number, self.place)

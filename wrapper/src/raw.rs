@@ -348,6 +348,24 @@ exported! {
         numbers: *mut u64,
         numbers_length: usize,
     ) -> u8;
+
+    hechroung_readings: Readings = (
+        n: u8,
+        count: usize,
+        radius: u64,
+        keys: *const u32,
+        keys_length: usize,
+        coefficients: *const i64,
+        coefficients_length: usize,
+        points: *const i64,
+        points_length: usize,
+        lows: *const i64,
+        lows_length: usize,
+        highs: *const i64,
+        highs_length: usize,
+        numbers: *mut u64,
+        numbers_length: usize,
+    ) -> u8;
 }
 
 /// A book that is handed over: for each model an entry of `ns`, `counts` and `radii` and 64 keys and coefficients; for
@@ -865,6 +883,40 @@ pub fn doubles(
             keys.len(),
             coefficients.as_mut_ptr(),
             coefficients.len(),
+            numbers.as_mut_ptr(),
+            numbers.len(),
+        )
+    }
+}
+
+/// Readings that are handed over: as many as there are low values, with eight coordinates and a high value each.
+#[derive(Clone, Copy, Debug)]
+pub struct HandedReadings<'a> {
+    pub points: &'a [i64],
+    pub lows: &'a [i64],
+    pub highs: &'a [i64],
+}
+
+/// Holds readings against a model: the refusal's number, 0 without one. Its place, 1 or 0 for whether a reading
+/// contradicts, and the number of the first that does go into `numbers`.
+#[must_use]
+pub fn readings(f: Handed<'_>, rows: HandedReadings<'_>, numbers: &mut [u64]) -> u8 {
+    // SAFETY: as in `call`.
+    unsafe {
+        hechroung_readings(
+            f.n,
+            f.count,
+            f.radius,
+            f.keys.as_ptr(),
+            f.keys.len(),
+            f.coefficients.as_ptr(),
+            f.coefficients.len(),
+            rows.points.as_ptr(),
+            rows.points.len(),
+            rows.lows.as_ptr(),
+            rows.lows.len(),
+            rows.highs.as_ptr(),
+            rows.highs.len(),
             numbers.as_mut_ptr(),
             numbers.len(),
         )

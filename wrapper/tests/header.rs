@@ -27,6 +27,7 @@ fn the_header_has_the_same_limits() {
         ("CURVE_PLACES", hechroung::CURVE_PLACES),
         ("MOST_MODELS", hechroung::MOST_MODELS),
         ("MOST_STEPS", hechroung::MOST_STEPS),
+        ("MOST_READINGS", hechroung::MOST_READINGS),
         ("LONGEST_SHEET", hechroung::LONGEST_SHEET),
         ("LONGEST_RECORD", hechroung::LONGEST_RECORD),
         ("LONGEST_ARCHIVED", hechroung::LONGEST_ARCHIVED),

@@ -1,7 +1,9 @@
 //! A slice that is one place too short is answered with MISUSED, and nothing is changed; with just enough room the call
 //! is answered.
 
-use hechroung::raw::{self, Handed, HandedBook, HandedCurve, HandedModels, MISUSED};
+use hechroung::raw::{
+    self, Handed, HandedBook, HandedCurve, HandedModels, HandedReadings, MISUSED,
+};
 
 /// The constant 1 / U, in one variable.
 const SHEET: [u8; 16] = [1, 0, 0, 0, 1, 0, 0, 0, 1, 1, 0, 1, 0, 0, 0x4D, 0x4B];
@@ -807,4 +809,50 @@ fn a_curve_in_doubles_needs_64_keys_64_coefficients_and_4_numbers() {
     assert_eq!(room.numbers, [0, 1, 2, 1]);
     assert_eq!(room.keys[..3], [0, 0x2000_0000, 0]);
     assert_eq!(room.coefficients[..3], [1 << 20, -(1 << 19), 0]);
+}
+
+/// Two readings at 0, the second of which contradicts the constant 1 / U.
+const ROWS: HandedReadings<'static> = HandedReadings {
+    points: &[0; 16],
+    lows: &[0, 2],
+    highs: &[1, 3],
+};
+
+#[test]
+fn readings_need_8_coordinates_and_a_high_value_each_and_3_numbers() {
+    let model = Handed {
+        n: 1,
+        count: 1,
+        radius: 0,
+        keys: &[0],
+        coefficients: &[1],
+    };
+    let held = |f, rows, places| {
+        let mut numbers = vec![u64::from(MARK); places];
+        (raw::readings(f, rows, &mut numbers), numbers)
+    };
+    let misused = |places| (MISUSED, vec![u64::from(MARK); places]);
+    let (points, highs) = (&ROWS.points[1..], &ROWS.highs[1..]);
+    assert_eq!(
+        held(model, HandedReadings { points, ..ROWS }, 3),
+        misused(3)
+    );
+    assert_eq!(held(model, HandedReadings { highs, ..ROWS }, 3), misused(3));
+    assert_eq!(held(model, ROWS, 2), misused(2));
+    assert_eq!(held(Handed { keys: &[], ..model }, ROWS, 3), misused(3));
+    let coefficients = &[];
+    assert_eq!(
+        held(
+            Handed {
+                coefficients,
+                ..model
+            },
+            ROWS,
+            3
+        ),
+        misused(3)
+    );
+    assert_eq!(held(model, ROWS, 3), (0, vec![0, 1, 1]));
+    // What lies behind stays.
+    assert_eq!(held(model, ROWS, 4), (0, vec![0, 1, 1, MARK.into()]));
 }

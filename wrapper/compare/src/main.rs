@@ -9,6 +9,8 @@
 //!                               program at the path
 //!     compare --doubles [RECORDS [SEED]]
 //!                               so many generated curves in doubles, also by the machine's doubles and exact fractions
+//!     compare --readings [ROWS [SEED]]
+//!                               so many generated rows of readings, each held against a model
 //!
 //! The exit status is 0 only if all answers agree and every refusal, every mix of shares and every kind of integral
 //! that can be reached was reached, refusals and enclosures up to four variables and above.
@@ -24,6 +26,7 @@ mod doubles;
 mod integrals;
 mod limits;
 mod program;
+mod readings;
 mod renamed;
 mod rows;
 mod shaped;
@@ -44,6 +47,7 @@ use std::time::Instant;
 const CASES: u64 = 300_000;
 const SHEETS: u64 = 10_000;
 const RENAMED_SHEETS: u64 = 20_000;
+const ROWS: u64 = 20_000;
 const SEED: u64 = 1;
 /// Failures that are printed; all are counted.
 const MOST_PRINTED: usize = 20;
@@ -63,6 +67,9 @@ fn main() -> ExitCode {
         ["--doubles"] => doubles_records(doubles::RECORDS, SEED),
         ["--doubles", records] => doubles_numbers(records, "1"),
         ["--doubles", records, seed] => doubles_numbers(records, seed),
+        ["--readings"] => rows_of_readings(ROWS, SEED),
+        ["--readings", rows] => reading_numbers(rows, "1"),
+        ["--readings", rows, seed] => reading_numbers(rows, seed),
         [] => generated_cases(CASES, SEED),
         [cases] => numbers(cases, "1"),
         [cases, seed] => numbers(cases, seed),
@@ -72,7 +79,7 @@ fn main() -> ExitCode {
 
 fn usage() -> ExitCode {
     eprintln!("usage: compare [CASES [SEED]] | --cases < LINES | --program PATH [SHEETS [SEED]] |");
-    eprintln!("       --renamed PATH [SHEETS [SEED]] | --doubles [RECORDS [SEED]]");
+    eprintln!("       --renamed PATH [SHEETS [SEED]] | --doubles [RECORDS [SEED]] | --readings [ROWS [SEED]]");
     ExitCode::from(2)
 }
 
@@ -100,6 +107,13 @@ fn renamed_numbers(path: &str, sheets: &str, seed: &str) -> ExitCode {
 fn doubles_numbers(records: &str, seed: &str) -> ExitCode {
     match (records.parse(), seed.parse()) {
         (Ok(records), Ok(seed)) => doubles_records(records, seed),
+        _ => usage(),
+    }
+}
+
+fn reading_numbers(rows: &str, seed: &str) -> ExitCode {
+    match (rows.parse(), seed.parse()) {
+        (Ok(rows), Ok(seed)) => rows_of_readings(rows, seed),
         _ => usage(),
     }
 }
@@ -221,10 +235,62 @@ fn doubles_records(records: u64, seed: u64) -> ExitCode {
     ended(&failures, unreached.is_empty())
 }
 
-/// One thread for each processor: it is told its number and how many there are.
+/// Compares what generated rows of readings and named ones give. A difference names the row by its number.
+fn rows_of_readings(rows: u64, seed: u64) -> ExitCode {
+    let started = Instant::now();
+    let parts = by_processor(move |first, step| {
+        let mut seen = readings::Seen::default();
+        let mut failures = Vec::new();
+        let named = (first == 0).then(readings::named).unwrap_or_default();
+        let named = named.into_iter().map(|row| ("a named row".to_owned(), row));
+        let generated = (first..rows).step_by(step);
+        let generated =
+            generated.map(|number| (format!("row {number}"), readings::row(seed, number)));
+        for (name, row) in named.chain(generated) {
+            if let Err(difference) = readings::compare(&row, &mut seen) {
+                failures.push(format!("{name}: {difference}"));
+            }
+        }
+        (seen, failures)
+    });
+    let mut seen = readings::Seen::default();
+    let mut failures = Vec::new();
+    for (part, part_failures) in parts {
+        seen.add(part);
+        failures.extend(part_failures);
+    }
+    seen.print();
+    println!(
+        "{rows} generated rows of readings with seed {seed} and the named ones: {} differ, {} s",
+        failures.len(),
+        started.elapsed().as_secs()
+    );
+    let unreached = seen.unreached();
+    if !unreached.is_empty() {
+        println!("not reached: {}", unreached.join("; "));
+    }
+    ended(&failures, unreached.is_empty())
+}
+
+/// What one thread for each processor gives, added up.
 fn on_every_processor<F>(work: F) -> (Counts, Vec<String>)
 where
     F: Fn(u64, usize) -> (Counts, Vec<String>) + Clone + Send + 'static,
+{
+    let mut counts = Counts::default();
+    let mut failures = Vec::new();
+    for (part_counts, part_failures) in by_processor(work) {
+        counts.add(part_counts);
+        failures.extend(part_failures);
+    }
+    (counts, failures)
+}
+
+/// One thread for each processor: it is told its number and how many there are.
+fn by_processor<F, T>(work: F) -> Vec<T>
+where
+    F: Fn(u64, usize) -> T + Clone + Send + 'static,
+    T: Send + 'static,
 {
     let workers = thread::available_parallelism().map_or(1, usize::from);
     let parts: Vec<_> = (0..workers as u64)
@@ -235,14 +301,10 @@ where
             part.expect("a thread can be started")
         })
         .collect();
-    let mut counts = Counts::default();
-    let mut failures = Vec::new();
-    for part in parts {
-        let (part_counts, part_failures) = part.join().expect("no comparison panics");
-        counts.add(part_counts);
-        failures.extend(part_failures);
-    }
-    (counts, failures)
+    parts
+        .into_iter()
+        .map(|part| part.join().expect("no comparison panics"))
+        .collect()
 }
 
 /// What was seen, counted by kind, and every difference.
