@@ -13,6 +13,7 @@ mod inputs;
 mod integrals;
 mod products;
 mod quotients;
+mod readings;
 mod shares;
 mod sheets;
 mod slow;
@@ -40,6 +41,7 @@ fn main() {
     antiderivatives::print(seed);
     integrals::print(seed);
     curves::print(seed);
+    readings::print(seed);
     sheets::print(&mut random);
     shares::print(seed);
     growth::print(&mut random);
