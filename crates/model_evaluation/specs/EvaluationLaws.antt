@@ -2,21 +2,18 @@
 use mathlib.Core.Path.{_≡_, refl, sym, _∙_, ap, ap₂, subst}
 use mathlib.Core.Bool.{true}
 use mathlib.Core.List.{List, [], _∷_}
-use Prim.Native.Nat.{ℕ, zero, suc, _+_, _-_, _*_, _≤_, _<_}
+use Prim.Native.Nat.{ℕ, zero, suc, _+_, _-_, _≤_, _<_}
 use native.Mathlib.Numerals.{add-one}
 use native.Mathlib.Omega.{arith}
 use lib.Dec.{T, leb, leb→le}
 use lib.IntN.{ℤ, pos, natAbs}
 use lib.ListN.{length, take, drop, getD, drop-of-length-le}
 use lib.Seq.{drop-cons, getD-take, length-take-le}
-use Rattle.fixed.specs.Fixed.{U, span-limit}
+use Rattle.fixed.specs.Fixed.{U}
 use Rattle.fixed.specs.FixedLaws.{U-within}
-use Rattle.calculus.specs.Monomial.{zeros}
-use Rattle.calculus.specs.Terms.{term, is-nonzero, drop-zeros}
 use Rattle.calculus.specs.TestLaws.{and-left, and-right}
-use Rattle.calculus.specs.TermsLaws.{length-select}
 use Rattle.calculus.specs.Model as C
-use Rattle.calculus.specs.Model.{most-terms, most-degree, sound}
+use Rattle.calculus.specs.Model.{most-degree, sound}
 use Rattle.calculus.specs.Refusal as R
 use Rattle.calculus.specs.Refusal.{accepted, done, _then_, at-place}
 use Rattle.calculus.specs.Operations.{Ends, constant, range, substitute, put-constants, evaluate}
@@ -27,14 +24,11 @@ use Rattle.model_types.specs.declared.Refusal.{Refusal}
 use Rattle.model_types.specs.declared.Verdict.the-variants.{Accepted, Refused}
 use Rattle.model_types.specs.declared.Answer.{Answer}
 use Rattle.model_types.specs.declared.Bounds.{Bounds}
-use Rattle.model_types.specs.ModelStruct.{view, pack, answer, bounds}
+use Rattle.model_types.specs.ModelStruct.{view, answer, bounds}
 use Rattle.model_types.specs.ModelStructLaws.{sound-vars}
-use Rattle.product_terms.specs.ProductTerms.{Lent-room}
-use Rattle.product_terms.specs.ProductTermsLaws.{fewer-room}
-use Rattle.model_substitution.specs.Substitute.{Substitution}
-use Rattle.model_types.specs.ResultLaws.{Holds, held-view, held-sound, held-vars, Got, got, then-is}
+use Rattle.model_types.specs.ResultLaws.{held-view, held-sound, held-vars, Got, got, then-is}
 use Rattle.model_types.specs.ResultLaws.{refused-then, refused-ends}
-use Rattle.model_evaluation.specs.Evaluate.{Evaluation}
+use Rattle.model_evaluation.specs.Evaluate.{Evaluation, Putting}
 
 -- one of the coordinates
 in-unit-at : (xs : List ℤ) (i : ℕ) → i < length xs → T (all-in-unit xs) → natAbs (getD xs i (pos 0)) ≤ U
@@ -83,7 +77,7 @@ module _ {m : Model} {xs : List ℤ} (s : Evaluation m xs) (l : m .n ≤ length 
     held = subst (λ n. Sound n most-degree (view h)) (r .vars) (sound-parts most-degree (view h) (r .model))
 
     -- ---- the coordinate of variable i
-    module _ (z : i ≤ m .n) {c : Model} (t : c ≡ pack (constant (m .n) (getD xs (i - 1) (pos 0)))) where
+    module _ (z : i ≤ m .n) where
       abbrev X : ℤ
       X = getD xs (i - 1) (pos 0)
 
@@ -93,46 +87,30 @@ module _ {m : Model} {xs : List ℤ} (s : Evaluation m xs) (l : m .n ≤ length 
       in-point : i - 1 < length (point m xs)
       in-point = omega (arith, before, length-take-le (m .n) xs l)
 
-      small : natAbs X ≤ span-limit
+      small : natAbs X ≤ U
       small = omega (
         arith,
-        U-within,
         ap natAbs (getD-take (m .n) xs (i - 1) (pos 0) before),
         in-unit-at (point m xs) (i - 1) in-point (s .coordinates),
       )
 
-      constant-holds : Holds (m .n) most-degree c (constant (m .n) X)
-      constant-holds = record { packed = t; sound = constant-sound (m .n) most-degree X small }
-
-      pub coordinate-substitution : Substitution most-degree i h c
-      coordinate-substitution = record {
-        order = omega arith;
+      pub coordinate-putting : Putting i X h
+      coordinate-putting = record {
         model = r .model;
-        inner = held-sound vars (omega arith) constant-holds;
-        vars = r .vars ∙ sym (held-vars constant-holds);
         first = r .first;
         last = omega (arith, r .vars);
+        small = small;
       }
 
-      -- a constant has one term at the most
-      coordinate-count : c .count ≤ 1
-      unfolding pack constant drop-zeros
-      coordinate-count =
-          let few = length-select (λ k c. is-nonzero c) (term X (zeros (m .n)) ∷ []) in
-          omega (arith, ap (λ (c : Model). c .count) t, few)
+      constant-within : Sound (m .n) most-degree (constant (m .n) X)
+      constant-within = constant-sound (m .n) most-degree X (omega (arith, small, U-within))
 
-      pub coordinate-room : {slots keys : List ℕ} {sums : List ℤ} → Lent-room most-terms slots keys sums
-          → Lent-room (most-terms * c .count) slots keys sums
-      unfolding most-terms
-      coordinate-room l = fewer-room l (omega (arith, coordinate-count))
-
-      module _ {a : Answer} (e : a ≡ answer (at-place 0 (substitute most-degree i (view h) (view c)))) where
+      module _ {a : Answer} (e : a ≡ answer (at-place 0 (substitute most-degree i (view h) (constant (h .n) X)))) where
         abbrev put : R.Answer C.Model
         put = substitute most-degree i (view h) (constant (m .n) X)
 
         put-is : a ≡ answer (at-place 0 put)
-        put-is = e ∙ ap (λ g. answer (at-place 0 (substitute most-degree i (view h) g)))
-            (held-view vars (omega arith) constant-holds)
+        put-is = e ∙ ap (λ n. answer (at-place 0 (substitute most-degree i (view h) (constant n X)))) (r .vars)
 
         turn : put then others m xs (i + 1) ≡ others m xs 1 (view m)
         unfolding put-constants view
@@ -162,7 +140,7 @@ module _ {m : Model} {xs : List ℤ} (s : Evaluation m xs) (l : m .n ≤ length 
         }
           where
             g : Got (m .n) most-degree put (a .model)
-            g = got put-is v (substitute-sound (m .n) most-degree i (view h) _ (held .0) (constant-holds .sound .0))
+            g = got put-is v (substitute-sound (m .n) most-degree i (view h) _ (held .0) (constant-within .0))
 
     -- ---- the end
     pub remaining-end : m .n < i → {b : Bounds} → b ≡ bounds (done (range (view h)))

@@ -1,3 +1,5 @@
 pub mod Evaluate
-pub mod EvaluationLaws
 pub mod EvaluateCallLaws
+pub mod ConstantLaws
+pub mod PutCoordinateLaws
+pub mod EvaluationLaws

@@ -1,47 +1,62 @@
-// The value of a model at a point: its coordinates put in for the variables, then the range of what is left.
+// The value of a model at a point: its coordinates put in for the variables, then the range of what is left. A
+// coordinate is a constant, so that each product of Horner's rule is one pass over the terms, without a table.
 ghost use mathlib.Core.Path.{_≡_};
 ghost use lib.ListN.{take};
-ghost use Rattle.calculus.specs.Model.{«most-terms»};
+ghost use Rattle.calculus.specs.Model.{«most-degree»};
 ghost use Rattle.calculus.specs.Refusal.{«at-place»};
 ghost use Rattle.calculus.specs.Operations as Op;
+ghost use Rattle.calculus.specs.Operations.{constant, substitute};
 ghost use Rattle.calculus.specs.Calls.{«call-evaluate»};
-ghost use Rattle.model_types.specs.ModelStruct.{view, bounds};
-ghost use Rattle.product_collector.specs.CollectorContracts.{«Free-table»};
-ghost use Rattle.product_terms.specs.ProductTerms.{«Lent-room»};
-ghost use Rattle.model_evaluation.specs.Evaluate.{Evaluation};
+ghost use Rattle.model_types.specs.ModelStruct.{view, answer, bounds};
+ghost use Rattle.model_evaluation.specs.Evaluate.{Evaluation, Putting, «put-turn», Turning};
+use model_types::Answer;
 use model_types::Bounds;
 use model_types::Model;
 use model_types::Verdict;
 
-// The range of what is left of m after the coordinates are put in for its variables, one after the other. A coordinate
-// is a constant, of one term at the most: the table is lent for the products of one term with those of a model.
-pub fn evaluated(
-    m: Model,
-    xs: [i64; model_types::MOST_VARS as usize],
-    slots: &mut [u16],
-    keys: &mut [u64],
-    sums: &mut [i64],
-) -> Bounds
+// One turn of Horner's rule: h times x, then q added.
+fn put_turn(x: i64, h: Model, q: Model) -> Answer
+    requires { ⌜ Turning x h q ⌝ }
+    ensures { λ r. ⌜ r ≡ answer (at-place 0 (put-turn (h .n) x (view h) (view q))) ⌝ }
+{
+    let product = model_scaling::scaled(x, h);
+    let v = product.verdict;
+    let Verdict::Accepted = v else {
+        return product;
+    };
+    model_addition::added(product.model, q)
+}
+
+// x in the place of variable i of f: Horner's rule from the highest power down.
+fn put_constant(i: u8, x: i64, f: Model) -> Answer
+    requires { ⌜ Putting i x f ⌝ }
+    ensures { λ r. ⌜ r ≡ answer (at-place 0 (substitute most-degree i (view f) (constant (f .n) x))) ⌝ }
+{
+    let mut k = model_powers::largest_exponent(f, i);
+    let mut h = model_powers::part(f, i, k);
+    while 0 < k {
+        k -= 1;
+        let turn = put_turn(x, h, model_powers::part(f, i, k));
+        let v = turn.verdict;
+        let Verdict::Accepted = v else {
+            return turn;
+        };
+        h = turn.model;
+    }
+    model_limits::widened(h, f.radius)
+}
+
+// The range of what is left of m after the coordinates are put in for its variables, one after the other.
+fn evaluated(m: Model, xs: [i64; model_types::MOST_VARS as usize]) -> Bounds
     requires { ⌜ Evaluation m xs ⌝ }
-    requires { ⌜ Lent-room most-terms (now slots) (now keys) (now sums) ⌝ }
-    ensures exact { λ r. ⌜ r ≡ bounds (at-place 0 (Op.evaluate (take (m .n) xs) (view m))) ⌝ }
-    ensures table { λ r. ⌜ Free-table (now (slots .entry)) (now (keys .entry)) (now (sums .entry))
-        (now (slots .exit)) (now (keys .exit)) (now (sums .exit)) ⌝ }
+    ensures { λ r. ⌜ r ≡ bounds (at-place 0 (Op.evaluate (take (m .n) xs) (view m))) ⌝ }
 {
     let n = m.n;
     let mut left = m;
     let mut i = 1;
     while i <= n {
         let x = xs[(i - 1) as usize];
-        let a = model_substitution::substituted(
-            model_types::MOST_DEGREE,
-            i,
-            left,
-            model_types::constant_of(n, x),
-            slots,
-            keys,
-            sums,
-        );
+        let a = put_constant(i, x, left);
         let v = a.verdict;
         let Verdict::Accepted = v else {
             return Bounds {
@@ -63,12 +78,7 @@ pub fn evaluate(m: Model, xs: [i64; model_types::MOST_VARS as usize]) -> Bounds
 {
     let v = model_call_tests::at_point(m, xs);
     match v {
-        Verdict::Accepted => {
-            let mut slots = [0u16; product_table::SLOTS_EACH * model_types::MOST_TERMS + 1];
-            let mut keys = [0u64; model_types::MOST_TERMS + 1];
-            let mut sums = [0i64; model_types::MOST_TERMS + 1];
-            evaluated(m, xs, &mut slots, &mut keys, &mut sums)
-        }
+        Verdict::Accepted => evaluated(m, xs),
         Verdict::Refused(refusal, place) => model_types::refuse_bounds(refusal, place),
     }
 }

@@ -1,8 +1,6 @@
 -- `evaluate` makes the tests of the model and the coordinates, then evaluates.
 use mathlib.Core.Path.{_≡_, sym, _∙_, ap}
 use borrow.Author.Needs.{needs}
-use lib.Dec.{lit≤}
-use Rattle.calculus.specs.Model.{most-terms}
 use Rattle.model_types.specs.ModelStruct.{view, verdict, bounds}
 use Rattle.model_types.specs.declared.Verdict.the-variants.{Accepted}
 use Rattle.model_call_tests.specs.Admission.{at-point}
@@ -25,22 +23,10 @@ at-point-requires c κs = search needs
 enum-told : tie.Need-enum-told
 enum-told c = search needs
 
-slice-aggregate-evaluated : tie.Need-slice-aggregate-evaluated
-slice-aggregate-evaluated c = search needs
-
-slice-aggregate-evaluated-2 : tie.Need-slice-aggregate-evaluated-2
-slice-aggregate-evaluated-2 c = search needs
-
-slice-aggregate-evaluated-3 : tie.Need-slice-aggregate-evaluated-3
-slice-aggregate-evaluated-3 c = search needs
-
 evaluated-requires : tie.Need-evaluated-requires
-unfolding view most-terms
+unfolding view
 evaluated-requires c κs =
-    let p = point-passed _ _ (passed (c .before .before .before)) in (
-      record { model = p .model; coordinates = p .coordinates },
-      record { slots-room = lit≤ tt; keys-room = lit≤ tt; sums-room = lit≤ tt },
-    )
+    let p = point-passed _ _ (passed c) in record { model = p .model; coordinates = p .coordinates }
 
 enum-known-v : tie.Need-enum-known-v
 enum-known-v c = search needs
@@ -51,9 +37,7 @@ refuse-bounds-requires c κs = search needs
 returns : tie.Need-returns
 unfolding view
 returns c =
-    let g = c .before .before .before in
-    g .evaluated .ensures .0
-    ∙ ap bounds (sym (evaluate-is _ _ ∙ goes-on _ _ (passed (g .before .before .before .before))))
+    c .evaluated .ensures ∙ ap bounds (sym (evaluate-is _ _ ∙ goes-on _ _ (passed (c .before))))
 
 returns-2 : tie.Need-returns-2
 returns-2 c =
@@ -67,9 +51,6 @@ evaluate-spec =
     (tie.spec
     at-point-requires
     enum-told
-    slice-aggregate-evaluated
-    slice-aggregate-evaluated-2
-    slice-aggregate-evaluated-3
     evaluated-requires
     enum-known-v
     refuse-bounds-requires

@@ -1,0 +1,4 @@
+pub mod Scaling
+pub mod ScalingLaws
+pub mod ScaledPassLaws
+pub mod ScaledAnswerLaws
