@@ -8,6 +8,7 @@ use lib.ListN.{replicate}
 use Rattle.calculus.specs.Computing.{calls}
 use Rattle.calculus.specs.Terms.{term}
 use Rattle.calculus.specs.Model.{Model}
+use Rattle.calculus.specs.Forms.{minus}
 use Rattle.calculus.specs.Refusal.{bad-model, bad-step, over-span, leaves-box, bad-reading, Result, done, stopped}
 use Rattle.readings.specs.Readings.{Reading, most-readings, in-order, contradicts, with-place, held}
 use Rattle.readings.specs.Readings.{first-contradicting, call-readings}
@@ -15,6 +16,14 @@ use Rattle.readings.specs.Readings.{first-contradicting, call-readings}
 -- 5 in one variable, radius 2: every evaluation is 3 to 7
 abbrev pub five : Model
 five = record { vars = 1; radius = 2; terms = term (pos 5) (0 ∷ []) ∷ [] }
+
+-- 5 in two variables, radius 2
+abbrev pub plane : Model
+plane = record { vars = 2; radius = 2; terms = term (pos 5) (0 ∷ 0 ∷ []) ∷ [] }
+
+-- 5 times the 15th power, radius 2: 3 to 7 where x is U, -7 to -3 where it is -U
+abbrev pub steep : Model
+steep = record { vars = 1; radius = 2; terms = term (pos 5) (15 ∷ []) ∷ [] }
 
 -- x, made as small as can be, and so much added that the span is 2^30: at 0 the evaluation is 2^30 - 1, and where x is
 -- rounded up to 1 the span is above 2^30
@@ -44,6 +53,25 @@ outside = reading-at (pos 1048577) (pos 0) (pos 5) (pos 5)
 -- with a coordinate that is not used
 abbrev pub unused : Reading
 unused = reading-at (pos 0) (pos 1) (pos 5) (pos 5)
+
+-- outside the box by coordinate 2, which one variable does not use
+abbrev pub beside : Reading
+beside = reading-at (pos 0) (pos 1048577) (pos 5) (pos 5)
+
+-- with the last coordinate, which only eight variables use
+abbrev pub last-unused : Reading
+last-unused = record {
+  point = pos 0 ∷ pos 0 ∷ pos 0 ∷ pos 0 ∷ pos 0 ∷ pos 0 ∷ pos 0 ∷ pos 1 ∷ [];
+  low = pos 5;
+  high = pos 5;
+}
+
+-- at a corner of the box
+abbrev pub at-one : (low high : ℤ) → Reading
+at-one low high = reading-at (pos 1048576) (pos 0) low high
+
+abbrev pub at-minus-one : (low high : ℤ) → Reading
+at-minus-one low high = reading-at (minus 1048576) (pos 0) low high
 
 -- with a low value above its high one
 abbrev pub crossed : Reading
@@ -89,11 +117,29 @@ pub edges :
     × (call-readings five (outside ∷ replicate 6 (band 5 5) ++ (unused ∷ [])) ≡ stopped bad-step 7)
     × (call-readings five (band 8 9 ∷ outside ∷ []) ≡ stopped leaves-box 1)
     × (call-readings five (band 8 9 ∷ outside ∷ unused ∷ crossed ∷ crossed ∷ []) ≡ stopped bad-reading 3)
+    -- n says which coordinates have to be 0 and which in the box
+    × (call-readings plane (unused ∷ band 8 9 ∷ []) ≡ done (some 1))
+    × (call-readings plane (band 8 9 ∷ beside ∷ []) ≡ stopped leaves-box 1)
+    × (call-readings plane (beside ∷ last-unused ∷ []) ≡ stopped bad-step 1)
+    × (call-readings five (outside ∷ beside ∷ []) ≡ stopped bad-step 1)
+    -- values below 0, at the edge of the box, with the highest degree
+    × (call-readings steep (at-one (minus 9) (pos 3) ∷ at-minus-one (minus 3) (pos 1) ∷ []) ≡ done none)
+    × (call-readings steep (at-minus-one (minus 9) (minus 7) ∷ at-minus-one (minus 2) (pos 1) ∷ []) ≡ done (some 1))
+    × (call-readings steep (at-minus-one (minus 9) (minus 8) ∷ []) ≡ done (some 0))
+    × (call-readings steep (at-minus-one (minus 4) (minus 5) ∷ []) ≡ stopped bad-reading 0)
     -- 7 of reading 3 is not seen after a contradiction at 2, and is before one at 4
     × (call-readings full (met ∷ met ∷ missed ∷ rounded-up ∷ []) ≡ done (some 2))
     × (call-readings full (met ∷ met ∷ met ∷ rounded-up ∷ missed ∷ []) ≡ stopped over-span 3)
-unfolding calls most-readings in-order contradicts with-place held first-contradicting call-readings
+unfolding calls minus most-readings in-order contradicts with-place held first-contradicting call-readings
 edges = (
+  refl,
+  refl,
+  refl,
+  refl,
+  refl,
+  refl,
+  refl,
+  refl,
   refl,
   refl,
   refl,
