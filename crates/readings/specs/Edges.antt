@@ -66,10 +66,11 @@ last-unused = record {
   high = pos 5;
 }
 
--- at a corner of the box
+-- where x is U
 abbrev pub at-one : (low high : ℤ) → Reading
 at-one low high = reading-at (pos 1048576) (pos 0) low high
 
+-- where it is -U
 abbrev pub at-minus-one : (low high : ℤ) → Reading
 at-minus-one low high = reading-at (minus 1048576) (pos 0) low high
 
