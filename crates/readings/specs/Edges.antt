@@ -21,6 +21,10 @@ five = record { vars = 1; radius = 2; terms = term (pos 5) (0 ∷ []) ∷ [] }
 abbrev pub plane : Model
 plane = record { vars = 2; radius = 2; terms = term (pos 5) (0 ∷ 0 ∷ []) ∷ [] }
 
+-- in eight
+abbrev pub wide : Model
+wide = record { vars = 8; radius = 2; terms = term (pos 5) (0 ∷ 0 ∷ 0 ∷ 0 ∷ 0 ∷ 0 ∷ 0 ∷ 0 ∷ []) ∷ [] }
+
 -- 5 times the 15th power, radius 2: 3 to 7 where x is U, -7 to -3 where it is -U
 abbrev pub steep : Model
 steep = record { vars = 1; radius = 2; terms = term (pos 5) (15 ∷ []) ∷ [] }
@@ -58,10 +62,10 @@ unused = reading-at (pos 0) (pos 1) (pos 5) (pos 5)
 abbrev pub beside : Reading
 beside = reading-at (pos 0) (pos 1048577) (pos 5) (pos 5)
 
--- with the last coordinate, which only eight variables use
-abbrev pub last-unused : Reading
-last-unused = record {
-  point = pos 0 ∷ pos 0 ∷ pos 0 ∷ pos 0 ∷ pos 0 ∷ pos 0 ∷ pos 0 ∷ pos 1 ∷ [];
+-- with a last coordinate, which only eight variables use
+abbrev pub last-at : ℤ → Reading
+last-at Z = record {
+  point = pos 0 ∷ pos 0 ∷ pos 0 ∷ pos 0 ∷ pos 0 ∷ pos 0 ∷ pos 0 ∷ Z ∷ [];
   low = pos 5;
   high = pos 5;
 }
@@ -121,7 +125,9 @@ pub edges :
     -- n says which coordinates have to be 0 and which in the box
     × (call-readings plane (unused ∷ band 8 9 ∷ []) ≡ done (some 1))
     × (call-readings plane (band 8 9 ∷ beside ∷ []) ≡ stopped leaves-box 1)
-    × (call-readings plane (beside ∷ last-unused ∷ []) ≡ stopped bad-step 1)
+    × (call-readings plane (beside ∷ last-at (pos 1) ∷ []) ≡ stopped bad-step 1)
+    × (call-readings wide (last-at (pos 1) ∷ band 8 9 ∷ []) ≡ done (some 1))
+    × (call-readings wide (band 8 9 ∷ last-at (pos 1048577) ∷ []) ≡ stopped leaves-box 1)
     × (call-readings five (outside ∷ beside ∷ []) ≡ stopped bad-step 1)
     -- values below 0, at the edge of the box, with the highest degree
     × (call-readings steep (at-one (minus 9) (pos 3) ∷ at-minus-one (minus 3) (pos 1) ∷ []) ≡ done none)
@@ -133,6 +139,8 @@ pub edges :
     × (call-readings full (met ∷ met ∷ met ∷ rounded-up ∷ missed ∷ []) ≡ stopped over-span 3)
 unfolding calls minus most-readings in-order contradicts with-place held first-contradicting call-readings
 edges = (
+  refl,
+  refl,
   refl,
   refl,
   refl,
