@@ -38,6 +38,8 @@ pub data Refusal : Type 0 where
   bad-reading : Refusal
   -- of a curve in doubles a value is not finite, or the radius is negative
   bad-double : Refusal
+  -- a rank read from an archive is 3,876 or more, or does not rise
+  bad-rank : Refusal
 
 -- the number of each
 unfoldable pub number : Refusal → ℕ
@@ -57,6 +59,7 @@ number not-one-variable = 13
 number cut-too-deep = 14
 number bad-reading = 15
 number bad-double = 16
+number bad-rank = 17
 
 -- ---- the answer of an operation
 pub data Answer (A : Type 0) : Type 0 where

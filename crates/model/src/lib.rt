@@ -21,7 +21,7 @@ pub use model_types::Refusal;
 pub use model_types::Term;
 pub use model_types::Verdict;
 
-// The number of a refusal in the documents' table: 1 to 16.
+// The number of a refusal in the documents' table: 1 to 17.
 pub use model_types::number;
 
 // Whether a struct holds a model by the rules, with degrees up to d, and up to 15 where d is more.

@@ -23,7 +23,7 @@ use Rattle.model_types.specs.declared.Refusal.the-variants.{BadModel, Ba
 use Rattle.model_types.specs.declared.Refusal.the-variants.{OverSpan, TooManyTerms, LeavesBox}
 use Rattle.model_types.specs.declared.Refusal.the-variants.{VariablesDiffer, ShortBuffer, Uncertified}
 use Rattle.model_types.specs.declared.Refusal.the-variants.{NotOneVariable, CutTooDeep, BadReading}
-use Rattle.model_types.specs.declared.Refusal.the-variants.{BadDouble}
+use Rattle.model_types.specs.declared.Refusal.the-variants.{BadDouble, BadRank}
 use Rattle.model_types.specs.declared.Verdict.{Verdict}
 use Rattle.model_types.specs.declared.Verdict.the-variants.{Accepted, Refused}
 use Rattle.model_types.specs.declared.Answer.{Answer}
@@ -92,6 +92,7 @@ refusal R.not-one-variable = NotOneVariable
 refusal R.cut-too-deep = CutTooDeep
 refusal R.bad-reading = BadReading
 refusal R.bad-double = BadDouble
+refusal R.bad-rank = BadRank
 
 -- and back
 unfoldable pub cause : Refusal → R.Refusal
@@ -111,6 +112,7 @@ cause NotOneVariable = R.not-one-variable
 cause CutTooDeep = R.cut-too-deep
 cause BadReading = R.bad-reading
 cause BadDouble = R.bad-double
+cause BadRank = R.bad-rank
 
 -- document 01's number of a verdict, 0 without a refusal
 unfoldable pub verdict-number : Verdict → ℕ

@@ -40,7 +40,7 @@ use Rattle.model_types.specs.declared.Refusal.the-variants.{BadModel, Ba
 use Rattle.model_types.specs.declared.Refusal.the-variants.{OverSpan, TooManyTerms, LeavesBox}
 use Rattle.model_types.specs.declared.Refusal.the-variants.{VariablesDiffer, ShortBuffer, Uncertified}
 use Rattle.model_types.specs.declared.Refusal.the-variants.{NotOneVariable, CutTooDeep, BadReading}
-use Rattle.model_types.specs.declared.Refusal.the-variants.{BadDouble}
+use Rattle.model_types.specs.declared.Refusal.the-variants.{BadDouble, BadRank}
 use Rattle.model_types.specs.ModelStruct.{refusal, cause, one-term, zero-term, places, view-term, view}
 use Rattle.model_types.specs.ModelStruct.{pack-term, pad, pack}
 use Rattle.calculus.specs.MonomialKeyLaws.{key-monomial, monomial-key, fits-key, fits-below}
@@ -427,6 +427,7 @@ refusal-cause NotOneVariable = refl
 refusal-cause CutTooDeep = refl
 refusal-cause BadReading = refl
 refusal-cause BadDouble = refl
+refusal-cause BadRank = refl
 
 pub cause-refusal : (r : R.Refusal) → cause (refusal r) ≡ r
 unfolding refusal cause
@@ -446,3 +447,4 @@ cause-refusal R.not-one-variable = refl
 cause-refusal R.cut-too-deep = refl
 cause-refusal R.bad-reading = refl
 cause-refusal R.bad-double = refl
+cause-refusal R.bad-rank = refl

@@ -61,6 +61,7 @@ pub enum Refusal {
     CutTooDeep,
     BadReading,
     BadDouble,
+    BadRank,
 }
 
 // The refusal stands with its place.
@@ -269,6 +270,7 @@ pub fn number(refusal: Refusal) -> u8
         Refusal::CutTooDeep => 14,
         Refusal::BadReading => 15,
         Refusal::BadDouble => 16,
+        Refusal::BadRank => 17,
     }
 }
 

@@ -20,7 +20,7 @@ use Rattle.calculus.specs.TermsLaws.{every-head, every-tail}
 use Rattle.calculus.specs.Model.{Model, most-degree, most-terms, fits, sound, span}
 use Rattle.calculus.specs.Refusal.{Refusal, bad-length, bad-mark, bad-limits, bad-offset, bad-model, bad-step}
 use Rattle.calculus.specs.Refusal.{over-span, too-many-terms, leaves-box, variables-differ, short-buffer}
-use Rattle.calculus.specs.Refusal.{uncertified, not-one-variable, cut-too-deep, bad-reading, bad-double}
+use Rattle.calculus.specs.Refusal.{uncertified, not-one-variable, cut-too-deep, bad-reading, bad-double, bad-rank}
 use Rattle.calculus.specs.Refusal.{number, Result, done, stopped}
 use Rattle.calculus.specs.Operations.{Ends, range, constant-part, below, above, integral, Mixed}
 use Rattle.calculus.specs.Operations.{common-denominator, has-exact, exact-part}
@@ -233,6 +233,7 @@ number-small not-one-variable = lit< tt
 number-small cut-too-deep = lit< tt
 number-small bad-reading = lit< tt
 number-small bad-double = lit< tt
+number-small bad-rank = lit< tt
 
 lines-length : (s : List ℕ) (x : Result Summary) → run-sheet s ≡ x → length (lines x) ≤ most-text
 unfolding most-text
