@@ -15,6 +15,7 @@
 //! - [`cuts`]: narrower ranges by cutting the box;
 //! - [`doubles`]: curves delivered in doubles;
 //! - [`readings`]: readings held against a curve;
+//! - [`archive`]: models stored with their low degrees first, and restored;
 //! - [`book`], [`sheet`], [`mod@write`], [`run`], [`records`], [`text`]: sheets;
 //! - [`renaming`]: sheets whose variables are renamed throughout;
 //! - [`exact`]: exact fractions and the check of the enclosure statement;
@@ -22,6 +23,7 @@
 
 #![forbid(unsafe_code)]
 
+pub mod archive;
 pub mod book;
 pub mod calls;
 pub mod chebyshev;

@@ -4,7 +4,8 @@
 /// other than 0.
 #[derive(Clone, Copy, Debug, PartialEq, Eq, PartialOrd, Ord)]
 pub enum Refusal {
-    /// 1: the length is below 16 or above 8,792.
+    /// 1: the length is below 16 or above 8,792; of an archive, below 6 or not that
+    /// of its count.
     Length,
     /// 2: the last two bytes are neither mark.
     Mark,
@@ -38,6 +39,8 @@ pub enum Refusal {
     Reading(usize),
     /// 16: a double is not finite, or a radius in doubles is negative.
     Double,
+    /// 17: the rank of the term with this number is none, or does not rise.
+    Rank(usize),
 }
 
 impl Refusal {
@@ -60,6 +63,7 @@ impl Refusal {
             Refusal::CutTooDeep => 14,
             Refusal::Reading(_) => 15,
             Refusal::Double => 16,
+            Refusal::Rank(_) => 17,
         }
     }
 
@@ -72,7 +76,8 @@ impl Refusal {
             | Refusal::Terms(place)
             | Refusal::OutsideBox(place)
             | Refusal::Uncertified(place)
-            | Refusal::Reading(place) => place,
+            | Refusal::Reading(place)
+            | Refusal::Rank(place) => place,
             Refusal::Length
             | Refusal::Mark
             | Refusal::Limits

@@ -4,6 +4,7 @@
 //! A generator says what refusal it expects only where that follows from how
 //! the input was made, never from running it.
 
+pub mod archive;
 pub mod books;
 pub mod chebyshev;
 pub mod cuts;
