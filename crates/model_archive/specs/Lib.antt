@@ -1,0 +1,3 @@
+pub mod StoredStruct
+pub mod StoringTestsLaws
+pub mod RestoringTestsLaws

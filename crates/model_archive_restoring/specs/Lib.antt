@@ -1,0 +1,7 @@
+pub mod Restoring
+pub mod Runs
+pub mod RestoringLaws
+pub mod RunsLaws
+pub mod MergingLaws
+pub mod RestoreLoopLaws
+pub mod LastTestLaws

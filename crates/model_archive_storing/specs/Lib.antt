@@ -1,0 +1,3 @@
+pub mod Storing
+pub mod StoringLaws
+pub mod PutDegreeLaws
