@@ -6,7 +6,7 @@
 
    Answers. Every function that makes a call returns a byte:
      0                   accepted
-     1 to 16             the refusal of documents 01 and 02; the answer is then the zero model in one variable, the
+     1 to 17             the refusal of documents 01 and 02; the answer is then the zero model in one variable, the
                          curve of zeros, or ends 0 and the exact integral 0
      HECHROUNG_MISUSED   no call was made and nothing was written: a pointer is null, a slice is too short, or a code
                          names no call
@@ -49,6 +49,7 @@ extern "C" {
 #define HECHROUNG_LONGEST_SHEET 8792
 #define HECHROUNG_LONGEST_RECORD 517
 #define HECHROUNG_LONGEST_TEXT 4096
+#define HECHROUNG_LONGEST_ARCHIVED 390
 #define HECHROUNG_MISUSED 255
 
 /* A model: the first `count` of its terms, with keys strictly rising, and a radius. A key has eight exponents of four
@@ -323,6 +324,26 @@ extern uint8_t hechroung_readings(uint8_t n, size_t count, uint64_t radius,
                                   const int64_t *points, size_t points_length,
                                   const int64_t *lows, size_t lows_length, const int64_t *highs, size_t highs_length,
                                   uint64_t *numbers, size_t numbers_length);
+
+/* Stores a model of 1 to 4 variables in the archive's form: n, the radius in 4 bytes, the count, then for each term its
+   rank in 2 bytes and its coefficient in 4, by total degree and then key, so that the low degrees come first; at most
+   HECHROUNG_LONGEST_ARCHIVED bytes. The rank is the term's place, from 0, among all 3,876 monomials in four variables
+   of degree at most 15 in that order. Refusals 3 (n is not 1 to 4), 5, 11 (the buffer is too short).
+   Read: at least min(count, 64) keys and as many coefficients. Written: buffer and numbers as for hechroung_rewrite. */
+extern uint8_t hechroung_store(uint8_t n, size_t count, uint64_t radius, const uint32_t *keys, size_t keys_length,
+                               const int64_t *coefficients, size_t coefficients_length,
+                               uint8_t *buffer, size_t buffer_length, uint64_t *numbers, size_t numbers_length);
+
+/* Restores a model from the archive's form: of all its terms, or of the first ones only, `terms` of them where fewer are
+   asked for than are stored. All give the very model that was stored. WARNING: fewer terms give those terms with the
+   stored radius, and that is no band around the curve: what was left out is not in the radius. Who wants a band has to
+   add the sizes |c| of all terms left out. Refusals 1 (the length is below 6 or other than 6 + 6 times the count), 3 (n
+   is not 1 to 4), 17 at the first term read, from 0, whose rank is 3,876 or more or does not rise, 5 (more than 64 terms
+   are stored, or the radius or the terms read break a rule). Terms that are not read are not tested.
+   Read: the bytes, of any length. Written: keys, coefficients and numbers as for hechroung_call. */
+extern uint8_t hechroung_restore(const uint8_t *bytes, size_t bytes_length, size_t terms,
+                                 uint32_t *keys, size_t keys_length, int64_t *coefficients, size_t coefficients_length,
+                                 uint64_t *numbers, size_t numbers_length);
 
 /* ---- the same for structs. The answer may be one of the models that are read. A place of null is not written. ---- */
 
@@ -776,6 +797,34 @@ static inline uint8_t hechroung_hold(const struct hechroung_model *f, const stru
                                 points, HECHROUNG_MOST_VARIABLES * count, lows, count, highs, count, numbers, 3);
     *contradicted = (int)numbers[1];
     *reading = (size_t)numbers[2];
+    if (place != NULL) *place = (size_t)numbers[0];
+    return number;
+}
+
+/* A model in the archive's form, and its length. Refusals 3 (n), 5, 11. */
+static inline uint8_t hechroung_store_model(const struct hechroung_model *f, uint8_t *buffer, size_t buffer_length,
+                                            size_t *length) {
+    uint64_t numbers[2] = {0, 0};
+    uint8_t number;
+    if (f == NULL || buffer == NULL || length == NULL) return HECHROUNG_MISUSED;
+    number = hechroung_store(f->n, f->count, f->radius, f->keys, HECHROUNG_MOST_TERMS,
+                             f->coefficients, HECHROUNG_MOST_TERMS, buffer, buffer_length, numbers, 2);
+    *length = (size_t)numbers[1];
+    return number;
+}
+
+/* The model of the first terms of one that is stored, `terms` of them, or all if there are fewer. Less than all are no
+   band around the curve: see hechroung_restore. Refusals 1, 3, 17 at the term, 5. */
+static inline uint8_t hechroung_restore_model(const uint8_t *bytes, size_t bytes_length, size_t terms,
+                                              struct hechroung_model *answer, size_t *place) {
+    uint64_t numbers[4] = {0, 0, 0, 0};
+    uint8_t number;
+    if (bytes == NULL || answer == NULL) return HECHROUNG_MISUSED;
+    number = hechroung_restore(bytes, bytes_length, terms, answer->keys, HECHROUNG_MOST_TERMS,
+                               answer->coefficients, HECHROUNG_MOST_TERMS, numbers, 4);
+    answer->n = (uint8_t)numbers[1];
+    answer->count = (size_t)numbers[2];
+    answer->radius = numbers[3];
     if (place != NULL) *place = (size_t)numbers[0];
     return number;
 }

@@ -17,6 +17,7 @@ MOST_TERMS = 64
 MOST_STEPS = 64
 CURVE_PLACES = 16
 LONGEST_RECORD = 5 + 8 * MOST_TERMS
+LONGEST_ARCHIVED = 6 + 6 * MOST_TERMS
 MISUSED = 255
 
 # The shared library is named by the layout of include/hechroung.h that these declarations follow.
@@ -100,6 +101,8 @@ _from_powers = _exported("hechroung_from_powers", _u8, *_handed, _i64s, _size, _
 _cut_range = _exported("hechroung_cut_range", _u8, _u8, _u8, _u8, *_handed, _i64s, _size, _u64s, _size)
 _doubles = _exported("hechroung_doubles", _u8, _f64, _f64, _f64, _f64, _u32s, _size, _i64s, _size, _u64s, _size)
 _readings = _exported("hechroung_readings", _u8, *_handed, _i64s, _size, _i64s, _size, _i64s, _size, _u64s, _size)
+_store = _exported("hechroung_store", _u8, *_handed, _text, _size, _u64s, _size)
+_restore = _exported("hechroung_restore", _u8, _text, _size, _size, _u32s, _size, _i64s, _size, _u64s, _size)
 
 # What a run gives: the last step's model, the ends of its range and of its integral, and the exact integral.
 Summary = namedtuple("Summary", "model range integral exact")
@@ -115,7 +118,7 @@ Reading = namedtuple("Reading", "point low high")
 
 
 class Refused(Exception):
-    """The refusal of documents 01 and 02: its number, 1 to 16, and its place; of a run with shares those of the steps
+    """The refusal of documents 01 and 02: its number, 1 to 17, and its place; of a run with shares those of the steps
     before it too."""
 
     def __init__(self, number, place, shares=()):
@@ -418,6 +421,25 @@ def from_doubles(c0, c1, c2, radius):
     """The model of c0 + c1 x + c2 x² with a radius, four floats: what is within the curve is within the model."""
     keys, coefficients, numbers = _Keys(), _Coefficients(), (_u64 * 4)()
     number = _doubles(c0, c1, c2, radius, keys, MOST_TERMS, coefficients, MOST_TERMS, numbers, 4)
+    place, n, count, radius = numbers
+    _check(number, place)
+    return Model(n, radius, zip(keys[:count], coefficients[:count]))
+
+
+def store(f):
+    """A model of 1 to 4 variables in the archive's form: its terms by total degree and then key."""
+    buffer, numbers = ctypes.create_string_buffer(LONGEST_ARCHIVED), (_u64 * 2)()
+    number = _store(*_arguments(f), buffer, LONGEST_ARCHIVED, numbers, 2)
+    place, length = numbers
+    _check(number, place)
+    return buffer.raw[:length]
+
+
+def restore(archived, terms):
+    """The model of the first terms of one that is stored, or of all if there are fewer. Fewer terms are no band around
+    the curve: what was left out is not in the radius."""
+    keys, coefficients, numbers = _Keys(), _Coefficients(), (_u64 * 4)()
+    number = _restore(archived, len(archived), terms, keys, MOST_TERMS, coefficients, MOST_TERMS, numbers, 4)
     place, n, count, radius = numbers
     _check(number, place)
     return Model(n, radius, zip(keys[:count], coefficients[:count]))

@@ -15,7 +15,7 @@ from hechroung import UNIT, Curve, Misused, Model, Reading, Refused
 BYTE, KEY, RADIUS, VALUE = (0, 2 ** 8 - 1), (0, 2 ** 32 - 1), (0, 2 ** 64 - 1), (-2 ** 63, 2 ** 63 - 1)
 WIDTHS = {ctypes.c_uint8: BYTE, ctypes.c_uint64: RADIUS, ctypes.c_size_t: RADIUS, ctypes.c_int64: VALUE}
 # How many exported functions hechroung.py declares.
-DECLARED = 17
+DECLARED = 19
 NO_WHOLE_NUMBERS = [1.0, 0.5, float("nan"), Fraction(3, 2), "1", b"1", None, [1], 1j]
 
 
@@ -35,6 +35,7 @@ def bent():
 
 STEPS = [(0, 0, 0, 0, 0), (2, 0, 0, 1, 0), (1, 0, 0, 0, 5), (4, 0, 1, 0, 0)]
 SHEET = bytes.fromhex("0100000005000000 010100010000 4D4B")
+ARCHIVED = bytes.fromhex("01 02000000 02 0000 03000000 0400 00000800")
 # An accepted call of every function, by the names of its parameters.
 CALLS = {
     "constant": {"n": 1, "value": 3},
@@ -67,6 +68,8 @@ CALLS = {
     "from_powers": {"f": line()},
     "cut_range": {"d": 2, "i": 1, "k": 3, "f": line()},
     "from_doubles": {"c0": 0.5, "c1": 0.1, "c2": -0.0, "radius": 5e-324},
+    "store": {"f": line()},
+    "restore": {"archived": ARCHIVED, "terms": 1},
 }
 # Floats of every size: ties of units and their neighbours, the smallest and the largest.
 TIES = [math.ldexp(2 * k + 1, power) for k in range(8) for power in (-21, -20, -22)]
@@ -133,6 +136,8 @@ def numbers_of_reading(name, reading):
 def numbers_of(name, argument):
     if name in ("n", "d", "i", "k"):
         yield Number(name, BYTE, argument, lambda other: other)
+    elif name == "terms":
+        yield Number(name, RADIUS, argument, lambda other: other)
     elif name in ("value", "threshold"):
         yield Number(name, VALUE, argument, lambda other: other)
     elif name == "point":
@@ -150,7 +155,7 @@ def numbers_of(name, argument):
     elif isinstance(argument, float):
         return
     else:
-        assert name == "sheet", f"{name} is no argument that this test knows"
+        assert name in ("sheet", "archived"), f"{name} is no argument that this test knows"
 
 
 def outcome(function, *positional, **named):
@@ -180,9 +185,10 @@ def crossing(where, number, called):
 
 def kept_back(where, number, called):
     """What a number's place keeps back of its field. The greatest is never a sound number, but for a reading's high
-    value, and the least at times."""
+    value, and the least at times; but how many terms are to be read may be any number."""
     low, high = number.limits
-    if called(high) is not Refused and not number.name.endswith(".high"):
+    expected = Model if number.name == "terms" else Refused
+    if called(high) is not expected and not number.name.endswith(".high"):
         yield f"{where} = {high}: {called(high).__name__}, and the library would refuse it"
     if called(low) in (ValueError, TypeError, Misused):
         yield f"{where} = {low}: {called(low).__name__}, and its field holds it"

@@ -24,6 +24,7 @@
 #![deny(unsafe_op_in_unsafe_fn)]
 #![deny(unsafe_code)]
 
+mod archive;
 pub mod curves;
 mod cuts;
 mod doubles;
@@ -32,6 +33,7 @@ pub mod raw;
 mod readings;
 mod sheets;
 
+pub use archive::{restore, store, LONGEST_ARCHIVED};
 pub use curves::Curve;
 pub use cuts::cut_range;
 pub use doubles::{from_doubles, Doubles};
@@ -75,7 +77,7 @@ pub struct Model {
     pub coefficients: [i64; MOST_TERMS],
 }
 
-/// The number of a refusal in documents 01 and 02, 1 to 16, and its place.
+/// The number of a refusal in documents 01 and 02, 1 to 17, and its place.
 #[derive(Clone, Copy, Debug, PartialEq, Eq, PartialOrd, Ord)]
 pub struct Refusal {
     pub number: u8,
@@ -160,7 +162,8 @@ impl fmt::Display for Refusal {
             13 => "a model to convert has another number of variables than one",
             14 => "the box is to be cut to a depth above 6",
             15 => "a row of readings is too long, or a low value is above its high one",
-            _ => "a double is not finite, or a radius in doubles is negative",
+            16 => "a double is not finite, or a radius in doubles is negative",
+            _ => "a rank of an archived term is 3,876 or more, or does not rise",
         };
         write!(out, "refused {} {}: {reason}", self.number, self.place)
     }

@@ -366,6 +366,32 @@ exported! {
         numbers: *mut u64,
         numbers_length: usize,
     ) -> u8;
+
+    hechroung_store: Store = (
+        n: u8,
+        count: usize,
+        radius: u64,
+        keys: *const u32,
+        keys_length: usize,
+        coefficients: *const i64,
+        coefficients_length: usize,
+        buffer: *mut u8,
+        buffer_length: usize,
+        numbers: *mut u64,
+        numbers_length: usize,
+    ) -> u8;
+
+    hechroung_restore: Restore = (
+        bytes: *const u8,
+        bytes_length: usize,
+        terms: usize,
+        keys: *mut u32,
+        keys_length: usize,
+        coefficients: *mut i64,
+        coefficients_length: usize,
+        numbers: *mut u64,
+        numbers_length: usize,
+    ) -> u8;
 }
 
 /// A book that is handed over: for each model an entry of `ns`, `counts` and `radii` and 64 keys and coefficients; for
@@ -917,6 +943,54 @@ pub fn readings(f: Handed<'_>, rows: HandedReadings<'_>, numbers: &mut [u64]) ->
             rows.lows.len(),
             rows.highs.as_ptr(),
             rows.highs.len(),
+            numbers.as_mut_ptr(),
+            numbers.len(),
+        )
+    }
+}
+
+/// Stores a model in the archive's form: the refusal's number, 0 without one. Its place and the length go into
+/// `numbers`.
+#[must_use]
+pub fn store(model: Handed<'_>, buffer: &mut [u8], numbers: &mut [u64]) -> u8 {
+    // SAFETY: as in `call`.
+    unsafe {
+        hechroung_store(
+            model.n,
+            model.count,
+            model.radius,
+            model.keys.as_ptr(),
+            model.keys.len(),
+            model.coefficients.as_ptr(),
+            model.coefficients.len(),
+            buffer.as_mut_ptr(),
+            buffer.len(),
+            numbers.as_mut_ptr(),
+            numbers.len(),
+        )
+    }
+}
+
+/// Restores the model of the first terms: the refusal's number, 0 without one. The answer goes into `keys`,
+/// `coefficients` and `numbers` as in [`call`].
+#[must_use]
+pub fn restore(
+    bytes: &[u8],
+    terms: usize,
+    keys: &mut [u32],
+    coefficients: &mut [i64],
+    numbers: &mut [u64],
+) -> u8 {
+    // SAFETY: as in `call`.
+    unsafe {
+        hechroung_restore(
+            bytes.as_ptr(),
+            bytes.len(),
+            terms,
+            keys.as_mut_ptr(),
+            keys.len(),
+            coefficients.as_mut_ptr(),
+            coefficients.len(),
             numbers.as_mut_ptr(),
             numbers.len(),
         )

@@ -856,3 +856,67 @@ fn readings_need_8_coordinates_and_a_high_value_each_and_3_numbers() {
     // What lies behind stays.
     assert_eq!(held(model, ROWS, 4), (0, vec![0, 1, 1, MARK.into()]));
 }
+
+/// 3 + x / 2 in one variable.
+const LINE: ([u32; 2], [i64; 2]) = ([0, 0x1000_0000], [3, 1 << 19]);
+
+fn stored(lengths: [usize; 3]) -> (u8, Vec<u8>, Vec<u64>) {
+    let [keys, coefficients, numbers] = lengths;
+    let line = Handed {
+        n: 1,
+        count: 2,
+        radius: 2,
+        keys: &LINE.0[..keys],
+        coefficients: &LINE.1[..coefficients],
+    };
+    let mut buffer = vec![MARK; 20];
+    let mut numbers = vec![MARK.into(); numbers];
+    let number = raw::store(line, &mut buffer, &mut numbers);
+    (number, buffer, numbers)
+}
+
+#[test]
+fn a_store_needs_its_terms_and_2_numbers() {
+    const ENOUGH: [usize; 3] = [2, 2, 2];
+    for short in 0..3 {
+        let mut lengths = ENOUGH;
+        lengths[short] -= 1;
+        let (number, buffer, numbers) = stored(lengths);
+        assert_eq!(number, MISUSED, "slice {short}");
+        assert!(buffer.iter().all(|byte| *byte == MARK), "slice {short}");
+        assert!(numbers.iter().all(|x| *x == MARK.into()), "slice {short}");
+    }
+    let (number, buffer, numbers) = stored(ENOUGH);
+    assert_eq!((number, numbers), (0, vec![0, 18]));
+    let archived = [
+        1, 2, 0, 0, 0, 2, 0, 0, 3, 0, 0, 0, 4, 0, 0, 0, 8, 0, MARK, MARK,
+    ];
+    assert_eq!(buffer, archived);
+}
+
+#[test]
+fn a_restore_needs_64_keys_64_coefficients_and_4_numbers() {
+    const ENOUGH: [usize; 4] = [64, 64, 4, 0];
+    let (_, buffer, _) = stored([2, 2, 2]);
+    let restored = |room: &mut Room| {
+        raw::restore(
+            &buffer[..18],
+            2,
+            &mut room.keys,
+            &mut room.coefficients,
+            &mut room.numbers,
+        )
+    };
+    for short in 0..3 {
+        let mut lengths = ENOUGH;
+        lengths[short] -= 1;
+        let mut room = Room::new(lengths);
+        assert_eq!(restored(&mut room), MISUSED, "slice {short}");
+        assert!(room.unchanged(), "slice {short}");
+    }
+    let mut room = Room::new(ENOUGH);
+    assert_eq!(restored(&mut room), 0);
+    assert_eq!(room.numbers, [0, 1, 2, 2]);
+    assert_eq!(room.keys[..2], LINE.0);
+    assert_eq!(room.coefficients[..2], LINE.1);
+}

@@ -4,6 +4,7 @@ use crate::curves;
 use crate::cuts;
 use crate::doubles;
 use crate::shaped::Shape;
+use reference::archive;
 use reference::book::{Book, Step};
 use reference::calls::Call;
 use reference::chebyshev::Call as CurveCall;
@@ -44,6 +45,9 @@ pub enum Case {
     ShapedCut(CutCall, cuts::Shape),
     /// A curve in doubles, with slices of these lengths for the answer.
     Doubles(Record, [u8; 3]),
+    /// A model stored in the archive or restored from it, with slices of these lengths for keys, coefficients and
+    /// numbers.
+    Archive(archive::Call, [u8; 3]),
 }
 
 /// How many variables a case has, by which cases are counted: those of each mark apart.
@@ -108,6 +112,10 @@ impl Case {
             },
             Case::Cut(call) | Case::ShapedCut(call, _) => Variables::of_n(call.f.n),
             Case::Doubles(..) => Variables::UpToFour,
+            Case::Archive(archive::Call::Store { f, .. }, _) => Variables::of_n(f.n),
+            Case::Archive(archive::Call::Restore { bytes, .. }, _) => {
+                Variables::of_n(bytes.first().copied().unwrap_or(0))
+            }
         }
     }
 
@@ -127,6 +135,8 @@ impl Case {
             Case::Cut(_) => cuts::KIND,
             Case::ShapedCut(..) => "cut box, slices of any length",
             Case::Doubles(..) => doubles::NAME,
+            Case::Archive(archive::Call::Store { .. }, _) => "stored in the archive",
+            Case::Archive(archive::Call::Restore { .. }, _) => "restored from the archive",
         }
     }
 
@@ -197,6 +207,25 @@ impl Case {
                 bytes.extend(outputs);
                 "doubles"
             }
+
+            Case::Archive(archive::Call::Store { f, buffer }, lengths) => {
+                bytes.extend(lengths);
+                push_model(&mut bytes, f);
+                bytes.extend(buffer);
+                "store"
+            }
+            Case::Archive(
+                archive::Call::Restore {
+                    bytes: archived,
+                    most,
+                },
+                lengths,
+            ) => {
+                bytes.extend(lengths);
+                bytes.extend((*most as u64).to_le_bytes());
+                bytes.extend(archived);
+                "restore"
+            }
         };
         format!("{word} {}", hex(&bytes))
     }
@@ -249,6 +278,25 @@ impl Case {
                     radius,
                 };
                 Case::Doubles(record, bytes.take()?)
+            }
+
+            "store" => {
+                let lengths = bytes.take()?;
+                let f = take_model(&mut bytes)?;
+                let buffer = bytes.rest();
+                Case::Archive(archive::Call::Store { f, buffer }, lengths)
+            }
+            "restore" => {
+                let lengths = bytes.take()?;
+                let most = bytes.number()? as usize;
+                let archived = bytes.rest();
+                Case::Archive(
+                    archive::Call::Restore {
+                        bytes: archived,
+                        most,
+                    },
+                    lengths,
+                )
             }
             _ => return None,
         };

@@ -23,6 +23,12 @@ const REACHED: [(&str, &[u8]); 8] = [
     (cuts::KIND, &cuts::REACHED),
 ];
 
+/// Those of the archive's calls.
+const ARCHIVE: [(&str, &[u8]); 2] = [
+    ("stored in the archive", &[3, 5, 11]),
+    ("restored from the archive", &[1, 3, 5, 17]),
+];
+
 /// Those that sheets have to reach at so many places, up to four variables and above.
 const AT_MANY_PLACES: [u8; 6] = [5, 6, 7, 8, 9, 12];
 const MANY_PLACES: usize = 16;
@@ -186,6 +192,30 @@ impl Counts {
         ] {
             if times == 0 {
                 missing.push(what.into());
+            }
+        }
+        missing
+    }
+
+    /// What no call of the archive reached: an accepted one, each refusal, 17 at many terms, a slice that is too short.
+    pub fn unreached_archive(&self) -> Vec<String> {
+        let mut missing = Vec::new();
+        for (name, numbers) in ARCHIVE {
+            let Some(kind) = self.kinds.get(name) else {
+                missing.push(format!("any {name}"));
+                continue;
+            };
+            let mut all = Answers::default();
+            kind.answers.values().for_each(|answers| all.add(answers));
+            if all.accepted == 0 || kind.misused == 0 {
+                missing.push(format!("{name}: an accepted one and one that is misused"));
+            }
+            for number in numbers {
+                let places = all.refused.get(number).map_or(0, BTreeMap::len);
+                let owed = if *number == 17 { MANY_PLACES } else { 1 };
+                if places < owed {
+                    missing.push(format!("{name}: refusal {number} at {owed} places"));
+                }
             }
         }
         missing

@@ -11,6 +11,8 @@
 //!                               so many generated curves in doubles, also by the machine's doubles and exact fractions
 //!     compare --readings [ROWS [SEED]]
 //!                               so many generated rows of readings, each held against a model
+//!     compare --archive [CALLS [SEED]]
+//!                               so many generated stores and restores of the archive, and round trips
 //!
 //! The exit status is 0 only if all answers agree and every refusal, every mix of shares and every kind of integral
 //! that can be reached was reached, refusals and enclosures up to four variables and above.
@@ -18,6 +20,7 @@
 #![forbid(unsafe_code)]
 
 mod agree;
+mod archive;
 mod case;
 mod counts;
 mod curves;
@@ -70,6 +73,9 @@ fn main() -> ExitCode {
         ["--readings"] => rows_of_readings(ROWS, SEED),
         ["--readings", rows] => reading_numbers(rows, "1"),
         ["--readings", rows, seed] => reading_numbers(rows, seed),
+        ["--archive"] => archive_calls(archive::CALLS, SEED),
+        ["--archive", calls] => archive_numbers(calls, "1"),
+        ["--archive", calls, seed] => archive_numbers(calls, seed),
         [] => generated_cases(CASES, SEED),
         [cases] => numbers(cases, "1"),
         [cases, seed] => numbers(cases, seed),
@@ -79,7 +85,7 @@ fn main() -> ExitCode {
 
 fn usage() -> ExitCode {
     eprintln!("usage: compare [CASES [SEED]] | --cases < LINES | --program PATH [SHEETS [SEED]] |");
-    eprintln!("       --renamed PATH [SHEETS [SEED]] | --doubles [RECORDS [SEED]] | --readings [ROWS [SEED]]");
+    eprintln!("       --renamed PATH [SHEETS [SEED]] | --doubles [RECORDS [SEED]] | --readings [ROWS [SEED]] | --archive [CALLS [SEED]]");
     ExitCode::from(2)
 }
 
@@ -114,6 +120,13 @@ fn doubles_numbers(records: &str, seed: &str) -> ExitCode {
 fn reading_numbers(rows: &str, seed: &str) -> ExitCode {
     match (rows.parse(), seed.parse()) {
         (Ok(rows), Ok(seed)) => rows_of_readings(rows, seed),
+        _ => usage(),
+    }
+}
+
+fn archive_numbers(calls: &str, seed: &str) -> ExitCode {
+    match (calls.parse(), seed.parse()) {
+        (Ok(calls), Ok(seed)) => archive_calls(calls, seed),
         _ => usage(),
     }
 }
@@ -205,6 +218,30 @@ fn renamed_sheets(path: &str, sheets: u64, seed: u64) -> ExitCode {
         started.elapsed().as_secs()
     );
     let unreached = counts.unreached_renamed(NAME);
+    if !unreached.is_empty() {
+        println!("not reached: {}", unreached.join("; "));
+    }
+    ended(&failures, unreached.is_empty())
+}
+
+/// Compares stores and restores of the archive, generated ones and such of each kind.
+fn archive_calls(calls: u64, seed: u64) -> ExitCode {
+    let started = Instant::now();
+    let compare = |case: Case| (case.kind(), agree::compare(&case));
+    let (counts, failures) = on_every_processor(move |first, step| {
+        let named = (first == 0).then(archive::named).unwrap_or_default();
+        let generated = (first..calls).step_by(step);
+        let generated = generated.map(move |number| archive::case(seed, number));
+        noted(named.into_iter().chain(generated).map(compare))
+    });
+    counts.print();
+    println!(
+        "{calls} generated calls of the archive and {} named ones with seed {seed}: {} differ, {} s",
+        counts.cases() - calls,
+        failures.len(),
+        started.elapsed().as_secs()
+    );
+    let unreached = counts.unreached_archive();
     if !unreached.is_empty() {
         println!("not reached: {}", unreached.join("; "));
     }
