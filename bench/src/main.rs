@@ -3,6 +3,7 @@
 //! usage: bench [SEED], or bench slow [SEED] for a search for sheets that run slowly
 
 mod antiderivatives;
+mod archive;
 mod calls;
 mod curves;
 mod cuts;
@@ -47,4 +48,5 @@ fn main() {
     growth::print(&mut random);
     cuts::print(seed);
     doubles::print(seed);
+    archive::print(seed);
 }
