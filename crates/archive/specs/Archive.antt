@@ -99,8 +99,7 @@ read-all zero s = []
 read-all (suc c) s = read-ranked s ∷ read-all c (drop stored-term s)
 
 -- 17 at the first of the terms, numbered from i on, whose rank is 3,876 or more or does not rise: is below `least`,
--- which
--- is one more than the rank before
+-- which is one more than the rank before
 unfoldable pub require-ranks : {A : Type 0} → (i least : ℕ) → List Ranked → Result A → Result A
 require-ranks i least [] a = a
 require-ranks i least (t ∷ l) a =

@@ -2,7 +2,7 @@
 use mathlib.Core.Path.{_≡_, refl}
 use mathlib.Core.List.{List, [], _∷_, _++_, map}
 use Prim.Native.Nat.{ℕ, _*_, _/_, _%_}
-use lib.IntN.{pos}
+use lib.IntN.{pos, negsuc}
 use lib.ListN.{length, replicate}
 use Rattle.calculus.specs.Computing as C
 use Rattle.calculus.specs.Key as K
@@ -32,6 +32,13 @@ cubic = model 2 9 (at-key 2 0x0000 (pos 7) ∷ at-key 2 0x0300 (pos 2) ∷ at-ke
 -- its bytes
 unfoldable pub cubic-bytes : List ℕ
 cubic-bytes = 2 ∷ 9 ∷ 0 ∷ 0 ∷ 0 ∷ 3 ∷ 0 ∷ 0 ∷ 7 ∷ 0 ∷ 0 ∷ 0 ∷ 4 ∷ 0 ∷ 5 ∷ 0 ∷ 0 ∷ 0 ∷ 24 ∷ 0 ∷ 2 ∷ 0 ∷ 0 ∷ 0 ∷ []
+
+-- -2x with a radius whose four bytes differ, and its bytes
+unfoldable pub falling : Model
+falling = model 1 0x01020304 (at-key 1 0x1000 (negsuc 1) ∷ [])
+
+unfoldable pub falling-bytes : List ℕ
+falling-bytes = 1 ∷ 4 ∷ 3 ∷ 2 ∷ 1 ∷ 1 ∷ 4 ∷ 0 ∷ 254 ∷ 255 ∷ 255 ∷ 255 ∷ []
 
 -- n, radius 0, the count, then ranks with the coefficient 1
 unfoldable pub with-ranks : (n : ℕ) (ranks : List ℕ) → List ℕ
@@ -65,9 +72,12 @@ rank-rows = (refl, refl, refl, refl, refl, refl)
 pub store-rows
     : (model-stored cubic ≡ cubic-bytes)
     × (model-stored powers ≡ with-ranks 1 powers-ranks)
+    × (model-stored falling ≡ falling-bytes)
     -- bytes beyond the length stay
     × (stored (zero-model 4) (replicate 8 7) .value .buffer ≡ 4 ∷ 0 ∷ 0 ∷ 0 ∷ 0 ∷ 0 ∷ 7 ∷ 7 ∷ [])
     × (stored (zero-model 4) (replicate 8 7) .value .length ≡ 6)
+    -- a buffer of exactly the length is enough
+    × (store falling (replicate 12 7) ≡ done falling-bytes)
     -- one byte short: nothing is changed, and the length is 0
     × (store line (replicate 17 0) ≡ stopped short-buffer 0)
     × (stored line (replicate 17 7) .value .buffer ≡ replicate 17 7)
@@ -78,19 +88,20 @@ pub store-rows
     -- 3 before 5, 5 before 11
     × (store (model 5 0 (at-key 1 0x1000 (pos 0) ∷ [])) [] ≡ stopped bad-limits 0)
     × (store (model 1 0 (at-key 1 0x1000 (pos 0) ∷ [])) [] ≡ stopped bad-model 0)
-unfolding archives cubic cubic-bytes with-ranks powers powers-ranks
-store-rows = (refl, refl, refl, refl, refl, refl, refl, refl, refl, refl, refl)
+unfolding archives cubic cubic-bytes falling falling-bytes with-ranks powers powers-ranks
+store-rows = (refl, refl, refl, refl, refl, refl, refl, refl, refl, refl, refl, refl, refl)
 
 -- ---- restoring
 pub restore-rows
     : (restored cubic-bytes 3 ≡ done cubic)
     × (restored cubic-bytes 64 ≡ done cubic)
     × (restored (with-ranks 1 powers-ranks) 16 ≡ done powers)
+    × (restored falling-bytes 1 ≡ done falling)
     -- the first two by degree, with the stored radius
     × (restored cubic-bytes 2 ≡ done (model 2 9 (at-key 2 0x0000 (pos 7) ∷ at-key 2 0x1000 (pos 5) ∷ [])))
     × (restored cubic-bytes 0 ≡ done (model 2 9 []))
-unfolding archives cubic cubic-bytes with-ranks powers powers-ranks
-restore-rows = (refl, refl, refl, refl, refl)
+unfolding archives cubic cubic-bytes falling falling-bytes with-ranks powers powers-ranks
+restore-rows = (refl, refl, refl, refl, refl, refl)
 
 -- ---- refused, or not
 pub refusal-rows
@@ -109,6 +120,9 @@ pub refusal-rows
     × (restored (with-ranks 4 (0 ∷ 0 ∷ [])) 2 ≡ stopped bad-rank 1)
     × (restored (with-ranks 4 (0 ∷ 4 ∷ 3 ∷ [])) 3 ≡ stopped bad-rank 2)
     × (restored (with-ranks 4 (0 ∷ 4 ∷ 3 ∷ [])) 4 ≡ stopped bad-rank 2)
+    -- the first fault is named, whether it is that a rank does not rise or that it is too large
+    × (restored (with-ranks 4 (4 ∷ 3 ∷ 9000 ∷ [])) 3 ≡ stopped bad-rank 1)
+    × (restored (with-ranks 4 (9000 ∷ 3 ∷ [])) 2 ≡ stopped bad-rank 0)
     × (restored (with-ranks 1 (0 ∷ 4 ∷ 3 ∷ [])) 2
     ≡ done (model 1 0 (at-key 1 0x0000 (pos 1) ∷ at-key 1 0x1000 (pos 1) ∷ [])))
     × (restored (with-ranks 1 (0 ∷ 9000 ∷ [])) 1 ≡ done (model 1 0 (at-key 1 0x0000 (pos 1) ∷ [])))
@@ -121,6 +135,11 @@ pub refusal-rows
     × (restored (1 ∷ 0 ∷ 0 ∷ 0 ∷ 0 ∷ 1 ∷ 0 ∷ 0 ∷ 0 ∷ 0 ∷ 0 ∷ 0 ∷ []) 1 ≡ stopped bad-model 0)
     × (restored (1 ∷ 0 ∷ 0 ∷ 0 ∷ 0 ∷ 1 ∷ 0 ∷ 0 ∷ 0 ∷ 0 ∷ 0 ∷ 0 ∷ []) 0 ≡ done (model 1 0 []))
     × (restored (1 ∷ 255 ∷ 255 ∷ 255 ∷ 255 ∷ 0 ∷ []) 0 ≡ stopped bad-model 0)
+    -- a radius of 2^30 is sound by itself, not with a term that is read
+    × (restored (1 ∷ 0 ∷ 0 ∷ 0 ∷ 64 ∷ 1 ∷ 0 ∷ 0 ∷ 1 ∷ 0 ∷ 0 ∷ 0 ∷ []) 0 ≡ done (model 1 1073741824 []))
+    × (restored (1 ∷ 0 ∷ 0 ∷ 0 ∷ 64 ∷ 1 ∷ 0 ∷ 0 ∷ 1 ∷ 0 ∷ 0 ∷ 0 ∷ []) 1 ≡ stopped bad-model 0)
+    -- a count of 64
+    × (restored (1 ∷ 0 ∷ 0 ∷ 0 ∷ 0 ∷ 64 ∷ replicate 384 0) 0 ≡ done (model 1 0 []))
     -- a count above 64, though no term is read, and though all ranks rise
     × (restored (1 ∷ 0 ∷ 0 ∷ 0 ∷ 0 ∷ 65 ∷ replicate 390 0) 0 ≡ stopped bad-model 0)
     × (restored (with-ranks 4 (count-up 0 65)) 65 ≡ stopped bad-model 0)
@@ -129,6 +148,11 @@ pub refusal-rows
     × (restored (with-ranks 4 (count-up 0 200 ++ count-up 199 55)) 200 ≡ stopped bad-model 0)
 unfolding archives cubic cubic-bytes with-ranks
 refusal-rows = (
+  refl,
+  refl,
+  refl,
+  refl,
+  refl,
   refl,
   refl,
   refl,
