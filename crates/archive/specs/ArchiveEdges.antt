@@ -33,10 +33,11 @@ cubic = model 2 9 (at-key 2 0x0000 (pos 7) ∷ at-key 2 0x0300 (pos 2) ∷ at-ke
 unfoldable pub cubic-bytes : List ℕ
 cubic-bytes = 2 ∷ 9 ∷ 0 ∷ 0 ∷ 0 ∷ 3 ∷ 0 ∷ 0 ∷ 7 ∷ 0 ∷ 0 ∷ 0 ∷ 4 ∷ 0 ∷ 5 ∷ 0 ∷ 0 ∷ 0 ∷ 24 ∷ 0 ∷ 2 ∷ 0 ∷ 0 ∷ 0 ∷ []
 
--- -2x with a radius whose four bytes differ, and its bytes
+-- -2x with a radius whose four bytes differ
 unfoldable pub falling : Model
 falling = model 1 0x01020304 (at-key 1 0x1000 (negsuc 1) ∷ [])
 
+-- its bytes
 unfoldable pub falling-bytes : List ℕ
 falling-bytes = 1 ∷ 4 ∷ 3 ∷ 2 ∷ 1 ∷ 1 ∷ 4 ∷ 0 ∷ 254 ∷ 255 ∷ 255 ∷ 255 ∷ []
 
