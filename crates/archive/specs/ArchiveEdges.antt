@@ -14,7 +14,7 @@ use Rattle.format.specs.Computing as F
 use Rattle.archive.specs.Ranks as N
 use Rattle.archive.specs.Ranks.{count-up, in-turn, rank-of, key-at}
 use Rattle.archive.specs.Archive as A
-use Rattle.archive.specs.Archive.{model-stored, store, stored, restored}
+use Rattle.archive.specs.Archive.{first-terms, model-stored, store, stored, restored}
 
 -- all definitions
 unfoldable pub archives : Unit {0}
@@ -101,8 +101,12 @@ pub restore-rows
     -- the first two by degree, with the stored radius
     × (restored cubic-bytes 2 ≡ done (model 2 9 (at-key 2 0x0000 (pos 7) ∷ at-key 2 0x1000 (pos 5) ∷ [])))
     × (restored cubic-bytes 0 ≡ done (model 2 9 []))
+    -- which are the first: by degree, and by key where degrees are the same
+    × (first-terms 2 cubic ≡ model 2 9 (at-key 2 0x0000 (pos 7) ∷ at-key 2 0x1000 (pos 5) ∷ []))
+    × (first-terms 1 (model 2 0 (at-key 2 0x0100 (pos 3) ∷ at-key 2 0x1000 (pos 5) ∷ []))
+    ≡ model 2 0 (at-key 2 0x0100 (pos 3) ∷ []))
 unfolding archives cubic cubic-bytes falling falling-bytes with-ranks powers powers-ranks
-restore-rows = (refl, refl, refl, refl, refl, refl)
+restore-rows = (refl, refl, refl, refl, refl, refl, refl, refl)
 
 -- ---- refused, or not
 pub refusal-rows
