@@ -337,9 +337,9 @@ extern uint8_t hechroung_store(uint8_t n, size_t count, uint64_t radius, const u
 /* Restores a model from the archive's form: of all its terms, or of the first ones only, `terms` of them where fewer are
    asked for than are stored. All give the very model that was stored. WARNING: fewer terms give those terms with the
    stored radius, and that is no band around the curve: what was left out is not in the radius. Who wants a band has to
-   add the sizes |c| of all terms left out. Refusals 1 (the length is below 6 or other than 6 + 6 times the count), 3 (n
-   is not 1 to 4), 17 at the first term read, from 0, whose rank is 3,876 or more or does not rise, 5 (more than 64 terms
-   are stored, or the radius or the terms read break a rule). Terms that are not read are not tested.
+   add the sizes |c| of all terms left out to it. Refusals 1 (the length is below 6 or other than 6 + 6 times the
+   count), 3 (n is not 1 to 4), 17 at the first term read, from 0, whose rank is 3,876 or more or does not rise, 5 (more
+   than 64 terms are stored, or the radius or the terms read break a rule). Terms that are not read are not tested.
    Read: the bytes, of any length. Written: keys, coefficients and numbers as for hechroung_call. */
 extern uint8_t hechroung_restore(const uint8_t *bytes, size_t bytes_length, size_t terms,
                                  uint32_t *keys, size_t keys_length, int64_t *coefficients, size_t coefficients_length,
