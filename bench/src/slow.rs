@@ -1,6 +1,7 @@
-//! A search for sheets that run slowly, by their time for each product that they make. Windows of home slots and hill
-//! climbing look for factors whose products meet in the table's searches; substitutions and quotients make many
-//! products by one step. The slowest of each kind is printed beside the benchmark's largest sheet of as many variables.
+//! A search for sheets that run slowly, by their time for each product that they make. Windows of home slots, or of the
+//! numbers behind them that sums keep, and hill climbing look for factors whose products meet in the table's searches;
+//! substitutions and quotients make many products by one step. The slowest of each kind is printed beside the
+//! benchmark's largest sheet of as many variables.
 
 use crate::inputs::{all_of_degree, keys_in, largest_in, shift, ORDER, STEPS};
 use crate::timing::median;
@@ -9,6 +10,9 @@ use reference::generate::{Draft, DraftModel, Random};
 use std::hint::black_box;
 use std::ops::RangeInclusive;
 use std::time::Instant;
+
+/// A number of a wide key, by which windows of keys are chosen.
+type Number = fn(u64) -> u64;
 
 const WINDOWS: usize = 5_000;
 const CLIMBS: usize = 20;
@@ -25,6 +29,8 @@ const SLOWEST: usize = 16;
 /// The largest coefficient of most models: no sum of products of two is rounded to anything but 0, so that no product
 /// has too many terms.
 const SMALL: i64 = 60;
+/// What product_slots multiplies by where only variables 1 to 4 occur.
+const HIGH_FACTOR: u64 = 1_555_934_479;
 
 /// Sheets of n variables with factors in some of them alone.
 struct Field {
@@ -48,10 +54,10 @@ impl Field {
         keys_in(random, self.variables.clone(), terms, order)
     }
 
-    /// All keys in the order of where their searches begin.
-    fn by_home(&self) -> Vec<u32> {
+    /// All keys in the order of a number of their wide keys.
+    fn by(&self, number: fn(u64) -> u64) -> Vec<u32> {
         let mut keys = self.all.clone();
-        keys.sort_by_key(|&key| mixed(wide(key)));
+        keys.sort_by_key(|&key| number(wide(key)));
         keys
     }
 }
@@ -75,16 +81,22 @@ fn print_field(random: &mut Random, field: &Field) {
         products: STEPS - 2,
     });
     let usual = median(largest.map(|sheet| sheet.time(SURE_RUNS)));
-    let by_home = field.by_home();
-    row("windows of home slots", WINDOWS, usual, || {
-        let window = |random: &mut Random| {
-            let start = random.size(0, by_home.len() - 1);
-            let around = by_home.iter().cycle().skip(start).take(TERMS);
-            around.copied().collect::<Vec<u32>>()
-        };
-        let windows: Vec<Vec<u32>> = (0..MODELS).map(|_| window(random)).collect();
-        products(random, field.n, &windows)
-    });
+    let numbers: [(&str, Number); 2] = [
+        ("windows of home slots", mixed),
+        ("windows of sums that sums keep", kept_by_sums),
+    ];
+    for (name, number) in numbers {
+        let keys = field.by(number);
+        row(name, WINDOWS, usual, || {
+            let window = |random: &mut Random| {
+                let start = random.size(0, keys.len() - 1);
+                let around = keys.iter().cycle().skip(start).take(TERMS);
+                around.copied().collect::<Vec<u32>>()
+            };
+            let windows: Vec<Vec<u32>> = (0..MODELS).map(|_| window(random)).collect();
+            products(random, field.n, &windows)
+        });
+    }
     let mut climb = Climb::new(random, field);
     let climbs = CLIMBS * CLIMB_STEPS;
     let mut step = 0;
@@ -177,10 +189,20 @@ fn wide(key: u32) -> u64 {
     (upper << 8) + exponents.iter().sum::<u64>()
 }
 
+/// What the number of a sum of two keys is the sum of: the halves of a wide key, the lower one times a factor.
+fn joined(key: u64) -> u64 {
+    ((key & 0xFFFF_FFFF) * 3_247_425_551 + (key >> 32)) & 0xFFFF_FFFF
+}
+
 /// The number that says where the search for a wide key begins.
 fn mixed(key: u64) -> u64 {
-    let halves = (key & 0xFFFF_FFFF) * 2_561_792_993 + (key >> 32) * 1_555_934_479;
-    halves & 0xFFFF_FFFF
+    let last = (key & 0xFFFF_FFFF) >> 8;
+    (joined(key) * (2 * last + HIGH_FACTOR)) & 0xFFFF_FFFF
+}
+
+/// The same without what the last variables add to the factor: of a sum of two keys it is the sum.
+fn kept_by_sums(key: u64) -> u64 {
+    (joined(key) * HIGH_FACTOR) & 0xFFFF_FFFF
 }
 
 /// The bits by which a search goes on: the exponents of variables 1 to 4, moved on by what stands below, then that.

@@ -3,4 +3,5 @@ pub mod Kept
 pub mod GatheringContracts
 pub mod WideLaws
 pub mod KeptTermLaws
+pub mod KeptOrderLaws
 pub mod GatherLaws

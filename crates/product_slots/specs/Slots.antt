@@ -25,15 +25,23 @@ home-slots = 16384
 
 -- what the lower half of a key is multiplied by
 abbrev pub low-factor : ℕ
-low-factor = 2561792993
+low-factor = 3247425551
 
--- what the higher half is multiplied by
+-- the upper half added, modulo 2^32
+abbrev pub joined : (key : ℕ) → ℕ
+joined key = (key % 2 ^ 32 * low-factor + key / 2 ^ 32) % 2 ^ 32
+
+-- what that is multiplied by where the lower half holds nothing but the degree, its last byte
 abbrev pub high-factor : ℕ
 high-factor = 1555934479
 
--- the two products added, modulo 2^32
+-- and what it is multiplied by otherwise
+abbrev pub factor : (key : ℕ) → ℕ
+factor key = key % 2 ^ 32 / 2 ^ 8 * 2 + high-factor
+
+-- the product, modulo 2^32
 abbrev pub mixed : (key : ℕ) → ℕ
-mixed key = (key % 2 ^ 32 * low-factor + key / 2 ^ 32 * high-factor) % 2 ^ 32
+mixed key = joined key * factor key % 2 ^ 32
 
 -- where the search for a key begins, of so many slots
 unfoldable pub home-slot : (homes key : ℕ) → ℕ

@@ -6,11 +6,14 @@ ghost use Rattle.product_slots.specs.Slots.{«home-slots», «home-slot�
 
 // Two odd factors found by trial: the sums of two wide keys of up to four variables then seldom begin at the same slot,
 // and those of eight variables no more often than numbers at random.
-const LOW_FACTOR: u64 = 2561792993;
+const LOW_FACTOR: u64 = 3247425551;
 
 const HIGH_FACTOR: u64 = 1555934479;
 
 const HALF_WORD: u64 = 1 << 32;
+
+// Above the lowest byte, the degree, stand the exponents of variables 6 to 8 and a part of the fifth's.
+const DEGREES: u64 = 1 << 8;
 
 // ---- the way of a key: its upper 28 bits, the exponents of variables 1 to 4, then the lower ones, and a 1 above all.
 // The lower ones also count in the first 28 steps, times a factor of that length: keys that differ in variables 5 to 8
@@ -23,13 +26,19 @@ const ABOVE_ALL: u64 = 1 << 63;
 
 const WAY_FACTOR: u64 = 0x9E3779B;
 
-// Where the search for a key begins, of so many slots: its halves, each times its factor, are added modulo 2^32, and as
-// the sum is to 2^32 so is the slot to their number. A remainder by that number would cost a division.
+// Where the search for a key begins, of so many slots: its lower half times a factor, and the upper half, are added
+// modulo 2^32, and the sum is multiplied by a second factor, which the last variables add to. So the number of a sum of
+// two keys is not the sum of their numbers, but where only variables 1 to 4 occur; else terms with small numbers would
+// have all their products begin at a few slots. As the number is to 2^32 so is the slot to the number of slots: a
+// remainder by that would cost a division.
 fn home_slot(homes: usize, key: u64) -> usize
     requires { ⌜ (0 < homes) × (homes ≤ home-slots) ⌝ }
     ensures { λ r. ⌜ (r ≡ home-slot homes key) × (r < homes) ⌝ }
 {
-    let mixed = key % HALF_WORD * LOW_FACTOR + key / HALF_WORD * HIGH_FACTOR;
+    let low = key % HALF_WORD;
+    let joined = low * LOW_FACTOR + key / HALF_WORD;
+    let factor = low / DEGREES * 2 + HIGH_FACTOR;
+    let mixed = joined % HALF_WORD * factor;
     let scaled = mixed % HALF_WORD * homes as u64;
     (scaled / HALF_WORD) as usize
 }

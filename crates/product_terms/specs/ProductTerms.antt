@@ -5,7 +5,11 @@ use lib.IntN.{ℤ}
 use lib.ListN.{length}
 use Rattle.calculus.specs.Model.{most-terms}
 
--- for how many products the smaller table has room
+-- for how many products the largest of the smaller tables has room
+abbrev pub half-products : ℕ
+half-products = 2048
+
+-- for how many the smaller one
 abbrev pub few-products : ℕ
 few-products = 256
 

@@ -12,7 +12,8 @@ ghost use Rattle.product_gathering.specs.GatheringContracts.{Gathering};
 ghost use Rattle.product_collector.specs.Collector.{«accumulated-all»};
 ghost use Rattle.product_collector.specs.CollectorContracts.{«Held-factors», «Empty-table», «Free-table»};
 ghost use Rattle.product_dense.specs.Grid.{extents, «sides-for»};
-ghost use Rattle.product_terms.specs.ProductTerms.{«few-products», «fewest-products», «few-places»};
+ghost use Rattle.product_terms.specs.ProductTerms.{«half-products», «few-products», «fewest-products»};
+ghost use Rattle.product_terms.specs.ProductTerms.{«few-places»};
 ghost use Rattle.product_terms.specs.ProductTerms.{«Lent-room», «Kept-room»};
 use product_dense::Sides;
 use product_gathering::Gathered;
@@ -20,7 +21,9 @@ use product_gathering::Gathered;
 // Up to so many products a table is as fast as a grid, whose size has to be found first.
 const GRID_FROM: usize = 256;
 
-// For how many products the smaller table of its own has room, and for how many the smallest.
+// For how many products the smaller tables of its own have room, and for how many the smallest.
+const HALF_PRODUCTS: usize = product_table::ENTRIES / 2;
+
 const FEW_PRODUCTS: usize = 256;
 
 const FEWEST_PRODUCTS: usize = 32;
@@ -273,6 +276,45 @@ fn in_small_table(
     )
 }
 
+// For half as many as there can be.
+fn in_half_table(
+    d: u64,
+    ka: &[u64],
+    ca: &[i64],
+    na: usize,
+    kb: &[u64],
+    cb: &[i64],
+    nb: usize,
+    kept: &mut [u64],
+    coefficients: &mut [i64],
+) -> Gathered
+    requires { ⌜ Held-factors (now ka) (now ca) na (now kb) (now cb) nb ⌝ }
+    requires { ⌜ na * nb ≤ half-products ⌝ }
+    requires { ⌜ Kept-room (now kept) (now coefficients) ⌝ }
+    ensures { λ r. ⌜ Gathering d (accumulated-all []
+        (product ℤR (terms na (now (ka .entry)) (now (ca .entry))) (terms nb (now (kb .entry)) (now (cb .entry)))))
+        (now (kept .exit)) (now (coefficients .exit)) r ⌝ }
+{
+    let mut slots = [0u16; product_table::SLOTS_EACH * HALF_PRODUCTS + 1];
+    let mut keys = [0u64; HALF_PRODUCTS + 1];
+    let mut sums = [0i64; HALF_PRODUCTS + 1];
+    in_table(
+        d,
+        ka,
+        ca,
+        na,
+        kb,
+        cb,
+        nb,
+        &mut slots,
+        &mut keys,
+        &mut sums,
+        HALF_PRODUCTS,
+        kept,
+        coefficients,
+    )
+}
+
 // For any number of products.
 fn in_large_table(
     d: u64,
@@ -393,6 +435,9 @@ pub fn kept_alone(
             return in_small_grid(s, d, ka, ca, na, kb, cb, nb, kept, coefficients);
         }
         return in_large_grid(s, d, ka, ca, na, kb, cb, nb, kept, coefficients);
+    }
+    if products <= HALF_PRODUCTS {
+        return in_half_table(d, ka, ca, na, kb, cb, nb, kept, coefficients);
     }
     in_large_table(d, ka, ca, na, kb, cb, nb, kept, coefficients)
 }

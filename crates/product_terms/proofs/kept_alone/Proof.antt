@@ -8,6 +8,7 @@ use Rattle.product_terms.proofs.kept_alone.Reads as reads
 use Rattle.product_terms.proofs.kept_alone.Lts as lts
 use Rattle.product_terms.proofs.grid_for.Reads as grid-for-reads
 use Rattle.product_terms.proofs.in_grid.Reads as in-grid-reads
+use Rattle.product_terms.proofs.in_half_table.Reads as in-half-table-reads
 use Rattle.product_terms.proofs.in_large_grid.Reads as in-large-grid-reads
 use Rattle.product_terms.proofs.in_large_table.Reads as in-large-table-reads
 use Rattle.product_terms.proofs.in_small_grid.Reads as in-small-grid-reads
@@ -85,8 +86,11 @@ same-length-8 c = search needs
 returns-4 : tie.Need-returns-4
 returns-4 c = search needs
 
-in-large-table-requires : tie.Need-in-large-table-requires
-in-large-table-requires c κs = search needs
+in-half-table-requires : tie.Need-in-half-table-requires
+in-half-table-requires c κs =
+    let t = c .before .before in
+    let s = t .before .before .before .before .before .before .before .before .before in
+    (s .pre .0, (omega (arith, t .if5 .taken), s .pre .1))
 
 same-length-9 : tie.Need-same-length-9
 same-length-9 c = search needs
@@ -96,6 +100,18 @@ same-length-10 c = search needs
 
 returns-5 : tie.Need-returns-5
 returns-5 c = search needs
+
+in-large-table-requires : tie.Need-in-large-table-requires
+in-large-table-requires c κs = search needs
+
+same-length-11 : tie.Need-same-length-11
+same-length-11 c = search needs
+
+same-length-12 : tie.Need-same-length-12
+same-length-12 c = search needs
+
+returns-6 : tie.Need-returns-6
+returns-6 c = search needs
 
 pub kept-alone-spec : {M : Type 1} → statement M
 kept-alone-spec =
@@ -120,7 +136,11 @@ kept-alone-spec =
     same-length-7
     same-length-8
     returns-4
-    in-large-table-requires
+    in-half-table-requires
     same-length-9
     same-length-10
-    returns-5)
+    returns-5
+    in-large-table-requires
+    same-length-11
+    same-length-12
+    returns-6)

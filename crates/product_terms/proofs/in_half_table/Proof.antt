@@ -1,0 +1,45 @@
+-- `in_half_table` makes a table of zeros.
+use borrow.Author.Needs.{needs}
+use lib.Dec.{lit≤}
+use Rattle.product_terms.specs.ProductTerms.{half-products}
+use Rattle.product_terms.specs.ProductTermsLaws.{zeros-empty}
+use Rattle.product_terms.proofs.in_half_table.Statement.{statement}
+use Rattle.product_terms.proofs.in_half_table.Tie as tie
+use Rattle.product_terms.proofs.in_half_table.Reads as reads
+use Rattle.product_terms.proofs.in_half_table.Lts as lts
+use Rattle.product_terms.proofs.in_table.Reads as in-table-reads
+
+slice-aggregate-in-table : tie.Need-slice-aggregate-in-table
+slice-aggregate-in-table c = search needs
+
+slice-aggregate-in-table-2 : tie.Need-slice-aggregate-in-table-2
+slice-aggregate-in-table-2 c = search needs
+
+slice-aggregate-in-table-3 : tie.Need-slice-aggregate-in-table-3
+slice-aggregate-in-table-3 c = search needs
+
+in-table-requires : tie.Need-in-table-requires
+in-table-requires c κs =
+    let s = c .before .before .before .before .before .before .before .before in
+    (s .pre .0, (zeros-empty _ half-products (s .pre .1 .0) (lit≤ tt), s .pre .1 .1))
+
+same-length : tie.Need-same-length
+same-length c = search needs
+
+same-length-2 : tie.Need-same-length-2
+same-length-2 c = search needs
+
+returns : tie.Need-returns
+returns c = search needs
+
+pub in-half-table-spec : {M : Type 1} → statement M
+in-half-table-spec =
+    tie.close
+    (tie.spec
+    slice-aggregate-in-table
+    slice-aggregate-in-table-2
+    slice-aggregate-in-table-3
+    in-table-requires
+    same-length
+    same-length-2
+    returns)
