@@ -2,13 +2,16 @@
 //! bytes. What lies below the stack may not be touched: a call that needs more ends the test by a signal. The few words
 //! that the test itself needs to hand over the arguments count as the call's.
 
-use hechroung::raw::{self, Handed, HandedBook, HandedCurve, HandedModels};
+use hechroung::raw::{self, Handed, HandedBook, HandedCurve, HandedModels, HandedReadings};
 use hechroung::{CURVE_PLACES, MOST_MODELS, MOST_STEPS, MOST_TERMS, MOST_VARS};
 use hechroung::{LONGEST_RECORD, LONGEST_SHEET, LONGEST_TEXT};
+use reference::archive::Call as ArchiveCall;
 use reference::book::{Book, Step, ANTIDERIVATIVE, INPUT, MULTIPLY, QUOTIENT, SUBSTITUTE};
 use reference::chebyshev::{Call as CurveCall, StoredChebyshev};
 use reference::doubles::Record;
-use reference::generate::{self, books, chebyshev, cuts, quotients, Draft, DraftModel, Random};
+use reference::generate::{
+    self, archive, books, chebyshev, cuts, quotients, Draft, DraftModel, Random,
+};
 use reference::sheet;
 use reference::stored::StoredModel;
 use std::arch::asm;
@@ -188,6 +191,24 @@ impl Answer {
         self.number = raw::doubles(
             record.coefficients.map(f64::from_bits),
             f64::from_bits(record.radius),
+            &mut self.keys,
+            &mut self.coefficients,
+            &mut self.numbers,
+        );
+    }
+
+    fn readings(&mut self, f: &Lent, rows: HandedReadings<'_>) {
+        self.number = raw::readings(f.handed(), rows, &mut self.numbers);
+    }
+
+    fn store(&mut self, f: &Lent, buffer: &mut [u8]) {
+        self.number = raw::store(f.handed(), buffer, &mut self.numbers);
+    }
+
+    fn restore(&mut self, bytes: &[u8], terms: usize) {
+        self.number = raw::restore(
+            bytes,
+            terms,
             &mut self.keys,
             &mut self.coefficients,
             &mut self.numbers,
@@ -602,6 +623,50 @@ fn a_curve_in_doubles_stays_within_the_figure_of_a_call() {
     });
     most("doubles", CALL, used);
     assert!(accepted > 10, "doubles: {accepted} accepted");
+}
+
+#[test]
+fn a_row_of_readings_stays_within_the_figure_of_a_call() {
+    let mut stack = Stack::new(CALL);
+    let mut accepted = 0;
+    let used = (0..GENERATED).map(|number| {
+        let call = generate::readings::call(7, number);
+        let f = Lent::new(&call.f);
+        let points: Vec<i64> = call.readings.iter().flat_map(|row| row.point).collect();
+        let lows: Vec<i64> = call.readings.iter().map(|row| row.low).collect();
+        let highs: Vec<i64> = call.readings.iter().map(|row| row.high).collect();
+        let rows = HandedReadings {
+            points: &points,
+            lows: &lows,
+            highs: &highs,
+        };
+        let mut answer = Answer::NONE;
+        let used = stack.run(|| answer.readings(&f, rows));
+        accepted += u64::from(answer.number == 0);
+        used
+    });
+    most("readings", CALL, used);
+    assert!(accepted > GENERATED / 4, "readings: {accepted} accepted");
+}
+
+#[test]
+fn the_archive_stays_within_the_figure_of_a_call() {
+    let mut stack = Stack::new(CALL);
+    let mut accepted = 0;
+    let used = (0..GENERATED).map(|number| {
+        let mut answer = Answer::NONE;
+        let used = match archive::call(7, number) {
+            ArchiveCall::Store { f, mut buffer } => {
+                let f = Lent::new(&f);
+                stack.run(|| answer.store(&f, &mut buffer))
+            }
+            ArchiveCall::Restore { bytes, most } => stack.run(|| answer.restore(&bytes, most)),
+        };
+        accepted += u64::from(answer.number == 0);
+        used
+    });
+    most("archive", CALL, used);
+    assert!(accepted > GENERATED / 4, "archive: {accepted} accepted");
 }
 
 #[test]
