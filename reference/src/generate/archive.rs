@@ -4,7 +4,7 @@
 use super::hostile;
 use super::models::{self, Scale, LARGEST_SPAN};
 use super::random::Random;
-use super::{DraftModel, Expected};
+use super::{kind, CallKind, DraftModel, Expected};
 use crate::archive::{in_order, rank_of, Call, HEAD, RANKS, TERM};
 use crate::model::{monomial_of_key, FEW_VARIABLES, MOST_TERMS};
 use crate::stored::StoredModel;
@@ -193,19 +193,8 @@ fn noise(random: &mut Random) -> Call {
     Call::Restore { bytes, most }
 }
 
-/// A way to make calls, with what it expects of them.
-#[derive(Clone, Copy, Debug)]
-pub struct Kind {
-    pub name: &'static str,
-    pub make: fn(&mut Random) -> (Call, Expected),
-}
-
-const fn kind(name: &'static str, make: fn(&mut Random) -> (Call, Expected)) -> Kind {
-    Kind { name, make }
-}
-
 /// Accepted in whole and in part, and refused by each number, 17 at many terms.
-pub const KINDS: [Kind; 16] = [
+pub const KINDS: [CallKind<Call>; 16] = [
     kind("a whole archive", whole),
     kind("faults beyond the terms read", faults_beyond),
     kind("a span above the limit beyond the terms read", span_beyond),

@@ -4,7 +4,7 @@
 use super::hostile;
 use super::models::{self, Scale, LARGEST_SPAN, UNIT};
 use super::random::Random;
-use super::{DraftModel, Expected};
+use super::{kind, CallKind, DraftModel, Expected};
 use crate::chebyshev::{Call, StoredChebyshev, PLACES};
 use crate::exact::chebyshev::Deviation;
 use crate::exact::Fraction;
@@ -299,19 +299,8 @@ fn powers_of_limit(random: &mut Random) -> DraftModel {
     draft
 }
 
-/// A way to make calls, with what it expects of them.
-#[derive(Clone, Copy, Debug)]
-pub struct Kind {
-    pub name: &'static str,
-    pub make: fn(&mut Random) -> (Call, Expected),
-}
-
-const fn kind(name: &'static str, make: fn(&mut Random) -> (Call, Expected)) -> Kind {
-    Kind { name, make }
-}
-
 /// Accepted at the limit, and refused by each number at each place.
-pub const KINDS: [Kind; 12] = [
+pub const KINDS: [CallKind<Call>; 12] = [
     kind("a sum at the limit", sum_at_limit),
     kind("a product at the limit", product_at_limit),
     kind("powers at the limit", powers_at_limit),

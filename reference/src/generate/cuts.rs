@@ -4,7 +4,7 @@
 use super::hostile;
 use super::models::{self, Scale, LARGEST_SPAN, UNIT};
 use super::random::Random;
-use super::{functions, DraftModel, Expected};
+use super::{functions, kind, CallKind, DraftModel, Expected};
 use crate::cuts::{Call, DEEPEST};
 use crate::exact::{Fraction, Point};
 use crate::model::{key_of_monomial, monomial_of_key, MOST_VARIABLES};
@@ -118,19 +118,8 @@ fn draft(radius: i64, mut terms: Vec<(u32, i32)>) -> DraftModel {
     }
 }
 
-/// A way to make calls, with what it expects of them.
-#[derive(Clone, Copy, Debug)]
-pub struct Kind {
-    pub name: &'static str,
-    pub make: fn(&mut Random) -> (Call, Expected),
-}
-
-const fn kind(name: &'static str, make: fn(&mut Random) -> (Call, Expected)) -> Kind {
-    Kind { name, make }
-}
-
 /// Accepted at the limits, and refused by each number, 7 and 8 at many pieces.
-pub const KINDS: [Kind; 12] = [
+pub const KINDS: [CallKind<Call>; 12] = [
     kind("a span at the limit", span_at_limit),
     kind("64 terms on every piece", terms_at_limit),
     kind("3", bad_order),

@@ -3,7 +3,7 @@
 
 use super::models::{LARGEST_SPAN, UNIT};
 use super::random::Random;
-use super::Expected;
+use super::{kind, CallKind, Expected};
 use crate::doubles::Record;
 
 /// The bit of the sign.
@@ -151,19 +151,8 @@ fn any_radius(random: &mut Random) -> u64 {
     }
 }
 
-/// A way to make records, with what it expects of them.
-#[derive(Clone, Copy, Debug)]
-pub struct Kind {
-    pub name: &'static str,
-    pub make: fn(&mut Random) -> (Record, Expected),
-}
-
-const fn kind(name: &'static str, make: fn(&mut Random) -> (Record, Expected)) -> Kind {
-    Kind { name, make }
-}
-
 /// Accepted at the limit, and refused by each number.
-pub const KINDS: [Kind; 10] = [
+pub const KINDS: [CallKind<Record>; 10] = [
     kind("whole units at the limit", whole_at_limit),
     kind("whole units over it", whole_over),
     kind("parts of units at the limit", parts_at_limit),

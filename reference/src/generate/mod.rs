@@ -67,6 +67,17 @@ pub struct Kind {
     pub make: fn(&mut Random) -> (Vec<u8>, Expected),
 }
 
+/// A way to make calls of one request, with what it expects of them.
+#[derive(Clone, Copy, Debug)]
+pub struct CallKind<C, E = Expected> {
+    pub name: &'static str,
+    pub make: fn(&mut Random) -> (C, E),
+}
+
+const fn kind<C, E>(name: &'static str, make: fn(&mut Random) -> (C, E)) -> CallKind<C, E> {
+    CallKind { name, make }
+}
+
 impl Kind {
     pub fn sample(&self, random: &mut Random) -> Sample {
         let (bytes, expected) = (self.make)(random);

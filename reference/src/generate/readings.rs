@@ -4,7 +4,7 @@
 use super::hostile;
 use super::models::{self, Scale, LARGEST_SPAN, UNIT};
 use super::random::Random;
-use super::DraftModel;
+use super::{kind, CallKind, DraftModel};
 use crate::calls;
 use crate::model::MOST_VARIABLES;
 use crate::readings::{Call, Reading, ReadingsAnswer, MOST_READINGS};
@@ -239,19 +239,8 @@ fn spoil(random: &mut Random, f: &StoredModel, readings: &mut [Reading], fault: 
     }
 }
 
-/// A way to make rows, with what they must answer.
-#[derive(Clone, Copy, Debug)]
-pub struct Kind {
-    pub name: &'static str,
-    pub make: fn(&mut Random) -> (Call, ReadingsAnswer),
-}
-
-const fn kind(name: &'static str, make: fn(&mut Random) -> (Call, ReadingsAnswer)) -> Kind {
-    Kind { name, make }
-}
-
 /// Rows without a contradiction, with one, and refused by each number at any place.
-pub const KINDS: [Kind; 10] = [
+pub const KINDS: [CallKind<Call, ReadingsAnswer>; 10] = [
     kind("an empty row", empty),
     kind("bands that touch a constant", touching),
     kind("a band beside a constant", beside),
