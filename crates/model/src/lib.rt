@@ -260,7 +260,7 @@ pub fn quotient(d: u8, f: Model, g: Model, h: Model, w: Model) -> Answer
 }
 
 // ---- for the layer above: operands that are known to be sound, and a lent table
-// Whether a term may stand in a model of n variables, n at least 1, behind keys that are below `least`.
+// Whether a term may stand in a model of n variables, n from 1 to 8, behind keys that are below `least`.
 pub use model_soundness::term_sound;
 
 // The exponent of variable i, 1 to 8, in a key.

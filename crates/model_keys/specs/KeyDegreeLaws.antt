@@ -1,16 +1,16 @@
--- The degree of a key by its word, for any number of bytes with two exponents each.
+-- The degree of a key by its word: two exponents in each byte, and four bytes.
 use mathlib.Core.Path.{_≡_, refl, sym, _∙_, ap, ap₂}
 use mathlib.Core.List.{List, [], _∷_}
 use Prim.Native.Nat.{ℕ, zero, suc, _+_, _*_, _/_, _%_, _^_, _≤_, _<_}
 use native.Mathlib.Omega.{arith}
 use native.Mathlib.Nat as NatL
 use lib.Bits.{bitAnd, and-block, and-mask, and-zero-r}
-use lib.Dec.{T, ltb, lt→ltb, lit<, lit≤}
+use lib.Dec.{T, ltb, lt→ltb, lit<}
 use lib.ListN.{length}
 use lib.Pow.{pow-add}
 use Rattle.calculus.specs.Monomial.{degree}
 use Rattle.calculus.specs.Key.{encode, decode, fits-digits, key-width, key-limit, key-degree, Below}
-use Rattle.calculus.specs.KeyLaws.{degree-encode, encode-lt, encode-decode, decode-length, decode-below}
+use Rattle.calculus.specs.KeyLaws.{encode-lt, encode-decode, decode-length, decode-below}
 use Rattle.calculus.specs.TestLaws.{both}
 
 -- ---- digits add up to no more than the largest for each
@@ -73,7 +73,7 @@ higher-digit : (e f : ℕ) → e < 16 → f < 16 → bitAnd (e * 16 + f) 240 ≡
 higher-digit e f h g = and-block 4 e 15 f 0 g (lit< tt)
     ∙ omega (arith, and-mask e 4, and-zero-r f, NatL.mod-eq-of-lt h)
 
--- ---- by the word: the higher digits of all bytes are added to the lower ones, and the bytes are added modulo 255
+-- ---- by the word: the higher digits of all bytes are added to the lower ones, and the bytes by one multiplication
 unfoldable pub digit-pairs : (w z : ℕ) → ℕ
 digit-pairs w z = bitAnd z (bytes 15 w) + bitAnd z (bytes 240 w) / 16
 
@@ -127,32 +127,61 @@ digit-pairs-encode (suc w) (e ∷ f ∷ k) b l =
     ∙ next-byte w e f (encode 16 (2 * w) k) (b .0) (b .1 .0) (digits-lt w k (b .1 .1) long)
     ∙ ap (λ x. (e + f) * 256 ^ w + x) (digit-pairs-encode w k (b .1 .1) long)
 
--- the degree of every word of up to eight bytes: their digits add up to less than 255
-pub word-degree : (w z : ℕ) → w ≤ 8 → z < 16 ^ (2 * w)
-    → digit-pairs w z % 255 ≡ degree (decode 16 (2 * w) (2 * w) z)
-word-degree w z few h =
-    let long = decode-length 16 (lit< tt) (2 * w) (2 * w) z (omega arith) in
-    let small = decode-below 16 (lit< tt) (2 * w) (2 * w) z h in
-    ap (λ y. digit-pairs w y % 255) (sym whole)
-    ∙ ap (λ y. y % 255) (digit-pairs-encode w k small long)
-    ∙ degree-encode 255 w (pairs k) (pairs-length w k long)
+-- times the word with 1 in each byte, the first of four bytes is the sum of all
+unfoldable pub byte-sum : ℕ → ℕ
+byte-sum x = x * 0x01010101 / 16777216 % 256
+
+-- what stands below the first byte is too small to carry, and what stands above it is cut off
+cut-out : (low s high : ℕ) → low < 16777216 → s < 256 → (low + 16777216 * (s + 256 * high)) / 16777216 % 256 ≡ s
+cut-out low s high l h =
+    let q : (low + 16777216 * (s + 256 * high)) / 16777216 ≡ s + 256 * high = omega arith in
+    ap (λ x. x % 256) q ∙ omega arith
+
+four-summed : (a b c d : ℕ) → a + b + c + d < 256
+    → byte-sum (a * 16777216 + (b * 65536 + (c * 256 + d))) ≡ a + b + c + d
+unfolding byte-sum
+four-summed a b c d h =
+    let low = d + (c + d) * 256 + (b + c + d) * 65536 in
+    let high = a + b + c + (a + b) * 256 + a * 65536 in
+    let e : (a * 16777216 + (b * 65536 + (c * 256 + d))) * 16843009
+    ≡ low + 16777216 * (a + b + c + d + 256 * high) = omega arith in
+    ap (λ x. x / 16777216 % 256) e ∙ cut-out low (a + b + c + d) high (omega arith) h
+
+bytes-summed : (l : List ℕ) → length l ≤ 4 → degree l < 256 → byte-sum (encode 256 4 l) ≡ degree l
+unfolding encode degree
+bytes-summed [] h s = four-summed 0 0 0 0 (lit< tt)
+bytes-summed (a ∷ []) h s = ap byte-sum (omega arith) ∙ four-summed a 0 0 0 (omega arith) ∙ omega arith
+bytes-summed (a ∷ b ∷ []) h s = ap byte-sum (omega arith) ∙ four-summed a b 0 0 (omega arith) ∙ omega arith
+bytes-summed (a ∷ b ∷ c ∷ []) h s = ap byte-sum (omega arith) ∙ four-summed a b c 0 (omega arith) ∙ omega arith
+bytes-summed (a ∷ b ∷ c ∷ d ∷ []) h s = ap byte-sum (omega arith) ∙ four-summed a b c d (omega arith) ∙ omega arith
+bytes-summed (a ∷ b ∷ c ∷ d ∷ e ∷ l) h s = absurd (omega arith)
+
+-- the degree of every word of four bytes: their digits add up to less than 256
+pub word-degree : (z : ℕ) → z < 16 ^ 8 → byte-sum (digit-pairs 4 z) ≡ degree (decode 16 8 8 z)
+word-degree z h =
+    let long = decode-length 16 (lit< tt) 8 8 z (omega arith) in
+    let small = decode-below 16 (lit< tt) 8 8 z h in
+    ap (λ y. byte-sum (digit-pairs 4 y)) (sym whole)
+    ∙ ap byte-sum (digit-pairs-encode 4 k small long)
+    ∙ bytes-summed (pairs k) (pairs-length 4 k long)
     (omega (arith, pairs-degree k, degree-below 15 k small, long))
     ∙ pairs-degree k
   where
     k : List ℕ
-    k = decode 16 (2 * w) (2 * w) z
+    k = decode 16 8 8 z
 
-    whole : encode 16 (2 * w) k ≡ z
-    whole = encode-decode 16 (lit< tt) (2 * w) (2 * w) z (omega arith) fitting
+    whole : encode 16 8 k ≡ z
+    whole = encode-decode 16 (lit< tt) 8 8 z (omega arith) fitting
       where
-        fitting : T (fits-digits 16 (2 * w) (2 * w) z)
+        fitting : T (fits-digits 16 8 8 z)
         fitting = unfold fits-digits in
-            both (ltb z (16 ^ (2 * w))) _ (lt→ltb z (16 ^ (2 * w)) h) (rw (NatL.sub-self (2 * w), NatL.mod-one z) tt)
+            both (ltb z (16 ^ 8)) _ (lt→ltb z (16 ^ 8) h) (rw (NatL.sub-self 8, NatL.mod-one z) tt)
 
 -- of every key, by the masks of its four bytes
-pub key-word-degree : (z : ℕ) → z < key-limit → (bitAnd z 0x0F0F0F0F + bitAnd z 0xF0F0F0F0 / 16) % 255 ≡ key-degree z
-unfolding digit-pairs bytes key-limit key-width key-degree
-key-word-degree z = word-degree 4 z (lit≤ tt)
+pub key-word-degree : (z : ℕ) → z < key-limit
+    → (bitAnd z 0x0F0F0F0F + bitAnd z 0xF0F0F0F0 / 16) * 0x01010101 / 16777216 % 256 ≡ key-degree z
+unfolding byte-sum digit-pairs bytes key-limit key-width key-degree
+key-word-degree z = word-degree z
 
 -- ---- facts
 -- the largest key of 32 bits with eight exponents
@@ -160,6 +189,6 @@ largest-degree : key-degree 0xFFFFFFFF ≡ 120
 unfolding key-degree key-width decode degree
 largest-degree = refl
 
-largest-eight : digit-pairs 4 0xFFFFFFFF % 255 ≡ 120
-unfolding digit-pairs bytes
+largest-eight : byte-sum (digit-pairs 4 0xFFFFFFFF) ≡ 120
+unfolding byte-sum digit-pairs bytes
 largest-eight = refl

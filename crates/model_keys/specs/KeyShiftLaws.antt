@@ -1,11 +1,10 @@
 -- The digits of a key by shifts: the exponent of variable i stands before 4 × (width - i) bits.
 use mathlib.Core.Path.{_≡_, refl, sym, _∙_, ap, ap₂, subst}
-use mathlib.Core.Bool.{true}
 use Prim.Native.Nat.{ℕ, zero, suc, _+_, _-_, _*_, _/_, _%_, _^_, _≤_, _<_}
 use native.Mathlib.Omega.{arith}
 use native.Mathlib.Nat as NatL
 use lib.Bits.{bitAnd, and-mask}
-use lib.Dec.{T, ltb, eqb, lit<}
+use lib.Dec.{eqb, lit<}
 use borrow.Author.Tests.{lt-ltb}
 use lib.Pow.{pow-add, pow-pos, pow-lt, field, mod-mod-pow}
 use Rattle.polynomial.specs.Polynomial.{exponent}
@@ -120,9 +119,3 @@ module _ (i : ℕ) (s : Slot i) (bits : ℕ) (e : bits ≡ 4 * (key-width - i)) 
 
       above : z + 2 ^ bits < (q + 2) * 2 ^ bits
       above = let l = NatL.lt-div-mul-add {a = z} (pow-pos bits) in omega (arith, l)
-
--- from eight variables on there are no others
-pub fits-every : (n z : ℕ) → key-width ≤ n → z < key-limit → true ≡ key-fits key-width n z
-unfolding fits-digits key-limit
-fits-every n z l h =
-    let e : key-width - n ≡ 0 = omega arith in rw (lt-ltb z (16 ^ key-width) h, e, NatL.mod-one z)

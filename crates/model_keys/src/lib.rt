@@ -74,14 +74,12 @@ pub fn first_exponent(key: Key) -> usize
 }
 
 // ---- all exponents
-// Whether the exponents of variables above n are 0.
+// Whether the exponents of variables above n are 0. Of eight variables no bit is behind, and nothing is asked: a
+// question here would be asked of every term.
 pub fn key_fits(n: u8, key: Key) -> bool
-    requires { ⌜ 1 ≤ n ⌝ }
+    requires { ⌜ Slot n ⌝ }
     ensures { λ r. ⌜ r ≡ key-fits key-width n key ⌝ }
 {
-    if 8 <= n {
-        return true;
-    }
     let bits = behind(n);
     let others = (1 << bits) - 1;
     key & others == 0
@@ -92,16 +90,20 @@ const LOWER_DIGITS: Key = 0x0F0F0F0F;
 
 const HIGHER_DIGITS: Key = 0xF0F0F0F0;
 
-// Modulo 255 a number is the sum of its bytes where that is below 255, since 256 is 1.
-const BYTE_SUM: u32 = 255;
+// Times this word, the first of a word's four bytes is the sum of all, where that is below 256.
+const EACH_BYTE: u64 = 0x01010101;
 
-// The total degree: the two exponents of each byte are added, all bytes at once, and then the bytes.
+const FIRST_BYTE: u64 = 1 << 24;
+
+// The total degree: the two exponents of each byte are added, all bytes at once, and then the bytes, by one
+// multiplication.
 pub fn degree(key: Key) -> u32
     ensures { λ r. ⌜ r ≡ key-degree key ⌝ }
 {
     let lower = key & LOWER_DIGITS;
     let higher = key & HIGHER_DIGITS;
-    (lower + higher / 16) % BYTE_SUM
+    let sums = (lower + higher / 16) as u64;
+    (sums * EACH_BYTE / FIRST_BYTE % LAST_BYTE) as u32
 }
 
 // The lowest bits of all exponents.

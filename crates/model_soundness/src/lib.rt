@@ -1,6 +1,7 @@
 // The rules that a model must keep: the tests of one term, and of a whole struct.
 ghost use mathlib.Core.Path.{_≡_};
 ghost use Prim.Native.Nat.{_≤_};
+ghost use Rattle.calculus.specs.Key.{«key-width»};
 ghost use Rattle.calculus.specs.Model.{sound};
 ghost use Rattle.model_types.specs.ModelStruct.{view, «term-sound»};
 use model_keys::Key;
@@ -9,7 +10,7 @@ use model_types::Model;
 
 // Whether a term may stand in a model where keys before it are below `least`.
 pub fn term_sound(n: u8, d: u8, least: u64, key: Key, coefficient: i64) -> bool
-    requires { ⌜ 1 ≤ n ⌝ }
+    requires { ⌜ (1 ≤ n) × (n ≤ key-width) ⌝ }
     ensures { λ r. ⌜ r ≡ term-sound n d least key coefficient ⌝ }
 {
     if coefficient == 0 {

@@ -11,11 +11,20 @@ use Rattle.model_keys.proofs.degree.Tie as tie
 room : (key mask : ℕ) → key < 2 ^ 32 → bitAnd key 0x0F0F0F0F + bitAnd key mask / 16 < 2 ^ 32
 room key mask h = omega (arith, and-le-r key 0x0F0F0F0F, and-le-l key mask)
 
-add-result : tie.Need-add-result
-add-result c = record { fits = room (c .args .key) _ (omega arith) }
+add-sums : tie.Need-add-sums
+add-sums c = record { fits = room (c .args .key) _ (omega arith) }
+
+cast-sums : tie.Need-cast-sums
+cast-sums c = omega (arith, room (c .args .key) 0xF0F0F0F0 (omega arith))
+
+mul-result : tie.Need-mul-result
+mul-result c = record { fits = omega (arith, room (c .args .key) 0xF0F0F0F0 (omega arith)) }
+
+cast-result : tie.Need-cast-result
+cast-result c = omega arith
 
 returns : tie.Need-returns
 returns c = key-word-degree (c .args .key) (word-key _ (omega arith))
 
 pub degree-spec : {M : Type 1} → statement M
-degree-spec = tie.close (tie.spec add-result returns)
+degree-spec = tie.close (tie.spec add-sums cast-sums mul-result cast-result returns)

@@ -106,7 +106,7 @@ shared-slice-copy-out-c : tie.Need-shared-slice-copy-out-c Inv-loop μ-loop
 shared-slice-copy-out-c c = omega (arith, long (c .before .before .before) .1)
 
 term-sound-requires : tie.Need-term-sound-requires Inv-loop μ-loop
-term-sound-requires c κs = vars-range _ (vars-hold (outside c)) .0
+term-sound-requires c κs = vars-range _ (vars-hold (outside c))
 
 returns-3 : tie.Need-returns-3 Inv-loop μ-loop
 returns-3 c =

@@ -93,7 +93,7 @@ element-copy-out-t : tie.Need-element-copy-out-t Inv-loop μ-loop
 element-copy-out-t c = omega arith
 
 term-sound-requires : tie.Need-term-sound-requires Inv-loop μ-loop
-term-sound-requires c κs = vars-range _ (vars-hold (c .before .before .before .before)) .0
+term-sound-requires c κs = vars-range _ (vars-hold (c .before .before .before .before))
 
 returns-3 : tie.Need-returns-3 Inv-loop μ-loop
 returns-3 c =

@@ -15,7 +15,7 @@ unfolding term-sound
 returns-2 c = rw (nonzero-bits _ (c .before .if1 .left), lt-leb _ _ (c .if2 .taken))
 
 key-fits-requires : tie.Need-key-fits-requires
-key-fits-requires c κs = search needs
+key-fits-requires c κs = let p = c .before .before .pre in record { first = p .0; last = p .1 }
 
 degree-requires : tie.Need-degree-requires
 degree-requires c κs = search needs

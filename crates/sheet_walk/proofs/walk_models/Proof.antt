@@ -163,7 +163,7 @@ term-at-requires c κs =
     )
 
 term-sound-requires : tie.Need-term-sound-requires Inv-terms μ-terms Inv-models μ-models
-term-sound-requires c κs = start (inner c .before) .pre .0
+term-sound-requires c κs = start (inner c .before) .pre
 
 magnitude-requires : tie.Need-magnitude-requires Inv-terms μ-terms Inv-models μ-models
 magnitude-requires c κs = search needs
