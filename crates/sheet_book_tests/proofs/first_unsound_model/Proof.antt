@@ -138,7 +138,7 @@ element-copy-out-t : tie.Need-element-copy-out-t Inv-terms μ-terms Inv-models �
 element-copy-out-t c = omega (arith, c .terms-test .left, few (c .before .before))
 
 term-sound-requires : tie.Need-term-sound-requires Inv-terms μ-terms Inv-models μ-models
-term-sound-requires c κs = let p = start (outer c) .pre in (p .0, p .1 .0)
+term-sound-requires c κs = let p = start (outer c) .pre in (p .0, p .1)
 
 magnitude-requires : tie.Need-magnitude-requires Inv-terms μ-terms Inv-models μ-models
 magnitude-requires c κs = search needs

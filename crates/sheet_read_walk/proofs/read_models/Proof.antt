@@ -177,7 +177,7 @@ term-at-requires c κs =
     )
 
 term-sound-requires : tie.Need-term-sound-requires Inv-terms μ-terms Inv-models μ-models
-term-sound-requires c κs = let p = entry (inner c .before) .pre in (p .0, p .1 .0)
+term-sound-requires c κs = let p = entry (inner c .before) .pre in (p .0, p .1)
 
 mul-terms : tie.Need-mul-terms Inv-terms μ-terms Inv-models μ-models
 mul-terms c = search needs
