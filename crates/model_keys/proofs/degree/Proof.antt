@@ -1,5 +1,5 @@
 -- `degree` is the sum of a key's digits: two by two in each byte, then the bytes.
-use Prim.Native.Nat.{ℕ, _+_, _/_, _^_, _<_}
+use Prim.Native.Nat.{ℕ, _+_, _*_, _/_, _^_, _<_}
 use native.Mathlib.Omega.{arith}
 use lib.Bits.{bitAnd, and-le-l, and-le-r}
 use Rattle.calculus.specs.MonomialKeyLaws.{word-key}
@@ -11,14 +11,21 @@ use Rattle.model_keys.proofs.degree.Tie as tie
 room : (key mask : ℕ) → key < 2 ^ 32 → bitAnd key 0x0F0F0F0F + bitAnd key mask / 16 < 2 ^ 32
 room key mask h = omega (arith, and-le-r key 0x0F0F0F0F, and-le-l key mask)
 
+-- with room for the product that adds its bytes
+wide : {x : ℕ} → x < 2 ^ 32 → x < 2 ^ 64
+wide h = omega arith
+
+wide-product : {x : ℕ} → x < 2 ^ 32 → x * 0x01010101 < 2 ^ 64
+wide-product h = omega arith
+
 add-sums : tie.Need-add-sums
 add-sums c = record { fits = room (c .args .key) _ (omega arith) }
 
 cast-sums : tie.Need-cast-sums
-cast-sums c = omega (arith, room (c .args .key) 0xF0F0F0F0 (omega arith))
+cast-sums c = record { fits = wide (room (c .args .key) _ (omega arith)) }
 
 mul-result : tie.Need-mul-result
-mul-result c = record { fits = omega (arith, room (c .args .key) 0xF0F0F0F0 (omega arith)) }
+mul-result c = record { fits = wide-product (room (c .args .key) _ (omega arith)) }
 
 cast-result : tie.Need-cast-result
 cast-result c = omega arith
