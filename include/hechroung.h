@@ -24,11 +24,26 @@
 
 #include <stddef.h>
 #include <stdint.h>
+/* Of string.h memcpy and memset alone are used. A compiler without a library (-ffreestanding) may lack it. */
+#if __STDC_HOSTED__ || defined __cplusplus
 #include <string.h>
+#else
+extern void *memcpy(void *to, const void *from, size_t length);
+extern void *memset(void *to, int byte, size_t length);
+#endif
 
 #ifdef __cplusplus
+#define HECHROUNG_CAST_(type, value) static_cast<type>(value)
 extern "C" {
+#else
+#define HECHROUNG_CAST_(type, value) ((type)(value))
 #endif
+
+/* The version of this header, as text and as numbers; hechroung_version() hands out the text. */
+#define HECHROUNG_VERSION "1.0.0"
+#define HECHROUNG_VERSION_MAJOR 1
+#define HECHROUNG_VERSION_MINOR 0
+#define HECHROUNG_VERSION_PATCH 0
 
 /* The number of this layout. A program that hands slices to the functions declared extern can test it when it is
    compiled: #if HECHROUNG_ABI != 3. In layout 2 keys had 16 bits, those of variables 1 to 4, and a point four
@@ -51,6 +66,51 @@ extern "C" {
 #define HECHROUNG_LONGEST_TEXT 4096
 #define HECHROUNG_LONGEST_ARCHIVED 390
 #define HECHROUNG_MISUSED 255
+
+/* What a call returns, beside HECHROUNG_MISUSED: the refusals of documents 01 and 02 by their numbers.
+   hechroung_sentence says of each what to do. */
+enum hechroung_refusal {
+    HECHROUNG_ACCEPTED = 0,
+    HECHROUNG_BAD_LENGTH = 1,
+    HECHROUNG_BAD_MARK = 2,
+    HECHROUNG_BAD_LIMITS = 3,
+    HECHROUNG_BAD_OFFSET = 4,
+    HECHROUNG_BAD_MODEL = 5,
+    HECHROUNG_BAD_STEP = 6,
+    HECHROUNG_OVER_SPAN = 7,
+    HECHROUNG_TOO_MANY_TERMS = 8,
+    HECHROUNG_LEAVES_BOX = 9,
+    HECHROUNG_VARIABLES_DIFFER = 10,
+    HECHROUNG_SHORT_BUFFER = 11,
+    HECHROUNG_UNCERTIFIED = 12,
+    HECHROUNG_NOT_ONE_VARIABLE = 13,
+    HECHROUNG_CUT_TOO_DEEP = 14,
+    HECHROUNG_BAD_READING = 15,
+    HECHROUNG_BAD_DOUBLE = 16,
+    HECHROUNG_BAD_RANK = 17
+};
+
+/* The codes of a sheet's steps, the `code` of struct hechroung_step. */
+enum hechroung_step_code {
+    HECHROUNG_STEP_INPUT = 0,
+    HECHROUNG_STEP_CONSTANT = 1,
+    HECHROUNG_STEP_VARIABLE = 2,
+    HECHROUNG_STEP_NEGATE = 3,
+    HECHROUNG_STEP_ADD = 4,
+    HECHROUNG_STEP_SUBTRACT = 5,
+    HECHROUNG_STEP_MULTIPLY = 6,
+    HECHROUNG_STEP_SUBSTITUTE = 7,
+    HECHROUNG_STEP_SWEEP = 8,
+    HECHROUNG_STEP_QUOTIENT = 9,
+    HECHROUNG_STEP_ANTIDERIVATIVE = 10
+};
+
+/* What hechroung_next finds at a place of a sheet. */
+enum hechroung_record_kind {
+    HECHROUNG_NO_RECORD = 0,
+    HECHROUNG_MODEL_RECORD = 1,
+    HECHROUNG_STEP_RECORD = 2
+};
 
 /* A model: the first `count` of its terms, with keys strictly rising, and a radius. A key has eight exponents of four
    bits each, that of variable 1 in the highest bits; the exponents of variables above n are 0, so that in up to four
@@ -99,9 +159,9 @@ struct hechroung_shares {
     uint64_t carried, rounding, swept, slack;
 };
 
-/* A step of a book: the code of documents 01 and 02 and its fields; those that the code does not name are 0. Code 9, a
-   quotient, has f in a, g in b, step h in v and step w in value; code 10, an antiderivative, has its step in a and its
-   variable, from 1, in v. */
+/* A step of a book: its code, one of enum hechroung_step_code, and its fields; those that the code does not name are 0.
+   Code 9, a quotient, has f in a, g in b, step h in v and step w in value; code 10, an antiderivative, has its step in
+   a and its variable, from 1, in v. */
 struct hechroung_step {
     uint8_t code, a, b, v;
     int64_t value;
@@ -211,9 +271,10 @@ extern size_t hechroung_record(const uint8_t *sheet, size_t sheet_length, size_t
    the place of the first record; beside a refusal that is the sheet's length, where there is no record. */
 extern uint8_t hechroung_open(const uint8_t *sheet, size_t sheet_length, uint64_t *numbers, size_t numbers_length);
 
-/* The record at a place of an opened sheet: it returns 1 for a model, 2 for a step, 0 where there is none. As much of
-   it as the slice has room for is put at the start of bytes. Written: numbers, at least 2, hold its length and the
-   place of the next record; where there is none that is the place itself, as often as it is asked for. */
+/* The record at a place of an opened sheet: it returns 1 for a model, 2 for a step, 0 where there is none (enum
+   hechroung_record_kind). As much of it as the slice has room for is put at the start of bytes. Written: numbers, at
+   least 2, hold its length and the place of the next record; where there is none that is the place itself, as often as
+   it is asked for. */
 extern uint8_t hechroung_next(const uint8_t *sheet, size_t sheet_length, size_t at,
                               uint8_t *bytes, size_t bytes_length, uint64_t *numbers, size_t numbers_length);
 
@@ -345,6 +406,53 @@ extern uint8_t hechroung_restore(const uint8_t *bytes, size_t bytes_length, size
                                  uint32_t *keys, size_t keys_length, int64_t *coefficients, size_t coefficients_length,
                                  uint64_t *numbers, size_t numbers_length);
 
+/* ---- words ---- */
+
+/* HECHROUNG_VERSION. */
+static inline const char *hechroung_version(void) {
+    return HECHROUNG_VERSION;
+}
+
+/* A sentence for the number that a call returned: what is wrong, and what to do about it. It is never null and never to
+   be freed. */
+static inline const char *hechroung_sentence(uint8_t number) {
+    static const char *const sentences[] = {
+        "Accepted.",
+        "The length is wrong: a sheet has 16 to 8792 bytes, an archived model 6 and 6 more for each of its terms; hand "
+        "over all of its bytes and no others.",
+        "The sheet's last two bytes are not its mark, hex 4D 4B for up to four variables or 4D 57 for more: see "
+        "whether it is a sheet and was not cut short.",
+        "A number is outside its limits: n is 1 to 8 and fits the sheet's mark (1 to 4 in the archive), the order 1 to "
+        "15; there are 0 to 16 models and 1 to 64 steps.",
+        "The sheet's parts do not fit its length, which is the offset of the first step, 8 bytes for each step and 8: "
+        "mend the trailer.",
+        "The model that the place names breaks a rule: it has at most 64 terms, keys that rise, no coefficient of 0, "
+        "no variable above n, degrees up to the order, a span up to 2^30 and its book's n, and ends before the steps.",
+        "The step that the place names, or an argument, breaks its form: operands are earlier steps, a variable is 1 "
+        "to n, a constant -2^30 to 2^30, a threshold 0 to 2^30, and what is not used is 0.",
+        "The span, the sizes of all coefficients and the radius together, rises above 2^30 units: scale the inputs "
+        "down.",
+        "More than 64 terms are left: lower the order, or sweep small terms before.",
+        "The box is left: what is put in for a variable, its radius included, and each coordinate has to lie from -1 "
+        "to 1; scale it.",
+        "The models differ in n: give all models of a call the same.",
+        "The buffer is too short: 8792 bytes are enough for every sheet, 390 for every archived model.",
+        "Uncertified: the proposal w does not show that the divisor is nowhere zero; bring w nearer to 1 / g, and see "
+        "whether g has a zero in the box.",
+        "A model to convert into a Chebyshev curve has another n than 1: hand over a model of one variable.",
+        "The box is to be cut to a depth above 6: take a depth of 0 to 6.",
+        "A row has more than 256 readings, or the reading that the place names has a low value above its high one: cut "
+        "the row into shorter ones, or mend the reading.",
+        "A value in doubles is infinite or no number, or the radius is negative: mend what was delivered.",
+        "The rank of the archived term that the place names is 3876 or more, or does not rise: the bytes are damaged, "
+        "or no archived model.",
+    };
+    if (number < sizeof sentences / sizeof sentences[0]) return sentences[number];
+    if (number == HECHROUNG_MISUSED)
+        return "No call was made: a pointer is null, a slice is too short, or a code names no call.";
+    return "No call returns this number.";
+}
+
 /* ---- the same for structs. The answer may be one of the models that are read. A place of null is not written. ---- */
 
 static inline uint8_t hechroung_called_(uint8_t code, uint8_t d, uint8_t i, int64_t value,
@@ -360,11 +468,11 @@ static inline uint8_t hechroung_called_(uint8_t code, uint8_t d, uint8_t i, int6
                             g->n, g->count, g->radius,
                             g->keys, HECHROUNG_MOST_TERMS, g->coefficients, HECHROUNG_MOST_TERMS,
                             model.keys, HECHROUNG_MOST_TERMS, model.coefficients, HECHROUNG_MOST_TERMS, numbers, 4);
-    model.n = (uint8_t)numbers[1];
-    model.count = (size_t)numbers[2];
+    model.n = HECHROUNG_CAST_(uint8_t, numbers[1]);
+    model.count = HECHROUNG_CAST_(size_t, numbers[2]);
     model.radius = numbers[3];
     *answer = model;
-    if (place != NULL) *place = (size_t)numbers[0];
+    if (place != NULL) *place = HECHROUNG_CAST_(size_t, numbers[0]);
     return number;
 }
 
@@ -457,11 +565,11 @@ static inline uint8_t hechroung_divide(uint8_t d, const struct hechroung_model *
     number = hechroung_quotient(d, ns, 4, counts, 4, radii, 4,
                                 keys, 4 * HECHROUNG_MOST_TERMS, coefficients, 4 * HECHROUNG_MOST_TERMS,
                                 model.keys, HECHROUNG_MOST_TERMS, model.coefficients, HECHROUNG_MOST_TERMS, numbers, 4);
-    model.n = (uint8_t)numbers[1];
-    model.count = (size_t)numbers[2];
+    model.n = HECHROUNG_CAST_(uint8_t, numbers[1]);
+    model.count = HECHROUNG_CAST_(size_t, numbers[2]);
     model.radius = numbers[3];
     *answer = model;
-    if (place != NULL) *place = (size_t)numbers[0];
+    if (place != NULL) *place = HECHROUNG_CAST_(size_t, numbers[0]);
     return number;
 }
 
@@ -513,8 +621,8 @@ static inline uint8_t hechroung_evaluate(const struct hechroung_model *f, const 
 
 static inline void hechroung_summed_(const uint64_t numbers[4], const int64_t ends[6], struct hechroung_summary *answer,
                                      size_t *place) {
-    answer->model.n = (uint8_t)numbers[1];
-    answer->model.count = (size_t)numbers[2];
+    answer->model.n = HECHROUNG_CAST_(uint8_t, numbers[1]);
+    answer->model.count = HECHROUNG_CAST_(size_t, numbers[2]);
     answer->model.radius = numbers[3];
     answer->range.low = ends[0];
     answer->range.high = ends[1];
@@ -522,7 +630,7 @@ static inline void hechroung_summed_(const uint64_t numbers[4], const int64_t en
     answer->integral.high = ends[3];
     answer->exact.quotient = ends[4];
     answer->exact.remainder = ends[5];
-    if (place != NULL) *place = (size_t)numbers[0];
+    if (place != NULL) *place = HECHROUNG_CAST_(size_t, numbers[0]);
 }
 
 /* Runs a sheet. Refusals 1 to 9, 12. */
@@ -616,8 +724,8 @@ static inline uint8_t hechroung_write_sheet(uint8_t n, uint8_t d,
                              flat.coefficients, HECHROUNG_MOST_MODELS * HECHROUNG_MOST_TERMS,
                              flat.fields, 4 * HECHROUNG_MOST_STEPS, flat.values, HECHROUNG_MOST_STEPS,
                              buffer, buffer_length, numbers, 2);
-    *length = (size_t)numbers[1];
-    if (place != NULL) *place = (size_t)numbers[0];
+    *length = HECHROUNG_CAST_(size_t, numbers[1]);
+    if (place != NULL) *place = HECHROUNG_CAST_(size_t, numbers[0]);
     return number;
 }
 
@@ -680,7 +788,7 @@ static inline uint8_t hechroung_curved_(uint8_t code, const struct hechroung_cur
                              curve.coefficients, HECHROUNG_CURVE_PLACES, numbers, 2);
     curve.radius = numbers[1];
     *answer = curve;
-    if (place != NULL) *place = (size_t)numbers[0];
+    if (place != NULL) *place = HECHROUNG_CAST_(size_t, numbers[0]);
     return number;
 }
 
@@ -725,8 +833,8 @@ static inline uint8_t hechroung_curve_to_powers(const struct hechroung_curve *f,
     if (f == NULL || answer == NULL) return HECHROUNG_MISUSED;
     number = hechroung_to_powers(f->coefficients, HECHROUNG_CURVE_PLACES, f->radius, answer->keys, HECHROUNG_MOST_TERMS,
                                  answer->coefficients, HECHROUNG_MOST_TERMS, numbers, 4);
-    answer->n = (uint8_t)numbers[1];
-    answer->count = (size_t)numbers[2];
+    answer->n = HECHROUNG_CAST_(uint8_t, numbers[1]);
+    answer->count = HECHROUNG_CAST_(size_t, numbers[2]);
     answer->radius = numbers[3];
     return number;
 }
@@ -756,7 +864,7 @@ static inline uint8_t hechroung_range_cut(uint8_t d, uint8_t i, uint8_t k, const
                                  ends, 2, numbers, 1);
     answer->low = ends[0];
     answer->high = ends[1];
-    if (place != NULL) *place = (size_t)numbers[0];
+    if (place != NULL) *place = HECHROUNG_CAST_(size_t, numbers[0]);
     return number;
 }
 
@@ -767,8 +875,8 @@ static inline uint8_t hechroung_from_doubles(const struct hechroung_doubles *cur
     if (curve == NULL || answer == NULL) return HECHROUNG_MISUSED;
     number = hechroung_doubles(curve->c0, curve->c1, curve->c2, curve->radius, answer->keys, HECHROUNG_MOST_TERMS,
                                answer->coefficients, HECHROUNG_MOST_TERMS, numbers, 4);
-    answer->n = (uint8_t)numbers[1];
-    answer->count = (size_t)numbers[2];
+    answer->n = HECHROUNG_CAST_(uint8_t, numbers[1]);
+    answer->count = HECHROUNG_CAST_(size_t, numbers[2]);
     answer->radius = numbers[3];
     return number;
 }
@@ -795,9 +903,9 @@ static inline uint8_t hechroung_hold(const struct hechroung_model *f, const stru
     number = hechroung_readings(f->n, f->count, f->radius,
                                 f->keys, HECHROUNG_MOST_TERMS, f->coefficients, HECHROUNG_MOST_TERMS,
                                 points, HECHROUNG_MOST_VARIABLES * count, lows, count, highs, count, numbers, 3);
-    *contradicted = (int)numbers[1];
-    *reading = (size_t)numbers[2];
-    if (place != NULL) *place = (size_t)numbers[0];
+    *contradicted = HECHROUNG_CAST_(int, numbers[1]);
+    *reading = HECHROUNG_CAST_(size_t, numbers[2]);
+    if (place != NULL) *place = HECHROUNG_CAST_(size_t, numbers[0]);
     return number;
 }
 
@@ -809,7 +917,7 @@ static inline uint8_t hechroung_store_model(const struct hechroung_model *f, uin
     if (f == NULL || buffer == NULL || length == NULL) return HECHROUNG_MISUSED;
     number = hechroung_store(f->n, f->count, f->radius, f->keys, HECHROUNG_MOST_TERMS,
                              f->coefficients, HECHROUNG_MOST_TERMS, buffer, buffer_length, numbers, 2);
-    *length = (size_t)numbers[1];
+    *length = HECHROUNG_CAST_(size_t, numbers[1]);
     return number;
 }
 
@@ -822,10 +930,10 @@ static inline uint8_t hechroung_restore_model(const uint8_t *bytes, size_t bytes
     if (bytes == NULL || answer == NULL) return HECHROUNG_MISUSED;
     number = hechroung_restore(bytes, bytes_length, terms, answer->keys, HECHROUNG_MOST_TERMS,
                                answer->coefficients, HECHROUNG_MOST_TERMS, numbers, 4);
-    answer->n = (uint8_t)numbers[1];
-    answer->count = (size_t)numbers[2];
+    answer->n = HECHROUNG_CAST_(uint8_t, numbers[1]);
+    answer->count = HECHROUNG_CAST_(size_t, numbers[2]);
     answer->radius = numbers[3];
-    if (place != NULL) *place = (size_t)numbers[0];
+    if (place != NULL) *place = HECHROUNG_CAST_(size_t, numbers[0]);
     return number;
 }
 
