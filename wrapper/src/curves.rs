@@ -21,7 +21,9 @@ use crate::{accepted, answered, Ends, Model, Refusal, CURVE_PLACES};
 /// refuses with 5 what is above the span of 2^30.
 #[derive(Clone, Copy, Debug, PartialEq, Eq)]
 pub struct Curve {
+    /// That of T_0 first, in units.
     pub coefficients: [i64; CURVE_PLACES],
+    /// How far a function within the curve may lie from the polynomial, in units.
     pub radius: u64,
 }
 

@@ -5,9 +5,13 @@ use crate::{answered, raw, Model, Refusal};
 /// A curve in one variable as it is delivered: c0 + c1 x + c2 x², and how far from it the true values may lie.
 #[derive(Clone, Copy, Debug, PartialEq)]
 pub struct Doubles {
+    /// The constant.
     pub c0: f64,
+    /// The coefficient of x.
     pub c1: f64,
+    /// The coefficient of x².
     pub c2: f64,
+    /// How far the true values may lie from the curve.
     pub radius: f64,
 }
 

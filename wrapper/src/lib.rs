@@ -21,8 +21,27 @@
 //! # Ok::<(), hechroung::Refusal>(())
 //! ```
 
+//!
+//! The crate needs no standard library. Without the feature `alloc` it needs no memory but the stack either, and lacks
+//! [`lines`], [`records`], [`shares`] and what belongs to them; [`raw`] has all of these. [`Refusal`] is an
+//! [`Error`](core::error::Error) from Rust 1.81 on, and before that with the feature `std`. Both are on by default.
+//!
+//! A call needs up to 224 KB of stack, the run of a sheet or a book up to 400 KB.
+
+#![no_std]
+#![deny(missing_docs)]
 #![deny(unsafe_op_in_unsafe_fn)]
 #![deny(unsafe_code)]
+
+// The examples of README.md are tested with the others.
+#[cfg(doctest)]
+#[doc = include_str!("../README.md")]
+struct Readme;
+
+#[cfg(feature = "alloc")]
+extern crate alloc;
+#[cfg(feature = "std")]
+extern crate std;
 
 mod archive;
 pub mod curves;
@@ -31,6 +50,7 @@ mod doubles;
 #[allow(unsafe_code)]
 pub mod raw;
 mod readings;
+mod refusals;
 mod sheets;
 
 pub use archive::{restore, store, LONGEST_ARCHIVED};
@@ -38,13 +58,17 @@ pub use curves::Curve;
 pub use cuts::cut_range;
 pub use doubles::{from_doubles, Doubles};
 pub use readings::{first_contradicting, Reading, MOST_READINGS};
-pub use sheets::{lines, open, records, rewrite, run, run_book, shares, shares_book, write};
-pub use sheets::{Book, Flat, Kind, Record, Records, RefusedRun, Report, Shares, Step, Summary};
+pub use refusals::Refusal;
+#[cfg(feature = "alloc")]
+pub use sheets::{lines, records, shares, shares_book, Record, RefusedRun};
+pub use sheets::{open, rewrite, run, run_book, write};
+pub use sheets::{Book, Flat, Kind, Records, Report, Shares, Step, Summary};
 
+use core::fmt;
 use raw::{Handed, HandedModels, MISUSED};
-use std::error::Error;
-use std::fmt;
 
+/// The version of this crate, which is that of include/hechroung.h.
+pub const VERSION: &str = env!("CARGO_PKG_VERSION");
 /// U: a coefficient c stands for c / U.
 pub const UNIT: i64 = 1 << 20;
 /// D: an exact integral is so many units and so many parts of D of a unit.
@@ -55,12 +79,13 @@ pub const MOST_VARS: usize = 8;
 pub const MOST_TERMS: usize = 64;
 /// The coefficients of a curve: those of T_0 to T_15.
 pub const CURVE_PLACES: usize = 16;
-/// The places of a book's models and of its steps.
+/// The places of a book's models.
 pub const MOST_MODELS: usize = 16;
+/// The places of a book's steps.
 pub const MOST_STEPS: usize = 64;
 /// The length of the longest sheet.
 pub const LONGEST_SHEET: usize = 8_792;
-/// No text of [`lines`] is longer.
+/// No text that [`raw::print`] puts together is longer.
 pub const LONGEST_TEXT: usize = 4_096;
 /// The length of the longest record, that of a model with 64 terms in more than four variables.
 pub const LONGEST_RECORD: usize = 5 + 8 * MOST_TERMS;
@@ -70,24 +95,24 @@ pub const LONGEST_RECORD: usize = 5 + 8 * MOST_TERMS;
 /// so that in up to four variables the lower 16 bits are 0.
 #[derive(Clone, Copy, Debug, PartialEq, Eq)]
 pub struct Model {
+    /// How many variables there are.
     pub n: u8,
+    /// How many terms there are.
     pub count: usize,
+    /// How far a function within the model may lie from the polynomial, in units.
     pub radius: u64,
+    /// The exponents of each term.
     pub keys: [u32; MOST_TERMS],
+    /// The coefficient of each term, in units.
     pub coefficients: [i64; MOST_TERMS],
-}
-
-/// The number of a refusal in documents 01 and 02, 1 to 17, and its place.
-#[derive(Clone, Copy, Debug, PartialEq, Eq, PartialOrd, Ord)]
-pub struct Refusal {
-    pub number: u8,
-    pub place: usize,
 }
 
 /// Two ends.
 #[derive(Clone, Copy, Debug, Default, PartialEq, Eq)]
 pub struct Ends {
+    /// The low end, in units.
     pub low: i64,
+    /// The high end, in units.
     pub high: i64,
 }
 
@@ -96,14 +121,18 @@ pub struct Ends {
 /// and say nothing.
 #[derive(Clone, Copy, Debug, Default, PartialEq, Eq)]
 pub struct Exact {
+    /// Whole units.
     pub quotient: i64,
+    /// Parts of a unit, of which [`DENOMINATOR`] are one.
     pub remainder: i64,
 }
 
 /// The ends of an integral and the exact one of the model's polynomial.
 #[derive(Clone, Copy, Debug, PartialEq, Eq)]
 pub struct Integral {
+    /// What the integral of a function within the model lies between.
     pub ends: Ends,
+    /// The integral of the polynomial.
     pub exact: Exact,
 }
 
@@ -143,33 +172,6 @@ impl Model {
         }
     }
 }
-
-impl fmt::Display for Refusal {
-    fn fmt(&self, out: &mut fmt::Formatter<'_>) -> fmt::Result {
-        let reason = match self.number {
-            1 => "the sheet is too short or too long",
-            2 => "the sheet's mark is missing",
-            3 => "n, the order or a count is outside its limits",
-            4 => "the sheet's offset does not fit its length",
-            5 => "a model breaks a rule",
-            6 => "a step breaks its form, or an argument is wrong",
-            7 => "a span is above 2^30",
-            8 => "there are more than 64 terms",
-            9 => "the box is left",
-            10 => "the models differ in their number of variables",
-            11 => "the buffer is too short",
-            12 => "uncertified: the divisor is not shown to be nowhere zero",
-            13 => "a model to convert has another number of variables than one",
-            14 => "the box is to be cut to a depth above 6",
-            15 => "a row of readings is too long, or a low value is above its high one",
-            16 => "a double is not finite, or a radius in doubles is negative",
-            _ => "a rank of an archived term is 3,876 or more, or does not rise",
-        };
-        write!(out, "refused {} {}: {reason}", self.number, self.place)
-    }
-}
-
-impl Error for Refusal {}
 
 /// All signs turned. Refusal 5.
 pub fn negate(f: &Model) -> Result<Model, Refusal> {

@@ -4,16 +4,24 @@
 //! call, is answered with [`MISUSED`], and nothing is changed then. Beside a refusal zeros are stored: what the slices
 //! hold is an answer only where the number is 0.
 
+/// The number of the layout that these declarations follow, HECHROUNG_ABI of include/hechroung.h.
+pub const LAYOUT: &str = env!("HECHROUNG_LAYOUT");
+
 /// The answer to a call that is not one.
 pub const MISUSED: u8 = 255;
 
 /// A model that is handed over: the slices hold at least min(count, 64) places each.
 #[derive(Clone, Copy, Debug)]
 pub struct Handed<'a> {
+    /// How many variables there are.
     pub n: u8,
+    /// How many terms there are.
     pub count: usize,
+    /// The radius, in units.
     pub radius: u64,
+    /// The keys of the terms.
     pub keys: &'a [u32],
+    /// The coefficients, in units.
     pub coefficients: &'a [i64],
 }
 
@@ -32,10 +40,15 @@ impl Handed<'_> {
 /// coefficients.
 #[derive(Clone, Copy, Debug)]
 pub struct HandedModels<'a> {
+    /// How many variables each model has.
     pub ns: &'a [u8],
+    /// How many terms each has.
     pub counts: &'a [usize],
+    /// The radius of each.
     pub radii: &'a [u64],
+    /// The keys of the terms.
     pub keys: &'a [u32],
+    /// The coefficients, in units.
     pub coefficients: &'a [i64],
 }
 
@@ -48,7 +61,10 @@ macro_rules! exported {
 
         /// The types of the exported functions.
         pub mod signature {
-            $(pub type $type = unsafe extern "C" fn($($argument: $of),*) -> $answer;)*
+            $(
+                #[doc = concat!("`", stringify!($name), "` of include/hechroung.h.")]
+                pub type $type = unsafe extern "C" fn($($argument: $of),*) -> $answer;
+            )*
         }
     };
 }
@@ -399,16 +415,27 @@ exported! {
 /// min(step_count, 64) steps.
 #[derive(Clone, Copy, Debug)]
 pub struct HandedBook<'a> {
+    /// How many variables there are.
     pub n: u8,
+    /// The order.
     pub d: u8,
+    /// How many models there are.
     pub model_count: usize,
+    /// How many steps there are.
     pub step_count: usize,
+    /// How many variables each model has.
     pub ns: &'a [u8],
+    /// How many terms each has.
     pub counts: &'a [usize],
+    /// The radius of each.
     pub radii: &'a [u64],
+    /// The keys of the terms.
     pub keys: &'a [u32],
+    /// The coefficients, in units.
     pub coefficients: &'a [i64],
+    /// The code, a, b and v of each step.
     pub fields: &'a [u8],
+    /// The value of each step.
     pub values: &'a [i64],
 }
 
@@ -770,7 +797,9 @@ pub fn shares_book(
 /// A curve that is handed over: the slice holds at least 16 coefficients, that of T_0 first.
 #[derive(Clone, Copy, Debug)]
 pub struct HandedCurve<'a> {
+    /// The coefficients, in units.
     pub coefficients: &'a [i64],
+    /// The radius, in units.
     pub radius: u64,
 }
 
@@ -918,8 +947,11 @@ pub fn doubles(
 /// Readings that are handed over: as many as there are low values, with eight coordinates and a high value each.
 #[derive(Clone, Copy, Debug)]
 pub struct HandedReadings<'a> {
+    /// The coordinates of each reading.
     pub points: &'a [i64],
+    /// The low value of each.
     pub lows: &'a [i64],
+    /// The high value of each.
     pub highs: &'a [i64],
 }
 

@@ -2,19 +2,27 @@
 
 use crate::raw::{self, HandedBook};
 use crate::{accepted, narrowed, Ends, Exact, Model, Refusal};
-use crate::{LONGEST_RECORD, MOST_MODELS, MOST_STEPS, MOST_TERMS};
-use std::error::Error;
-use std::fmt;
+use crate::{MOST_MODELS, MOST_STEPS, MOST_TERMS};
+#[cfg(feature = "alloc")]
+use {
+    crate::LONGEST_RECORD,
+    alloc::{boxed::Box, string::String, vec, vec::Vec},
+    core::fmt,
+};
 
 /// What a run gives: the last step's model, its range, its integral and the exact integral of its polynomial, without
-/// its radius. Point 3 at the beginning of README.md says what is promised of it, with the exceptions for sheets with a
-/// quotient or an antiderivative. Variables that are renamed among themselves throughout a sheet, with terms put back in
-/// key order, rename the keys of the answer and change nothing else.
+/// its radius. Point 3 at the beginning of the repository's README.md says what is promised of it, with the exceptions
+/// for sheets with a quotient or an antiderivative. Variables that are renamed among themselves throughout a sheet,
+/// with terms put back in key order, rename the keys of the answer and change nothing else.
 #[derive(Clone, Copy, Debug, PartialEq, Eq)]
 pub struct Summary {
+    /// The last step's model.
     pub model: Model,
+    /// What its values lie between.
     pub range: Ends,
+    /// What its integral over the box lies between.
     pub integral: Ends,
+    /// The integral of its polynomial, in up to four variables.
     pub exact: Exact,
 }
 
@@ -37,15 +45,20 @@ pub struct Shares {
 /// What a run gives, and the shares of each of its steps; zeros for steps that there are none of.
 #[derive(Clone, Copy, Debug, PartialEq, Eq)]
 pub struct Report {
+    /// What a plain run gives.
     pub summary: Summary,
+    /// Those of each step, from step 0 on.
     pub shares: [Shares; MOST_STEPS],
 }
 
 /// Why a run with shares is refused, and the shares of the steps before the refused one: zeros for that and those after
 /// it, and for all steps where the sheet or the book is refused before it runs. `?` makes it a [`Refusal`].
+#[cfg(feature = "alloc")]
 #[derive(Clone, Debug, PartialEq, Eq)]
 pub struct RefusedRun {
+    /// The refusal of a plain run.
     pub refusal: Refusal,
+    /// Those of each step, from step 0 on.
     pub shares: Box<[Shares; MOST_STEPS]>,
 }
 
@@ -53,37 +66,55 @@ pub struct RefusedRun {
 /// antiderivative, code 10, has its step in a and its variable, from 1, in v.
 #[derive(Clone, Copy, Debug, Default, PartialEq, Eq)]
 pub struct Step {
+    /// 0 input, 1 constant, 2 variable, 3 negate, 4 add, 5 subtract, 6 multiply, 7 substitute, 8 sweep, 9 quotient,
+    /// 10 antiderivative.
     pub code: u8,
+    /// The first operand, an earlier step; of an input the number of a model.
     pub a: u8,
+    /// The second operand, an earlier step.
     pub b: u8,
+    /// A variable, from 1.
     pub v: u8,
+    /// A constant or a threshold, in units.
     pub value: i64,
 }
 
 /// A sheet's matter in memory. Any field may hold anything.
 #[derive(Clone, Debug, PartialEq, Eq)]
 pub struct Book {
+    /// How many variables there are.
     pub n: u8,
+    /// The order.
     pub d: u8,
+    /// How many models there are.
     pub model_count: usize,
+    /// How many steps there are.
     pub step_count: usize,
+    /// The models; those beyond the count are not looked at.
     pub models: [Model; MOST_MODELS],
+    /// The steps; those beyond the count are not looked at.
     pub steps: [Step; MOST_STEPS],
 }
 
+#[cfg(feature = "alloc")]
 impl From<RefusedRun> for Refusal {
     fn from(run: RefusedRun) -> Refusal {
         run.refusal
     }
 }
 
+#[cfg(feature = "alloc")]
 impl fmt::Display for RefusedRun {
     fn fmt(&self, out: &mut fmt::Formatter<'_>) -> fmt::Result {
         self.refusal.fmt(out)
     }
 }
 
-impl Error for RefusedRun {}
+#[cfg(all(feature = "alloc", core_error))]
+impl core::error::Error for RefusedRun {}
+
+#[cfg(all(feature = "std", not(core_error)))]
+impl std::error::Error for RefusedRun {}
 
 impl Book {
     /// A book of these models and steps. What does not fit 16 and 64 places is left out, and its count refused.
@@ -143,6 +174,7 @@ pub fn run_book(book: &Book) -> Result<Summary, Refusal> {
 /// assert_eq!((report.shares[1].swept, report.shares[1].slack), (1 << 40, 0));
 /// # Ok::<(), hechroung::Refusal>(())
 /// ```
+#[cfg(feature = "alloc")]
 pub fn shares(sheet: &[u8]) -> Result<Report, RefusedRun> {
     reported(|model, numbers, ends, shares| {
         raw::shares(
@@ -157,6 +189,7 @@ pub fn shares(sheet: &[u8]) -> Result<Report, RefusedRun> {
 }
 
 /// Runs a book in memory, and tells where the radius of each of its steps came from. Refusals 3, 5 to 9, 12.
+#[cfg(feature = "alloc")]
 pub fn shares_book(book: &Book) -> Result<Report, RefusedRun> {
     let flat = Flat::of(book);
     reported(|model, numbers, ends, shares| {
@@ -172,6 +205,7 @@ pub fn shares_book(book: &Book) -> Result<Report, RefusedRun> {
 }
 
 /// What a run with shares stored.
+#[cfg(feature = "alloc")]
 fn reported(
     run: impl FnOnce(&mut Model, &mut [u64], &mut [i64], &mut [u64]) -> u8,
 ) -> Result<Report, RefusedRun> {
@@ -222,6 +256,7 @@ fn summary(run: impl FnOnce(&mut Model, &mut [u64], &mut [i64]) -> u8) -> Result
 }
 
 /// The lines that the program prints for a sheet; of a refused one that is the line of its refusal.
+#[cfg(feature = "alloc")]
 #[must_use]
 pub fn lines(sheet: &[u8]) -> String {
     let mut text = vec![0; raw::print(sheet, &mut [])];
@@ -230,6 +265,7 @@ pub fn lines(sheet: &[u8]) -> String {
 }
 
 /// The records of a sheet in order, each model's bytes and then each step's 8. Refusals 1 to 6.
+#[cfg(feature = "alloc")]
 pub fn records(sheet: &[u8]) -> Result<impl Iterator<Item = Vec<u8>> + '_, Refusal> {
     open(sheet)?;
     Ok((0..).map_while(|i| {
@@ -242,14 +278,19 @@ pub fn records(sheet: &[u8]) -> Result<impl Iterator<Item = Vec<u8>> + '_, Refus
 /// What a record is.
 #[derive(Clone, Copy, Debug, PartialEq, Eq)]
 pub enum Kind {
+    /// The bytes of a model.
     Model,
+    /// The 8 bytes of a step.
     Step,
 }
 
 /// A record of a sheet.
+#[cfg(feature = "alloc")]
 #[derive(Clone, Debug, PartialEq, Eq)]
 pub struct Record {
+    /// What it is.
     pub kind: Kind,
+    /// Its bytes, as they stand in the sheet.
     pub bytes: Vec<u8>,
 }
 
@@ -275,16 +316,23 @@ impl Records<'_> {
     pub fn place(&self) -> usize {
         self.at
     }
-}
 
-impl Iterator for Records<'_> {
-    type Item = Record;
-
-    /// The record at hand, and on to the next; none behind the last, as often as it is asked for.
-    fn next(&mut self) -> Option<Record> {
-        let mut bytes = [0; LONGEST_RECORD];
+    /// The record at hand, and on to the next: what it is and its length. As much of it as there is room for goes into
+    /// the buffer; [`LONGEST_RECORD`](crate::LONGEST_RECORD) bytes are enough. None behind the last, as often as it is
+    /// asked for.
+    ///
+    /// ```
+    /// let sheet = [1, 0, 0, 0, 9, 0, 0, 0, 1, 1, 0, 1, 0, 0, 0x4D, 0x4B];
+    /// let mut records = hechroung::open(&sheet)?;
+    /// let mut buffer = [0; hechroung::LONGEST_RECORD];
+    /// assert_eq!(records.next_into(&mut buffer), Some((hechroung::Kind::Step, 8)));
+    /// assert_eq!((buffer[0], buffer[4]), (1, 9));
+    /// assert_eq!(records.next_into(&mut buffer), None);
+    /// # Ok::<(), hechroung::Refusal>(())
+    /// ```
+    pub fn next_into(&mut self, buffer: &mut [u8]) -> Option<(Kind, usize)> {
         let mut numbers = [0; 2];
-        let number = raw::next(self.sheet, self.at, &mut bytes, &mut numbers);
+        let number = raw::next(self.sheet, self.at, buffer, &mut numbers);
         let [length, next] = numbers;
         self.at = narrowed(next);
         let kind = match number {
@@ -293,7 +341,18 @@ impl Iterator for Records<'_> {
             2 => Kind::Step,
             _ => unreachable!("every slice is long enough"),
         };
-        let length: usize = narrowed(length);
+        Some((kind, narrowed(length)))
+    }
+}
+
+#[cfg(feature = "alloc")]
+impl Iterator for Records<'_> {
+    type Item = Record;
+
+    /// The record at hand, and on to the next; none behind the last, as often as it is asked for.
+    fn next(&mut self) -> Option<Record> {
+        let mut bytes = [0; LONGEST_RECORD];
+        let (kind, length) = self.next_into(&mut bytes)?;
         let bytes = bytes[..length].to_vec();
         Some(Record { kind, bytes })
     }
@@ -330,13 +389,14 @@ pub struct Flat {
     ns: [u8; MOST_MODELS],
     counts: [usize; MOST_MODELS],
     radii: [u64; MOST_MODELS],
-    keys: Vec<u32>,
-    coefficients: Vec<i64>,
-    fields: Vec<u8>,
+    keys: [u32; MOST_MODELS * MOST_TERMS],
+    coefficients: [i64; MOST_MODELS * MOST_TERMS],
+    fields: [u8; 4 * MOST_STEPS],
     values: [i64; MOST_STEPS],
 }
 
 impl Flat {
+    /// The numbers and arrays of a book.
     pub fn of(book: &Book) -> Flat {
         let mut flat = Flat {
             n: book.n,
@@ -346,21 +406,23 @@ impl Flat {
             ns: book.models.map(|model| model.n),
             counts: book.models.map(|model| model.count),
             radii: book.models.map(|model| model.radius),
-            keys: Vec::with_capacity(MOST_MODELS * MOST_TERMS),
-            coefficients: Vec::with_capacity(MOST_MODELS * MOST_TERMS),
-            fields: Vec::with_capacity(4 * MOST_STEPS),
+            keys: [0; MOST_MODELS * MOST_TERMS],
+            coefficients: [0; MOST_MODELS * MOST_TERMS],
+            fields: [0; 4 * MOST_STEPS],
             values: book.steps.map(|step| step.value),
         };
-        for model in &book.models {
-            flat.keys.extend(model.keys);
-            flat.coefficients.extend(model.coefficients);
+        for (k, model) in book.models.iter().enumerate() {
+            let places = k * MOST_TERMS..(k + 1) * MOST_TERMS;
+            flat.keys[places.clone()].copy_from_slice(&model.keys);
+            flat.coefficients[places].copy_from_slice(&model.coefficients);
         }
-        for step in &book.steps {
-            flat.fields.extend([step.code, step.a, step.b, step.v]);
+        for (fields, step) in flat.fields.chunks_mut(4).zip(&book.steps) {
+            fields.copy_from_slice(&[step.code, step.a, step.b, step.v]);
         }
         flat
     }
 
+    /// The same as slices.
     pub fn handed(&self) -> HandedBook<'_> {
         HandedBook {
             n: self.n,

@@ -1,6 +1,6 @@
 //! The numbers of include/hechroung.h, which a program in C makes its buffers by, are the wrapper's and the library's.
 
-use hechroung::{Book, Model, Step};
+use hechroung::{Book, Model, Refusal, Step};
 use std::fs;
 
 /// A file of this repository.
@@ -42,6 +42,54 @@ fn the_header_has_the_same_limits() {
         "pub const MOST_TEXT: usize =",
     );
     assert_eq!(hechroung::LONGEST_TEXT, proved);
+}
+
+#[test]
+fn the_header_has_the_same_version_and_layout() {
+    let header = text("include/hechroung.h");
+    let version = format!("#define HECHROUNG_VERSION \"{}\"\n", hechroung::VERSION);
+    assert!(header.contains(&version), "{version}");
+    let layout = format!("#define HECHROUNG_ABI {}\n", hechroung::raw::LAYOUT);
+    assert!(header.contains(&layout), "{layout}");
+}
+
+/// The strings of C between `first` and `last`, those that stand behind one another joined, as C does.
+fn strings(text: &str, first: &str, last: &str) -> Vec<String> {
+    let (_, block) = text.split_once(first).expect(first);
+    let (block, _) = block.split_once(last).expect(last);
+    let mut found = Vec::new();
+    let mut string = String::new();
+    for line in block.lines().map(str::trim).filter(|line| !line.is_empty()) {
+        let quoted = line.trim_end_matches(',');
+        string += quoted
+            .strip_prefix('"')
+            .and_then(|it| it.strip_suffix('"'))
+            .expect(line);
+        if line.ends_with(',') {
+            found.push(std::mem::take(&mut string));
+        }
+    }
+    found
+}
+
+#[test]
+fn the_header_has_the_same_sentences() {
+    let header = text("include/hechroung.h");
+    let sentences = strings(&header, "sentences[] = {\n", "};");
+    assert_eq!(sentences.len(), 18, "those of 0 to 17");
+    for (number, sentence) in sentences.iter().enumerate().skip(1) {
+        let number = number.try_into().expect("small");
+        let refusal = Refusal { number, place: 3 };
+        assert_eq!(refusal.sentence(), sentence);
+        assert_eq!(
+            refusal.to_string(),
+            format!("refused {number} 3: {sentence}")
+        );
+    }
+    for number in [0, 18, 255] {
+        let refusal = Refusal { number, place: 0 };
+        assert_eq!(refusal.sentence(), "No call returns this number.");
+    }
 }
 
 /// 64 terms in eight variables with coefficients of eight digits: more text than a sheet of four variables can have.

@@ -615,7 +615,7 @@ const CURVE: HandedCurve<'static> = HandedCurve {
 
 /// The same with one coefficient too few.
 const SHORT_CURVE: HandedCurve<'static> = HandedCurve {
-    coefficients: CURVE.coefficients.split_at(15).0,
+    coefficients: &[0, 3, 0, 0, 0, 0, 0, 0, 0, 0, 0, 0, 0, 0, 0],
     ..CURVE
 };
 
