@@ -13,6 +13,9 @@
 //!                               so many generated rows of readings, each held against a model
 //!     compare --archive [CALLS [SEED]]
 //!                               so many generated stores and restores of the archive, and round trips
+//!     compare --answers [SHEETS [SEED]]
+//!                               prints so many generated sheets and the named ones, each with the library's answer in
+//!                               a line; it stops where the second implementation's answer is another one
 //!
 //! The exit status is 0 only if all answers agree and every refusal, every mix of shares and every kind of integral
 //! that can be reached was reached, refusals and enclosures up to four variables and above.
@@ -20,6 +23,7 @@
 #![forbid(unsafe_code)]
 
 mod agree;
+mod answers;
 mod archive;
 mod case;
 mod counts;
@@ -76,6 +80,9 @@ fn main() -> ExitCode {
         ["--archive"] => archive_calls(archive::CALLS, SEED),
         ["--archive", calls] => archive_numbers(calls, "1"),
         ["--archive", calls, seed] => archive_numbers(calls, seed),
+        ["--answers"] => sheet_answers(SHEETS, SEED),
+        ["--answers", sheets] => answer_numbers(sheets, "1"),
+        ["--answers", sheets, seed] => answer_numbers(sheets, seed),
         [] => generated_cases(CASES, SEED),
         [cases] => numbers(cases, "1"),
         [cases, seed] => numbers(cases, seed),
@@ -85,7 +92,8 @@ fn main() -> ExitCode {
 
 fn usage() -> ExitCode {
     eprintln!("usage: compare [CASES [SEED]] | --cases < LINES | --program PATH [SHEETS [SEED]] |");
-    eprintln!("       --renamed PATH [SHEETS [SEED]] | --doubles [RECORDS [SEED]] | --readings [ROWS [SEED]] | --archive [CALLS [SEED]]");
+    eprintln!("       --renamed PATH [SHEETS [SEED]] | --doubles [RECORDS [SEED]] | --readings [ROWS [SEED]] | --archive [CALLS [SEED]] |");
+    eprintln!("       --answers [SHEETS [SEED]]");
     ExitCode::from(2)
 }
 
@@ -128,6 +136,27 @@ fn archive_numbers(calls: &str, seed: &str) -> ExitCode {
     match (calls.parse(), seed.parse()) {
         (Ok(calls), Ok(seed)) => archive_calls(calls, seed),
         _ => usage(),
+    }
+}
+
+fn answer_numbers(sheets: &str, seed: &str) -> ExitCode {
+    match (sheets.parse(), seed.parse()) {
+        (Ok(sheets), Ok(seed)) => sheet_answers(sheets, seed),
+        _ => usage(),
+    }
+}
+
+/// Prints generated sheets and the named ones with their answers.
+fn sheet_answers(sheets: u64, seed: u64) -> ExitCode {
+    let print = move || answers::write(sheets, seed, &mut io::stdout().lock());
+    let thread = thread::Builder::new().stack_size(STACK).spawn(print);
+    let printed = thread.expect("a thread can be started").join();
+    match printed.expect("no comparison panics") {
+        Ok(()) => ExitCode::SUCCESS,
+        Err(difference) => {
+            eprintln!("{difference}");
+            ExitCode::FAILURE
+        }
     }
 }
 
