@@ -1,0 +1,1 @@
+SELECT (hechroung_total(sheet)).* FROM herd;
