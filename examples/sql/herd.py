@@ -1,4 +1,4 @@
-"""A herd's log: 10,000 attachments of the milking robots, each with a sheet, as a table for a database or added up here.
+"""A herd's log: 10,000 attachments of milking robots, each with a sheet, as a table for a database or added up here.
 
 usage: herd.py sqlite | postgresql   statements that make the table herd(attachment, robot, sheet)
        herd.py python                the totals, by the library and whole numbers of any size
@@ -20,8 +20,8 @@ COLUMNS = "accepted refused nulls without_exact q r integral_low integral_high".
 
 
 def written(n, radius, terms):
-    """A sheet of order 4 whose integral is the milk of one attachment: the flow times the minutes, and the mean over the
-    other variables, each of which is 2 long. docs/SHEETS.md has the bytes."""
+    """A sheet of order 4 whose integral is the milk of one attachment: the flow times the minutes, and the mean over
+    the other variables, each of which is 2 long. docs/SHEETS.md has the bytes."""
     form, mark = ("<Hi", b"MK") if n <= 4 else ("<Ii", b"MW")
     model = struct.pack("<IB", radius, len(terms)) + b"".join(struct.pack(form, *term) for term in sorted(terms))
     steps = [(0, 0, 0, 0, 0), (1, 0, 0, 0, HALF_TIME * UNIT >> n - 1), (6, 0, 1, 0, 0)]
@@ -30,7 +30,7 @@ def written(n, radius, terms):
 
 
 def flow(k):
-    """Litres a minute by powers of the time, each attachment a little different, in units; the meter counts in 1/1000."""
+    """Litres a minute by powers of the time, in units, each attachment a little different."""
     values = [2900 + 7 * k % 611, -650 + 13 * k % 301, -2000 - 11 * k % 407, 310 + 5 * k % 97, -40 - 3 * k % 53]
     return [round(UNIT * value / 1000) for value in values]
 

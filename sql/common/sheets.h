@@ -15,15 +15,16 @@ struct sheet_answer {
     int64_t radius, range_low, range_high, integral_low, integral_high, q, r;
 };
 
-/* A whole number of 128 bits in two's complement. Two halves and not the compiler's own type: databases hand out memory
-   that is aligned to 8 bytes only. No sum of a log leaves it: an end is below 2^40 in size, and no log has 2^64 rows. */
+/* A whole number of 128 bits in two's complement. Two halves and not the compiler's own type: databases hand out
+   memory that is aligned to 8 bytes only. No sum of a log leaves it: an end is below 2^40 in size, and no log has 2^64
+   rows. */
 struct wide {
     uint64_t high, low;
 };
 
-/* Sums over a log. Every sheet is in exactly one of accepted, refused and nulls; without_exact of the accepted ones have
-   more than four variables and are in the sums of the ends, but not in q and r. The exact sum is q + r / the denominator
-   with r below it. */
+/* Sums over a log. Every sheet is in exactly one of accepted, refused and nulls; without_exact of the accepted ones
+   have more than four variables and are in the sums of the ends, but not in q and r. The exact sum is q + r / the
+   denominator with r below it. */
 struct sheet_totals {
     uint64_t accepted, refused, nulls, without_exact;
     struct wide q;

@@ -15,8 +15,8 @@ CREATE TYPE hechroung_totals AS (
 CREATE FUNCTION hechroung_run(sheet bytea) RETURNS hechroung_answer
     AS 'MODULE_PATHNAME', 'hechroung_pg_run' LANGUAGE C IMMUTABLE STRICT PARALLEL SAFE COST 1000;
 
--- The parts of the aggregate. Its state is a bytea and not `internal`, so that a distributed PostgreSQL may send it from
--- machine to machine as it is.
+-- The parts of the aggregate. Its state is a bytea and not `internal`, so that a distributed PostgreSQL may send it
+-- from machine to machine as it is.
 CREATE FUNCTION hechroung_total_add(state bytea, sheet bytea) RETURNS bytea
     AS 'MODULE_PATHNAME', 'hechroung_pg_total_add' LANGUAGE C IMMUTABLE CALLED ON NULL INPUT PARALLEL SAFE COST 1000;
 

@@ -1,5 +1,5 @@
-/* A loadable SQLite extension: hechroung_run(sheet), a table of one row, and hechroung_total(sheet), an aggregate that is
-   a window function too. docs/SQL.md says what they answer. */
+/* A loadable SQLite extension: hechroung_run(sheet), a table of one row, and hechroung_total(sheet), an aggregate that
+   is a window function too. docs/SQL.md says what they answer. */
 #include <sqlite3ext.h>
 SQLITE_EXTENSION_INIT1
 
@@ -14,7 +14,8 @@ SQLITE_EXTENSION_INIT1
 enum { REFUSAL, PLACE, SENTENCE, RADIUS, RANGE_LOW, RANGE_HIGH, INTEGRAL_LOW, INTEGRAL_HIGH, Q, R, SHEET };
 static const char DECLARED[] =
     "CREATE TABLE x(refusal INTEGER, place INTEGER, sentence TEXT, radius INTEGER, range_low INTEGER, "
-    "range_high INTEGER, integral_low INTEGER, integral_high INTEGER, q INTEGER, r INTEGER, hechroung_sheet BLOB HIDDEN)";
+    "range_high INTEGER, integral_low INTEGER, integral_high INTEGER, q INTEGER, r INTEGER, "
+    "hechroung_sheet BLOB HIDDEN)";
 
 /* What a value is. Text is no sheet: it would be refused for its length or its mark, and hex digits that someone forgot
    to decode would be counted as a damaged sheet. */

@@ -3,8 +3,8 @@
 usage: border.py SECONDS [SEED]
 
 A call may answer, raise a refusal, or say that an argument is none of its kind. Anything else is a finding: another
-exception is printed with the call and fails the run, and a crash of the interpreter ends it. A number that was taken must
-have crossed as it is: sheets and archives that are accepted give the same answer again by another way."""
+exception is printed with the call and fails the run, and a crash of the interpreter ends it. What is answered has to be
+right by another way too: a model turned twice is the same, an archive that is restored can be stored again."""
 
 import ctypes
 import inspect
@@ -34,7 +34,7 @@ class Any:
     def whole(self):
         return self.random.choice([0, 1, 2, 3, 4, 5, 8, 15, 16, 64, 255, 256, -1, 1 << 20, -(1 << 20), 1 << 30, 1 << 31,
                                    1 << 32, (1 << 63) - 1, 1 << 63, (1 << 64) - 1, 1 << 64, -(1 << 63), -(1 << 63) - 1,
-                                   self.random.getrandbits(8), self.random.getrandbits(32), self.random.getrandbits(80)])
+                                   *(self.random.getrandbits(bits) for bits in (8, 32, 80))])
 
     def small(self):
         return self.random.choice([0, 1, 1, 2, 2, 3, 4, 5, 8, 15])
@@ -82,8 +82,8 @@ class Any:
             return self.odd()
         curves = "curve" in function or function == "to_powers"
         kinds = {"f": self.curve if curves else self.model, "g": self.curve if curves else self.model, "h": self.model,
-                 "w": self.model, "sheet": self.bytes, "archived": self.bytes, "point": lambda: self.row(self.whole)[:9],
-                 "rows": lambda: self.row(self.reading), "models": lambda: self.row(self.model)[:20],
+                 "w": self.model, "sheet": self.bytes, "archived": self.bytes,
+                 "point": lambda: self.row(self.whole)[:9], "rows": lambda: self.row(self.reading), "models": lambda: self.row(self.model)[:20],
                  "steps": lambda: self.row(self.step), "c0": self.float, "c1": self.float, "c2": self.float}
         if function == "from_doubles":
             return self.float()

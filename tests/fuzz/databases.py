@@ -1,5 +1,5 @@
-"""Both databases with changed sheets and with states that are none, for so many seconds: the real sqlite3 and the server
-that psql finds. usage: databases.py SECONDS [SEED]
+"""Both databases with changed sheets and with states that are none, for so many seconds: the real sqlite3 and the
+server that psql finds. usage: databases.py SECONDS [SEED]
 
 Rows, totals and windows have to be the same in both. What is no state is refused in words, and the server goes on."""
 
@@ -19,8 +19,8 @@ BATCH = 200
 FIELDS = ["accepted", "refused", "nulls", "without_exact", "q", "r", "integral_low", "integral_high"]
 ROWS = "SELECT id, refusal, place, sentence, radius, range_low, range_high, integral_low, integral_high, q, r" \
        " FROM log, hechroung_run(sheet) ORDER BY id;"
-WINDOWS = "SELECT id, {} FROM (SELECT id, hechroung_total(sheet) OVER (ORDER BY id ROWS 7 PRECEDING) AS t FROM log) AS w" \
-          " ORDER BY id;"
+WINDOWS = "SELECT id, {} FROM (SELECT id, hechroung_total(sheet) OVER (ORDER BY id ROWS 7 PRECEDING) AS t FROM log)" \
+          " AS windows ORDER BY id;"
 
 
 def asked(command, words):

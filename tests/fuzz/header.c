@@ -1,5 +1,6 @@
 /* The functions that include/hechroung.h writes out: they are not proved. Each input names one and its arguments; null
-   pointers are handed over too. Answers have to be in their form, and ways that lead to the same answer have to agree. */
+   pointers are handed over too. Answers have to be in their form, and ways that lead to the same answer have to
+   agree. */
 #include "input.h"
 
 int LLVMFuzzerTestOneInput(const uint8_t *data, size_t size);
@@ -73,8 +74,8 @@ static void book(struct input *input) {
     }
     number = hechroung_run_models(n, d, models, model_count, steps, step_count, &run, &place);
     model_in_form(number, &run.model);
-    HOLDS(hechroung_shares_models(n, d, models, model_count, steps, step_count, &other, shares, &other_place) == number);
-    HOLDS(place == other_place);
+    written = hechroung_shares_models(n, d, models, model_count, steps, step_count, &other, shares, &other_place);
+    HOLDS(written == number && place == other_place);
     same_summary(&run, &other);
     written = hechroung_write_sheet(n, d, models, model_count, steps, step_count, buffer, sizeof buffer, &length, NULL);
     HOLDS(written <= 17 && (written == 0) == (length > 0));

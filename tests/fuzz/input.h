@@ -27,7 +27,7 @@ static inline uint64_t take(struct input *input, int bytes) {
     return number;
 }
 
-/* Any numbers at all, or rising keys, small coefficients and the n that is asked for, which mostly make a sound model. */
+/* Any numbers at all, or rising keys, small coefficients and the n that is asked for: mostly a sound model. */
 static inline struct hechroung_model take_model(struct input *input, uint8_t n) {
     struct hechroung_model model;
     const uint64_t form = take(input, 1);

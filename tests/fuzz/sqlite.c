@@ -1,5 +1,5 @@
-/* The SQLite extension, compiled into the fuzzer: an input is a row of sheets, each with two bytes of length, in a table.
-   Rows, totals and windows have to be what the library and plain sums say. */
+/* The SQLite extension, compiled into the fuzzer: an input is a row of sheets, each with two bytes of length, in a
+   table. Rows, totals and windows have to be what the library and plain sums say. */
 #include <sqlite3.h>
 
 #include "input.h"
@@ -61,7 +61,8 @@ static void column_is(sqlite3_stmt *row, int column, int there, int64_t number) 
 
 /* Every row of hechroung_run. */
 static void rows(sqlite3 *db) {
-    sqlite3_stmt *row = prepared(db, "SELECT log.sheet, run.*, run.hechroung_sheet FROM log, hechroung_run(sheet) AS run");
+    sqlite3_stmt *row = prepared(db, "SELECT log.sheet, run.*, run.hechroung_sheet "
+                                     "FROM log, hechroung_run(sheet) AS run");
     int status;
     while ((status = sqlite3_step(row)) == SQLITE_ROW) {
         const void *sheet = sqlite3_column_blob(row, 0);
@@ -104,8 +105,9 @@ static void totals_are(sqlite3 *db, const struct sheet_totals *totals) {
 
 /* A window that forgets what left it has the totals of what is in it. */
 static void windows(sqlite3 *db) {
-    sqlite3_stmt *row = prepared(db, "SELECT (SELECT hechroung_total(sheet) FROM log AS near WHERE near.id BETWEEN log.id - 2 "
-                                     "AND log.id), hechroung_total(sheet) OVER (ORDER BY id ROWS 2 PRECEDING) FROM log");
+    sqlite3_stmt *row = prepared(
+        db, "SELECT (SELECT hechroung_total(sheet) FROM log AS near WHERE near.id BETWEEN log.id - 2 AND log.id), "
+            "hechroung_total(sheet) OVER (ORDER BY id ROWS 2 PRECEDING) FROM log");
     int status;
     while ((status = sqlite3_step(row)) == SQLITE_ROW)
         HOLDS(strcmp((const char *)sqlite3_column_text(row, 0), (const char *)sqlite3_column_text(row, 1)) == 0);
@@ -115,10 +117,11 @@ static void windows(sqlite3 *db) {
 
 /* A text among the sheets is an error, in both. */
 static void refused(sqlite3 *db) {
-    HOLDS(sqlite3_exec(db, "SELECT hechroung_total(sheet) FROM log", NULL, NULL, NULL) == SQLITE_ERROR);
-    HOLDS(sqlite3_exec(db, "SELECT refusal FROM log, hechroung_run(sheet)", NULL, NULL, NULL) == SQLITE_ERROR);
-    HOLDS(sqlite3_exec(db, "SELECT hechroung_total(sheet) OVER (ORDER BY id ROWS 1 PRECEDING) FROM log", NULL, NULL, NULL) ==
-          SQLITE_ERROR);
+    static const char *const statements[] = {
+        "SELECT hechroung_total(sheet) FROM log", "SELECT refusal FROM log, hechroung_run(sheet)",
+        "SELECT hechroung_total(sheet) OVER (ORDER BY id ROWS 1 PRECEDING) FROM log"};
+    for (size_t i = 0; i < sizeof statements / sizeof statements[0]; i++)
+        HOLDS(sqlite3_exec(db, statements[i], NULL, NULL, NULL) == SQLITE_ERROR);
 }
 
 int LLVMFuzzerTestOneInput(const uint8_t *data, size_t size) {

@@ -6,8 +6,8 @@ usage: log.py hostile           sheets that are none, with what is expected of t
        log.py answers FILE      the rows that hechroung_run must answer
        log.py totals FILE       the totals that hechroung_total must answer, added up here in whole numbers of any size
 
-A line of FILE is as `compare --answers` prints it: the sheet in hex, the refusal, its place, the radius, the ends of the
-range and of the integral, q and r."""
+A line of FILE is as `compare --answers` prints it: the sheet in hex, the refusal, its place, the radius, the ends of
+the range and of the integral, q and r."""
 
 import sys
 
