@@ -32,6 +32,7 @@ from .limits import (
 from .measuring import measured, measured_curve
 from .models import Model, exponents_of, key_of
 from .numbers import Number, Rounded, exact, outward, rounded, units
+from .proposals import propose
 from .readings import Reading, first_contradicting
 from .results import Ends, Exact, Shares
 from .sheets import Record, lines, open_sheet, read, record, records, rewrite, run, shares
@@ -46,7 +47,7 @@ __all__ = [
     "UNIT", "__version__", "add", "add_curves", "antiderivative", "constant", "cut_range", "evaluate", "exact",
     "exact_integral", "exponents_of", "first_contradicting", "from_doubles", "from_powers", "integral", "key_of",
     "lines", "measured", "measured_curve", "multiply", "multiply_curves", "negate", "negate_curve", "open_sheet",
-    "outward", "quotient", "range_of", "range_of_curve", "read", "record", "records", "restore", "rewrite", "rounded",
-    "run", "run_book", "shares", "shares_book", "store", "substitute", "subtract", "subtract_curves", "sweep",
-    "to_powers", "units", "variable", "write",
+    "outward", "propose", "quotient", "range_of", "range_of_curve", "read", "record", "records", "restore", "rewrite",
+    "rounded", "run", "run_book", "shares", "shares_book", "store", "substitute", "subtract", "subtract_curves",
+    "sweep", "to_powers", "units", "variable", "write",
 ]

@@ -1,9 +1,9 @@
 """How models cross: as numbers and slices on the way over, and back from the slices that a call stores."""
 
-from collections.abc import Sequence
+from collections.abc import Iterable, Mapping, Sequence
 from typing import Any, Protocol
 
-from ._fields import array, i64, size, u8, u32, u64
+from ._fields import array, i64, size, u8, u32, u64, whole
 from .errors import MISUSED, Misused, Refused
 from .limits import MOST_MODELS, MOST_TERMS, MOST_VARIABLES
 from .results import Shares
@@ -11,6 +11,7 @@ from .results import Shares
 Terms = tuple[tuple[int, int], ...]
 
 # What the place of a refusal counts, by the kind of call.
+NOTHING: Mapping[int, str] = {}
 SINGLE = {5: "model"}
 SHEET = {5: "model"} | dict.fromkeys((6, 7, 8, 9, 12), "step")
 CUT = dict.fromkeys((7, 8), "piece")
@@ -29,7 +30,7 @@ class Handed(Protocol):
     def terms(self) -> Terms: ...
 
 
-def check(number: int, place: int, counted: dict[int, str] = {}, shares: Sequence[Shares] = ()) -> None:
+def check(number: int, place: int, counted: Mapping[int, str] = NOTHING, shares: Sequence[Shares] = ()) -> None:
     """Raises what a call's number says."""
     if number == MISUSED:
         raise Misused("the library made no call: a slice is too short, or a code names no call")
@@ -57,12 +58,23 @@ def models_slices(models: Sequence[Handed]) -> tuple[Any, ...]:
             array(i64, (coefficient for _, coefficient in terms), "a coefficient"), len(terms))
 
 
-def point_slice(point: Sequence[Any]) -> tuple[Any, ...]:
-    """All eight coordinates of a point, those that are not given 0."""
-    given = list(point)
+def tested_point(point: Iterable[int]) -> tuple[int, ...]:
+    """The coordinates of a point, at most eight."""
+    given = tuple(whole(i64, coordinate, "a coordinate") for coordinate in point)
     if len(given) > MOST_VARIABLES:
         raise ValueError(f"a point has at most {MOST_VARIABLES} coordinates, and not {len(given)}")
-    return array(i64, given + [0] * (MOST_VARIABLES - len(given)), "a coordinate"), MOST_VARIABLES
+    return given
+
+
+def one_for_each(n: int, point: Sequence[int]) -> None:
+    """A point has a coordinate for each variable: one that was forgotten is not taken for 0."""
+    if len(point) < min(n, MOST_VARIABLES):
+        raise ValueError(f"a point has a coordinate for each of {n} variables, and not {len(point)}")
+
+
+def eight(point: tuple[int, ...]) -> tuple[int, ...]:
+    """All eight coordinates of a tested point: those above n, which are 0, may be left out."""
+    return point + (0,) * (MOST_VARIABLES - len(point))
 
 
 class Answer:
@@ -73,7 +85,7 @@ class Answer:
         self._numbers = (u64 * 4)()
         self.slices = (self._keys, MOST_TERMS, self._coefficients, MOST_TERMS, self._numbers, 4)
 
-    def model(self, number: int, counted: dict[int, str] = SINGLE,
+    def model(self, number: int, counted: Mapping[int, str] = SINGLE,
               shares: Sequence[Shares] = ()) -> tuple[int, int, Terms]:
         """n, radius and terms of an accepted call; a refused one raises."""
         place, n, count, radius = self._numbers

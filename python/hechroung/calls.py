@@ -4,11 +4,11 @@ Numbers are in units of 1/UNIT. The order d comes first where a call takes one, 
 others' answers state the order that their models agree on. A refusal raises Refused.
 """
 
-from collections.abc import Sequence
+from collections.abc import Iterable
 
 from . import _library as library
-from ._fields import i64, u64
-from ._handing import CUT, Answer, check, model_slices, models_slices, point_slice
+from ._fields import array, i64, u64
+from ._handing import CUT, Answer, check, eight, model_slices, models_slices, one_for_each, tested_point
 from .limits import MOST_VARIABLES
 from .models import ADD, MULTIPLY, NEGATE, SUBTRACT, Model, called, tested_model
 from .results import Ends, Exact
@@ -90,15 +90,14 @@ def exact_integral(f: Model) -> Exact:
     return Exact(*_ended(INTEGRAL, f)[2:])
 
 
-def evaluate(f: Model, point: Sequence[int]) -> Ends:
+def evaluate(f: Model, point: Iterable[int]) -> Ends:
     """The ends of the values at a point, in units; it has a coordinate for each variable of f.
 
     Coordinates above n, which are 0, may be left out. numbers.units turns a decimal into units where that is exact.
     """
-    coordinates = list(point)
-    if len(coordinates) < min(tested_model(f).n, MOST_VARIABLES):
-        raise ValueError(f"a point has a coordinate for each of {f.n} variables, and not {len(coordinates)}")
-    return Ends(*_ended(EVALUATE, f, coordinates)[:2])
+    tested = tested_point(point)
+    one_for_each(tested_model(f).n, tested)
+    return Ends(*_ended(EVALUATE, f, tested)[:2])
 
 
 def cut_range(d: int, i: int, k: int, f: Model) -> Ends:
@@ -118,8 +117,8 @@ def _common(f: Model, g: Model) -> int | None:
     return orders.pop() if len(orders) == 1 else None
 
 
-def _ended(code: int, f: Model, point: Sequence[int] = ()) -> tuple[int, ...]:
+def _ended(code: int, f: Model, point: tuple[int, ...] = ()) -> tuple[int, ...]:
     """The two ends, and behind them the exact integral, if it is one."""
-    ends = (i64 * 4)()
-    check(library.ends(code, *model_slices(tested_model(f)), *point_slice(point), ends, 4), 0)
+    coordinates, ends = array(i64, eight(point)), (i64 * 4)()
+    check(library.ends(code, *model_slices(tested_model(f)), coordinates, MOST_VARIABLES, ends, 4), 0)
     return tuple(ends)

@@ -2,7 +2,7 @@
 
 from __future__ import annotations
 
-from collections.abc import Callable
+from collections.abc import Callable, Iterable
 from dataclasses import dataclass
 from typing import Any
 
@@ -25,15 +25,15 @@ class Curve:
     are the calls negate_curve, add_curves, subtract_curves and multiply_curves; none of them takes an order.
     """
 
-    coefficients: tuple[int, ...] = ()
-    radius: int = 0
+    coefficients: tuple[int, ...]
+    radius: int
 
-    def __post_init__(self) -> None:
-        given = tuple(whole(i64, coefficient, "a coefficient") for coefficient in self.coefficients)
+    def __init__(self, coefficients: Iterable[int] = (), radius: int = 0) -> None:
+        given = tuple(whole(i64, coefficient, "a coefficient") for coefficient in coefficients)
         if len(given) > CURVE_PLACES:
             raise ValueError(f"a curve has at most {CURVE_PLACES} coefficients, and not {len(given)}")
         object.__setattr__(self, "coefficients", given + (0,) * (CURVE_PLACES - len(given)))
-        object.__setattr__(self, "radius", whole(u64, self.radius, "a radius"))
+        object.__setattr__(self, "radius", whole(u64, radius, "a radius"))
 
     def __repr__(self) -> str:
         last = max((k for k, coefficient in enumerate(self.coefficients) if coefficient), default=-1)
@@ -102,4 +102,4 @@ def _curved(call: Callable[..., int], *arguments: Any) -> Curve:
     number = call(*arguments, coefficients, CURVE_PLACES, numbers, 2)
     place, radius = numbers
     check(number, place, SINGLE)
-    return Curve(tuple(coefficients), radius)
+    return Curve(coefficients, radius)

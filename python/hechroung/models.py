@@ -31,23 +31,27 @@ def key_of(exponents: int | Iterable[int]) -> int:
         raise ValueError(f"a monomial has at most {MOST_VARIABLES} exponents, and not {len(given)}")
     key = 0
     for exponent in given:
-        if not 0 <= whole(i64, exponent, "an exponent") <= 15:
-            raise ValueError(f"an exponent is 0 to 15, and not {exponent}")
-        key = key << 4 | exponent
+        number = whole(i64, exponent, "an exponent")
+        if not 0 <= number <= MOST_ORDER:
+            raise ValueError(f"an exponent is 0 to {MOST_ORDER}, and not {number}")
+        key = key << 4 | number
     return key << 4 * (MOST_VARIABLES - len(given))
 
 
 def exponents_of(key: int, n: int = MOST_VARIABLES) -> Exponents:
     """The exponents of the first n variables, from a key."""
     tested = whole(u32, key, "a key")
-    return tuple(tested >> 4 * (MOST_VARIABLES - 1 - i) & 15 for i in range(n))
+    return tuple(tested >> 4 * (MOST_VARIABLES - 1 - i) & 15 for i in range(min(n, MOST_VARIABLES)))
 
 
 def tested_order(order: Any) -> int | None:
     """An order that can be stated: 1 to 15, or None for none."""
-    if order is not None and not 1 <= whole(i64, order, "an order") <= MOST_ORDER:
-        raise ValueError(f"an order is 1 to {MOST_ORDER}, and not {order}")
-    return order
+    if order is None:
+        return None
+    number = whole(i64, order, "an order")
+    if not 1 <= number <= MOST_ORDER:
+        raise ValueError(f"an order is 1 to {MOST_ORDER}, and not {number}")
+    return number
 
 
 @dataclass(frozen=True, slots=True, repr=False)
@@ -68,23 +72,26 @@ class Model:
     """
 
     n: int
-    radius: int = 0
-    terms: Terms = ()
-    order: int | None = field(default=None, compare=False)
+    radius: int
+    terms: Terms
+    order: int | None = field(compare=False)
 
-    def __post_init__(self) -> None:
-        pairs = tuple((whole(u32, key, "a key"), whole(i64, c, "a coefficient")) for key, c in self.terms)
-        object.__setattr__(self, "n", whole(u8, self.n, "n"))
-        object.__setattr__(self, "radius", whole(u64, self.radius, "a radius"))
+    def __init__(self, n: int, radius: int = 0, terms: Iterable[tuple[int, int]] = (),
+                 order: int | None = None) -> None:
+        pairs = tuple((whole(u32, key, "a key"), whole(i64, c, "a coefficient")) for key, c in terms)
+        object.__setattr__(self, "n", whole(u8, n, "n"))
+        object.__setattr__(self, "radius", whole(u64, radius, "a radius"))
         object.__setattr__(self, "terms", pairs)
-        object.__setattr__(self, "order", tested_order(self.order))
+        object.__setattr__(self, "order", tested_order(order))
 
     @classmethod
     def of(cls, n: int, coefficients: Mapping[int | Exponents, int], radius: int = 0,
            order: int | None = None) -> Model:
         """A model from coefficients in units by their exponents, in any order; zeros are left away."""
-        terms = sorted((key_of(exponents), coefficient) for exponents, coefficient in coefficients.items())
-        return cls(n, radius, tuple(term for term in terms if term[1] != 0), order)
+        by_key = {key_of(exponents): coefficient for exponents, coefficient in coefficients.items()}
+        if len(by_key) != len(coefficients):
+            raise ValueError("a monomial is named twice: missing exponents count as 0")
+        return cls(n, radius, [(key, by_key[key]) for key in sorted(by_key) if by_key[key] != 0], order)
 
     @property
     def coefficients(self) -> dict[Exponents, int]:

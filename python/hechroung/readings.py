@@ -5,7 +5,7 @@ from dataclasses import dataclass
 
 from . import _library as library
 from ._fields import array, i64, u64, whole
-from ._handing import READINGS, check, model_slices, point_slice
+from ._handing import NOTHING, READINGS, check, eight, model_slices, one_for_each, tested_point
 from .errors import Misused
 from .limits import MOST_READINGS
 from .models import Model, tested_model
@@ -19,11 +19,10 @@ class Reading:
     low: int
     high: int
 
-    def __post_init__(self) -> None:
-        point_slice(self.point)
-        object.__setattr__(self, "point", tuple(whole(i64, given, "a coordinate") for given in self.point))
-        object.__setattr__(self, "low", whole(i64, self.low, "a low value"))
-        object.__setattr__(self, "high", whole(i64, self.high, "a high value"))
+    def __init__(self, point: Iterable[int], low: int, high: int) -> None:
+        object.__setattr__(self, "point", tested_point(point))
+        object.__setattr__(self, "low", whole(i64, low, "a low value"))
+        object.__setattr__(self, "high", whole(i64, high, "a high value"))
 
 
 def first_contradicting(f: Model, rows: Iterable[Reading]) -> int | None:
@@ -33,14 +32,14 @@ def first_contradicting(f: Model, rows: Iterable[Reading]) -> int | None:
     function within f passes through it. Of the others nothing is promised. A row has up to 256 readings.
     """
     # A longer row is handed over by one reading more than there may be, which is refused.
-    given = [_tested(f, row) for row in rows][:MOST_READINGS + 1]
-    points = array(i64, (coordinate for row in given for coordinate in point_slice(row.point)[0]))
+    given = [_tested(tested_model(f), row) for row in rows][:MOST_READINGS + 1]
+    points = array(i64, (coordinate for row in given for coordinate in eight(row.point)))
     lows, highs = array(i64, (row.low for row in given)), array(i64, (row.high for row in given))
     numbers = (u64 * 3)()
-    number = library.readings(*model_slices(tested_model(f)), points, len(points), lows, len(lows),
+    number = library.readings(*model_slices(f), points, len(points), lows, len(lows),
                               highs, len(highs), numbers, 3)
     place, contradicted, reading = numbers
-    check(number, place, {} if number == 15 and len(given) > MOST_READINGS else READINGS)
+    check(number, place, NOTHING if number == 15 and len(given) > MOST_READINGS else READINGS)
     return reading if contradicted else None
 
 
@@ -48,4 +47,5 @@ def _tested(f: Model, row: Reading) -> Reading:
     """A reading with a coordinate for each variable of the model."""
     if not isinstance(row, Reading):
         raise Misused(f"a reading is asked for, and not {row!r}")
+    one_for_each(f.n, row.point)
     return row
