@@ -6,10 +6,10 @@ from hechroung import UNIT, Model, Reading, evaluate, first_contradicting
 
 # The meter and the bench count in steps of 1/1024, which are whole units: nothing is rounded.
 STEP = UNIT // 1024
-# Litres a minute over the pump's setting, within 20 steps, from the data sheet. Keys: x has hex 1000_0000.
+# Litres a minute over the pump's setting, within 20 steps, from the data sheet.
 VALUES = [2970, 666, -410, 82]
 RADIUS = 20
-METER = Model(1, RADIUS * STEP, [(power << 28, STEP * value) for power, value in enumerate(VALUES)])
+METER = Model.of(1, {power: STEP * value for power, value in enumerate(VALUES)}, RADIUS * STEP)
 
 
 def missed(setting, low, high):

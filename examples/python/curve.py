@@ -1,13 +1,17 @@
 """Squares the curve x + 1/2, reads its range and its value at 1/4, runs the same as a sheet, and shows a refusal and a
 misuse."""
 
-from hechroung import UNIT, Misused, Model, Refused
-from hechroung import add, constant, evaluate, lines, multiply, range_of, records, run_book, shares, stepped, variable
+from hechroung import UNIT, Book, Misused, Model, Refused, Step
+from hechroung import add, constant, evaluate, lines, multiply, open_sheet, range_of, records, shares, variable
+
+ORDER = 2
 
 x = variable(1, 1)
 half = constant(1, UNIT // 2)
 total = add(x, half)
-square = multiply(2, total, total)
+square = multiply(ORDER, total, total)
+# The same by operators, with an order that one of the models states.
+assert (x + half).with_order(ORDER) * total == square
 low, high = range_of(square)
 value = evaluate(square, [UNIT // 4])
 
@@ -23,9 +27,10 @@ sheet = bytes.fromhex(
     "01 02 00 04 00 00 4D 4B"
 )
 assert b"".join(records(sheet)) == sheet[:-8]
-assert list(stepped(sheet)) == [("step", record) for record in records(sheet)]
-summary = run_book(1, 2, [], [(2, 0, 0, 1, 0), (1, 0, 0, 0, UNIT // 2), (4, 0, 1, 0, 0), (6, 2, 2, 0, 0)])
-assert (summary.model.terms, summary.range) == (square.terms, range_of(square))
+assert list(open_sheet(sheet)) == [("step", record) for record in records(sheet)]
+book = Book(1, ORDER, [], [Step.variable(1), Step.constant(UNIT // 2), Step.add(0, 1), Step.multiply(2, 2)])
+assert book.sheet() == sheet
+assert (book.run().model, book.run().range) == (square, range_of(square))
 print("sheet of", len(sheet), "bytes")
 print(lines(sheet), end="")
 
@@ -38,8 +43,8 @@ try:
     add(x, Model(9, half.radius, half.terms))
 except Refused as refusal:
     print("refused", refusal.number, refusal.place)
-# The wrapper hands over slices that are long enough; what is not a call is an error all the same.
+# The package hands over slices that are long enough; what is not a call is an error all the same.
 try:
-    multiply(2, x, None)
+    multiply(ORDER, x, None)
 except Misused as misuse:
     print("misused", misuse.number)

@@ -2,11 +2,11 @@
 examples/cuts.md says how to read it."""
 
 import sys
+from fractions import Fraction
 from pathlib import Path
 
 from bands import picture
-from hechroung import UNIT, cut_range, evaluate
-from measured import measured
+from hechroung import UNIT, cut_range, evaluate, measured
 
 DEPTHS = range(7)
 # The order of the substitutions: the degree of the curve.
@@ -28,10 +28,10 @@ def product(*factors):
 
 
 def curve():
-    """(x + 1/2)² (x - 1/4)³ (1 + x/3), known to a thousandth: everything in parts of 768,000."""
-    coefficients = product([1, 2], [1, 2], [-1, 4], [-1, 4], [-1, 4], [3, 1])
-    terms = [(k << 28, 1000 * c) for k, c in enumerate(coefficients)]
-    return measured(1, 768_000, 768, terms)
+    """(x + 1/2)² (x - 1/4)³ (1 + x/3), known to a thousandth."""
+    half, quarter, third = [Fraction(1, 2), 1], [Fraction(-1, 4), 1], [1, Fraction(1, 3)]
+    coefficients = product(half, half, quarter, quarter, quarter, third)
+    return measured(1, dict(enumerate(coefficients)), "0.001")
 
 
 model = curve()

@@ -2,8 +2,7 @@
 
 import math
 
-import hechroung
-from hechroung import Refused, from_doubles, range_of
+from hechroung import Misused, Refused, add, from_doubles, range_of
 
 
 def number(*curve):
@@ -18,8 +17,8 @@ def number(*curve):
 # 4.1 + 0.35 x - 1.25 x² litres a minute, to 0.002
 ours = from_doubles(4.1, 0.35, -1.25, 0.002)
 print("radius", ours.radius)
-for key, coefficient in ours.terms:
-    print("term", key >> 28, coefficient)
+for exponents, coefficient in ours.coefficients.items():
+    print("term", *exponents, coefficient)
 print("range", *range_of(ours))
 
 # A value that is not finite, a negative radius, one that is too large; and minus zero, which is zero.
@@ -28,6 +27,6 @@ print("a negative radius:", number(4.1, 0.35, 0.0, -5e-324))
 print("too large:", number(4.1, 0.35, 0.0, 1e300))
 print("minus zero:", number(4.1, 0.35, 0.0, -0.0))
 try:
-    hechroung.add(None, ours)
-except hechroung.Misused as misused:
+    add(None, ours)
+except Misused as misused:
     print("misused:", misused.number)

@@ -1,18 +1,15 @@
 """A conductivity curve corrected by a temperature curve: the quotient from a proposal, as a single call and as a step,
 then a poorer proposal, a refusal and a misuse. examples/quotient.md says what the lines mean."""
 
-from hechroung import UNIT, Misused, Refused
-from hechroung import evaluate, quotient, range_of, run_book, variable
-from measured import measured
-from propose import propose
+from hechroung import Book, Misused, Refused, Step
+from hechroung import evaluate, measured, propose, quotient, range_of, units, variable
 
 ORDER = 3
 
 # x is the time of the milking, y the milk's temperature. Conductivity in mS/cm, to 0.02; the factor of the temperature,
-# to 0.001; both in thousandths. Keys: x has hex 1000_0000, y hex 0100_0000.
-conductivity = measured(2, 1000, 20, [(0, 5600), (0x0100_0000, 600), (0x1000_0000, 500), (0x1100_0000, 50),
-                                      (0x2000_0000, -200)])
-temperature = measured(2, 1000, 1, [(0, 1240), (0x0100_0000, 60), (0x1000_0000, 10)])
+# to 0.001; by the exponents of x and y.
+conductivity = measured(2, {(0, 0): "5.60", (0, 1): "0.60", (1, 0): "0.50", (1, 1): "0.05", (2, 0): "-0.20"}, "0.02")
+temperature = measured(2, {(0, 0): "1.24", (0, 1): "0.06", (1, 0): "0.01"}, "0.001")
 
 h, w = propose(ORDER, conductivity, temperature)
 corrected = quotient(ORDER, conductivity, temperature, h, w)
@@ -20,17 +17,16 @@ print("conductivity: radius", conductivity.radius)
 print("temperature: radius", temperature.radius)
 print("proposal: h of", len(h.terms), "terms, w of", len(w.terms))
 print("radius", corrected.radius)
-for key, coefficient in corrected.terms:
-    print("term", key >> 28, key >> 24 & 15, coefficient)
+for exponents, coefficient in corrected.coefficients.items():
+    print("term", *exponents, coefficient)
 print("range", *range_of(corrected))
-# A point is in whole units; 5/8 and -1/4 are, where 0.6 and -0.3 would be another point.
-print("at 5/8 -1/4", *evaluate(corrected, [UNIT * 5 // 8, -UNIT // 4]))
+# A point is in whole units; 5/8 and -1/4 are, where 0.6 and -0.3 are refused: they would be another point.
+print("at 5/8 -1/4", *evaluate(corrected, [units("5/8"), units("-1/4")]))
 
-# The same as a step: four inputs, then code 9 with f in a, g in b, step h in v and step w in value.
-inputs = [(0, model, 0, 0, 0) for model in range(4)]
-summary = run_book(2, ORDER, [conductivity, temperature, h, w], [*inputs, (9, 0, 1, 2, 3)])
-assert (summary.model.radius, summary.model.terms) == (corrected.radius, corrected.terms)
-assert summary.range == range_of(corrected)
+# The same as a step: four inputs, then the quotient of the first two with the others as its proposal.
+inputs = [Step.input(model) for model in range(4)]
+summary = Book(2, ORDER, [conductivity, temperature, h, w], [*inputs, Step.quotient(0, 1, 2, 3)]).run()
+assert (summary.model, summary.range) == (corrected, range_of(corrected))
 
 # Without Newton's rule w is a constant. That is a proposal as well, only a poorer one.
 h, w = propose(ORDER, conductivity, temperature, rounds=0)

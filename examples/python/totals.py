@@ -3,33 +3,33 @@ remainders, and how much narrower the band of the total is. examples/totals.md s
 
 from fractions import Fraction
 
-from hechroung import DENOMINATOR, UNIT, Model, run_book
+from hechroung import DENOMINATOR, UNIT, Book, Model, Step
 
 MILKINGS = 2000
 ORDER = 4
 # Minutes from the middle of a milking to its end, where x is 1.
 HALF_TIME = 3
 # The flow times the minutes: the integral of the product is the milk of one milking.
-STEPS = [(0, 0, 0, 0, 0), (1, 0, 0, 0, HALF_TIME * UNIT), (6, 0, 1, 0, 0)]
+STEPS = [Step.input(0), Step.constant(HALF_TIME * UNIT), Step.multiply(0, 1)]
 
 
 def flow(k):
     """Litres a minute of milking k, each a little different. The meter counts in steps of 1/1024, which are whole
-    units: nothing is rounded, and the radius is 0. Keys: x has hex 1000_0000."""
+    units: nothing is rounded, and the radius is 0."""
     values = [2900 + 7 * k % 611, -650 + 13 * k % 301, -2000 - 11 * k % 407, 310 + 5 * k % 97, -40 - 3 * k % 53]
-    return Model(1, 0, [(power << 28, UNIT // 1024 * value) for power, value in enumerate(values)])
+    return Model.of(1, {power: UNIT // 1024 * value for power, value in enumerate(values)})
 
 
 def exact(model):
     """The integral of a polynomial in one variable, as a fraction of units: odd powers give 0."""
-    return sum(Fraction(2 * c, (key >> 28) + 1) for key, c in model.terms if (key >> 28) % 2 == 0)
+    return sum(Fraction(2 * c, power + 1) for (power,), c in model.coefficients.items() if power % 2 == 0)
 
 
 low = high = quotient = remainder = radii = 0
 checked = Fraction(0)
 for k in range(MILKINGS):
-    summary = run_book(1, ORDER, [flow(k)], STEPS)
-    low, high = low + summary.integral[0], high + summary.integral[1]
+    summary = Book(1, ORDER, [flow(k)], STEPS).run()
+    low, high = low + summary.integral.low, high + summary.integral.high
     quotient, remainder = quotient + summary.exact.quotient, remainder + summary.exact.remainder
     radii += summary.model.radius
     checked += exact(summary.model)
