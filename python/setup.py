@@ -1,58 +1,77 @@
-"""Puts the proved library into the package, and names the wheel by the machine that it is for.
+"""Puts the proved library into the package, and names the wheel by the kind of machine that it is for.
 
-The rest stands in pyproject.toml. The library is copied from target/lib of the checkout (tools/library builds it), or
-from the folder that HECHROUNG_LIB names, into what is built and never into the source.
+The rest stands in pyproject.toml. The library is copied from the folder that HECHROUNG_LIB names, or else from
+target/lib of the checkout (tools/library builds it), into what is built and never into the source.
 """
 
+import atexit
 import os
+import re
 import shutil
 import sys
+import tempfile
 from pathlib import Path
 
-from setuptools import setup
+from setuptools import Distribution, setup
 from setuptools.command.build_py import build_py
 
 try:
     from wheel.bdist_wheel import bdist_wheel
 except ImportError:
-    # A fresh venv has setuptools and no wheel; Debian's python3-wheel does without a venv.
+    # A fresh venv has setuptools and no wheel. Debian's python3-wheel is pure Python and serves there too.
     sys.path.append("/usr/lib/python3/dist-packages")
     try:
         from wheel.bdist_wheel import bdist_wheel
     except ImportError:
         sys.exit("the module wheel is missing: install Debian's python3-wheel")
 
-LIBRARY = "libhechroung.so.3"
-CHECKOUT = Path(__file__).resolve().parent.parent
+HERE = Path(__file__).resolve().parent
+LAYOUT = re.search(r"^LAYOUT = (\d+)$", (HERE / "hechroung" / "_library.py").read_text(encoding="utf-8"), re.MULTILINE)
+LIBRARY = f"libhechroung.so.{LAYOUT[1]}"
 
 
 def built_library():
-    folders = [Path(os.environ.get("HECHROUNG_LIB", CHECKOUT / "target" / "lib")), CHECKOUT / "target" / "lib"]
-    for folder in folders:
-        if (folder / LIBRARY).is_file():
-            return folder / LIBRARY
-    sys.exit(f"{LIBRARY} is not found in {folders[0]}: build it with tools/library, or set HECHROUNG_LIB to its folder")
+    folder = Path(os.environ.get("HECHROUNG_LIB") or HERE.parent / "target" / "lib")
+    if not (folder / LIBRARY).is_file():
+        sys.exit(f"{LIBRARY} is not in {folder}: build it with tools/library, or set HECHROUNG_LIB to its folder")
+    return folder / LIBRARY
 
 
 class WithLibrary(build_py):
+    """The modules, and the library beside them; an editable package finds it in the checkout."""
+
     def run(self):
         super().run()
         if not self.editable_mode:
-            shutil.copy(built_library(), Path(self.build_lib) / "hechroung" / LIBRARY)
+            self.copy_file(str(built_library()), self._packed())
 
     def get_outputs(self, include_bytecode=True):
-        return [*super().get_outputs(include_bytecode), str(Path(self.build_lib) / "hechroung" / LIBRARY)]
+        packed = [] if self.editable_mode else [self._packed()]
+        return [*super().get_outputs(include_bytecode), *packed]
+
+    def _packed(self):
+        return str(Path(self.build_lib) / "hechroung" / LIBRARY)
 
 
-class ForThisMachine(bdist_wheel):
-    """Any Python 3, no binary interface of Python's, but this machine's kind."""
+class OfThisMachine(Distribution):
+    """The library is compiled, if not by setuptools: the wheel is for this kind of machine."""
 
-    def finalize_options(self):
-        super().finalize_options()
-        self.root_is_pure = False
+    def has_ext_modules(self):
+        return True
+
+
+class ForAnyPython(bdist_wheel):
+    """The library is no part of Python: the wheel is for any Python 3."""
 
     def get_tag(self):
         return "py3", "none", super().get_tag()[2]
 
 
-setup(cmdclass={"build_py": WithLibrary, "bdist_wheel": ForThisMachine})
+# Built outside the source, and from nothing: a folder that is kept would bring modules that are gone.
+room = tempfile.mkdtemp(prefix="hechroung-")
+atexit.register(shutil.rmtree, room, ignore_errors=True)
+setup(
+    distclass=OfThisMachine,
+    cmdclass={"build_py": WithLibrary, "bdist_wheel": ForAnyPython},
+    options={"build": {"build_base": room}, "egg_info": {"egg_base": room}},
+)

@@ -64,20 +64,20 @@ def rewrite(sheet: bytes) -> bytes:
     return buffer.raw[:length]
 
 
-def record(sheet: bytes, i: int) -> bytes:
-    """The bytes of record i, from 0: each model, then each step; none where there is no such record."""
+def record(sheet: bytes, index: int) -> bytes:
+    """The bytes of one record, from 0: each model, then each step; none where there is no such record."""
     given = data(sheet)
     found = ctypes.create_string_buffer(LONGEST_RECORD)
-    length = library.record(given, len(given), i, found, LONGEST_RECORD)
+    length = library.record(given, len(given), index, found, LONGEST_RECORD)
     return found.raw[:length]
 
 
 def records(sheet: bytes) -> Iterator[bytes]:
     """The bytes of each model and each step; none of a sheet that is refused."""
-    i = 0
-    while found := record(sheet, i):
+    index = 0
+    while found := record(sheet, index):
         yield found
-        i += 1
+        index += 1
 
 
 def open_sheet(sheet: bytes) -> Iterator[Record]:
