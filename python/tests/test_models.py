@@ -108,7 +108,6 @@ def test_numbers_beside_models_are_values(f, d):
     assert stated * Decimal("0.5") == Fraction(1, 2) * stated == multiply(d, f, constant(N, UNIT // 2))
     # 0.1 is no whole number of units: a unit of radius pays.
     assert f + Decimal("0.1") == add(f, Model(N, 1, [(0, 104858)]))
-    assert f * 1 == f if f.order else True
 
 
 def test_orders_are_stated_and_agree():
