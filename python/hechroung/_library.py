@@ -44,7 +44,8 @@ def _exported(name: str, answer: Any, *fields: Any) -> Callable[..., int]:
 
     def tested(*arguments: Any) -> int:
         pairs = zip(fields, arguments, strict=True)
-        return function(*(crossed(field, given) for field, given in pairs))
+        number: int = function(*(crossed(field, given) for field, given in pairs))
+        return number
 
     tested.fields = fields  # type: ignore[attr-defined]
     tested.__name__ = name

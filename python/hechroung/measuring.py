@@ -6,13 +6,14 @@ once: rounded down, a curve at the edge of the error would not be within the mod
 """
 
 from collections.abc import Iterable, Mapping
+from typing import Any
 
 from .curves import Curve
-from .models import Exponents, Model
+from .models import Model
 from .numbers import Number, rounded
 
 
-def measured(n: int, terms: Mapping[int | Exponents, Number], error: Number = 0, order: int | None = None) -> Model:
+def measured(n: int, terms: Mapping[Any, Number], error: Number = 0, order: int | None = None) -> Model:
     """The model of a polynomial in n variables that is known to an error.
 
     Coefficients stand by their exponents, that of variable 1 first: measured(2, {(): "0.2503", (1,): "1.0201",

@@ -85,9 +85,8 @@ class Model:
         object.__setattr__(self, "order", tested_order(order))
 
     @classmethod
-    def of(cls, n: int, coefficients: Mapping[int | Exponents, int], radius: int = 0,
-           order: int | None = None) -> Model:
-        """A model from coefficients in units by their exponents, in any order; zeros are left away."""
+    def of(cls, n: int, coefficients: Mapping[Any, int], radius: int = 0, order: int | None = None) -> Model:
+        """A model from coefficients in units by their exponents, as key_of takes them; zeros are left away."""
         by_key = {key_of(exponents): coefficient for exponents, coefficient in coefficients.items()}
         if len(by_key) != len(coefficients):
             raise ValueError("a monomial is named twice: missing exponents count as 0")

@@ -50,9 +50,9 @@ def _read(text: str) -> Fraction:
 
 
 def _of_decimal(value: Decimal) -> Fraction:
-    if not value.is_finite():
+    _, digits, exponent = value.as_tuple()
+    if not isinstance(exponent, int):
         raise ValueError(f"{value} is not finite")
-    sign, digits, exponent = value.as_tuple()
     if abs(exponent) > MOST_DIGITS or len(digits) > MOST_DIGITS:
         raise ValueError("a number has at most a thousand digits")
     return Fraction(value)
