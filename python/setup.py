@@ -28,6 +28,8 @@ except ImportError:
 HERE = Path(__file__).resolve().parent
 LAYOUT = re.search(r"^LAYOUT = (\d+)$", (HERE / "hechroung" / "_library.py").read_text(encoding="utf-8"), re.MULTILINE)
 LIBRARY = f"libhechroung.so.{LAYOUT[1]}"
+# The command's man page, where the checkout has it.
+MANUAL = Path("..", "docs", "man", "hechroung.1")
 
 
 def built_library():
@@ -72,6 +74,7 @@ room = tempfile.mkdtemp(prefix="hechroung-")
 atexit.register(shutil.rmtree, room, ignore_errors=True)
 setup(
     distclass=OfThisMachine,
+    data_files=[("share/man/man1", [str(MANUAL)])] if (HERE / MANUAL).is_file() else [],
     cmdclass={"build_py": WithLibrary, "bdist_wheel": ForAnyPython},
     options={"build": {"build_base": room}, "egg_info": {"egg_base": room}},
 )
