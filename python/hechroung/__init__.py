@@ -14,6 +14,11 @@ refuses is raised as Refused, with a number, a place and a sentence; a number th
 what is no number, or no model, a TypeError.
 """
 
+import sys
+
+if sys.version_info < (3, 11):
+    raise ImportError(f"hechroung needs Python 3.11 or later, and this is {sys.version.split()[0]}")
+
 from .archive import restore, store
 from .books import Book, Report, Step, Summary, run_book, shares_book, write
 from .calls import (

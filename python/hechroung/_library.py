@@ -47,8 +47,8 @@ def _exported(name: str, answer: Any, *fields: Any) -> Callable[..., int]:
         number: int = function(*(crossed(field, given) for field, given in pairs))
         return number
 
-    tested.fields = fields  # type: ignore[attr-defined]
     tested.__name__ = name
+    tested.answer, tested.fields = answer, fields  # type: ignore[attr-defined]
     return tested
 
 

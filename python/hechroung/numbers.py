@@ -65,6 +65,8 @@ def rounded(values: Iterable[Number], error: Number = 0) -> Rounded:
     ones by at most the radius: no monomial and no Chebyshev polynomial is above 1 there. The radius is the error and
     all that rounding left, summed exactly and rounded up once.
     """
+    if isinstance(values, str):
+        raise TypeError(f"a row of numbers is asked for, and not the text {values!r}")
     units = [exact(value) * UNIT for value in values]
     coefficients = tuple(round(unit) for unit in units)
     paid = sum((abs(unit - c) for unit, c in zip(units, coefficients)), Fraction(0))

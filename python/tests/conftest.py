@@ -1,4 +1,4 @@
-"""How hypothesis runs: the same cases each time, no folder of its own, and no clock, since the gate's machine is busy."""
+"""How hypothesis runs: the same cases each time, no folder of its own, and no clock: the machine may be busy."""
 
 from hypothesis import HealthCheck, settings
 

@@ -77,6 +77,11 @@ def test_whole_units_cost_nothing():
     assert rounded(["0.5", -3, Fraction(1, UNIT)]) == ((UNIT // 2, -3 * UNIT, 1), 0, 0)
 
 
+def test_text_is_no_row_of_numbers():
+    with pytest.raises(TypeError):
+        rounded("123")
+
+
 def test_an_error_is_not_negative():
     with pytest.raises(ValueError, match="at least 0"):
         rounded(["1"], "-0.1")

@@ -1,0 +1,39 @@
+"""The declarations of _library and the numbers of limits, held against include/hechroung.h."""
+
+import re
+from pathlib import Path
+
+from hechroung import _library, errors, limits
+from hechroung._fields import f64, i64, i64s, octets, size, sizes, u8, u32s, u64, u64s
+
+HEADER = (Path(__file__).resolve().parents[2] / "include" / "hechroung.h").read_text(encoding="utf-8")
+FIELDS = {
+    "uint8_t": u8, "uint64_t": u64, "int64_t": i64, "size_t": size, "double": f64, "uint8_t *": octets,
+    "uint32_t *": u32s, "uint64_t *": u64s, "int64_t *": i64s, "size_t *": sizes,
+}
+
+
+def declared() -> dict[str, tuple]:
+    """Of each extern function what it answers and the types of its parameters."""
+    found = re.findall(r"^extern (\w+) (\w+)\(([^)]*)\);", HEADER, re.MULTILINE)
+    return {name: (FIELDS[answer], tuple(map(field, parameters.split(",")))) for answer, name, parameters in found}
+
+
+def field(parameter: str):
+    kind, pointer = re.fullmatch(r"\s*(?:const )?(\w+) (\*?)\w+", parameter).groups()
+    return FIELDS[f"{kind} *" if pointer else kind]
+
+
+def test_functions():
+    exported = [found for found in vars(_library).values() if hasattr(found, "fields")]
+    ours = {function.__name__: (function.answer, function.fields) for function in exported}
+    assert ours == declared()
+    assert len(ours) == HEADER.count("\nextern ") - HEADER.count('\nextern "C"')
+
+
+def test_numbers():
+    """Those that both name, under the header's names."""
+    theirs = {name: int(value) for name, value in re.findall(r"^#define HECHROUNG_(\w+) (\d+)$", HEADER, re.MULTILINE)}
+    ours = {name: value for name, value in vars(limits).items() if name in theirs}
+    ours |= {"ABI": _library.LAYOUT, "MISUSED": errors.MISUSED}
+    assert ours == {name: value for name, value in theirs.items() if name != "LONGEST_TEXT"}
