@@ -1,13 +1,14 @@
 """What calls answer: conversions, cuts, readings, the archive, quotients."""
 
 import doctest
+from fractions import Fraction
 
 import hechroung
 import pytest
 from hechroung import (
-    UNIT, Curve, Model, Reading, antiderivative, cut_range, evaluate, first_contradicting, from_powers, key_of,
-    measured, multiply, propose, quotient, range_of, range_of_curve, restore, store, substitute, to_powers, units,
-    variable,
+    UNIT, Book, Curve, Model, Reading, Refused, Step, antiderivative, constant, cut_range, evaluate, exact_integral,
+    first_contradicting, from_powers, integral, key_of, measured, multiply, propose, quotient, range_of,
+    range_of_curve, restore, store, substitute, subtract, sweep, to_powers, units, variable,
 )
 from hypothesis import given
 from hypothesis import strategies as st
@@ -99,3 +100,44 @@ def test_litres_of_the_guide():
 def test_substitution_and_products():
     x, y = variable(2, 1), variable(2, 2)
     assert substitute(3, 1, multiply(2, x, x), y) == multiply(2, y, y)
+    assert subtract(x, y).coefficients == {(1, 0): UNIT, (0, 1): -UNIT}
+
+
+def test_samples_of_document_01():
+    """Samples 3, 6 to 9, 11 and 12, with ties to even, by single calls."""
+    x, half = variable(1, 1), constant(1, UNIT // 2)
+    assert constant(1, 0) == Model(1) and integral(Model(1)) == (0, 0) == range_of(Model(1))
+    assert multiply(1, constant(1, 1), half) == Model(1, 1)
+    assert multiply(1, constant(1, -1), half) == Model(1, 1)
+    assert multiply(1, Model(1, 2), Model(1, 3)) == Model(1, 1)
+    assert substitute(2, 1, multiply(2, x, x), half) == constant(1, UNIT // 4)
+    line = Model.of(1, {0: 5, 1: 3})
+    assert sweep(line, 3) == Model.of(1, {0: 5}, 3) and sweep(line, 2) == line
+    square = Model.of(1, {2: -1})
+    assert integral(square) == (-1, 0)
+    assert exact_integral(square).units == Fraction(-2, 3)
+    assert antiderivative(3, 1, Model.of(1, {2: 6})) == Model.of(1, {3: 2})
+
+
+fields = st.builds(
+    Model, st.one_of(st.integers(0, 9), st.just(255)), st.one_of(st.integers(0, 2 ** 31), st.just(2 ** 64 - 1)),
+    st.lists(st.tuples(st.integers(0, 2 ** 32 - 1), st.integers(-2 ** 63, 2 ** 63 - 1)), max_size=66))
+CALLS = [
+    lambda f, g, d, i: hechroung.negate(f), lambda f, g, d, i: hechroung.add(f, g),
+    lambda f, g, d, i: multiply(d, f, g), lambda f, g, d, i: substitute(d, i, f, g),
+    lambda f, g, d, i: quotient(d, f, g, g, f), lambda f, g, d, i: antiderivative(d, i, f),
+    lambda f, g, d, i: sweep(f, i), lambda f, g, d, i: range_of(f), lambda f, g, d, i: integral(f),
+    lambda f, g, d, i: evaluate(f, [d] * 8), lambda f, g, d, i: cut_range(d, i, i, f),
+    lambda f, g, d, i: from_powers(f), lambda f, g, d, i: store(f),
+    lambda f, g, d, i: first_contradicting(f, [Reading([d] * 8, i, i)]),
+    lambda f, g, d, i: Book(i, d, [f, g], [Step.input(0)]).run(),
+]
+
+
+@given(st.one_of(fields, models), st.one_of(fields, models), st.integers(0, 255), st.integers(0, 255))
+def test_whatever_fits_is_answered_or_refused(f, g, d, i):
+    for call in CALLS:
+        try:
+            call(f, g, d, i)
+        except Refused as refusal:
+            assert 1 <= refusal.number <= 17
