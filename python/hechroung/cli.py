@@ -1,0 +1,557 @@
+"""The command `hechroung`: sheets assembled, listed, run, drawn, held against readings, archived.
+
+Exit status: 0 where everything is accepted, 1 where something is refused or a reading contradicts, 2 for a usage error,
+a file that cannot be read or written, or a module that is missing.
+"""
+
+from __future__ import annotations
+
+import argparse
+import json
+import os
+import sys
+from collections.abc import Callable, Sequence
+from fractions import Fraction
+from pathlib import Path
+from typing import Any, TextIO
+
+from . import bench, plot
+from .archive import restore, store
+from .errors import Refused
+from .inputs import STANDARD_INPUT, Loaded, Unfit, content, decoded, load, shown_source
+from .limits import MOST_TERMS
+from .models import Model
+from .numbers import outward
+from .report import Outcome, refused_sentence
+from .text import AssembledSheet, MissingModule, TextError, listed_model, listed_variables, listing, number_of
+from .version import VERSION
+
+ACCEPTED, REFUSED, MISUSED = 0, 1, 2
+MOST_SHOWN_DIGITS = 20
+
+EXAMPLES = """\
+examples:
+  hechroung run bench.sheet                      a report: the result, its range, where each radius came from
+  hechroung assemble bench.sheet -o bench.bin    the bytes of a sheet, from its text
+  hechroung list bench.bin --variables f,t       the text of a sheet, from its bytes
+  hechroung plot band bench.sheet --along f --at t=0.25 -o litres.png
+  hechroung check meter.sheet readings.csv       which readings contradict the curve
+  hechroung archive store meter.sheet -o meter.arc
+
+A file that is missing, or -, is standard input. A sheet is text, bytes, or, in a file whose name ends in .hex, bytes in
+hex. Exit status: 0 accepted; 1 something is refused, or a reading contradicts; 2 a usage error, a file that cannot be
+read, a module that is missing. docs/GUIDE.md is a first hour, docs/SHEETS.md the text form.
+"""
+
+
+class Misuse(Exception):
+    """A usage error that the parser cannot see; a sentence."""
+
+
+# ---- what every command shares
+
+
+class Progress:
+    """On a terminal a line that says how far a row of sheets is."""
+
+    def __init__(self, count: int, stream: TextIO):
+        self.count, self.stream, self.done = count, stream, 0
+        self.shown = count > 1 and stream.isatty()
+
+    def next(self, name: str) -> None:
+        self.done += 1
+        if self.shown:
+            self.write(f"{self.done} of {self.count} sheets: {name}")
+
+    def write(self, words: str) -> None:
+        self.stream.write(f"\r{words[:78]:78}\r")
+        self.stream.flush()
+
+    def end(self) -> None:
+        if self.shown:
+            self.write("")
+
+
+def say(source: str, sentence: str) -> None:
+    """A sentence about an input, on standard error."""
+    print(f"{source}: {sentence}", file=sys.stderr)
+
+
+def notes(loaded: Loaded) -> None:
+    """What the assembler added."""
+    for note in loaded.notes:
+        say(loaded.source, f"note: {note}")
+
+
+def faulty(source: str, fault: Exception, loaded: Loaded | None = None) -> int:
+    """Says why an input is refused."""
+    if isinstance(fault, TextError):
+        print(f"{source}:{fault.line}:{fault.column}: {fault.sentence}\n{fault.pointed()}", file=sys.stderr)
+    elif isinstance(fault, Refused) and loaded is not None:
+        say(source, refused_sentence(loaded, fault))
+    else:
+        say(source, str(fault))
+    return REFUSED
+
+
+def each(paths: Sequence[str], work: Callable[[Loaded], int]) -> int:
+    """Does the work for each sheet, goes on behind one that is refused, and answers the worst status."""
+    progress, worst = Progress(len(paths), sys.stderr), ACCEPTED
+    for path in paths or [STANDARD_INPUT]:
+        progress.next(path)
+        loaded = None
+        try:
+            loaded = load(path)
+            status = work(loaded)
+        except (TextError, Unfit, Refused) as fault:
+            progress.end()
+            status = faulty(shown_source(path), fault, loaded)
+        worst = max(worst, status)
+    progress.end()
+    return worst
+
+
+def one(path: str, work: Callable[[Loaded], int]) -> int:
+    return each([path], work)
+
+
+def ran(loaded: Loaded) -> Outcome:
+    """A sheet that was run and accepted; a refusal is raised."""
+    outcome = Outcome(loaded)
+    if outcome.refusal is not None:
+        raise outcome.refusal
+    return outcome
+
+
+def write_bytes(held: bytes, path: str | None) -> None:
+    if path:
+        Path(path).write_bytes(held)
+    elif sys.stdout.isatty():
+        raise Misuse("bytes are not written to a terminal; name a file with -o, or take --hex")
+    else:
+        sys.stdout.flush()
+        sys.stdout.buffer.write(held)
+        sys.stdout.buffer.flush()
+
+
+def write_text(text: str, path: str | None) -> None:
+    if path:
+        Path(path).write_text(text, encoding="utf-8")
+    else:
+        sys.stdout.write(text)
+
+
+def names_of(words: str) -> list[str]:
+    return words.replace(",", " ").split()
+
+
+def known(loaded: Loaded, name: str) -> str:
+    """A variable of a sheet."""
+    if name not in loaded.variables:
+        raise Misuse(f"'{name}' is no variable; those of {loaded.source} are {', '.join(loaded.variables)}")
+    return name
+
+
+# ---- assemble and list
+
+
+def do_assemble(arguments: argparse.Namespace) -> int:
+    if len(arguments.files) > 1 and not arguments.directory:
+        raise Misuse("several sheets are written into a folder; name it with --directory")
+    if arguments.directory and arguments.output:
+        raise Misuse("either --output or --directory says where to write")
+
+    def work(loaded: Loaded) -> int:
+        if not isinstance(loaded.sheet, AssembledSheet):
+            raise Unfit("this is no text, but bytes; 'hechroung list' makes text of them")
+        notes(loaded)
+        held = hex_text(loaded) if arguments.hex else loaded.sheet
+        suffix = ".hex" if arguments.hex else ".bin"
+        target = arguments.output
+        if arguments.directory:
+            target = str(Path(arguments.directory, Path(loaded.source).with_suffix(suffix).name))
+        if isinstance(held, str):
+            write_text(held, target)
+        else:
+            write_bytes(held, target)
+        return ACCEPTED
+
+    return each(arguments.files, work)
+
+
+def hex_text(loaded: Loaded) -> str:
+    """The sheet in the .hex notation: a line for each record, with its name as a comment."""
+    from .sheets import open_sheet
+
+    names = [*(f"model {name}" for name in loaded.models), *(f"step {name}" for name in loaded.steps)]
+    rows = [(record.data, name) for record, name in zip(open_sheet(loaded.sheet), names)]
+    rows.append((loaded.sheet[-8:], "n, order, counts of models and steps, offset of the first step, mark"))
+    return "".join(f"{held.hex(' ').upper()}   # {name}\n" for held, name in rows)
+
+
+def do_list(arguments: argparse.Namespace) -> int:
+    def work(loaded: Loaded) -> int:
+        names = names_of(arguments.variables) or loaded.variables
+        if len(arguments.files) > 1:
+            print(f"# {loaded.source}")
+        sys.stdout.write(listing(loaded.sheet, listed_names(loaded, names), not arguments.plain))
+        return ACCEPTED
+
+    return each(arguments.files, work)
+
+
+def listed_names(loaded: Loaded, names: Sequence[str]) -> list[str]:
+    """Names for the variables of a sheet; which it has is not known where it is refused."""
+    try:
+        return listed_variables(len(loaded.variables) or 1, names)
+    except ValueError as fault:
+        raise Misuse(f"{loaded.source}: {fault}") from None
+
+
+# ---- run
+
+
+def do_run(arguments: argparse.Namespace) -> int:
+    reports: list[str] = []
+
+    def work(loaded: Loaded) -> int:
+        outcome = Outcome(loaded)
+        if arguments.json:
+            print(json.dumps(outcome.data(arguments.digits), ensure_ascii=False))
+        else:
+            notes(loaded)
+            sys.stderr.flush()
+            # A blank line parts the reports of several sheets.
+            print("\n" * bool(reports) + outcome.text(arguments.digits), end="")
+        reports.append(loaded.source)
+        sys.stdout.flush()
+        return ACCEPTED if outcome.refusal is None else REFUSED
+
+    if not arguments.json:
+        return each(arguments.files, work)
+    return each_as_json(arguments.files, work)
+
+
+def each_as_json(paths: Sequence[str], work: Callable[[Loaded], int]) -> int:
+    """The same, with an object also for what is no sheet."""
+    worst = ACCEPTED
+    for path in paths or [STANDARD_INPUT]:
+        try:
+            status = work(load(path))
+        except TextError as fault:
+            held = {"line": fault.line, "column": fault.column, "sentence": fault.sentence}
+            status = unfit_as_json(path, held)
+        except Unfit as fault:
+            status = unfit_as_json(path, {"sentence": str(fault)})
+        worst = max(worst, status)
+    return worst
+
+
+def unfit_as_json(path: str, error: dict[str, Any]) -> int:
+    print(json.dumps({"sheet": shown_source(path), "accepted": False, "error": error}, ensure_ascii=False))
+    return REFUSED
+
+
+# ---- plot
+
+
+def do_plot(arguments: argparse.Namespace) -> int:
+    try:
+        plot.tested_suffix(arguments.output)
+    except ValueError as fault:
+        raise Misuse(str(fault)) from None
+
+    def work(loaded: Loaded) -> int:
+        notes(loaded)
+        data = plotted(arguments, ran(loaded))
+        plot.save(data, arguments.output)
+        if arguments.data:
+            Path(arguments.data).write_text(json.dumps(data, ensure_ascii=False, indent=1) + "\n", encoding="utf-8")
+        return ACCEPTED
+
+    return one(arguments.file, work)
+
+
+def plotted(arguments: argparse.Namespace, outcome: Outcome) -> dict[str, Any]:
+    """The data of the picture that is asked for."""
+    loaded = outcome.loaded
+    if arguments.picture == "shares":
+        return plot.shares_data(outcome)
+    along = known(loaded, arguments.along or loaded.variables[0])
+    if arguments.picture == "depths":
+        return plot.depths_data(outcome, along, arguments.columns)
+    return plot.band_data(outcome, along, fixed(loaded, along, arguments.at), arguments.columns)
+
+
+def fixed(loaded: Loaded, along: str, given: Sequence[str]) -> dict[str, Fraction]:
+    """The values of all variables but the one along which is drawn; 0 where none is given."""
+    values = {name: Fraction(0) for name in loaded.variables if name != along}
+    for words in given:
+        name, equal, number = words.partition("=")
+        if not equal:
+            raise Misuse(f"'{words}' is no value; write --at {name}=0.25")
+        if known(loaded, name) == along:
+            raise Misuse(f"'{name}' is the variable along which the band is drawn, and has no value")
+        try:
+            values[name] = number_of(number)
+        except ValueError as fault:
+            raise Misuse(str(fault)) from None
+        if abs(values[name]) > 1:
+            raise Misuse(f"{words} leaves the box, -1 to 1")
+    return values
+
+
+# ---- check
+
+
+def do_check(arguments: argparse.Namespace) -> int:
+    if arguments.curve == arguments.readings == STANDARD_INPUT:
+        raise Misuse("the curve and the readings cannot both be standard input")
+
+    def work(loaded: Loaded) -> int:
+        notes(loaded)
+        model = ran(loaded).summary.model
+        source = shown_source(arguments.readings)
+        try:
+            log = bench.read_log(decoded(content(arguments.readings)), loaded.variables)
+        except Unfit as fault:
+            return faulty(source, fault)
+        found = list(bench.contradictions(model, log))
+        (say_as_json if arguments.json else say_found)(loaded, source, log, found, arguments.digits)
+        return REFUSED if found else ACCEPTED
+
+    return one(arguments.curve, work)
+
+
+def say_found(loaded: Loaded, source: str, log: Sequence[bench.LogReading], found: Sequence[bench.Contradiction],
+              digits: int) -> None:
+    print(f"{source}: {counted(len(log), 'reading')} held against '{loaded.result}' of {loaded.source}")
+    for reading, ends in found:
+        point = ", ".join(f"{name} = {shown_number(value)}" for name, value in zip(loaded.variables, reading.point))
+        read = f"{shown_number(reading.low)} to {shown_number(reading.high)}"
+        low, high = outward(*ends, digits)
+        print(f"line {reading.line}: at {point} it read {read}, and the curve lies from {low:f} to {high:f}")
+    if found:
+        print(f"{counted(len(found), 'reading contradicts', 'readings contradict')} the curve: no function within it passes "
+              "through there")
+    others = len(log) - len(found)
+    if others:
+        print(f"of {'the other ' if found else ''}{counted(others, 'reading')} none contradicts")
+
+
+def say_as_json(loaded: Loaded, source: str, log: Sequence[bench.LogReading], found: Sequence[bench.Contradiction],
+                digits: int) -> None:
+    rows = [{"line": reading.line, "point": [str(value) for value in reading.point],
+             "read": [str(reading.low), str(reading.high)], "curve": list(ends)} for reading, ends in found]
+    print(json.dumps({"readings": source, "sheet": loaded.source, "curve": loaded.result, "count": len(log),
+                      "contradicting": rows}, ensure_ascii=False))
+
+
+def counted(count: int, what: str, several: str = "") -> str:
+    return f"{count} {what}" if count == 1 else f"{count} {several or what + 's'}"
+
+
+def shown_number(value: Fraction) -> str:
+    """A number exactly: as a decimal where it is one, else as a fraction."""
+    for digits in range(MOST_SHOWN_DIGITS + 1):
+        if (value * 10 ** digits).denominator == 1:
+            return f"{value.numerator * 10 ** digits // value.denominator / 10 ** digits:.{digits}f}"
+    return str(value)
+
+
+# ---- archive
+
+
+def do_store(arguments: argparse.Namespace) -> int:
+    def work(loaded: Loaded) -> int:
+        notes(loaded)
+        model = ran(loaded).summary.model
+        try:
+            held = store(model)
+        except Refused as refusal:
+            say(loaded.source, f"the archive refuses '{loaded.result}': {refusal.sentence}")
+            return REFUSED
+        write_bytes(held, arguments.output)
+        return ACCEPTED
+
+    return one(arguments.file, work)
+
+
+def do_restore(arguments: argparse.Namespace) -> int:
+    source, held = shown_source(arguments.file), content(arguments.file)
+    try:
+        whole = restore(held)
+        model = restore(held, arguments.terms)
+    except Refused as refusal:
+        return faulty(source, refusal)
+    left_out = sum(abs(c) for _, c in whole.terms) - sum(abs(c) for _, c in model.terms)
+    if left_out and arguments.band:
+        model = Model(model.n, model.radius + left_out, model.terms)
+    elif left_out:
+        sizes = f"{outward(0, left_out, 6)[1]:f}"
+        say(source, f"WARNING: {len(whole.terms) - len(model.terms)} of {len(whole.terms)} terms are left out, and their "
+                    f"sizes, {sizes} in all, are not in the radius: this is no band around the curve (--band adds them)")
+    try:
+        names = listed_variables(model.n, names_of(arguments.variables))
+    except ValueError as fault:
+        raise Misuse(f"{source}: {fault}") from None
+    lines = [f"variables {' '.join(names)}", f"order {max(model.degree, 1)}", *listed_model("curve", model, names)]
+    write_text("\n".join([*lines, "result = curve"]) + "\n", arguments.output)
+    return ACCEPTED
+
+
+# ---- the parser
+
+
+def digits(word: str) -> int:
+    number = int(word)
+    if not 0 <= number <= MOST_SHOWN_DIGITS:
+        raise argparse.ArgumentTypeError(f"digits are 0 to {MOST_SHOWN_DIGITS}, and not {word}")
+    return number
+
+
+def columns(word: str) -> int:
+    try:
+        return plot.tested_columns(int(word))
+    except ValueError:
+        raise argparse.ArgumentTypeError(f"columns are a power of two up to {plot.MOST_COLUMNS}, and not {word}") from None
+
+
+def terms(word: str) -> int:
+    number = int(word)
+    if not 0 <= number <= MOST_TERMS:
+        raise argparse.ArgumentTypeError(f"terms are 0 to {MOST_TERMS}, and not {word}")
+    return number
+
+
+def parser() -> argparse.ArgumentParser:
+    """The command line of `hechroung`."""
+    made = argparse.ArgumentParser(
+        prog="hechroung", description="Polynomial models with an error radius, proved: sheets assembled from text, "
+        "listed, run, drawn, held against readings, archived.",
+        epilog=EXAMPLES, formatter_class=argparse.RawDescriptionHelpFormatter)
+    made.add_argument("--version", action="version", version=f"hechroung {VERSION}")
+    commands = made.add_subparsers(metavar="COMMAND", required=True)
+    for add in (add_assemble, add_list, add_run, add_plot, add_check, add_archive):
+        add(commands)
+    return made
+
+
+def command(commands: Any, name: str, does: Callable[[argparse.Namespace], int] | None, about: str,
+            *examples: str) -> argparse.ArgumentParser:
+    shown = "\n".join(["examples:", *(f"  {example}" for example in examples)])
+    made = commands.add_parser(name, help=about, description=about[0].upper() + about[1:] + ".", epilog=shown,
+                               formatter_class=argparse.RawDescriptionHelpFormatter)
+    if does is not None:
+        made.set_defaults(does=does)
+    return made
+
+
+def several_files(made: argparse.ArgumentParser) -> None:
+    made.add_argument("files", nargs="*", metavar="SHEET", help="sheets: text, bytes or .hex; standard input without any")
+
+
+def one_file(made: argparse.ArgumentParser, metavar: str = "SHEET") -> None:
+    made.add_argument("file", nargs="?", default=STANDARD_INPUT, metavar=metavar, help="a file, or standard input")
+
+
+def variables_option(made: argparse.ArgumentParser) -> None:
+    made.add_argument("--variables", default="", metavar="NAMES", help="names for the variables, as f,t")
+
+
+def digits_option(made: argparse.ArgumentParser) -> None:
+    made.add_argument("--digits", type=digits, default=6, metavar="N", help="digits behind the point (6)")
+
+
+def add_assemble(commands: Any) -> None:
+    made = command(commands, "assemble", do_assemble, "make the bytes of a sheet from its text",
+                   "hechroung assemble bench.sheet -o bench.bin", "hechroung assemble --hex < bench.sheet",
+                   "hechroung assemble --directory sheets *.sheet")
+    several_files(made)
+    made.add_argument("-o", "--output", metavar="FILE", help="where to write; else standard output")
+    made.add_argument("--directory", metavar="FOLDER", help="write each sheet into a folder, as NAME.bin or NAME.hex")
+    made.add_argument("--hex", action="store_true", help="write bytes in hex with comments")
+
+
+def add_list(commands: Any) -> None:
+    made = command(commands, "list", do_list, "write a sheet as text, from which the same bytes are assembled",
+                   "hechroung list bench.bin", "hechroung list bench.bin --variables f,t")
+    several_files(made)
+    variables_option(made)
+    made.add_argument("--plain", action="store_true", help="without comments")
+
+
+def add_run(commands: Any) -> None:
+    made = command(commands, "run", do_run, "run sheets and report the result and where each radius came from",
+                   "hechroung run bench.sheet", "hechroung run --json bench.sheet | python3 -m json.tool",
+                   "hechroung run sheets/*.bin")
+    several_files(made)
+    made.add_argument("--json", action="store_true", help="an object for each sheet, on a line of its own")
+    digits_option(made)
+
+
+def add_plot(commands: Any) -> None:
+    made = command(commands, "plot", do_plot, "draw the band of a result, the shares of radii, or ranges by depth",
+                   "hechroung plot band bench.sheet --along f --at t=0.25 -o litres.png",
+                   "hechroung plot shares bench.sheet -o shares.svg",
+                   "hechroung plot depths bench.sheet --along f -o depths.svg --data depths.json")
+    made.add_argument("picture", choices=["band", "shares", "depths"],
+                      help="band: the result along one variable; shares: where radii came from; depths: its range with "
+                      "one variable cut into 1 to 64 pieces")
+    one_file(made)
+    made.add_argument("-o", "--output", required=True, metavar="FILE", help="the picture, .png or .svg")
+    made.add_argument("--along", metavar="NAME", help="the variable of the axis (the first)")
+    made.add_argument("--at", action="append", default=[], metavar="NAME=NUMBER",
+                      help="the value of another variable (0); once for each")
+    made.add_argument("--columns", type=columns, default=128, metavar="N", help="pieces of the axis, a power of two (128)")
+    made.add_argument("--data", metavar="FILE", help="store what is drawn as JSON, in units")
+
+
+def add_check(commands: Any) -> None:
+    made = command(commands, "check", do_check, "hold readings against the curve that a sheet results in",
+                   "hechroung check meter.sheet readings.csv", "hechroung check meter.sheet - < readings.csv")
+    made.add_argument("curve", metavar="SHEET", help="the sheet whose result is the curve")
+    made.add_argument("readings", metavar="READINGS",
+                      help="a CSV file: a column for each variable, and low and high, or value and error")
+    made.add_argument("--json", action="store_true", help="one object, the ends of the curve in units")
+    digits_option(made)
+
+
+def add_archive(commands: Any) -> None:
+    made = command(commands, "archive", None, "store the result of a sheet in the archive's form, or restore one",
+                   "hechroung archive store meter.sheet -o meter.arc", "hechroung archive restore meter.arc",
+                   "hechroung archive restore meter.arc --terms 3 --band")
+    kinds = made.add_subparsers(metavar="store|restore", required=True)
+    stored = command(kinds, "store", do_store, "store the result of a sheet, of 1 to 4 variables, low degrees first",
+                     "hechroung archive store meter.sheet -o meter.arc")
+    one_file(stored)
+    stored.add_argument("-o", "--output", metavar="FILE", help="where to write; else standard output")
+    restored = command(kinds, "restore", do_restore, "restore an archived model as the text of a sheet",
+                       "hechroung archive restore meter.arc --variables f,t",
+                       "hechroung archive restore meter.arc --terms 3 --band | hechroung run")
+    one_file(restored, "ARCHIVED")
+    restored.add_argument("-o", "--output", metavar="FILE", help="where to write; else standard output")
+    restored.add_argument("--terms", type=terms, default=MOST_TERMS, metavar="N",
+                          help="only the first terms, low degrees first; the others are not in the radius")
+    restored.add_argument("--band", action="store_true", help="add the sizes of terms left out to the radius")
+    variables_option(restored)
+
+
+def main(words: Sequence[str] | None = None) -> int:
+    """Runs the command; its exit status."""
+    for stream in (sys.stdout, sys.stderr):
+        if hasattr(stream, "reconfigure"):
+            stream.reconfigure(encoding="utf-8")
+    arguments = parser().parse_args(words)
+    try:
+        return arguments.does(arguments)
+    except (Misuse, MissingModule) as fault:
+        print(f"hechroung: {fault}", file=sys.stderr)
+        return MISUSED
+    except BrokenPipeError:
+        # Whoever reads has seen enough; nothing is left to flush into the closed pipe.
+        os.dup2(os.open(os.devnull, os.O_WRONLY), sys.stdout.fileno())
+        return MISUSED
+    except OSError as fault:
+        print(f"hechroung: {fault.filename or 'file'}: {fault.strerror}", file=sys.stderr)
+        return MISUSED

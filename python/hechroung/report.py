@@ -1,0 +1,206 @@
+"""A run as a report: decimals rounded outward, where each radius came from, and refusals as sentences with names."""
+
+from __future__ import annotations
+
+from collections.abc import Iterator, Sequence
+from fractions import Fraction
+from typing import Any
+
+from .books import Report, Step, Summary
+from .errors import Refused
+from .inputs import Loaded
+from .limits import UNIT
+from .models import Model, exponents_of
+from .numbers import outward
+from .results import Shares
+from .sheets import read, shares
+from .text import ANTIDERIVATIVE, CONSTANT, DIVIDE, INPUT, SUBSTITUTE, VARIABLE, monomial, wrapped
+
+PARTS = Shares._fields
+MOST_NAME = 24
+
+
+# ---- what holds of a run
+
+
+def fed(steps: Sequence[Step]) -> bool:
+    """Whether a quotient feeds an antiderivative, directly or through other steps."""
+    divided: list[bool] = []
+    for step in steps:
+        inside = any(divided[operand] for operand in operands(step))
+        if step.code == ANTIDERIVATIVE and inside:
+            return True
+        divided.append(inside or step.code == DIVIDE)
+    return False
+
+
+def operands(step: Step) -> list[int]:
+    """The earlier steps that a step names."""
+    code, a, b, v, value = step
+    if code in (INPUT, CONSTANT, VARIABLE):
+        return []
+    if code == DIVIDE:
+        return [a, b, v, value]
+    return [a, b] if 4 <= code <= SUBSTITUTE else [a]
+
+
+def promised(steps: Sequence[Step]) -> tuple[str, str]:
+    """For which inputs the band and the range hold, and for which the integral; README.md names the exceptions."""
+    codes = {step.code for step in steps}
+    if fed(steps):
+        return "nothing is promised: a quotient feeds an antiderivative", "nothing is promised"
+    band = "all polynomials" if ANTIDERIVATIVE in codes else "all functions"
+    integral = "nothing is promised: there is a quotient" if DIVIDE in codes else "all polynomials within the models"
+    return f"{band} within the models", integral
+
+
+# ---- decimals
+
+
+def in_decimals(model: Model, names: Sequence[str], digits: int) -> list[str]:
+    """A model in decimals that holds the one given: each coefficient to the nearest, and the radius pays, rounded up."""
+    scale = Fraction(10 ** digits, UNIT)
+    pieces, paid = [], Fraction(0)
+    for key, coefficient in model.terms:
+        rounded = round(coefficient * scale)
+        paid += abs(coefficient * scale - rounded)
+        if rounded:
+            size = f"{outward(0, abs(rounded) / scale, digits)[1]:f} {monomial(exponents_of(key), names)}".rstrip()
+            sign = "-" if rounded < 0 else "+"
+            pieces.append(f"{sign} {size}" if pieces else f"{sign.strip('+')}{size}")
+    radius = outward(0, model.radius + paid / scale, digits)[1]
+    return [*(pieces or ["0"]), f"± {radius:f}"]
+
+
+def ends(low: int, high: int, digits: int) -> str:
+    down, up = outward(low, high, digits)
+    return f"{down:f} to {up:f}"
+
+
+def percent(part: int, whole: int) -> str:
+    return f"{100 * part / whole:.1f} %" if part else "-"
+
+
+# ---- refusals with names
+
+
+def named_place(loaded: Loaded, refusal: Refused) -> str:
+    """The model or step that a refusal names, in the words of the text."""
+    if refusal.of == "model" and refusal.place < len(loaded.models):
+        return f" at model '{loaded.models[refusal.place]}'"
+    if refusal.of == "step" and refusal.place < len(loaded.steps):
+        line = f", line {loaded.lines[refusal.place]}" if refusal.place < len(loaded.lines) else ""
+        return f" at step '{loaded.steps[refusal.place]}'{line}"
+    return ""
+
+
+def refused_sentence(loaded: Loaded, refusal: Refused) -> str:
+    return f"refused {refusal.number}{named_place(loaded, refusal)}: {refusal.sentence}"
+
+
+# ---- the run
+
+
+class Outcome:
+    """A sheet that was run: what it gave, or its refusal."""
+
+    def __init__(self, loaded: Loaded):
+        self.loaded = loaded
+        self.report: Report | None = None
+        self.refusal: Refused | None = None
+        rows: Sequence[Shares]
+        try:
+            self.report = shares(loaded.sheet)
+            rows = self.report.shares
+        except Refused as refusal:
+            self.refusal, rows = refusal, refusal.shares[:refusal.place]
+        count = loaded.sheet[-5] if len(loaded.sheet) >= 8 else 0
+        self.rows = list(zip(loaded.steps, rows[:count]))
+
+    @property
+    def summary(self) -> Summary:
+        assert self.report is not None
+        return self.report.summary
+
+    # -- as text
+
+    def text(self, digits: int) -> str:
+        lines = [*self.head(), ""]
+        if self.refusal is None:
+            lines += [*self.body(digits), ""]
+        if self.rows:
+            lines += self.table(digits)
+        return "\n".join(lines).rstrip("\n") + "\n"
+
+    def head(self) -> Iterator[str]:
+        if self.refusal is not None:
+            yield f"{self.loaded.source}: {refused_sentence(self.loaded, self.refusal)}"
+            if self.rows:
+                yield "the steps before it:"
+            return
+        sheet = self.loaded.sheet
+        counts = [(sheet[-6], "model"), (sheet[-5], "step")]
+        counted = ", ".join(f"{count} {what}" if count == 1 else f"{count} {what}s" for count, what in counts)
+        yield f"{self.loaded.source}: variables {' '.join(self.loaded.variables)}, order {sheet[-7]}, {counted}"
+
+    def body(self, digits: int) -> Iterator[str]:
+        model, span, integral, _ = self.summary
+        band, area = promised(read(self.loaded.sheet).steps)
+        pieces = in_decimals(model, self.loaded.variables, digits)
+        yield from wrapped(f"{self.loaded.result} =", pieces, "", "    ")
+        yield f"range     {ends(*span, digits)}"
+        yield f"integral  {ends(*integral, digits)}"
+        yield f"radius    {outward(0, model.radius, digits)[1]:f}"
+        if band == area:
+            yield f"for {band}" if band.startswith("all") else band
+            return
+        yield f"radius and range: {'for ' if band.startswith('all') else ''}{band}"
+        yield f"integral: {'for ' if area.startswith('all') else ''}{area}"
+
+    def table(self, digits: int) -> Iterator[str]:
+        """Each step's radius, and what part of it came from where."""
+        names = [cut_name(name) for name, _ in self.rows]
+        width = max(4, *map(len, names))
+        yield f"{'step':{width}}  {'radius':>{digits + 6}}" + "".join(f"{part:>10}" for part in PARTS)
+        for name, (_, row) in zip(names, self.rows):
+            radius = outward(0, sum(row) // UNIT, digits)[1]
+            yield f"{name:{width}}  {radius:>{digits + 6}f}" + "".join(f"{percent(part, sum(row)):>10}" for part in row)
+
+    # -- as data
+
+    def data(self, digits: int) -> dict[str, Any]:
+        """The same as numbers: all in units, but those under "decimals", which are rounded outward."""
+        loaded = self.loaded
+        held: dict[str, Any] = {"sheet": loaded.source, "accepted": self.refusal is None}
+        if self.refusal is not None:
+            refusal = self.refusal
+            name = {"model": loaded.models, "step": loaded.steps}.get(refusal.of, ())[refusal.place:refusal.place + 1]
+            held["refusal"] = {"number": refusal.number, "name": refusal.name, "place": refusal.place, "of": refusal.of,
+                               "named": name[0] if name else "", "sentence": refused_sentence(loaded, refusal)}
+        else:
+            held |= self.result_data(digits)
+        held["steps"] = [{"name": name, "radius": sum(row) // UNIT, "shares": row._asdict()} for name, row in self.rows]
+        held["notes"] = list(loaded.notes)
+        return held
+
+    def result_data(self, digits: int) -> dict[str, Any]:
+        model, span, integral, exact = self.summary
+        loaded = self.loaded
+        band, area = promised(read(loaded.sheet).steps)
+        terms = [{"exponents": exponents_of(key, model.n), "coefficient": value} for key, value in model.terms]
+        pieces = in_decimals(model, loaded.variables, digits)
+        return {
+            "variables": list(loaded.variables), "order": loaded.sheet[-7], "result": loaded.result,
+            "radius": model.radius, "terms": terms, "range": list(span), "integral": list(integral),
+            "exact": exact._asdict() if model.n <= 4 else None, "promised": {"band": band, "integral": area},
+            "decimals": {
+                "model": " ".join(pieces), "radius": f"{outward(0, model.radius, digits)[1]:f}",
+                "range": [f"{end:f}" for end in span.decimals(digits)],
+                "integral": [f"{end:f}" for end in integral.decimals(digits)],
+            },
+        }
+
+
+def cut_name(name: str) -> str:
+    """A name that leaves room for numbers beside it."""
+    return name if len(name) <= MOST_NAME else name[:MOST_NAME - 3] + "..."
