@@ -19,7 +19,7 @@ from . import bench, plot
 from .archive import restore, store
 from .errors import Refused
 from .inputs import STANDARD_INPUT, Loaded, Unfit, content, decoded, load, shown_source
-from .limits import MOST_TERMS
+from .limits import MOST_TERMS, UNIT
 from .models import Model
 from .numbers import outward
 from .report import Outcome, refused_sentence
@@ -28,6 +28,8 @@ from .version import VERSION
 
 ACCEPTED, REFUSED, MISUSED = 0, 1, 2
 MOST_SHOWN_DIGITS = 20
+# The archive holds models of up to four variables.
+MOST_ARCHIVED = 4
 
 EXAMPLES = """\
 examples:
@@ -276,6 +278,8 @@ def plotted(arguments: argparse.Namespace, outcome: Outcome) -> dict[str, Any]:
     """The data of the picture that is asked for."""
     loaded = outcome.loaded
     if arguments.picture == "shares":
+        if not any(sum(row) for _, row in outcome.rows):
+            raise Unfit("every radius is 0, so that there are no shares to draw")
         return plot.shares_data(outcome)
     along = known(loaded, arguments.along or loaded.variables[0])
     if arguments.picture == "depths":
@@ -341,8 +345,9 @@ def say_found(loaded: Loaded, source: str, log: Sequence[bench.LogReading], foun
 
 def say_as_json(loaded: Loaded, source: str, log: Sequence[bench.LogReading], found: Sequence[bench.Contradiction],
                 digits: int) -> None:
-    rows = [{"line": reading.line, "point": [str(value) for value in reading.point],
-             "read": [str(reading.low), str(reading.high)], "curve": list(ends)} for reading, ends in found]
+    rows = [{"line": reading.line, "point": [shown_number(value) for value in reading.point],
+             "read": [shown_number(reading.low), shown_number(reading.high)], "curve": list(ends),
+             "decimals": [f"{end:f}" for end in ends.decimals(digits)]} for reading, ends in found]
     print(json.dumps({"readings": source, "sheet": loaded.source, "curve": loaded.result, "count": len(log),
                       "contradicting": rows}, ensure_ascii=False))
 
@@ -352,10 +357,11 @@ def counted(count: int, what: str, several: str = "") -> str:
 
 
 def shown_number(value: Fraction) -> str:
-    """A number exactly: as a decimal where it is one, else as a fraction."""
+    """A number exactly: as a decimal where it is one of few places, else as a fraction."""
     for digits in range(MOST_SHOWN_DIGITS + 1):
         if (value * 10 ** digits).denominator == 1:
-            return f"{value.numerator * 10 ** digits // value.denominator / 10 ** digits:.{digits}f}"
+            low, _ = outward(value * UNIT, value * UNIT, digits)
+            return f"{low:f}"
     return str(value)
 
 
@@ -366,12 +372,9 @@ def do_store(arguments: argparse.Namespace) -> int:
     def work(loaded: Loaded) -> int:
         notes(loaded)
         model = ran(loaded).summary.model
-        try:
-            held = store(model)
-        except Refused as refusal:
-            say(loaded.source, f"the archive refuses '{loaded.result}': {refusal.sentence}")
-            return REFUSED
-        write_bytes(held, arguments.output)
+        if model.n > MOST_ARCHIVED:
+            raise Unfit(f"'{loaded.result}' has {model.n} variables, and the archive takes models of 1 to {MOST_ARCHIVED}")
+        write_bytes(store(model), arguments.output)
         return ACCEPTED
 
     return one(arguments.file, work)

@@ -42,16 +42,18 @@ def tested_columns(count: int) -> int:
 
 def columns(model: Model, i: int, count: int) -> dict[str, list[int]]:
     """The proved columns of a model along variable i: count equal pieces of -1 to 1, and for each the range with the
-    piece put in, and the radius that is left, which is the half width of the band there."""
+    piece put in, as far as it lies in the range of all, and the radius with the piece put in, which is the half width of
+    the band there."""
     half = UNIT // tested_columns(count)
     own = tuple(int(place == i) for place in range(1, model.n + 1))
     pieces = []
     for j in range(count):
         piece = Model.of(model.n, {(): -UNIT + (2 * j + 1) * half, own: half})
         pieces.append(substitute(MOST_ORDER, i, model, piece))
-    ranges = [range_of(piece) for piece in pieces]
-    return {"edges": [-UNIT + 2 * j * half for j in range(count + 1)], "low": [ends.low for ends in ranges],
-            "high": [ends.high for ends in ranges], "half_width": [piece.radius for piece in pieces]}
+    whole, ranges = range_of(model), [range_of(piece) for piece in pieces]
+    return {"edges": [-UNIT + 2 * j * half for j in range(count + 1)],
+            "low": [max(ends.low, whole.low) for ends in ranges],
+            "high": [min(ends.high, whole.high) for ends in ranges], "half_width": [piece.radius for piece in pieces]}
 
 
 def band_data(outcome: Outcome, along: str, fixed: dict[str, Fraction], count: int) -> dict[str, Any]:

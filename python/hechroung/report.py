@@ -4,7 +4,7 @@ from __future__ import annotations
 
 from collections.abc import Iterator, Sequence
 from fractions import Fraction
-from typing import Any
+from typing import Any, NamedTuple
 
 from .books import Report, Step, Summary
 from .errors import Refused
@@ -44,14 +44,31 @@ def operands(step: Step) -> list[int]:
     return [a, b] if 4 <= code <= SUBSTITUTE else [a]
 
 
-def promised(steps: Sequence[Step]) -> tuple[str, str]:
-    """For which inputs the band and the range hold, and for which the integral; README.md names the exceptions."""
+class Promise(NamedTuple):
+    """For what within the models the band and the range hold, and the integral: "functions", "polynomials" or
+    "nothing". README.md has the rule."""
+
+    band: str
+    integral: str
+
+    def sentence(self) -> str:
+        if self.band == "nothing":
+            return "WARNING: nothing of this is promised, since a quotient feeds an antiderivative"
+        if self.band == self.integral:
+            return f"these hold for all {self.band} within the models"
+        start = f"radius and range hold for all {self.band} within the models"
+        if self.integral == "nothing":
+            return f"{start}; of the integral nothing is promised, since there is a quotient"
+        return f"{start}, the integral for all {self.integral}"
+
+
+def promised(steps: Sequence[Step]) -> Promise:
+    """What is proved of a sheet with these steps."""
     codes = {step.code for step in steps}
     if fed(steps):
-        return "nothing is promised: a quotient feeds an antiderivative", "nothing is promised"
-    band = "all polynomials" if ANTIDERIVATIVE in codes else "all functions"
-    integral = "nothing is promised: there is a quotient" if DIVIDE in codes else "all polynomials within the models"
-    return f"{band} within the models", integral
+        return Promise("nothing", "nothing")
+    return Promise("polynomials" if ANTIDERIVATIVE in codes else "functions",
+                   "nothing" if DIVIDE in codes else "polynomials")
 
 
 # ---- decimals
@@ -78,7 +95,9 @@ def ends(low: int, high: int, digits: int) -> str:
 
 
 def percent(part: int, whole: int) -> str:
-    return f"{100 * part / whole:.1f} %" if part else "-"
+    if not part:
+        return "-"
+    return "< 0.1 %" if 1000 * part < whole else f"{100 * part / whole:.1f} %"
 
 
 # ---- refusals with names
@@ -145,17 +164,12 @@ class Outcome:
 
     def body(self, digits: int) -> Iterator[str]:
         model, span, integral, _ = self.summary
-        band, area = promised(read(self.loaded.sheet).steps)
         pieces = in_decimals(model, self.loaded.variables, digits)
         yield from wrapped(f"{self.loaded.result} =", pieces, "", "    ")
         yield f"range     {ends(*span, digits)}"
         yield f"integral  {ends(*integral, digits)}"
         yield f"radius    {outward(0, model.radius, digits)[1]:f}"
-        if band == area:
-            yield f"for {band}" if band.startswith("all") else band
-            return
-        yield f"radius and range: {'for ' if band.startswith('all') else ''}{band}"
-        yield f"integral: {'for ' if area.startswith('all') else ''}{area}"
+        yield promised(read(self.loaded.sheet).steps).sentence()
 
     def table(self, digits: int) -> Iterator[str]:
         """Each step's radius, and what part of it came from where."""
@@ -186,13 +200,12 @@ class Outcome:
     def result_data(self, digits: int) -> dict[str, Any]:
         model, span, integral, exact = self.summary
         loaded = self.loaded
-        band, area = promised(read(loaded.sheet).steps)
         terms = [{"exponents": exponents_of(key, model.n), "coefficient": value} for key, value in model.terms]
         pieces = in_decimals(model, loaded.variables, digits)
         return {
             "variables": list(loaded.variables), "order": loaded.sheet[-7], "result": loaded.result,
             "radius": model.radius, "terms": terms, "range": list(span), "integral": list(integral),
-            "exact": exact._asdict() if model.n <= 4 else None, "promised": {"band": band, "integral": area},
+            "exact": exact._asdict() if model.n <= 4 else None, "promised": promised(read(loaded.sheet).steps)._asdict(),
             "decimals": {
                 "model": " ".join(pieces), "radius": f"{outward(0, model.radius, digits)[1]:f}",
                 "range": [f"{end:f}" for end in span.decimals(digits)],

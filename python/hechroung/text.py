@@ -492,7 +492,7 @@ def listed_variables(n: int, given: Sequence[str] = ()) -> list[str]:
     """The names for n variables; ValueError where those that are given cannot be."""
     names = list(given) or (["x", "y", "z", "w"] if n <= 4 else [f"x{i + 1}" for i in range(n)])[:n]
     if len(names) != n:
-        raise ValueError(f"there are {n} variables, and {len(names)} names are given")
+        raise ValueError(f"the number of variables is {n}, and {len(names)} names are given")
     for place, name in enumerate(names):
         if not _NAME.fullmatch(name) or name in KEYWORDS or not _fit_for_variable(name):
             raise ValueError(f"'{name}' cannot name a variable")

@@ -13,7 +13,6 @@ writes anew what the commands print; look at the difference before it is stored.
 from __future__ import annotations
 
 import os
-import re
 import shlex
 import subprocess
 import sys
@@ -85,18 +84,19 @@ def run(command: str, expected: list[str], folder: Path) -> list[str]:
 
 def trimmed(lines: list[str]) -> list[str]:
     """Without blank lines at the end."""
-    return re.sub(r"\n+$", "", "\n".join(lines)).split("\n") if lines else []
+    kept = list(lines)
+    while kept and kept[-1] == "":
+        kept.pop()
+    return kept
 
 
 def rerun(block: Block, folder: Path) -> list[str]:
     """The lines of a transcript as they are printed now; blank lines between commands stay."""
     lines: list[str] = []
     for command, expected in commands(block.lines):
-        blank = len(expected) - len([line for line in trimmed(expected) if line or True]) if expected else 0
+        blank = len(expected) - len(trimmed(expected))
         lines += [f"$ {command}", *trimmed(run(command, expected, folder)), *[""] * blank]
-    while lines and lines[-1] == "":
-        lines.pop()
-    return lines
+    return trimmed(lines)
 
 
 def renewed(path: Path, folder: Path) -> str:
