@@ -61,8 +61,8 @@ def _places(line: int, names: Sequence[str], variables: Sequence[str]) -> list[i
     for name in [*variables, *band]:
         if name not in names:
             wanted = ", ".join(variables)
-            raise Unfit(f"line {line}: there is no column '{name}'; the first line names {wanted}, and low and high, or "
-                        "value and error")
+            raise Unfit(f"line {line}: there is no column '{name}'; the first line names {wanted}, and low and high, "
+                        "or value and error")
     return [names.index(name) for name in [*variables, *band]]
 
 

@@ -79,10 +79,11 @@ def say(source: str, sentence: str) -> None:
     print(f"{source}: {sentence}", file=sys.stderr)
 
 
-def notes(loaded: Loaded) -> None:
-    """What the assembler added."""
-    for note in loaded.notes:
+def say_notes(loaded: Loaded, arguments: argparse.Namespace) -> None:
+    """What the assembler added, on standard error."""
+    for note in () if arguments.quiet else loaded.notes:
         say(loaded.source, f"note: {note}")
+    sys.stderr.flush()
 
 
 def faulty(source: str, fault: Exception, loaded: Loaded | None = None) -> int:
@@ -166,7 +167,7 @@ def do_assemble(arguments: argparse.Namespace) -> int:
     def work(loaded: Loaded) -> int:
         if not isinstance(loaded.sheet, AssembledSheet):
             raise Unfit("this is no text, but bytes; 'hechroung list' makes text of them")
-        notes(loaded)
+        say_notes(loaded, arguments)
         held = hex_text(loaded) if arguments.hex else loaded.sheet
         suffix = ".hex" if arguments.hex else ".bin"
         target = arguments.output
@@ -221,8 +222,7 @@ def do_run(arguments: argparse.Namespace) -> int:
         if arguments.json:
             print(json.dumps(outcome.data(arguments.digits), ensure_ascii=False))
         else:
-            notes(loaded)
-            sys.stderr.flush()
+            say_notes(loaded, arguments)
             # A blank line parts the reports of several sheets.
             print("\n" * bool(reports) + outcome.text(arguments.digits), end="")
         reports.append(loaded.source)
@@ -264,11 +264,11 @@ def do_plot(arguments: argparse.Namespace) -> int:
         raise Misuse(str(fault)) from None
 
     def work(loaded: Loaded) -> int:
-        notes(loaded)
+        say_notes(loaded, arguments)
         data = plotted(arguments, ran(loaded))
         plot.save(data, arguments.output)
         if arguments.data:
-            Path(arguments.data).write_text(json.dumps(data, ensure_ascii=False, indent=1) + "\n", encoding="utf-8")
+            write_text(plot.stored(data), arguments.data)
         return ACCEPTED
 
     return one(arguments.file, work)
@@ -313,7 +313,7 @@ def do_check(arguments: argparse.Namespace) -> int:
         raise Misuse("the curve and the readings cannot both be standard input")
 
     def work(loaded: Loaded) -> int:
-        notes(loaded)
+        say_notes(loaded, arguments)
         model = ran(loaded).summary.model
         source = shown_source(arguments.readings)
         try:
@@ -336,8 +336,8 @@ def say_found(loaded: Loaded, source: str, log: Sequence[bench.LogReading], foun
         low, high = outward(*ends, digits)
         print(f"line {reading.line}: at {point} it read {read}, and the curve lies from {low:f} to {high:f}")
     if found:
-        print(f"{counted(len(found), 'reading contradicts', 'readings contradict')} the curve: no function within it passes "
-              "through there")
+        contradict = counted(len(found), "reading contradicts", "readings contradict")
+        print(f"{contradict} the curve: no function within it passes through there")
     others = len(log) - len(found)
     if others:
         print(f"of {'the other ' if found else ''}{counted(others, 'reading')} none contradicts")
@@ -370,10 +370,10 @@ def shown_number(value: Fraction) -> str:
 
 def do_store(arguments: argparse.Namespace) -> int:
     def work(loaded: Loaded) -> int:
-        notes(loaded)
+        say_notes(loaded, arguments)
         model = ran(loaded).summary.model
         if model.n > MOST_ARCHIVED:
-            raise Unfit(f"'{loaded.result}' has {model.n} variables, and the archive takes models of 1 to {MOST_ARCHIVED}")
+            raise Unfit(f"'{loaded.result}' has {model.n} variables, and the archive takes 1 to {MOST_ARCHIVED}")
         write_bytes(store(model), arguments.output)
         return ACCEPTED
 
@@ -391,9 +391,9 @@ def do_restore(arguments: argparse.Namespace) -> int:
     if left_out and arguments.band:
         model = Model(model.n, model.radius + left_out, model.terms)
     elif left_out:
-        sizes = f"{outward(0, left_out, 6)[1]:f}"
-        say(source, f"WARNING: {len(whole.terms) - len(model.terms)} of {len(whole.terms)} terms are left out, and their "
-                    f"sizes, {sizes} in all, are not in the radius: this is no band around the curve (--band adds them)")
+        terms, sizes = len(whole.terms) - len(model.terms), f"{outward(0, left_out, 6)[1]:f}"
+        say(source, f"WARNING: {terms} of {len(whole.terms)} terms are left out, and their sizes, {sizes} in all, are "
+                    "not in the radius: this is no band around the curve (--band adds them)")
     try:
         names = listed_variables(model.n, names_of(arguments.variables))
     except ValueError as fault:
@@ -417,7 +417,8 @@ def columns(word: str) -> int:
     try:
         return plot.tested_columns(int(word))
     except ValueError:
-        raise argparse.ArgumentTypeError(f"columns are a power of two up to {plot.MOST_COLUMNS}, and not {word}") from None
+        most = plot.MOST_COLUMNS
+        raise argparse.ArgumentTypeError(f"columns are a power of two up to {most}, and not {word}") from None
 
 
 def terms(word: str) -> int:
@@ -451,7 +452,8 @@ def command(commands: Any, name: str, does: Callable[[argparse.Namespace], int] 
 
 
 def several_files(made: argparse.ArgumentParser) -> None:
-    made.add_argument("files", nargs="*", metavar="SHEET", help="sheets: text, bytes or .hex; standard input without any")
+    made.add_argument("files", nargs="*", metavar="SHEET",
+                      help="sheets: text, bytes or .hex; standard input without any")
 
 
 def one_file(made: argparse.ArgumentParser, metavar: str = "SHEET") -> None:
@@ -460,6 +462,10 @@ def one_file(made: argparse.ArgumentParser, metavar: str = "SHEET") -> None:
 
 def variables_option(made: argparse.ArgumentParser) -> None:
     made.add_argument("--variables", default="", metavar="NAMES", help="names for the variables, as f,t")
+
+
+def quiet_option(made: argparse.ArgumentParser) -> None:
+    made.add_argument("-q", "--quiet", action="store_true", help="without notes on what the assembler added")
 
 
 def digits_option(made: argparse.ArgumentParser) -> None:
@@ -474,6 +480,7 @@ def add_assemble(commands: Any) -> None:
     made.add_argument("-o", "--output", metavar="FILE", help="where to write; else standard output")
     made.add_argument("--directory", metavar="FOLDER", help="write each sheet into a folder, as NAME.bin or NAME.hex")
     made.add_argument("--hex", action="store_true", help="write bytes in hex with comments")
+    quiet_option(made)
 
 
 def add_list(commands: Any) -> None:
@@ -491,23 +498,42 @@ def add_run(commands: Any) -> None:
     several_files(made)
     made.add_argument("--json", action="store_true", help="an object for each sheet, on a line of its own")
     digits_option(made)
+    quiet_option(made)
 
 
 def add_plot(commands: Any) -> None:
-    made = command(commands, "plot", do_plot, "draw the band of a result, the shares of radii, or ranges by depth",
+    made = command(commands, "plot", None, "draw the band of a result, the shares of radii, or ranges by depth",
                    "hechroung plot band bench.sheet --along f --at t=0.25 -o litres.png",
                    "hechroung plot shares bench.sheet -o shares.svg",
                    "hechroung plot depths bench.sheet --along f -o depths.svg --data depths.json")
-    made.add_argument("picture", choices=["band", "shares", "depths"],
-                      help="band: the result along one variable; shares: where radii came from; depths: its range with "
-                      "one variable cut into 1 to 64 pieces")
+    kinds = made.add_subparsers(metavar="band|shares|depths", required=True)
+    band = picture(kinds, "band", "draw the result along one variable, by proved columns, and the half width of its band",
+                   "hechroung plot band bench.sheet --along f --at t=0.25 -o litres.png")
+    axis_options(band)
+    band.add_argument("--at", action="append", default=[], metavar="NAME=NUMBER",
+                      help="the value of another variable (0); once for each")
+    picture(kinds, "shares", "draw the radius of each step, and where it came from",
+            "hechroung plot shares bench.sheet -o shares.svg")
+    depths = picture(kinds, "depths", "draw the range of the result with one variable cut into 1 to 64 pieces",
+                     "hechroung plot depths bench.sheet --along f -o depths.svg --data depths.json")
+    axis_options(depths)
+
+
+def picture(kinds: Any, name: str, about: str, example: str) -> argparse.ArgumentParser:
+    """A kind of picture, with what all have."""
+    made = command(kinds, name, do_plot, about, example)
+    made.set_defaults(picture=name)
     one_file(made)
     made.add_argument("-o", "--output", required=True, metavar="FILE", help="the picture, .png or .svg")
-    made.add_argument("--along", metavar="NAME", help="the variable of the axis (the first)")
-    made.add_argument("--at", action="append", default=[], metavar="NAME=NUMBER",
-                      help="the value of another variable (0); once for each")
-    made.add_argument("--columns", type=columns, default=128, metavar="N", help="pieces of the axis, a power of two (128)")
     made.add_argument("--data", metavar="FILE", help="store what is drawn as JSON, in units")
+    quiet_option(made)
+    return made
+
+
+def axis_options(made: argparse.ArgumentParser) -> None:
+    made.add_argument("--along", metavar="NAME", help="the variable of the axis (the first)")
+    made.add_argument("--columns", type=columns, default=128, metavar="N",
+                      help="pieces of the axis, a power of two (128)")
 
 
 def add_check(commands: Any) -> None:
@@ -518,6 +544,7 @@ def add_check(commands: Any) -> None:
                       help="a CSV file: a column for each variable, and low and high, or value and error")
     made.add_argument("--json", action="store_true", help="one object, the ends of the curve in units")
     digits_option(made)
+    quiet_option(made)
 
 
 def add_archive(commands: Any) -> None:
@@ -529,6 +556,7 @@ def add_archive(commands: Any) -> None:
                      "hechroung archive store meter.sheet -o meter.arc")
     one_file(stored)
     stored.add_argument("-o", "--output", metavar="FILE", help="where to write; else standard output")
+    quiet_option(stored)
     restored = command(kinds, "restore", do_restore, "restore an archived model as the text of a sheet",
                        "hechroung archive restore meter.arc --variables f,t",
                        "hechroung archive restore meter.arc --terms 3 --band | hechroung run")

@@ -7,6 +7,7 @@ piece put in, so that nothing between samples is left out.
 
 from __future__ import annotations
 
+import json
 from collections.abc import Sequence
 from fractions import Fraction
 from pathlib import Path
@@ -41,9 +42,11 @@ def tested_columns(count: int) -> int:
 
 
 def columns(model: Model, i: int, count: int) -> dict[str, list[int]]:
-    """The proved columns of a model along variable i: count equal pieces of -1 to 1, and for each the range with the
-    piece put in, as far as it lies in the range of all, and the radius with the piece put in, which is the half width of
-    the band there."""
+    """The proved columns of a model along variable i.
+
+    These are equal pieces of -1 to 1, for each the range with the piece put in, as far as it lies in the range of all,
+    and the radius with the piece put in, which is the half width of the band there.
+    """
     half = UNIT // tested_columns(count)
     own = tuple(int(place == i) for place in range(1, model.n + 1))
     pieces = []
@@ -80,6 +83,12 @@ def depths_data(outcome: Outcome, along: str, count: int) -> dict[str, Any]:
     ranges = [cut_range(MOST_ORDER, i, depth, model) for depth in range(MOST_DEPTH + 1)]
     return {"picture": "depths", "result": outcome.loaded.result, "along": along,
             "ranges": [list(ends) for ends in ranges], **columns(model, i, count)}
+
+
+def stored(data: dict[str, Any]) -> str:
+    """The data of a picture as JSON, a line for each name."""
+    lines = [f"{json.dumps(name)}: {json.dumps(held, ensure_ascii=False)}" for name, held in data.items()]
+    return "{\n " + ",\n ".join(lines) + "\n}\n"
 
 
 # ---- pictures

@@ -75,7 +75,7 @@ def promised(steps: Sequence[Step]) -> Promise:
 
 
 def in_decimals(model: Model, names: Sequence[str], digits: int) -> list[str]:
-    """A model in decimals that holds the one given: each coefficient to the nearest, and the radius pays, rounded up."""
+    """A model in decimals that holds this one: each coefficient to the nearest, and the radius, rounded up, pays."""
     scale = Fraction(10 ** digits, UNIT)
     pieces, paid = [], Fraction(0)
     for key, coefficient in model.terms:
@@ -205,7 +205,8 @@ class Outcome:
         return {
             "variables": list(loaded.variables), "order": loaded.sheet[-7], "result": loaded.result,
             "radius": model.radius, "terms": terms, "range": list(span), "integral": list(integral),
-            "exact": exact._asdict() if model.n <= 4 else None, "promised": promised(read(loaded.sheet).steps)._asdict(),
+            "exact": exact._asdict() if model.n <= 4 else None,
+            "promised": promised(read(loaded.sheet).steps)._asdict(),
             "decimals": {
                 "model": " ".join(pieces), "radius": f"{outward(0, model.radius, digits)[1]:f}",
                 "range": [f"{end:f}" for end in span.decimals(digits)],

@@ -316,7 +316,8 @@ class _Assembler:
             times = _SUPERSCRIPTS.get(exponent) or int(exponent[1:]) if exponent else 1
             exponents[self.variable(base) - 1] += times
             if sum(exponents) > self.order:
-                self.refuse(power, f"the degree of this term is at least {sum(exponents)}, and the order is {self.order}")
+                degree = sum(exponents)
+                self.refuse(power, f"the degree of this term is at least {degree}, and the order is {self.order}")
         return tuple(exponents), number
 
     def push_model(self, at: Any, label: str, terms: dict[tuple[int, ...], Fraction], error: Fraction) -> int:
@@ -327,8 +328,8 @@ class _Assembler:
         if len(model.terms) > MOST_TERMS:
             self.refuse(at, f"'{label}' has {len(model.terms)} terms, and a model has at most {MOST_TERMS}")
         if span > SPAN:
-            self.refuse(at, f"the sizes of the terms of '{label}' and its radius sum to {span / UNIT:.2f}, and 1024 is the "
-                            "most; scale the curve down")
+            self.refuse(at, f"the sizes of the terms of '{label}' and its radius sum to {span / UNIT:.2f}, and 1024 is "
+                            "the most; scale the curve down")
         if len(self.models) == MOST_MODELS:
             self.refuse(at, f"'{label}' would be model {MOST_MODELS + 1}, and a sheet has at most {MOST_MODELS} (a "
                             "number that is no whole number of units counts as one)")
@@ -407,8 +408,8 @@ class _Assembler:
     def of_constant(self, tree: Any, sign: Any, token: Any) -> int:
         number = -self.number(token) if sign == "-" else self.number(token)
         if not _is_whole(number):
-            self.refuse(token, f"{token} is no whole number of units (1/1048576); without the word 'constant' it becomes "
-                               "a model with a radius")
+            self.refuse(token, f"{token} is no whole number of units (1/1048576); without the word 'constant' it "
+                               "becomes a model with a radius")
         return self.push(tree, CONSTANT, 0, 0, 0, self.whole_constant(token, number))
 
     def of_variable(self, tree: Any, token: Any) -> int:
@@ -453,7 +454,8 @@ class _Assembler:
         """Makes the last name the result, which is the last step's."""
         if not self.named_steps:
             lines = self.text.rstrip().split("\n")
-            self.refuse_at(len(lines), len(lines[-1]) + 1, "there is no step; a sheet has at least one, such as y = curve")
+            sentence = "there is no step; a sheet has at least one, such as y = curve"
+            self.refuse_at(len(lines), len(lines[-1]) + 1, sentence)
         name, place = list(self.named_steps.items())[-1]
         if place != len(self.steps) - 1:
             at = [tree for tree in statements if tree.data == "step"][-1].children[0]

@@ -147,8 +147,9 @@ def test_a_threshold_is_rounded_down() -> None:
 def test_inexact_numbers_become_models() -> None:
     sheet = of("r = 0.1 * x - 0.1 * y + -0.1\n")
     models = read(sheet).models
-    assert [(model.radius, dict(model.coefficients)) for model in models] == [(1, {(0, 0): 104858}), (1, {(0, 0): -104858})]
-    assert len(sheet.notes) == 2 and "became a model without a name, 104858 units with a radius of 1 unit" in sheet.notes[0]
+    assert [(model.radius, *model.coefficients.values()) for model in models] == [(1, 104858), (1, -104858)]
+    assert len(sheet.notes) == 2
+    assert "became a model without a name, 104858 units with a radius of 1 unit" in sheet.notes[0]
     assert read(of("r = 1e-9\n")).models[0] == read(of("model m = 0 ± 1u\nr = m\n")).models[0]
 
 
@@ -201,6 +202,7 @@ def test_any_letters_are_an_error_with_a_place(text: str) -> None:
 # ---- errors
 
 HEAD = "variables x y\norder 3\n"
+NUMBERS = "numbers are written 0.25, 1e-3, 1/3 or, in whole units, 5u, and a blank stands before a name"
 ERRORS = [
     ("", 1, 1, "the text ends here; 'variables' is expected"),
     ("variables x", 1, 12, "the text ends here; 'order' is expected"),
@@ -228,24 +230,23 @@ ERRORS = [
     (HEAD + "r = constant 0.1\n", 3, 14, "0.1 is no whole number of units (1/1048576); without the word 'constant' it "
      "becomes a model with a radius"),
     (HEAD + "r = 1/0\n", 3, 5, "'1/0' divides by zero"),
-    (HEAD + "r = 1e9999\n", 3, 5, "'1e9999' is no number; numbers are written 0.25, 1e-3, 1/3 or, in whole units, 5u, and "
-     "a blank stands before a name"),
-    (HEAD + "model m = 2x\n", 3, 11, "'2x' is no number; numbers are written 0.25, 1e-3, 1/3 or, in whole units, 5u, and "
-     "a blank stands before a name"),
+    (HEAD + "r = 1e9999\n", 3, 5, "'1e9999' is no number; " + NUMBERS),
+    (HEAD + "model m = 2x\n", 3, 11, "'2x' is no number; " + NUMBERS),
     (HEAD + "r = 0." + "1" * 60 + "\n", 3, 5, "a number has at most 60 letters"),
-    (HEAD + "model m = 0,5 x\n", 3, 12, "',' is not expected here; *, a name, a sign, the end of the line or ± (or +-) is "
-     "expected. Decimals are written with a point"),
-    (HEAD + "r = x y\n", 3, 7, "'y' is not expected here; *, a sign or the end of the line is expected. In a step * stands "
-     "between factors: 0.05 * t"),
-    (HEAD + "r = x^2\n", 3, 6, "'^2' is not expected here; *, a sign or the end of the line is expected. Powers are for "
-     "models; a step multiplies: y * y"),
+    (HEAD + "model m = 0,5 x\n", 3, 12, "',' is not expected here; *, a name, a sign, the end of the line or ± (or +-) "
+     "is expected. Decimals are written with a point"),
+    (HEAD + "r = x y\n", 3, 7, "'y' is not expected here; *, a sign or the end of the line is expected. In a step * "
+     "stands between factors: 0.05 * t"),
+    (HEAD + "r = x^2\n", 3, 6, "'^2' is not expected here; *, a sign or the end of the line is expected. Powers are "
+     "for models; a step multiplies: y * y"),
     (HEAD + "r = x *\n", 3, 8, "the line ends here; (, a name, a number or a sign is expected"),
     (HEAD + "r = x @ y\n", 3, 7, "'@' has no meaning here"),
-    (HEAD + "r = antiderivative x for y\n", 3, 22, "'for' is not expected here; 'in' or a sign is expected. 'for' is a word "
-     "of the text form and names nothing else"),
-    (HEAD + "".join(f"model m{i} = x\n" for i in range(17)) + "r = m0\n", 19, 7, "'m16' would be model 17, and a sheet has at "
-     "most 16 (a number that is no whole number of units counts as one)"),
-    (HEAD + "".join(f"s{i} = variable x\n" for i in range(65)), 67, 7, "a sheet has at most 64 steps, and this needs another"),
+    (HEAD + "r = antiderivative x for y\n", 3, 22, "'for' is not expected here; 'in' or a sign is expected. 'for' is "
+     "a word of the text form and names nothing else"),
+    (HEAD + "".join(f"model m{i} = x\n" for i in range(17)) + "r = m0\n", 19, 7, "'m16' would be model 17, and a sheet "
+     "has at most 16 (a number that is no whole number of units counts as one)"),
+    (HEAD + "".join(f"s{i} = variable x\n" for i in range(65)), 67, 7, "a sheet has at most 64 steps, and this needs "
+     "another"),
 ]
 
 

@@ -1,8 +1,8 @@
 """Transcripts: commands and what they print, run again and compared.
 
 A transcript has lines `$ COMMAND`, each with what the command prints below it, both streams together, and a last line
-`[exit status N]` where that is not 0. `$ cat FILE` for a file that is not there yet makes it: what is printed is what it
-holds. In a Markdown document a transcript is a block indented by four blanks whose first line begins with `$ `; all
+`[exit status N]` where that is not 0. `$ cat FILE` for a file that is not there yet makes it: what is printed is what
+it holds. In a Markdown document a transcript is a block indented by four blanks whose first line begins with `$ `; all
 blocks of a document share one folder.
 
     python3 python/tests/transcripts.py FILE...
