@@ -129,11 +129,10 @@ def contradictions(model: Model, log: Sequence[LogReading]) -> Iterator[Contradi
     """
     found = {*_by_the_call(model, [reading for reading in log if _is_whole(reading)])}
     for reading in log:
-        ends = ends_at(model, reading.point)
-        band = _band(reading)
-        apart = reading.line in found if _is_whole(reading) else band.high < ends.low or ends.high < band.low
-        if apart:
-            yield Contradiction(reading, ends)
+        if reading.line in found or not _is_whole(reading):
+            ends, band = ends_at(model, reading.point), _band(reading)
+            if band.high < ends.low or ends.high < band.low:
+                yield Contradiction(reading, ends)
 
 
 def _is_whole(reading: LogReading) -> bool:

@@ -9,6 +9,7 @@ from __future__ import annotations
 import argparse
 import json
 import os
+import re
 import sys
 from collections.abc import Callable, Sequence
 from fractions import Fraction
@@ -87,7 +88,8 @@ def say_notes(loaded: Loaded, arguments: argparse.Namespace) -> None:
 
 
 def faulty(source: str, fault: Exception, loaded: Loaded | None = None) -> int:
-    """Says why an input is refused."""
+    """Says why an input is refused, on standard error."""
+    sys.stdout.flush()
     if isinstance(fault, TextError):
         print(f"{source}:{fault.line}:{fault.column}: {fault.sentence}\n{fault.pointed()}", file=sys.stderr)
     elif isinstance(fault, Refused) and loaded is not None:
@@ -97,21 +99,43 @@ def faulty(source: str, fault: Exception, loaded: Loaded | None = None) -> int:
     return REFUSED
 
 
-def each(paths: Sequence[str], work: Callable[[Loaded], int]) -> int:
-    """Does the work for each sheet, goes on behind one that is refused, and answers the worst status."""
+def faulty_as_json(source: str, fault: Exception, loaded: Loaded | None = None) -> int:
+    """The same as an object on standard output."""
+    error: dict[str, Any] = {"sentence": str(fault)}
+    if isinstance(fault, TextError):
+        error = {"line": fault.line, "column": fault.column, "sentence": fault.sentence}
+    print(json.dumps({"sheet": source, "accepted": False, "error": error}, ensure_ascii=False))
+    return REFUSED
+
+
+def each(paths: Sequence[str], work: Callable[[Loaded], int], refuse: Callable[..., int] = faulty) -> int:
+    """Does the work for each sheet, goes on behind one that is refused or not there, and answers the worst status."""
     progress, worst = Progress(len(paths), sys.stderr), ACCEPTED
     for path in paths or [STANDARD_INPUT]:
         progress.next(path)
         loaded = None
         try:
             loaded = load(path)
-            status = work(loaded)
-        except (TextError, Unfit, Refused) as fault:
-            progress.end()
-            status = faulty(shown_source(path), fault, loaded)
-        worst = max(worst, status)
+        except OSError as fault:
+            status = unreadable(fault)
+        except (TextError, Unfit) as fault:
+            status = refuse(shown_source(path), fault)
+        worst = max(worst, status if loaded is None else done(loaded, work, refuse))
     progress.end()
     return worst
+
+
+def done(loaded: Loaded, work: Callable[[Loaded], int], refuse: Callable[..., int]) -> int:
+    try:
+        return work(loaded)
+    except (Unfit, Refused) as fault:
+        return refuse(loaded.source, fault, loaded)
+
+
+def unreadable(fault: OSError) -> int:
+    """Says what file cannot be read or written."""
+    print(f"hechroung: {fault.filename or 'file'}: {fault.strerror}", file=sys.stderr)
+    return MISUSED
 
 
 def one(path: str, work: Callable[[Loaded], int]) -> int:
@@ -194,21 +218,20 @@ def hex_text(loaded: Loaded) -> str:
 
 def do_list(arguments: argparse.Namespace) -> int:
     def work(loaded: Loaded) -> int:
-        names = names_of(arguments.variables) or loaded.variables
-        if len(arguments.files) > 1:
-            print(f"# {loaded.source}")
-        sys.stdout.write(listing(loaded.sheet, listed_names(loaded, names), not arguments.plain))
+        names = names_of(arguments.variables) or own_names(loaded)
+        try:
+            listed = listing(loaded.sheet, names, not arguments.plain)
+        except ValueError as fault:
+            raise Misuse(f"{loaded.source}: {fault}") from None
+        sys.stdout.write(f"# {loaded.source}\n{listed}" if len(arguments.files) > 1 else listed)
         return ACCEPTED
 
     return each(arguments.files, work)
 
 
-def listed_names(loaded: Loaded, names: Sequence[str]) -> list[str]:
-    """Names for the variables of a sheet; which it has is not known where it is refused."""
-    try:
-        return listed_variables(len(loaded.variables) or 1, names)
-    except ValueError as fault:
-        raise Misuse(f"{loaded.source}: {fault}") from None
+def own_names(loaded: Loaded) -> Sequence[str]:
+    """The names of a text's variables, where none is one of the listing's for a model or step."""
+    return () if any(re.fullmatch("[ms][0-9]+", name) for name in loaded.variables) else loaded.variables
 
 
 # ---- run
@@ -229,29 +252,7 @@ def do_run(arguments: argparse.Namespace) -> int:
         sys.stdout.flush()
         return ACCEPTED if outcome.refusal is None else REFUSED
 
-    if not arguments.json:
-        return each(arguments.files, work)
-    return each_as_json(arguments.files, work)
-
-
-def each_as_json(paths: Sequence[str], work: Callable[[Loaded], int]) -> int:
-    """The same, with an object also for what is no sheet."""
-    worst = ACCEPTED
-    for path in paths or [STANDARD_INPUT]:
-        try:
-            status = work(load(path))
-        except TextError as fault:
-            held = {"line": fault.line, "column": fault.column, "sentence": fault.sentence}
-            status = unfit_as_json(path, held)
-        except Unfit as fault:
-            status = unfit_as_json(path, {"sentence": str(fault)})
-        worst = max(worst, status)
-    return worst
-
-
-def unfit_as_json(path: str, error: dict[str, Any]) -> int:
-    print(json.dumps({"sheet": shown_source(path), "accepted": False, "error": error}, ensure_ascii=False))
-    return REFUSED
+    return each(arguments.files, work, faulty_as_json if arguments.json else faulty)
 
 
 # ---- plot
@@ -507,7 +508,7 @@ def add_plot(commands: Any) -> None:
                    "hechroung plot shares bench.sheet -o shares.svg",
                    "hechroung plot depths bench.sheet --along f -o depths.svg --data depths.json")
     kinds = made.add_subparsers(metavar="band|shares|depths", required=True)
-    band = picture(kinds, "band", "draw the result along one variable, by proved columns, and the half width of its band",
+    band = picture(kinds, "band", "draw the result along one variable, by proved columns, and its half width",
                    "hechroung plot band bench.sheet --along f --at t=0.25 -o litres.png")
     axis_options(band)
     band.add_argument("--at", action="append", default=[], metavar="NAME=NUMBER",
@@ -584,5 +585,4 @@ def main(words: Sequence[str] | None = None) -> int:
         os.dup2(os.open(os.devnull, os.O_WRONLY), sys.stdout.fileno())
         return MISUSED
     except OSError as fault:
-        print(f"hechroung: {fault.filename or 'file'}: {fault.strerror}", file=sys.stderr)
-        return MISUSED
+        return unreadable(fault)

@@ -8,7 +8,7 @@ from pathlib import Path
 from typing import NamedTuple
 
 from .limits import MOST_MODELS, MOST_STEPS
-from .text import AssembledSheet, assemble, listed_variables
+from .text import AssembledSheet, assemble, listed_names, listed_variables
 
 STANDARD_INPUT = "-"
 # A text has no control letters but blanks and line ends. Every accepted sheet has one: its number of variables, 1 to 8.
@@ -74,9 +74,8 @@ def of_bytes(path: str, sheet: bytes) -> Loaded:
     """Bytes have no names: variables, models and steps have those of the listing."""
     n = sheet[-8] if len(sheet) >= 8 else 0
     variables = tuple(listed_variables(n)) if 1 <= n <= 8 else ()
-    models, steps = (tuple(f"{letter}{i}" for i in range(most + 1)) for letter, most in
-                     (("m", MOST_MODELS), ("s", MOST_STEPS)))
-    return Loaded(shown_source(path), sheet, variables, models, steps, (), ())
+    models, steps = listed_names(MOST_MODELS, MOST_STEPS)
+    return Loaded(shown_source(path), sheet, variables, tuple(models), tuple(steps), (), ())
 
 
 def hex_bytes(text: str) -> bytes:

@@ -14,10 +14,11 @@ from .models import Model, exponents_of
 from .numbers import outward
 from .results import Shares
 from .sheets import read, shares
-from .text import ANTIDERIVATIVE, CONSTANT, DIVIDE, INPUT, SUBSTITUTE, VARIABLE, monomial, wrapped
+from .text import ANTIDERIVATIVE, CONSTANT, DIVIDE, INPUT, SUBSTITUTE, VARIABLE, monomial, step_words, wrapped
 
 PARTS = Shares._fields
 MOST_NAME = 24
+LAST_OF_READING = 6
 
 
 # ---- what holds of a run
@@ -103,18 +104,38 @@ def percent(part: int, whole: int) -> str:
 # ---- refusals with names
 
 
+def left_over(loaded: Loaded, refusal: Refused) -> bool:
+    """Whether bytes are left over between the last model and the first step; the place is then the number of models."""
+    return refusal.of == "model" and refusal.place >= loaded.sheet[-6]
+
+
 def named_place(loaded: Loaded, refusal: Refused) -> str:
     """The model or step that a refusal names, in the words of the text."""
-    if refusal.of == "model" and refusal.place < len(loaded.models):
+    if left_over(loaded, refusal):
+        return " behind the last model"
+    if refusal.of == "model":
         return f" at model '{loaded.models[refusal.place]}'"
-    if refusal.of == "step" and refusal.place < len(loaded.steps):
+    if refusal.of == "step":
         line = f", line {loaded.lines[refusal.place]}" if refusal.place < len(loaded.lines) else ""
-        return f" at step '{loaded.steps[refusal.place]}'{line}"
+        return f" at step '{loaded.steps[refusal.place]}'{line}{made_of(loaded, refusal)}"
     return ""
 
 
+def made_of(loaded: Loaded, refusal: Refused) -> str:
+    """What the refused step computes, with the names of its operands."""
+    if refusal.number <= LAST_OF_READING:
+        return ""
+    operands = [f"({name})" if " " in name else name for name in loaded.steps]
+    words = step_words(read(loaded.sheet).steps[refusal.place], loaded.variables, loaded.models, operands)
+    return f" ({words})"
+
+
 def refused_sentence(loaded: Loaded, refusal: Refused) -> str:
-    return f"refused {refusal.number}{named_place(loaded, refusal)}: {refusal.sentence}"
+    """A refusal with the names of steps and models, why, and what to do."""
+    sentence = refusal.sentence
+    if left_over(loaded, refusal):
+        sentence = "bytes are left over before the first step; mend the offset or the number of models in the trailer"
+    return f"refused {refusal.number}{named_place(loaded, refusal)}: {sentence}"
 
 
 # ---- the run
@@ -132,7 +153,8 @@ class Outcome:
             self.report = shares(loaded.sheet)
             rows = self.report.shares
         except Refused as refusal:
-            self.refusal, rows = refusal, refusal.shares[:refusal.place]
+            # Refusals up to 6 come before any step runs.
+            self.refusal, rows = refusal, refusal.shares[:refusal.place] if refusal.number > LAST_OF_READING else ()
         count = loaded.sheet[-5] if len(loaded.sheet) >= 8 else 0
         self.rows = list(zip(loaded.steps, rows[:count]))
 
@@ -188,9 +210,10 @@ class Outcome:
         held: dict[str, Any] = {"sheet": loaded.source, "accepted": self.refusal is None}
         if self.refusal is not None:
             refusal = self.refusal
-            name = {"model": loaded.models, "step": loaded.steps}.get(refusal.of, ())[refusal.place:refusal.place + 1]
+            names = {"model": loaded.models[:loaded.sheet[-6]], "step": loaded.steps}.get(refusal.of, ())
             held["refusal"] = {"number": refusal.number, "name": refusal.name, "place": refusal.place, "of": refusal.of,
-                               "named": name[0] if name else "", "sentence": refused_sentence(loaded, refusal)}
+                               "named": names[refusal.place] if refusal.place < len(names) else "",
+                               "sentence": refused_sentence(loaded, refusal)}
         else:
             held |= self.result_data(digits)
         held["steps"] = [{"name": name, "radius": sum(row) // UNIT, "shares": row._asdict()} for name, row in self.rows]

@@ -227,7 +227,7 @@ class _Assembler:
             return ". Powers are for models; a step multiplies: y * y"
         if token == ",":
             return ". Decimals are written with a point"
-        if token.type in KEYWORDS or str(token) in KEYWORDS:
+        if str(token) in KEYWORDS:
             return f". '{token}' is a word of the text form and names nothing else"
         if token.type in ("NAME", "NUMBER", "LPAR"):
             return ". In a step * stands between factors: 0.05 * t"
@@ -482,12 +482,19 @@ def listing(sheet: bytes, variables: Sequence[str] = (), comments: bool = True) 
     """
     book = read(sheet)
     names = listed_variables(book.n, variables)
+    models, steps = listed_names(len(book.models), len(book.steps))
     lines = [f"variables {' '.join(names)}", f"order {book.order}"]
-    for number, model in enumerate(book.models):
-        lines += listed_model(f"m{number}", model, names, comments)
-    for number, step in enumerate(book.steps):
-        lines.append(f"s{number} = {_listed_step(step, names)}{_step_comment(step) if comments else ''}")
+    for name, model in zip(models, book.models):
+        lines += listed_model(name, model, names, comments)
+    for name, step in zip(steps, book.steps):
+        comment = _step_comment(step) if comments else ""
+        lines.append(f"{name} = {step_words(step, names, models, steps)}{comment}")
     return "\n".join(lines) + "\n"
+
+
+def listed_names(models: int, steps: int) -> tuple[list[str], list[str]]:
+    """The names of models and steps in a listing."""
+    return [f"m{number}" for number in range(models)], [f"s{number}" for number in range(steps)]
 
 
 def listed_variables(n: int, given: Sequence[str] = ()) -> list[str]:
@@ -544,25 +551,26 @@ def monomial(exponents: Sequence[int], names: Sequence[str]) -> str:
     return " ".join(name if exponent == 1 else f"{name}^{exponent}" for name, exponent in powers)
 
 
-def _listed_step(step: Step, names: Sequence[str]) -> str:
+def step_words(step: Step, variables: Sequence[str], models: Sequence[str], steps: Sequence[str]) -> str:
+    """A step as an expression with these names."""
     code, a, b, v, value = step
     if code == INPUT:
-        return f"input m{a}"
+        return f"input {models[a]}"
     if code == CONSTANT:
         return f"constant {'-' if value < 0 else ''}{shown(abs(value))}"
     if code == VARIABLE:
-        return f"variable {names[v - 1]}"
+        return f"variable {variables[v - 1]}"
     if code == NEGATE:
-        return f"-s{a}"
+        return f"-{steps[a]}"
     if code == SUBSTITUTE:
-        return f"substitute s{b} for {names[v - 1]} in s{a}"
+        return f"substitute {steps[b]} for {variables[v - 1]} in {steps[a]}"
     if code == SWEEP:
-        return f"sweep s{a} at {shown(value)}"
+        return f"sweep {steps[a]} at {shown(value)}"
     if code == DIVIDE:
-        return f"divide s{a} by s{b} proposal s{v}, s{value}"
+        return f"divide {steps[a]} by {steps[b]} proposal {steps[v]}, {steps[value]}"
     if code == ANTIDERIVATIVE:
-        return f"antiderivative s{a} in {names[v - 1]}"
-    return f"s{a} {_OPERATORS[code]} s{b}"
+        return f"antiderivative {steps[a]} in {variables[v - 1]}"
+    return f"{steps[a]} {_OPERATORS[code]} {steps[b]}"
 
 
 def _step_comment(step: Step) -> str:

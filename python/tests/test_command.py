@@ -66,8 +66,8 @@ def test_a_missing_module_is_named(module: str, words: list[str], package: str, 
     done = subprocess.run([sys.executable, "-c", code], cwd=tmp_path, env=settings, capture_output=True, text=True,
                           check=False)
     assert done.returncode == 2
-    assert done.stderr.startswith(f"hechroung: the Python module '{module}' is missing: install Debian's package {package}")
-    assert "/usr/bin/python3" in done.stderr and done.stderr.count("\n") == 1
+    assert done.stderr.startswith(f"hechroung: the Python module '{module}' is missing: install Debian's package ")
+    assert package in done.stderr and "/usr/bin/python3" in done.stderr and done.stderr.count("\n") == 1
 
 
 @pytest.mark.parametrize("words", [["run", "a.bin"], ["run", "--json", "a.bin"], ["list", "a.bin"],
@@ -99,7 +99,8 @@ def test_a_model_in_decimals_holds_the_model(radius: int, values: list[int], dig
     for piece in pieces:
         sign, rest = ("-", piece[1:]) if piece[0] == "-" else ("+", piece.lstrip("+"))
         number, _, monomial = rest.strip().partition(" ")
-        written[{"": 0, "x": 1}.get(monomial) if monomial in ("", "x") else int(monomial[2:])] = number_of(sign + number)
+        power = {"": 0, "x": 1}[monomial] if monomial in ("", "x") else int(monomial[2:])
+        written[power] = number_of(sign + number)
     off = sum(abs(Fraction(value, UNIT) - written[power]) for power, value in enumerate(values))
     least = off + Fraction(radius, UNIT)
     assert least <= number_of(shown.removeprefix("± ")) < least + Fraction(1, 10 ** digits)
@@ -125,7 +126,7 @@ PROMISES = [
     ("a = antiderivative x in x\nr = divide a by 1 proposal x, 1\n", "polynomials", "nothing"),
     ("q = divide x by 1 proposal x, 1\na = q + x\nr = antiderivative a in x\n", "nothing", "nothing"),
     ("q = divide x by 1 proposal x, 1\na = antiderivative q in x\nr = x * x\n", "nothing", "nothing"),
-    ("q = divide x by 1 proposal x, 1\nr = divide x by 1 proposal x, antiderivative 1 in x\n", "polynomials", "nothing"),
+    ("w = antiderivative 1 in x\nr = divide x by 1 proposal x, w\n", "polynomials", "nothing"),
     ("q = divide x by 1 proposal x, 1\ns = divide x by 1 proposal q, 1\nr = antiderivative x in x\n", "polynomials",
      "nothing"),
 ]
@@ -133,9 +134,6 @@ PROMISES = [
 
 @pytest.mark.parametrize("lines, band, integral", PROMISES)
 def test_what_is_promised(lines: str, band: str, integral: str) -> None:
-    lines = lines.replace(", antiderivative 1 in x", ", w").replace("r = divide x by 1 proposal x, w",
-                                                                     "w = antiderivative 1 in x\nr = divide x by 1 "
-                                                                     "proposal x, w")
     steps = read(assemble("variables x\norder 3\n" + lines)).steps
     assert report.promised(steps) == (band, integral)
 
@@ -160,7 +158,7 @@ def test_the_ends_at_a_point_hold_the_values_there(values: list[int], radius: in
 @given(st.lists(st.tuples(coordinates, st.integers(-3, 3), st.integers(0, 2)), max_size=20))
 @settings(max_examples=100)
 def test_contradictions_are_those_that_fractions_show(rows: list[tuple[Fraction, int, int]]) -> None:
-    """A band that is apart from all values by more than the ends' slack contradicts, one that holds a value does not."""
+    """A band that is apart from all values by more than the ends' slack contradicts, one with a value does not."""
     model = Model.of(1, {0: UNIT // 2, 1: UNIT}, UNIT // 4)
     log = [bench.LogReading(line, (x,), Fraction(low, 2), Fraction(low + wide, 2)) for line, (x, low, wide)
            in enumerate(rows)]
@@ -168,7 +166,7 @@ def test_contradictions_are_those_that_fractions_show(rows: list[tuple[Fraction,
     for reading in log:
         middle = Fraction(1, 2) + reading.point[0]
         gap = max(reading.low - middle, middle - reading.high) - Fraction(1, 4)
-        assert gap > Fraction(9, UNIT) or reading.line not in found or gap > 0
+        assert gap > 0 or reading.line not in found
         assert gap < Fraction(9, UNIT) or reading.line in found
 
 

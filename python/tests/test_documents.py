@@ -49,8 +49,8 @@ def test_the_manual_names_every_command_and_option() -> None:
 
 @pytest.mark.skipif(not shutil.which("groff"), reason="groff is not installed")
 def test_the_manual_has_no_warnings() -> None:
-    done = subprocess.run(["groff", "-man", "-ww", "-K", "utf8", "-T", "utf8", str(MANUAL)], capture_output=True, text=True,
-                          check=False)
+    done = subprocess.run(["groff", "-man", "-ww", "-K", "utf8", "-T", "utf8", str(MANUAL)], capture_output=True,
+                          text=True, check=False)
     assert done.returncode == 0 and done.stderr == "" and "hechroung" in done.stdout
 
 
