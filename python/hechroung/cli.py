@@ -192,15 +192,14 @@ def do_assemble(arguments: argparse.Namespace) -> int:
         if not isinstance(loaded.sheet, AssembledSheet):
             raise Unfit("this is no text, but bytes; 'hechroung list' makes text of them")
         say_notes(loaded, arguments)
-        held = hex_text(loaded) if arguments.hex else loaded.sheet
-        suffix = ".hex" if arguments.hex else ".bin"
         target = arguments.output
         if arguments.directory:
+            suffix = ".hex" if arguments.hex else ".bin"
             target = str(Path(arguments.directory, Path(loaded.source).with_suffix(suffix).name))
-        if isinstance(held, str):
-            write_text(held, target)
+        if arguments.hex:
+            write_text(hex_text(loaded), target)
         else:
-            write_bytes(held, target)
+            write_bytes(loaded.sheet, target)
         return ACCEPTED
 
     return each(arguments.files, work)
@@ -445,8 +444,9 @@ def parser() -> argparse.ArgumentParser:
 def command(commands: Any, name: str, does: Callable[[argparse.Namespace], int] | None, about: str,
             *examples: str) -> argparse.ArgumentParser:
     shown = "\n".join(["examples:", *(f"  {example}" for example in examples)])
-    made = commands.add_parser(name, help=about, description=about[0].upper() + about[1:] + ".", epilog=shown,
-                               formatter_class=argparse.RawDescriptionHelpFormatter)
+    made: argparse.ArgumentParser = commands.add_parser(
+        name, help=about, description=about[0].upper() + about[1:] + ".", epilog=shown,
+        formatter_class=argparse.RawDescriptionHelpFormatter)
     if does is not None:
         made.set_defaults(does=does)
     return made
@@ -576,7 +576,8 @@ def main(words: Sequence[str] | None = None) -> int:
             stream.reconfigure(encoding="utf-8")
     arguments = parser().parse_args(words)
     try:
-        return arguments.does(arguments)
+        status: int = arguments.does(arguments)
+        return status
     except (Misuse, MissingModule) as fault:
         print(f"hechroung: {fault}", file=sys.stderr)
         return MISUSED

@@ -78,7 +78,8 @@ def promised(steps: Sequence[Step]) -> Promise:
 def in_decimals(model: Model, names: Sequence[str], digits: int) -> list[str]:
     """A model in decimals that holds this one: each coefficient to the nearest, and the radius, rounded up, pays."""
     scale = Fraction(10 ** digits, UNIT)
-    pieces, paid = [], Fraction(0)
+    pieces: list[str] = []
+    paid = Fraction(0)
     for key, coefficient in model.terms:
         rounded = round(coefficient * scale)
         paid += abs(coefficient * scale - rounded)

@@ -63,8 +63,8 @@ _NEWLINE: /([ \t]*(#[^\n]*)?\r?\n)+/
 %ignore /[ \t]+|\\[ \t]*\r?\n/
 """
 KEYWORDS = frozenset(re.findall(r'"([a-z]+)"', GRAMMAR))
-_NUMBER = re.compile(re.search(r"^NUMBER: /(.*)/$", GRAMMAR, re.MULTILINE)[1])
-_NAME = re.compile(re.search(r"^NAME: /(.*)/$", GRAMMAR, re.MULTILINE)[1])
+_TERMINALS = dict(re.findall(r"^([A-Z]+): /(.*)/$", GRAMMAR, re.MULTILINE))
+_NUMBER, _NAME = re.compile(_TERMINALS["NUMBER"]), re.compile(_TERMINALS["NAME"])
 
 # The codes of steps, as docs/SHEETS.md has them.
 INPUT, CONSTANT, VARIABLE, NEGATE, ADD, SUBTRACT, MULTIPLY, SUBSTITUTE, SWEEP, DIVIDE, ANTIDERIVATIVE = range(11)
@@ -114,7 +114,8 @@ def needed(module: str, package: str) -> MissingModule:
 
 def number_of(text: str) -> Fraction:
     """A number as the text form writes it, with or without a sign: 0.25, 1e-3, 1/3 or, in whole units, 5u."""
-    sign, word = re.fullmatch(r"([+-]?)\s*(.*)", text.strip(), re.DOTALL).groups()
+    sign, word = ("-", text.strip()[1:]) if text.strip().startswith("-") else ("+", text.strip().removeprefix("+"))
+    word = word.lstrip()
     if len(word) > LONGEST_NUMBER:
         raise ValueError(f"a number has at most {LONGEST_NUMBER} letters")
     if not _NUMBER.fullmatch(word):
@@ -199,13 +200,14 @@ class _Assembler:
         try:
             return parser.parse(self.text)
         except UnexpectedCharacters as fault:
-            self.refuse_at(fault.line, fault.column, self.about_letters(fault.pos_in_stream))
+            self.refuse_at(fault.line, fault.column, self.about_letters(fault.pos_in_stream or 0))
         except UnexpectedToken as fault:
             self.refuse_token(fault)
 
     def about_letters(self, position: int) -> str:
-        word = re.compile(r"[\w.]+|.").match(self.text, position)[0]
-        if word[0].isdigit():
+        found = re.compile(r"[\w.]+|.").match(self.text, position)
+        word = found[0] if found else ""
+        if word[:1].isdigit():
             return (f"'{word}' is no number; numbers are written 0.25, 1e-3, 1/3 or, in whole units, 5u, "
                     "and a blank stands before a name")
         if word == ",":
@@ -365,7 +367,8 @@ class _Assembler:
 
     def outcome(self, tree: Any) -> int:
         """The number of the step that gives an expression."""
-        return getattr(self, "of_" + tree.data)(tree, *tree.children)
+        place: int = getattr(self, "of_" + tree.data)(tree, *tree.children)
+        return place
 
     def of_name(self, tree: Any, token: Any) -> int:
         name = str(token)
@@ -524,7 +527,7 @@ def listed_model(name: str, model: Model, names: Sequence[str], comments: bool =
 
 def polynomial_pieces(terms: Sequence[tuple[str, int]], number: Any) -> list[str]:
     """The terms of a polynomial as text, each with its sign; `number` writes a size in units."""
-    pieces = []
+    pieces: list[str] = []
     for monomial, value in terms:
         sign = "-" if value < 0 else "+" if pieces else ""
         # A sign of the first term stands right before it.

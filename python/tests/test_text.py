@@ -80,7 +80,7 @@ def test_listing_in_own_names() -> None:
     sheet = assemble(SHEET)
     text = listing(sheet, ["f", "t"])
     assert "variables f t\n" in text and "f^2 t" in text and assemble(text) == sheet
-    for names, sentence in ((["f"], "2 variables"), (["f", "f"], "named twice"), (["f", "s0"], "named twice"),
+    for names, sentence in ((["f"], "variables is 2, and 1 name"), (["f", "f"], "named twice"), (["f", "s0"], "named twice"),
                             (["f", "in"], "cannot name"), (["f", "u"], "cannot name"), (["f", "2"], "cannot name")):
         with pytest.raises(ValueError, match=sentence):
             listing(sheet, names)
@@ -179,7 +179,11 @@ def test_a_model_holds_the_curve_that_is_written(sizes: list[str], signs: list[s
     assert bool(sheet.notes) == (model.radius != Fraction(error) * UNIT)
 
 
-@given(st.text(alphabet=" \n=+-*±()#,.^0123456789uexymodelinforat²\\", max_size=60))
+def texts(letters: str, most: int) -> st.SearchStrategy[str]:
+    return st.lists(st.sampled_from(letters), max_size=most).map("".join)
+
+
+@given(texts(" \n=+-*±()#,.^0123456789uexymodelinforat²\\", 60))
 @settings(max_examples=300, deadline=None)
 def test_any_text_is_a_sheet_or_an_error_with_a_place(lines: str) -> None:
     try:
@@ -192,7 +196,11 @@ def test_any_text_is_a_sheet_or_an_error_with_a_place(lines: str) -> None:
         assert assemble(listing(sheet)) == sheet
 
 
-@given(st.text(max_size=80))
+# Letters of several scripts, marks and control letters; hypothesis's own texts would store a table of all there are.
+LETTERS = "".join(map(chr, [*range(0x250), *range(0x370, 0x400), *range(0x2070, 0x2090), 0x2212, 0x1F600]))
+
+
+@given(texts(LETTERS, 80))
 @settings(max_examples=300, deadline=None)
 def test_any_letters_are_an_error_with_a_place(text: str) -> None:
     with pytest.raises(TextError):
