@@ -20,11 +20,11 @@
 //! assert_eq!((refusal.number, refusal.place), (6, 0));
 //! # Ok::<(), hechroung::Refusal>(())
 //! ```
-
 //!
 //! The crate needs no standard library. Without the feature `alloc` it needs no memory but the stack either, and lacks
-//! [`lines`], [`records`], [`shares`] and what belongs to them; [`raw`] has all of these. [`Refusal`] is an
-//! [`Error`](core::error::Error) from Rust 1.81 on, and before that with the feature `std`. Both are on by default.
+//! [`lines`], [`records`], [`shares`] and what belongs to them; [`raw`] has all of these. From Rust 1.81 on a
+//! [`Refusal`] has the trait `Error` of `core`, before that the one of the standard library, with the feature `std`.
+//! Both features are on by default.
 //!
 //! A call needs up to 224 KB of stack, the run of a sheet or a book up to 400 KB.
 

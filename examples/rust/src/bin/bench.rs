@@ -15,8 +15,9 @@ fn main() -> Result<(), Box<dyn Error>> {
     let (mut lines, mut rows) = (Vec::new(), Vec::new());
     for (place, line) in log.lines().enumerate() {
         let numbers: Result<Vec<i64>, _> = line.split(' ').map(str::parse).collect();
-        let Ok([setting, low, high]) = numbers.as_deref() else {
-            continue;
+        let (setting, low, high) = match numbers.as_deref() {
+            Ok([setting, low, high]) => (setting, low, high),
+            _ => continue,
         };
         let mut row = Reading {
             low: STEP * low,
