@@ -216,13 +216,9 @@ static void total_value(sqlite3_context *context) {
     sqlite3_result_text(context, json, -1, SQLITE_TRANSIENT);
 }
 
-/* SQLite looks for this name in hechroung.so. */
-#ifdef _WIN32
-__declspec(dllexport)
-#else
-__attribute__((visibility("default")))
-#endif
-int sqlite3_hechroung_init(sqlite3 *db, char **error, const sqlite3_api_routines *api);
+/* SQLite looks for this name in hechroung.so; it is the only one that is seen from outside. */
+__attribute__((visibility("default"))) int sqlite3_hechroung_init(sqlite3 *db, char **error,
+                                                                  const sqlite3_api_routines *api);
 
 int sqlite3_hechroung_init(sqlite3 *db, char **error, const sqlite3_api_routines *api) {
     const int flags = SQLITE_UTF8 | SQLITE_DETERMINISTIC | SQLITE_INNOCUOUS;
