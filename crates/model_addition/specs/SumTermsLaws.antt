@@ -57,7 +57,7 @@ rising-drop (suc i) (t ∷ p) h = rising-drop i p (rising-any (t .exponents) p (
 
 -- ---- one term of a sum
 -- a term below all others is put before them
-insert-first : (t : Term ℤ) (p : Terms) → Above (t .exponents) p → insert t p ≡ t ∷ p
+pub insert-first : (t : Term ℤ) (p : Terms) → Above (t .exponents) p → insert t p ≡ t ∷ p
 insert-first t [] h = unfold insert in refl
 insert-first t (s ∷ p) h = by-insert (λ q. q ≡ t ∷ (s ∷ p)) t s p
     (λ e. absurd (less-irrefl (t .exponents) (subst (λ k. T (less (t .exponents) k)) (sym e) before)))

@@ -25,7 +25,7 @@ pub struct Next {
 }
 
 // A place to read from. A list at its end is read at its last place, and what stands there is not used.
-fn place(i: usize) -> usize
+pub fn place(i: usize) -> usize
     ensures { λ r. ⌜ r ≡ min i (most-terms - 1) ⌝ }
 {
     if i < LAST { i } else { LAST }
@@ -33,7 +33,7 @@ fn place(i: usize) -> usize
 
 // The next term of two lists, of c and d terms: x stands at place i of the first, y at place j of the second.
 // Terms alone are handed over, since a model would be copied each time.
-fn take_next(i: usize, c: usize, x: Term, j: usize, d: usize, y: Term) -> Next
+pub fn take_next(i: usize, c: usize, x: Term, j: usize, d: usize, y: Term) -> Next
     requires { ⌜ Ready i c x j d y ⌝ }
     ensures { λ r. ⌜ Takes i c x j d y r ⌝ }
 {

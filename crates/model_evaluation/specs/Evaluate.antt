@@ -9,11 +9,13 @@ use Rattle.fixed.specs.Fixed.{U}
 use Rattle.calculus.specs.Model as C
 use Rattle.calculus.specs.Model.{most-degree, sound}
 use Rattle.calculus.specs.Refusal as R
-use Rattle.calculus.specs.Refusal.{_then_}
-use Rattle.calculus.specs.Operations.{constant, multiply, add}
+use Rattle.calculus.specs.Refusal.{_then_, at-place}
+use Rattle.calculus.specs.Operations.{constant, multiply, add, substitute}
 use Rattle.calculus.specs.Tests.{all-in-unit}
 use Rattle.model_types.specs.declared.Model.{Model}
-use Rattle.model_types.specs.ModelStruct.{view}
+use Rattle.model_types.specs.ModelStruct.{view, answer}
+use Rattle.model_horner.specs.declared.Left.{Left}
+use Rattle.model_horner.specs.Held.{held, Room, Left-in}
 
 -- a sound model, and a coordinate from -U to U for each of its variables
 pub record Evaluation (m : Model) (xs : List ℤ) : Type 0 where
@@ -37,3 +39,30 @@ pub record Turning (X : ℤ) (h q : Model) : Type 0 where
   pub next : T (sound most-degree (view q))
   pub vars : h .n ≡ q .n
   pub small : natAbs X ≤ U
+
+-- such a turn over models that lie in slices, radius 0 for the second
+pub record Turn-of (X : ℤ) (c radius : ℕ) (ks : List ℕ) (cs : List ℤ) (d : ℕ) (ks₂ : List ℕ) (cs₂ : List ℤ) : Type 0
+  where
+    pub vars : ℕ
+    pub first-room : Room ks cs
+    pub second-room : Room ks₂ cs₂
+    pub turning : Turning X (held vars c radius ks cs) (held vars d 0 ks₂ cs₂)
+
+-- what such a turn leaves in two slices
+abbrev pub Turned-in : (X : ℤ) (c radius : ℕ) → List ℕ → List ℤ → (d : ℕ) → List ℕ → List ℤ → Left → List ℕ → List ℤ
+    → Type 0
+Turned-in X c radius ks cs d ks₂ cs₂ r ks₃ cs₃ = (w : Turn-of X c radius ks cs d ks₂ cs₂)
+    → Left-in (w .vars) r ks₃ cs₃ (answer (at-place 0
+    (put-turn (w .vars) X (view (held (w .vars) c radius ks cs)) (view (held (w .vars) d 0 ks₂ cs₂)))))
+
+-- a sound model that lies in slices, one of its variables, and a coordinate from -U to U
+pub record Put-of (i : ℕ) (X : ℤ) (count radius : ℕ) (ks : List ℕ) (cs : List ℤ) : Type 0 where
+  pub vars : ℕ
+  pub room : Room ks cs
+  pub putting : Putting i X (held vars count radius ks cs)
+
+-- what putting it in leaves in two slices
+abbrev pub Put-in : (i : ℕ) (X : ℤ) (count radius : ℕ) → List ℕ → List ℤ → Left → List ℕ → List ℤ → Type 0
+Put-in i X count radius ks cs r ks₂ cs₂ = (w : Put-of i X count radius ks cs)
+    → Left-in (w .vars) r ks₂ cs₂ (answer (at-place 0
+    (substitute most-degree i (view (held (w .vars) count radius ks cs)) (constant (w .vars) X))))

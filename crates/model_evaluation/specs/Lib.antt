@@ -2,4 +2,6 @@ pub mod Evaluate
 pub mod EvaluateCallLaws
 pub mod ConstantLaws
 pub mod PutCoordinateLaws
+pub mod SliceTurnLaws
 pub mod EvaluationLaws
+pub mod SliceEvaluationLaws

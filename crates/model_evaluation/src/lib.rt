@@ -1,49 +1,106 @@
 // The value of a model at a point: its coordinates put in for the variables, then the range of what is left. A
-// coordinate is a constant, so that each product of Horner's rule is one pass over the terms, without a table.
+// coordinate is a constant, so that each product of Horner's rule is one pass over the terms, without a table. They lie
+// in slices, so that no step copies a model.
 ghost use mathlib.Core.Path.{_≡_};
 ghost use lib.ListN.{take};
-ghost use Rattle.calculus.specs.Model.{«most-degree»};
 ghost use Rattle.calculus.specs.Refusal.{«at-place»};
 ghost use Rattle.calculus.specs.Operations as Op;
-ghost use Rattle.calculus.specs.Operations.{constant, substitute};
 ghost use Rattle.calculus.specs.Calls.{«call-evaluate»};
-ghost use Rattle.model_types.specs.ModelStruct.{view, answer, bounds};
-ghost use Rattle.model_evaluation.specs.Evaluate.{Evaluation, Putting, «put-turn», Turning};
-use model_types::Answer;
+ghost use Rattle.model_types.specs.ModelStruct.{view, bounds};
+ghost use Rattle.model_horner.specs.Held.{Room};
+ghost use Rattle.model_evaluation.specs.Evaluate.{Evaluation, «Turn-of», «Turned-in», «Put-of», «Put-in»};
+use model_horner::Left;
+use model_horner::Passed;
 use model_types::Bounds;
+use model_types::Key;
 use model_types::Model;
+use model_types::Refusal;
 use model_types::Verdict;
 
-// One turn of Horner's rule: h times x, then q added.
-fn put_turn(x: i64, h: Model, q: Model) -> Answer
-    requires { ⌜ Turning x h q ⌝ }
-    ensures { λ r. ⌜ r ≡ answer (at-place 0 (put-turn (h .n) x (view h) (view q))) ⌝ }
+// One turn of Horner's rule: h times x, then q added. The product goes into the last two slices, the sum into the first
+// two, in which h lay.
+fn put_turn(
+    x: i64,
+    c: usize,
+    radius: u64,
+    keys: &mut [Key],
+    coefficients: &mut [i64],
+    d: usize,
+    others: &[Key],
+    added: &[i64],
+    spare: &mut [Key],
+    products: &mut [i64],
+) -> Left
+    requires { ⌜ Turn-of x c radius (now keys) (now coefficients) d (now others) (now added) ⌝ }
+    requires { ⌜ Room (now spare) (now products) ⌝ }
+    ensures { λ r. ⌜ Turned-in x c radius (now (keys .entry)) (now (coefficients .entry)) d (now (others .entry))
+        (now (added .entry)) r (now (keys .exit)) (now (coefficients .exit)) ⌝ }
 {
-    let product = model_scaling::scaled(x, h);
+    let p: Passed = model_horner::scaled(x, c, radius, keys, coefficients, spare, products);
+    let product = model_horner::limited(p.count, fixed::round_up(p.error), products);
     let v = product.verdict;
     let Verdict::Accepted = v else {
         return product;
     };
-    model_addition::added(product.model, q)
+    let e = product.radius;
+    let total = model_horner::merged(
+        product.count,
+        spare,
+        products,
+        d,
+        others,
+        added,
+        keys,
+        coefficients,
+    );
+    if model_types::MOST_TERMS < total {
+        return Left {
+            count: 0,
+            radius: 0,
+            verdict: Verdict::Refused(Refusal::TooManyTerms, 0),
+        };
+    }
+    model_horner::limited(total, e, coefficients)
 }
 
-// x in the place of variable i of f: Horner's rule from the highest power down.
-fn put_constant(i: u8, x: i64, f: Model) -> Answer
-    requires { ⌜ Putting i x f ⌝ }
-    ensures { λ r. ⌜ r ≡ answer (at-place 0 (substitute most-degree i (view f) (constant (f .n) x))) ⌝ }
+// x in the place of variable i of a model: Horner's rule from the highest power down. What is left goes into the slices
+// after the model's; the others are at hand for each power's terms and for products.
+fn put_constant(
+    i: u8,
+    x: i64,
+    count: usize,
+    radius: u64,
+    keys: &[Key],
+    coefficients: &[i64],
+    stored: &mut [Key],
+    out: &mut [i64],
+    others: &mut [Key],
+    added: &mut [i64],
+    spare: &mut [Key],
+    products: &mut [i64],
+) -> Left
+    requires { ⌜ Put-of i x count radius (now keys) (now coefficients) ⌝ }
+    requires { ⌜ Room (now stored) (now out) ⌝ }
+    requires { ⌜ Room (now others) (now added) ⌝ }
+    requires { ⌜ Room (now spare) (now products) ⌝ }
+    ensures { λ r. ⌜ Put-in i x count radius (now (keys .entry)) (now (coefficients .entry)) r
+        (now (stored .exit)) (now (out .exit)) ⌝ }
 {
-    let mut k = model_powers::largest_exponent(f, i);
-    let mut h = model_powers::part(f, i, k);
+    let mut k = model_horner::largest_exponent(i, count, keys);
+    let mut c = model_horner::part(i, k, count, keys, coefficients, stored, out);
+    let mut e = 0;
     while 0 < k {
         k -= 1;
-        let turn = put_turn(x, h, model_powers::part(f, i, k));
+        let d = model_horner::part(i, k, count, keys, coefficients, others, added);
+        let turn = put_turn(x, c, e, stored, out, d, others, added, spare, products);
         let v = turn.verdict;
         let Verdict::Accepted = v else {
             return turn;
         };
-        h = turn.model;
+        c = turn.count;
+        e = turn.radius;
     }
-    model_limits::widened(h, f.radius)
+    model_horner::limited(c, fixed::capped_sum(e, radius), out)
 }
 
 // The range of what is left of m after the coordinates are put in for its variables, one after the other.
@@ -52,11 +109,34 @@ fn evaluated(m: Model, xs: [i64; model_types::MOST_VARS as usize]) -> Bounds
     ensures { λ r. ⌜ r ≡ bounds (at-place 0 (Op.evaluate (take (m .n) xs) (view m))) ⌝ }
 {
     let n = m.n;
-    let mut left = m;
+    let mut count = m.count;
+    let mut radius = m.radius;
+    let mut keys = [0u32; model_types::MOST_TERMS];
+    let mut coefficients = [0i64; model_types::MOST_TERMS];
+    let mut stored = [0u32; model_types::MOST_TERMS];
+    let mut out = [0i64; model_types::MOST_TERMS];
+    let mut others = [0u32; model_types::MOST_TERMS];
+    let mut added = [0i64; model_types::MOST_TERMS];
+    let mut spare = [0u32; model_types::MOST_TERMS];
+    let mut products = [0i64; model_types::MOST_TERMS];
+    model_slices::store_terms(m, &mut keys, &mut coefficients);
     let mut i = 1;
     while i <= n {
         let x = xs[(i - 1) as usize];
-        let a = put_constant(i, x, left);
+        let a = put_constant(
+            i,
+            x,
+            count,
+            radius,
+            &keys,
+            &coefficients,
+            &mut stored,
+            &mut out,
+            &mut others,
+            &mut added,
+            &mut spare,
+            &mut products,
+        );
         let v = a.verdict;
         let Verdict::Accepted = v else {
             return Bounds {
@@ -65,10 +145,12 @@ fn evaluated(m: Model, xs: [i64; model_types::MOST_VARS as usize]) -> Bounds
                 verdict: v,
             };
         };
-        left = a.model;
+        count = a.count;
+        radius = a.radius;
+        model_horner::copied(count, &stored, &out, &mut keys, &mut coefficients);
         i += 1;
     }
-    model_range::range_of(left)
+    model_range::range_of(model_slices::taken(n, count, radius, &keys, &coefficients))
 }
 
 // Two ends around the value at the point X_1/U, .., X_n/U: for every function within the model its value there, times

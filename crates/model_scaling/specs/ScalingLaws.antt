@@ -8,16 +8,15 @@ use lib.Dec.{T, leb, eqb, eqb→eq}
 use lib.IntN.{ℤ, pos, _*ℤ_, natAbs}
 use lib.ListN.{length}
 use Rattle.algebra.specs.IntegerRing.{ℤR}
-use Rattle.algebra.specs.LexicographicLaws.{less-irrefl, less-trans}
 use Rattle.algebra.specs.RingLaws.{*-zero}
 use Rattle.polynomial.specs.Polynomial.{Term, add-exponents, times, product}
 use Rattle.fixed.specs.Fixed.{round, residual, round-up}
 use Rattle.fixed.specs.FixedLaws.{round-zero, residual-zero}
-use Rattle.calculus.specs.Monomial.{less, degree, zeros}
+use Rattle.calculus.specs.Monomial.{degree, zeros}
 use Rattle.calculus.specs.Terms.{Terms, term, every, select, sum-over, sum-ℕ, size, map-coefficients, rising}
 use Rattle.calculus.specs.Terms.{is-nonzero}
 use Rattle.calculus.specs.Terms.{drop-zeros, insert, collect}
-use Rattle.calculus.specs.TermsLaws.{by-select, by-insert, every-head, every-tail, rising-map-coefficients, rising-any}
+use Rattle.calculus.specs.TermsLaws.{by-select, every-head, every-tail, rising-map-coefficients, rising-any}
 use Rattle.calculus.specs.TermsLaws.{every-map-coefficients, every-implies, zero-coefficient}
 use Rattle.calculus.specs.SumLaws.{ℕ-addition, sum-map-coefficients}
 use Rattle.calculus.specs.TestLaws.{and-left, and-right}
@@ -25,20 +24,10 @@ use Rattle.calculus.specs.Model.{Model, fits}
 use Rattle.calculus.specs.Operations.{limited, constant, products, within-order, above-order, kept, rounding, swept}
 use Rattle.calculus.specs.Operations.{carried, error, multiply}
 use Rattle.calculus.specs.SoundLaws.{Canonical}
-use Rattle.model_addition.specs.SumTermsLaws.{Above, rising-above}
+use Rattle.model_addition.specs.SumTermsLaws.{rising-above, insert-first}
 use Rattle.model_scaling.specs.Scaling.{scaled-coefficient, scaled-residual, scaled-terms, scaled-error}
 
 -- ---- rising terms are collected already
-insert-first : (t : Term ℤ) (p : Terms) → Above (t .exponents) p → insert t p ≡ t ∷ p
-insert-first t [] h = unfold insert in refl
-insert-first t (s ∷ p) h = by-insert (λ q. q ≡ t ∷ (s ∷ p)) t s p
-    (λ e. absurd (less-irrefl (t .exponents) (subst (λ k. T (less (t .exponents) k)) (sym e) before)))
-    (λ l. refl)
-    (λ l. absurd (less-irrefl (t .exponents) (less-trans (t .exponents) (s .exponents) (t .exponents) before l)))
-  where
-    before : T (less (t .exponents) (s .exponents))
-    before = every-head (λ j c. less (t .exponents) j) s p h
-
 pub collect-rising : (p : Terms) → T (rising p) → collect p ≡ p
 unfolding collect rising
 collect-rising [] h = refl

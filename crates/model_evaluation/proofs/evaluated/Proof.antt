@@ -1,51 +1,115 @@
 -- `evaluated` puts in one coordinate after the other: what is left at each turn leads to the answer.
-use mathlib.Core.Path.{_≡_, sym, _∙_, ap, subst}
-use Prim.Native.Nat.{_+_, _-_, _≤_}
+use mathlib.Core.Path.{_≡_, refl, sym, subst}
+use mathlib.Core.List.{List}
+use Prim.Native.Nat.{ℕ, _+_, _-_, _≤_}
 use native.Mathlib.Omega.{arith}
 use borrow.Author.Needs.{needs}
 use lib.IntN.{ℤ, pos}
-use lib.ListN.{length, getD}
+use lib.ListN.{length, getD, length-map, replicate}
 use mir.Facts.{toZ-ofZ}
 use mir.Syntax.{w64}
 use mir.Val.{toZ, ofZ}
 use Rattle.calculus.specs.Key.{key-width}
-use Rattle.calculus.specs.Model.{most-degree}
+use Rattle.calculus.specs.Model.{most-degree, most-terms}
 use Rattle.calculus.specs.Refusal.{at-place}
 use Rattle.calculus.specs.Operations.{constant, substitute}
+use Rattle.model_types.specs.declared.Verdict.the-variants.{Accepted}
 use Rattle.model_types.specs.ModelStruct.{view, answer}
 use Rattle.model_types.specs.ModelStructLaws.{limits}
-use Rattle.model_evaluation.specs.Evaluate.{Putting}
-use Rattle.model_evaluation.specs.EvaluationLaws.{Remaining, remaining-first, coordinate-putting}
-use Rattle.model_evaluation.specs.EvaluationLaws.{put-refused, put-accepted, remaining-end}
+use Rattle.model_horner.specs.Held.{held, Room, Left-in}
+use Rattle.model_evaluation.specs.Evaluate.{Evaluation, Put-of, Put-in}
+use Rattle.model_evaluation.specs.EvaluationLaws.{Remaining}
+use Rattle.model_evaluation.specs.SliceEvaluationLaws.{unpacked-room, unpacked-evaluation, unpacked-end}
+use Rattle.model_evaluation.specs.SliceEvaluationLaws.{remaining-start, left-few, put-of, turn-refused}
+use Rattle.model_evaluation.specs.SliceEvaluationLaws.{turn-accepted}
+use Rattle.model_evaluation.specs.SliceEvaluationLaws.{end-sound, range-end}
 use Rattle.model_evaluation.proofs.evaluated.Statement.{statement}
 use Rattle.model_evaluation.proofs.evaluated.Tie as tie
 
 abbrev Inv-loop : tie.InvT-loop
-Inv-loop xs n left₀ i₀ left i = Remaining left₀ xs i left
+Inv-loop xs n count₀ radius₀ keys₀ coefficients₀ stored₀ out₀ others₀ added₀ spare₀ products₀ i₀ count radius keys
+    coefficients stored out others added spare products i =
+    Remaining (held n count₀ radius₀ keys₀ coefficients₀) xs i (held n count radius keys coefficients)
+    × Room keys coefficients × Room stored out × Room others added × Room spare products
 
 abbrev μ-loop : tie.MeasureT-loop
-μ-loop xs n left₀ i₀ left i = n + 1 - i
+μ-loop xs n count₀ radius₀ keys₀ coefficients₀ stored₀ out₀ others₀ added₀ spare₀ products₀ i₀ count radius keys
+    coefficients stored out others added spare products i = n + 1 - i
 
-module _ (c : tie.Start Inv-loop μ-loop) where
-  width : c .args .m .n ≤ key-width
-  width = limits most-degree (c .args .m) (c .pre .model) .width
+module _ (s : tie.Start Inv-loop μ-loop) where
+  width : s .args .m .n ≤ key-width
+  width = limits most-degree (s .args .m) (s .pre .model) .width
 
-  long : c .args .m .n ≤ length (c .args .t2)
+  few : s .args .m .count ≤ 64
+  unfolding most-terms
+  few = limits most-degree (s .args .m) (s .pre .model) .few
+
+  long : s .args .m .n ≤ length (s .args .t2)
   unfolding key-width
   long =
-      let e : length (c .args .t2) ≡ key-width = search needs in
+      let e : length (s .args .t2) ≡ key-width = search needs in
       omega (arith, width)
 
+  whole : length (s .args .m .terms) ≡ 64
+  whole = simp length-map at (s .good .0 .1 .1 .1 .1 .1 .0 .1 .0 .1)
+
+slice-aggregate-store-terms : tie.Need-slice-aggregate-store-terms Inv-loop μ-loop
+slice-aggregate-store-terms c = search needs
+
+slice-aggregate-store-terms-2 : tie.Need-slice-aggregate-store-terms-2 Inv-loop μ-loop
+slice-aggregate-store-terms-2 c = search needs
+
+store-terms-requires : tie.Need-store-terms-requires Inv-loop μ-loop
+unfolding most-terms
+store-terms-requires c κs = (omega arith, omega arith)
+
+-- ---- the terms in slices
+abbrev zeros-room : Room (replicate 64 0) (replicate 64 (pos 0))
+zeros-room = record { keys = refl; coefficients = refl }
+
+module _ (c : tie.After-store-terms Inv-loop μ-loop) where
+  abbrev begin : tie.Start Inv-loop μ-loop
+  begin = c .before .before .before
+
+  abbrev first-keys : List ℕ
+  first-keys = c .store-terms .last .1 .0
+
+  abbrev firsts : List ℤ
+  firsts = c .store-terms .last .1 .1 .0
+
+  first-room : Room first-keys firsts
+  first-room = unpacked-room (begin .pre) (whole begin) (few begin) zeros-room (c .store-terms .ensures .0)
+      (c .store-terms .ensures .1)
+
+  evaluation : Evaluation (held (begin .args .m .n) (begin .args .m .count) (begin .args .m .radius) first-keys firsts)
+      (begin .args .t2)
+  evaluation = unpacked-evaluation (begin .pre) (whole begin) (few begin) zeros-room (c .store-terms .ensures .0)
+      (c .store-terms .ensures .1)
+
 loop-holds : tie.Need-loop-holds Inv-loop μ-loop
-loop-holds c = remaining-first (c .pre) (long c)
+loop-holds c =
+    let t = c .before .before in (
+      remaining-start _ _ _ _ _ (evaluation t) (long (begin t)),
+      first-room t,
+      zeros-room,
+      zeros-room,
+      zeros-room,
+    )
 
 -- ---- a turn
+module _ (l : tie.At-loop Inv-loop μ-loop) where
+  abbrev stored-first : tie.After-store-terms Inv-loop μ-loop
+  stored-first = l .before .before .before
+
+  abbrev start : tie.Start Inv-loop μ-loop
+  start = begin stored-first
+
 small : (c : tie.In-loop Inv-loop μ-loop) → c .before .loop .i ≤ 8
 unfolding key-width
-small c = omega (arith, width (c .before .before), c .loop-test .taken)
+small c = omega (arith, width (start (c .before)), c .loop-test .taken)
 
 sub-x : tie.Need-sub-x Inv-loop μ-loop
-sub-x c = c .before .loop .inv .first
+sub-x c = c .before .loop .inv .0 .first
 
 cast-x : tie.Need-cast-x Inv-loop μ-loop
 cast-x c = omega (arith, small c)
@@ -54,40 +118,107 @@ mul-x : tie.Need-mul-x Inv-loop μ-loop
 mul-x c = omega (arith, small c)
 
 array-copy-out-x : tie.Need-array-copy-out-x Inv-loop μ-loop
-array-copy-out-x c = omega (arith, small c, c .before .loop .inv .first)
+array-copy-out-x c = omega (arith, small c, c .before .loop .inv .0 .first)
 
 -- the coordinate at hand
 module _ (c : tie.After-x Inv-loop μ-loop) where
   abbrev turn : tie.At-loop Inv-loop μ-loop
   turn = c .before .before
 
-  abbrev start : tie.Start Inv-loop μ-loop
-  start = turn .before
-
-  abbrev left : Remaining (start .args .m) (start .args .t2) (turn .loop .i) (turn .loop .left)
-  left = turn .loop .inv
-
-  inside : turn .loop .i ≤ start .args .m .n
+  inside : turn .loop .i ≤ start turn .args .m .n
   inside = omega (arith, c .before .loop-test .taken)
 
   abbrev X : ℤ
-  X = getD (start .args .t2) (turn .loop .i - 1) (pos 0)
+  X = getD (start turn .args .t2) (turn .loop .i - 1) (pos 0)
 
   read-back : toZ w64 (ofZ w64 X) ≡ X
   read-back = toZ-ofZ (record { sfits = c .x .given })
 
-put-constant-requires : tie.Need-put-constant-requires Inv-loop μ-loop
-put-constant-requires c κs = subst (λ z. Putting (turn c .loop .i) z (turn c .loop .left)) (sym (read-back c))
-    (coordinate-putting (start c .pre) (long (start c)) (left c) (inside c))
+  abbrev given : Put-of (turn .loop .i) X (turn .loop .count) (turn .loop .radius) (turn .loop .keys)
+      (turn .loop .coefficients)
+  given = put-of _ _ _ _ _ (evaluation (stored-first turn)) (long (start turn)) _ _ _ _ (turn .loop .inv .0) inside
+      (turn .loop .inv .1)
 
-put-is : (c : tie.After-put-constant Inv-loop μ-loop) → let l = turn (c .before) .loop in
-    c .put-constant .result
-    ≡ answer (at-place 0 (substitute most-degree (l .i) (view (l .left)) (constant (l .left .n) (X (c .before)))))
-put-is c =
-    let l = turn (c .before) .loop in
-    c .put-constant .ensures
-    ∙ ap (λ z. answer (at-place 0 (substitute most-degree (l .i) (view (l .left)) (constant (l .left .n) z))))
-    (read-back (c .before))
+slice-aggregate-put-constant : tie.Need-slice-aggregate-put-constant Inv-loop μ-loop
+slice-aggregate-put-constant c = search needs
+
+slice-aggregate-put-constant-2 : tie.Need-slice-aggregate-put-constant-2 Inv-loop μ-loop
+slice-aggregate-put-constant-2 c = search needs
+
+slice-aggregate-put-constant-3 : tie.Need-slice-aggregate-put-constant-3 Inv-loop μ-loop
+slice-aggregate-put-constant-3 c = search needs
+
+slice-aggregate-put-constant-4 : tie.Need-slice-aggregate-put-constant-4 Inv-loop μ-loop
+slice-aggregate-put-constant-4 c = search needs
+
+slice-aggregate-put-constant-5 : tie.Need-slice-aggregate-put-constant-5 Inv-loop μ-loop
+slice-aggregate-put-constant-5 c = search needs
+
+slice-aggregate-put-constant-6 : tie.Need-slice-aggregate-put-constant-6 Inv-loop μ-loop
+slice-aggregate-put-constant-6 c = search needs
+
+slice-aggregate-put-constant-7 : tie.Need-slice-aggregate-put-constant-7 Inv-loop μ-loop
+slice-aggregate-put-constant-7 c = search needs
+
+slice-aggregate-put-constant-8 : tie.Need-slice-aggregate-put-constant-8 Inv-loop μ-loop
+slice-aggregate-put-constant-8 c = search needs
+
+put-constant-requires : tie.Need-put-constant-requires Inv-loop μ-loop
+put-constant-requires c κs =
+    let x = c .before .before .before .before .before .before .before .before in
+    let l = turn x in (
+      subst (λ z. Put-of (l .loop .i) z (l .loop .count) (l .loop .radius) (l .loop .keys) (l .loop .coefficients))
+          (sym (read-back x)) (given x),
+      (l .loop .inv .2, (l .loop .inv .3, l .loop .inv .4)),
+    )
+
+-- what is left
+module _ (c : tie.After-put-constant Inv-loop μ-loop) where
+  abbrev at : tie.After-x Inv-loop μ-loop
+  at = c .before .before .before .before .before .before .before .before .before
+
+  abbrev left-keys : List ℕ
+  left-keys = c .put-constant .last .1 .1 .1 .1 .1 .1 .0
+
+  abbrev lefts : List ℤ
+  lefts = c .put-constant .last .1 .1 .1 .1 .1 .1 .1 .0
+
+  left-room : Room left-keys lefts
+  left-room = record {
+    keys = let a = turn at .loop .inv .2 .keys in search needs;
+    coefficients = let a = turn at .loop .inv .2 .coefficients in search needs;
+  }
+
+  others-room : Room (c .put-constant .last .1 .1 .1 .1 .1 .1 .1 .1 .0)
+      (c .put-constant .last .1 .1 .1 .1 .1 .1 .1 .1 .1 .0)
+  others-room = record {
+    keys = let a = turn at .loop .inv .3 .keys in search needs;
+    coefficients = let a = turn at .loop .inv .3 .coefficients in search needs;
+  }
+
+  spare-room : Room (c .put-constant .last .1 .1 .1 .1 .1 .1 .1 .1 .1 .1 .0)
+      (c .put-constant .last .1 .1 .1 .1 .1 .1 .1 .1 .1 .1 .1 .0)
+  spare-room = record {
+    keys = let a = turn at .loop .inv .4 .keys in search needs;
+    coefficients = let a = turn at .loop .inv .4 .coefficients in search needs;
+  }
+
+  put-is : Left-in (given at .vars) (c .put-constant .result) left-keys lefts (answer (at-place 0
+      (substitute most-degree (turn at .loop .i) (view (held (given at .vars) (turn at .loop .count)
+      (turn at .loop .radius) (turn at .loop .keys) (turn at .loop .coefficients)))
+      (constant (given at .vars) (X at)))))
+  put-is = subst (λ z. Put-in (turn at .loop .i) z (turn at .loop .count) (turn at .loop .radius) (turn at .loop .keys)
+      (turn at .loop .coefficients) (c .put-constant .result) left-keys lefts) (read-back at) (c .put-constant .ensures)
+      (given at)
+
+  goes-on : c .put-constant .result .verdict ≡ Accepted
+      → Remaining (held (start (turn at) .args .m .n) (start (turn at) .args .m .count)
+      (start (turn at) .args .m .radius) (first-keys (stored-first (turn at))) (firsts (stored-first (turn at))))
+      (start (turn at) .args .t2)
+      (turn at .loop .i + 1) (held (start (turn at) .args .m .n) (c .put-constant .result .count)
+      (c .put-constant .result .radius) left-keys lefts)
+  goes-on v = turn-accepted _ _ _ _ _ (evaluation (stored-first (turn at))) (long (start (turn at))) _ _ _ _
+      (turn at .loop .inv .0) (inside at) _ _ put-is v
 
 enum-told : tie.Need-enum-told Inv-loop μ-loop
 enum-told c = search needs
@@ -97,31 +228,99 @@ enum-told-2 c = search needs
 
 returns : tie.Need-returns Inv-loop μ-loop
 returns c =
-    let p = c .before .before in
-    let x = p .before in
-    put-refused (start x .pre) (long (start x)) (left x) (inside x) (put-is p) (c .enum-told2 .given .1)
+    let p = c .before .before .before .before .before .before .before .before in
+    let x = at p in
+    let t = stored-first (turn x) in
+    let s = begin t in
+    unpacked-end (s .pre) (whole s) (few s) zeros-room (t .store-terms .ensures .0) (t .store-terms .ensures .1)
+    (turn-refused _ _ _ _ _ (evaluation t) (long s) _ _ _ _ (turn x .loop .inv .0) (inside x) _ _ (put-is p)
+    (c .enum-told2 .given .1))
+
+slice-aggregate-copied : tie.Need-slice-aggregate-copied Inv-loop μ-loop
+slice-aggregate-copied c = search needs
+
+slice-aggregate-copied-2 : tie.Need-slice-aggregate-copied-2 Inv-loop μ-loop
+slice-aggregate-copied-2 c = search needs
+
+slice-aggregate-copied-3 : tie.Need-slice-aggregate-copied-3 Inv-loop μ-loop
+slice-aggregate-copied-3 c = search needs
+
+slice-aggregate-copied-4 : tie.Need-slice-aggregate-copied-4 Inv-loop μ-loop
+slice-aggregate-copied-4 c = search needs
+
+copied-requires : tie.Need-copied-requires Inv-loop μ-loop
+copied-requires c κs =
+    let v = c .before .before .before .before in
+    let p = v .before .before .before .before .before .before .before .before in
+    let t = stored-first (turn (at p)) in (
+      (left-few _ _ _ _ _ (evaluation t) (long (begin t)) _ _ _ _ (goes-on p (v .enum-told .given .1)), left-room p),
+      turn (at p) .loop .inv .1,
+    )
 
 add-i : tie.Need-add-i Inv-loop μ-loop
-add-i c = omega (arith, small (c .before .before .before .before .before))
+add-i c =
+    let v = c .before .before .before .before .before .before .before in
+    let p = v .before .before .before .before .before .before .before .before in
+    omega (arith, small (at p .before))
+
+-- the slices of the next turn
+copied-room : (c : tie.After-copied Inv-loop μ-loop)
+    → Room (c .copied .last .1 .1 .1 .0) (c .copied .last .1 .1 .1 .1 .0)
+copied-room c =
+    let v = c .before .before .before .before .before in
+    let p = v .before .before .before .before .before .before .before .before in
+    record {
+      keys = let a = turn (at p) .loop .inv .1 .keys in search needs;
+      coefficients = let a = turn (at p) .loop .inv .1 .coefficients in search needs;
+    }
 
 loop-less : tie.Need-loop-less Inv-loop μ-loop
-loop-less c = omega (arith, inside (c .before .before .before .before))
+loop-less c =
+    let v = c .before .before .before .before .before .before .before in
+    let p = v .before .before .before .before .before .before .before .before in
+    omega (arith, inside (at p))
 
 loop-again : tie.Need-loop-again Inv-loop μ-loop
 loop-again c =
-    let p = c .before .before .before in
-    let x = p .before in
-    put-accepted (start x .pre) (long (start x)) (left x) (inside x) (put-is p) (c .before .enum-told .given .1)
+    let d = c .before .before in
+    let v = d .before .before .before .before .before in
+    let p = v .before .before .before .before .before .before .before .before in
+    let x = at p in
+    let s = start (turn x) in
+    let t = stored-first (turn x) in (
+      subst (Remaining (held (s .args .m .n) (s .args .m .count) (s .args .m .radius) (first-keys t) (firsts t))
+          (s .args .t2) (turn x .loop .i + 1)) (sym (d .copied .ensures _ _)) (goes-on p (v .enum-told .given .1)),
+      copied-room d,
+      left-room p,
+      others-room p,
+      spare-room p,
+    )
 
--- ---- after the loop
+slice-aggregate-taken : tie.Need-slice-aggregate-taken Inv-loop μ-loop
+slice-aggregate-taken c = search needs
+
+slice-aggregate-taken-2 : tie.Need-slice-aggregate-taken-2 Inv-loop μ-loop
+slice-aggregate-taken-2 c = search needs
+
+taken-requires : tie.Need-taken-requires Inv-loop μ-loop
+taken-requires c κs = search needs
+
 range-of-requires : tie.Need-range-of-requires Inv-loop μ-loop
-range-of-requires c κs = c .before .loop .inv .model
+range-of-requires c κs =
+    let l = c .before .before .before .before in
+    let t = stored-first l in
+    end-sound _ _ _ _ _ (evaluation t) (long (begin t)) _ _ _ _ (l .loop .inv .0) (l .loop .inv .1) _
+    (c .taken .ensures)
 
 returns-2 : tie.Need-returns-2 Inv-loop μ-loop
 returns-2 c =
-    let l = c .before .before in
-    let s = l .before in
-    remaining-end (s .pre) (long s) (l .loop .inv) (c .before .loop-test .left) (c .range-of .ensures)
+    let k = c .before in
+    let l = k .before .before .before .before in
+    let t = stored-first l in
+    let s = begin t in
+    unpacked-end (s .pre) (whole s) (few s) zeros-room (t .store-terms .ensures .0) (t .store-terms .ensures .1)
+    (range-end _ _ _ _ _ (evaluation t) (long s) _ _ _ _ (l .loop .inv .0) (l .loop .inv .1) _ (k .taken .ensures)
+    (omega (arith, k .before .before .before .loop-test .left)) (c .range-of .ensures))
 
 pub evaluated-spec : {M : Type 1} → statement M
 evaluated-spec =
@@ -129,17 +328,36 @@ evaluated-spec =
     (tie.spec
     Inv-loop
     μ-loop
+    slice-aggregate-store-terms
+    slice-aggregate-store-terms-2
+    store-terms-requires
     loop-holds
     sub-x
     cast-x
     mul-x
     array-copy-out-x
+    slice-aggregate-put-constant
+    slice-aggregate-put-constant-2
+    slice-aggregate-put-constant-3
+    slice-aggregate-put-constant-4
+    slice-aggregate-put-constant-5
+    slice-aggregate-put-constant-6
+    slice-aggregate-put-constant-7
+    slice-aggregate-put-constant-8
     put-constant-requires
     enum-told
     enum-told-2
     returns
+    slice-aggregate-copied
+    slice-aggregate-copied-2
+    slice-aggregate-copied-3
+    slice-aggregate-copied-4
+    copied-requires
     add-i
     loop-less
     loop-again
+    slice-aggregate-taken
+    slice-aggregate-taken-2
+    taken-requires
     range-of-requires
     returns-2)

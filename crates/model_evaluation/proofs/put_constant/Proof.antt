@@ -1,70 +1,161 @@
 -- `put_constant` goes down the powers of a variable: what is left at each turn leads to the answer.
-use mathlib.Core.Path.{_≡_, sym, _∙_, ap, subst}
-use Prim.Native.Nat.{_<_}
+use mathlib.Core.Path.{_≡_, sym, subst}
+use mathlib.Core.List.{List}
+use Prim.Native.Nat.{ℕ, _-_, _<_}
 use native.Mathlib.Omega.{arith}
 use borrow.Author.Needs.{needs}
 use lib.IntN.{ℤ}
 use mir.Facts.{toZ-ofZ}
 use mir.Syntax.{w64}
 use mir.Val.{toZ, ofZ}
-use Rattle.calculus.specs.Model.{most-degree}
-use Rattle.calculus.specs.Refusal.{at-place}
-use Rattle.calculus.specs.Operations.{constant, substitute}
-use Rattle.model_types.specs.ModelStruct.{view, answer}
-use Rattle.model_evaluation.specs.Evaluate.{Putting}
-use Rattle.model_evaluation.specs.PutCoordinateLaws.{Left, in-variable, left-first, left-turn, turn-refused}
-use Rattle.model_evaluation.specs.PutCoordinateLaws.{turn-accepted, left-packed, left-end}
+use Rattle.calculus.specs.Operations.{part}
+use Rattle.model_types.specs.ModelStruct.{view, pack}
+use Rattle.model_horner.specs.Held.{held, Room}
+use Rattle.model_evaluation.specs.Evaluate.{Put-of, Put-in}
+use Rattle.model_evaluation.specs.PutCoordinateLaws as P
+use Rattle.model_evaluation.specs.SliceTurnLaws.{put-keys, put-part, put-first, put-few, put-turning, put-stops}
+use Rattle.model_evaluation.specs.SliceTurnLaws.{put-goes-on, put-packed, put-end}
 use Rattle.model_evaluation.proofs.put_constant.Statement.{statement}
 use Rattle.model_evaluation.proofs.put_constant.Tie as tie
 
 abbrev Inv-loop : tie.InvT-loop
-Inv-loop i x f k₀ h₀ k h = Left i (toZ w64 x) f k h
+Inv-loop i x count radius keys coefficients stored₀ out₀ others₀ added₀ spare₀ products₀ k₀ c₀ e₀ stored out others
+    added spare products k c e =
+    Room stored out × Room others added × Room spare products
+    × ((w : Put-of i (toZ w64 x) count radius keys coefficients)
+    → P.Left i (toZ w64 x) (held (w .vars) count radius keys coefficients) k (held (w .vars) c e stored out))
 
 abbrev μ-loop : tie.MeasureT-loop
-μ-loop i x f k₀ h₀ k h = k
+μ-loop i x count radius keys coefficients stored₀ out₀ others₀ added₀ spare₀ products₀ k₀ c₀ e₀ stored out others added
+    spare products k c e = k
 
-module _ (c : tie.Start Inv-loop μ-loop) where
+module _ (s : tie.Start Inv-loop μ-loop) where
   -- the coordinate, as a loop holds it
   abbrev X : ℤ
-  X = toZ w64 (ofZ w64 (c .args .x))
+  X = toZ w64 (ofZ w64 (s .args .x))
 
-  back : X ≡ c .args .x
-  back = toZ-ofZ (c .fits .x)
+  back : X ≡ s .args .x
+  back = toZ-ofZ (s .fits .x)
 
-  putting : Putting (c .args .i) X (c .args .f)
-  putting = subst (λ z. Putting (c .args .i) z (c .args .f)) (sym back) (c .pre)
+  -- models that the slices hold
+  abbrev Given : Type 0
+  Given = Put-of (s .args .i) X (s .args .count) (s .args .radius) (s .args .keys .now) (s .args .coefficients .now)
 
-  -- the answer
-  answered-is : answer (at-place 0
-      (substitute most-degree (c .args .i) (view (c .args .f)) (constant (c .args .f .n) X)))
-      ≡ answer (at-place 0
-      (substitute most-degree (c .args .i) (view (c .args .f)) (constant (c .args .f .n) (c .args .x))))
-  answered-is = ap (λ z. answer (at-place 0
-      (substitute most-degree (c .args .i) (view (c .args .f)) (constant (c .args .f .n) z)))) back
+  given : Given
+  given = subst (λ z. Put-of (s .args .i) z (s .args .count) (s .args .radius) (s .args .keys .now)
+      (s .args .coefficients .now)) (sym back) (s .pre .0)
 
 largest-exponent-requires : tie.Need-largest-exponent-requires Inv-loop μ-loop
-largest-exponent-requires c κs = in-variable (c .pre)
+largest-exponent-requires c κs = put-keys (given (c .before .before .before .before))
 
 part-requires : tie.Need-part-requires Inv-loop μ-loop
-part-requires c κs = in-variable (c .before .pre)
+part-requires c κs =
+    let s = c .before .before .before .before .before .before .before in
+    (put-part (given s), s .pre .1 .0)
+
+-- ---- before the first turn
+module _ (c : tie.After-part Inv-loop μ-loop) where
+  abbrev found : tie.After-largest-exponent Inv-loop μ-loop
+  found = c .before .before .before
+
+  abbrev begin : tie.Start Inv-loop μ-loop
+  begin = found .before .before .before .before .before
+
+  abbrev first-keys : List ℕ
+  first-keys = c .part .last .1 .1 .1 .1 .1 .0
+
+  abbrev firsts : List ℤ
+  firsts = c .part .last .1 .1 .1 .1 .1 .1 .0
+
+  first-room : Room first-keys firsts
+  first-room = record {
+    keys = let a = begin .pre .1 .0 .keys in search needs;
+    coefficients = let a = begin .pre .1 .0 .coefficients in search needs;
+  }
 
 loop-holds : tie.Need-loop-holds Inv-loop μ-loop
-loop-holds c = left-first (putting (c .before .before)) (c .before .largest-exponent .ensures) (c .part .ensures)
+loop-holds c =
+    let p = c .before .before .before in
+    let s = begin p in (
+      first-room p,
+      s .pre .1 .1 .0,
+      s .pre .1 .1 .1,
+      λ w. put-first w (found p .largest-exponent .ensures (put-keys w)) _ _ _ (p .part .ensures (put-part w)),
+    )
 
 -- ---- a turn
 abbrev start : tie.At-loop Inv-loop μ-loop → tie.Start Inv-loop μ-loop
-start l = l .before .before .before
+start l = begin (l .before .before .before .before)
 
 sub-k : tie.Need-sub-k Inv-loop μ-loop
 sub-k c = omega arith
 
 part-requires-2 : tie.Need-part-requires-2 Inv-loop μ-loop
-part-requires-2 c κs = in-variable (start (c .before) .pre)
+part-requires-2 c κs =
+    let l = c .before .before .before in
+    (put-part (given (start l)), l .loop .inv .1)
+
+-- the terms of the next power
+module _ (c : tie.After-part2 Inv-loop μ-loop) where
+  abbrev turn : tie.In-loop Inv-loop μ-loop
+  turn = c .before .before .before
+
+  abbrev loop : tie.At-loop Inv-loop μ-loop
+  loop = turn .before
+
+  abbrev next-keys : List ℕ
+  next-keys = c .part2 .last .1 .1 .1 .1 .1 .0
+
+  abbrev nexts : List ℤ
+  nexts = c .part2 .last .1 .1 .1 .1 .1 .1 .0
+
+  next-room : Room next-keys nexts
+  next-room = record {
+    keys = let a = loop .loop .inv .1 .keys in search needs;
+    coefficients = let a = loop .loop .inv .1 .coefficients in search needs;
+  }
+
+  some : 0 < loop .loop .k
+  some = omega (arith, turn .loop-test .taken)
+
+  module _ (w : Given (start loop)) where
+    next-is : held (w .vars) (c .part2 .result) 0 next-keys nexts
+        ≡ pack (part (start loop .args .i) (loop .loop .k - 1) (view (held (w .vars) (start loop .args .count)
+        (start loop .args .radius) (start loop .args .keys .now) (start loop .args .coefficients .now))))
+    next-is = c .part2 .ensures (put-part w)
 
 put-turn-requires : tie.Need-put-turn-requires Inv-loop μ-loop
 put-turn-requires c κs =
-    let l = c .before .before in
-    left-turn (putting (start l)) (l .loop .inv) (c .part2 .ensures)
+    let p = c .before .before .before .before .before .before .before .before .before in
+    let l = loop p in
+    let w = given (start l) in
+    (put-turning w _ _ _ _ (l .loop .inv .3 w) _ _ _ (next-is p w) (l .loop .inv .0) (next-room p), l .loop .inv .2)
+
+-- what the turn leaves
+module _ (c : tie.After-put-turn Inv-loop μ-loop) where
+  abbrev before-it : tie.After-part2 Inv-loop μ-loop
+  before-it = c .before .before .before .before .before .before .before .before .before .before
+
+  abbrev at : tie.At-loop Inv-loop μ-loop
+  at = loop before-it
+
+  abbrev left-keys : List ℕ
+  left-keys = c .put-turn .last .1 .1 .1 .0
+
+  abbrev lefts : List ℤ
+  lefts = c .put-turn .last .1 .1 .1 .1 .0
+
+  left-room : Room left-keys lefts
+  left-room = record {
+    keys = let a = at .loop .inv .0 .keys in search needs;
+    coefficients = let a = at .loop .inv .0 .coefficients in search needs;
+  }
+
+  spare-room : Room (c .put-turn .last .1 .1 .1 .1 .1 .1 .1 .1 .0) (c .put-turn .last .1 .1 .1 .1 .1 .1 .1 .1 .1 .0)
+  spare-room = record {
+    keys = let a = at .loop .inv .2 .keys in search needs;
+    coefficients = let a = at .loop .inv .2 .coefficients in search needs;
+  }
 
 enum-told : tie.Need-enum-told Inv-loop μ-loop
 enum-told c = search needs
@@ -72,35 +163,127 @@ enum-told c = search needs
 enum-told-2 : tie.Need-enum-told-2 Inv-loop μ-loop
 enum-told-2 c = search needs
 
+same-length : tie.Need-same-length Inv-loop μ-loop
+same-length c =
+    let t = c .before .before .before .before .before .before .before .before in
+    let a = left-room t .keys in
+    let b = start (at t) .pre .1 .0 .keys in search needs
+
+same-length-2 : tie.Need-same-length-2 Inv-loop μ-loop
+same-length-2 c =
+    let t = c .before .before .before .before .before .before .before .before in
+    let a = left-room t .coefficients in
+    let b = start (at t) .pre .1 .0 .coefficients in search needs
+
+same-length-3 : tie.Need-same-length-3 Inv-loop μ-loop
+same-length-3 c =
+    let t = c .before .before .before .before .before .before .before .before in
+    let a = next-room (before-it t) .keys in
+    let b = start (at t) .pre .1 .1 .0 .keys in search needs
+
+same-length-4 : tie.Need-same-length-4 Inv-loop μ-loop
+same-length-4 c =
+    let t = c .before .before .before .before .before .before .before .before in
+    let a = next-room (before-it t) .coefficients in
+    let b = start (at t) .pre .1 .1 .0 .coefficients in search needs
+
+same-length-5 : tie.Need-same-length-5 Inv-loop μ-loop
+same-length-5 c =
+    let t = c .before .before .before .before .before .before .before .before in
+    let a = spare-room t .keys in
+    let b = start (at t) .pre .1 .1 .1 .keys in search needs
+
+same-length-6 : tie.Need-same-length-6 Inv-loop μ-loop
+same-length-6 c =
+    let t = c .before .before .before .before .before .before .before .before in
+    let a = spare-room t .coefficients in
+    let b = start (at t) .pre .1 .1 .1 .coefficients in search needs
+
 returns : tie.Need-returns Inv-loop μ-loop
 returns c =
-    let t = c .before .before in
-    let p = t .before in
-    let l = p .before .before in
-    turn-refused (putting (start l)) (l .loop .inv) (p .part2 .ensures) (omega (arith, p .before .loop-test .taken))
-    (t .put-turn .ensures) (c .enum-told2 .given .1)
-    ∙ answered-is (start l)
+    let t = c .before .before .before .before .before .before .before .before in
+    let p = before-it t in
+    let l = at t in
+    let s = start l in
+    subst (λ z. Put-in (s .args .i) z (s .args .count) (s .args .radius) (s .args .keys .now)
+    (s .args .coefficients .now) (t .put-turn .result) (left-keys t) (lefts t))
+    (back s) (λ w. put-stops w _ _ _ _ (l .loop .inv .3 w) _ _ _ (next-is p w) (some p) _ _
+    (t .put-turn .ensures (put-turning w _ _ _ _ (l .loop .inv .3 w) _ _ _ (next-is p w) (l .loop .inv .0)
+    (next-room p))) (c .enum-told2 .given .1))
 
 loop-less : tie.Need-loop-less Inv-loop μ-loop
-loop-less c = omega (arith, c .before .before .before .before .before .loop-test .taken)
+loop-less c =
+    let t = c .before .before .before .before .before .before .before .before in
+    omega (arith, some (before-it t))
 
 loop-again : tie.Need-loop-again Inv-loop μ-loop
 loop-again c =
-    let t = c .before .before .before in
-    let p = t .before in
-    let l = p .before .before in
-    turn-accepted (putting (start l)) (l .loop .inv) (p .part2 .ensures) (omega (arith, p .before .loop-test .taken))
-    (t .put-turn .ensures) (c .before .enum-told .given .1)
+    let t = c .before .before .before .before .before .before .before .before in
+    let p = before-it t in
+    let l = at t in (
+      left-room t,
+      next-room p,
+      spare-room t,
+      λ w. put-goes-on w _ _ _ _ (l .loop .inv .3 w) _ _ _ (next-is p w) (some p) _ _
+          (t .put-turn .ensures (put-turning w _ _ _ _ (l .loop .inv .3 w) _ _ _ (next-is p w) (l .loop .inv .0)
+          (next-room p))) (c .enum-told .given .1),
+    )
 
--- ---- after the loop
-widened-requires : tie.Need-widened-requires Inv-loop μ-loop
-widened-requires c κs = left-packed (putting (start (c .before))) (c .before .loop .inv)
+capped-sum-requires : tie.Need-capped-sum-requires Inv-loop μ-loop
+capped-sum-requires c κs = search needs
+
+limited-requires : tie.Need-limited-requires Inv-loop μ-loop
+limited-requires c κs =
+    let l = c .before .before .before in
+    let w = given (start l) in
+    (put-few w _ _ _ _ (l .loop .inv .3 w), l .loop .inv .0 .coefficients)
+
+same-length-7 : tie.Need-same-length-7 Inv-loop μ-loop
+same-length-7 c =
+    let t = c .before .before .before .before in
+    let a = t .loop .inv .0 .keys in
+    let b = start t .pre .1 .0 .keys in search needs
+
+same-length-8 : tie.Need-same-length-8 Inv-loop μ-loop
+same-length-8 c =
+    let t = c .before .before .before .before in
+    let a = t .loop .inv .0 .coefficients in
+    let b = start t .pre .1 .0 .coefficients in search needs
+
+same-length-9 : tie.Need-same-length-9 Inv-loop μ-loop
+same-length-9 c =
+    let t = c .before .before .before .before in
+    let a = t .loop .inv .1 .keys in
+    let b = start t .pre .1 .1 .0 .keys in search needs
+
+same-length-10 : tie.Need-same-length-10 Inv-loop μ-loop
+same-length-10 c =
+    let t = c .before .before .before .before in
+    let a = t .loop .inv .1 .coefficients in
+    let b = start t .pre .1 .1 .0 .coefficients in search needs
+
+same-length-11 : tie.Need-same-length-11 Inv-loop μ-loop
+same-length-11 c =
+    let t = c .before .before .before .before in
+    let a = t .loop .inv .2 .keys in
+    let b = start t .pre .1 .1 .1 .keys in search needs
+
+same-length-12 : tie.Need-same-length-12 Inv-loop μ-loop
+same-length-12 c =
+    let t = c .before .before .before .before in
+    let a = t .loop .inv .2 .coefficients in
+    let b = start t .pre .1 .1 .1 .coefficients in search needs
 
 returns-2 : tie.Need-returns-2 Inv-loop μ-loop
 returns-2 c =
-    let l = c .before .before in
-    left-end (putting (start l)) (l .loop .inv) (omega (arith, c .before .loop-test .left)) (c .widened .ensures)
-    ∙ answered-is (start l)
+    let a = c .before .before in
+    let l = a .before .before in
+    let s = start l in
+    subst (λ z. Put-in (s .args .i) z (s .args .count) (s .args .radius) (s .args .keys .now)
+    (s .args .coefficients .now) (c .limited .result) (l .loop .stored) (l .loop .out))
+    (back s) (λ w. put-end w _ _ _ _ (l .loop .inv .3 w) (omega (arith, a .before .loop-test .left))
+    (a .capped-sum .ensures)
+    (c .limited .ensures (w .vars) _ (l .loop .inv .0) (put-packed w _ _ _ _ (l .loop .inv .3 w) _)))
 
 pub put-constant-spec : {M : Type 1} → statement M
 put-constant-spec =
@@ -116,8 +299,21 @@ put-constant-spec =
     put-turn-requires
     enum-told
     enum-told-2
+    same-length
+    same-length-2
+    same-length-3
+    same-length-4
+    same-length-5
+    same-length-6
     returns
     loop-less
     loop-again
-    widened-requires
+    capped-sum-requires
+    limited-requires
+    same-length-7
+    same-length-8
+    same-length-9
+    same-length-10
+    same-length-11
+    same-length-12
     returns-2)

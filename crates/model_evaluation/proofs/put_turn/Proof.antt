@@ -1,28 +1,84 @@
 -- `put_turn` makes the product, then the sum.
-use mathlib.Core.Path.{_≡_, sym, _∙_, ap, subst}
+use mathlib.Core.Path.{_≡_, refl, sym, subst}
+use mathlib.Core.List.{List}
+use Prim.Native.Nat.{ℕ, _≤_}
+use native.Mathlib.Omega.{arith}
 use borrow.Author.Needs.{needs}
+use lib.IntN.{ℤ}
 use mir.Facts.{toZ-ofZ}
-use Rattle.calculus.specs.Model.{most-degree}
+use mir.Syntax.{w64}
+use mir.Val.{toZ, ofZ}
 use Rattle.calculus.specs.Refusal.{at-place}
-use Rattle.calculus.specs.Operations.{constant, multiply}
-use Rattle.model_types.specs.ModelStruct.{view, answer}
-use Rattle.model_scaling.specs.Scaling.{Scalable}
-use Rattle.model_evaluation.specs.PutCoordinateLaws.{turn-scalable, product-refused, product-operands, sum-answer}
+use Rattle.model_types.specs.declared.Refusal.the-variants.{TooManyTerms}
+use Rattle.model_types.specs.declared.Verdict.the-variants.{Refused}
+use Rattle.model_types.specs.ModelStruct.{answer}
+use Rattle.model_horner.specs.Held.{held, Room, Sum-in, Left-in}
+use Rattle.model_evaluation.specs.Evaluate.{Turn-of, Turned-in}
+use Rattle.model_evaluation.specs.SliceTurnLaws.{product, turn-scale, product-packed, product-few}
+use Rattle.model_evaluation.specs.SliceTurnLaws.{product-left, turn-stops}
+use Rattle.model_evaluation.specs.SliceTurnLaws.{turn-sum, turn-many, turn-packed, turn-end}
 use Rattle.model_evaluation.proofs.put_turn.Statement.{statement}
 use Rattle.model_evaluation.proofs.put_turn.Tie as tie
 
+module _ (s : tie.Start) where
+  abbrev X : ℤ
+  X = toZ w64 (ofZ w64 (s .args .x))
+
+  back : X ≡ s .args .x
+  back = toZ-ofZ (s .fits .x)
+
+  turn-of : Turn-of X (s .args .c) (s .args .radius) (s .args .keys .now) (s .args .coefficients .now) (s .args .d)
+      (s .args .others .now) (s .args .added .now)
+  turn-of = subst (λ z. Turn-of z (s .args .c) (s .args .radius) (s .args .keys .now) (s .args .coefficients .now)
+      (s .args .d) (s .args .others .now) (s .args .added .now)) (sym back) (s .pre .0)
+
 scaled-requires : tie.Need-scaled-requires
 scaled-requires c κs =
-    subst (λ z. Scalable z (c .args .h)) (sym (toZ-ofZ (c .fits .x))) (turn-scalable (c .pre))
+    let s = c .before .before .before .before .before .before .before in
+    (turn-scale (turn-of s), s .pre .1)
 
--- the product
-product-is : (c : tie.After-scaled) → let a = c .before .args in
-    c .scaled .result ≡ answer (at-place 0 (multiply most-degree (view (a .h)) (constant (a .h .n) (a .x))))
-product-is c =
-    let a = c .before .args in
-    c .scaled .ensures
-    ∙ ap (λ z. answer (at-place 0 (multiply most-degree (view (a .h)) (constant (a .h .n) z))))
-    (toZ-ofZ (c .before .fits .x))
+-- ---- the product
+module _ (c : tie.After-round-up) where
+  abbrev multiplied : tie.After-scaled
+  multiplied = c .before .before .before .before
+
+  abbrev start : tie.Start
+  start = multiplied .before .before .before .before .before .before .before .before
+
+  abbrev spare : List ℕ
+  spare = multiplied .scaled .last .1 .1 .1 .1 .1 .0
+
+  abbrev products : List ℤ
+  products = multiplied .scaled .last .1 .1 .1 .1 .1 .1 .0
+
+  room : Room spare products
+  room = record {
+    keys = let a = start .pre .1 .keys in search needs;
+    coefficients = let a = start .pre .1 .coefficients in search needs;
+  }
+
+  few : multiplied .scaled .result .count ≤ 64
+  few = product-few (turn-of start) _ _ spare products (multiplied .scaled .ensures (turn-scale (turn-of start)))
+      (c .round-up .ensures)
+
+limited-requires : tie.Need-limited-requires
+limited-requires c κs = (few (c .before), room (c .before) .coefficients)
+
+round-up-requires : tie.Need-round-up-requires
+round-up-requires c κs = search needs
+
+-- what is left of it, for any two models that the slices hold
+product-is : (c : tie.After-limited)
+    → let r = c .before .before in
+    let s = start r in
+    (w : Turn-of (X s) (s .args .c) (s .args .radius) (s .args .keys .now) (s .args .coefficients .now) (s .args .d)
+    (s .args .others .now) (s .args .added .now))
+    → Left-in (w .vars) (c .limited .result) (spare r) (products r) (answer (at-place 0 (product w)))
+product-is c w =
+    let r = c .before .before in
+    let e = multiplied r .scaled .ensures (turn-scale w) in
+    product-left w _ _ _ _ e (r .round-up .ensures)
+    (c .limited .ensures (w .vars) (spare r) (room r) (product-packed w _ _ _ _ e (r .round-up .ensures)))
 
 enum-told : tie.Need-enum-told
 enum-told c = search needs
@@ -30,20 +86,144 @@ enum-told c = search needs
 enum-told-2 : tie.Need-enum-told-2
 enum-told-2 c = search needs
 
+same-length : tie.Need-same-length
+same-length c = search needs
+
+same-length-2 : tie.Need-same-length-2
+same-length-2 c = search needs
+
+same-length-3 : tie.Need-same-length-3
+same-length-3 c = search needs
+
+same-length-4 : tie.Need-same-length-4
+same-length-4 c = search needs
+
 returns : tie.Need-returns
 returns c =
-    let m = c .before .before in
-    product-refused (m .before .pre) (product-is m) (c .enum-told2 .given .1)
+    let l = c .before .before in
+    let s = start (l .before .before) in
+    subst (λ z. Turned-in z (s .args .c) (s .args .radius) (s .args .keys .now) (s .args .coefficients .now)
+    (s .args .d) (s .args .others .now) (s .args .added .now) (l .limited .result) (s .args .keys .now)
+    (s .args .coefficients .now))
+    (back s) (λ w. turn-stops w _ _ (product-is l w) (c .enum-told2 .given .1) _ _)
 
-added-requires : tie.Need-added-requires
-added-requires c κs =
-    let m = c .before .before in
-    product-operands (m .before .pre) (product-is m) (c .enum-told .given .1)
+merged-requires : tie.Need-merged-requires
+merged-requires c κs =
+    let t = c .before .before .before .before in
+    let l = t .before .before in
+    let r = l .before .before in
+    let w = turn-of (start r) in
+    (turn-sum w _ _ (product-is l w) (t .enum-told .given .1) (room r), w .first-room)
+
+-- ---- the sum
+module _ (c : tie.After-merged) where
+  abbrev told : tie.After-enum-told
+  told = c .before .before .before .before .before
+
+  abbrev left : tie.After-limited
+  left = told .before .before
+
+  abbrev passed : tie.After-round-up
+  passed = left .before .before
+
+  abbrev begin : tie.Start
+  begin = start passed
+
+  abbrev sum-keys : List ℕ
+  sum-keys = c .merged .last .1 .1 .1 .1 .1 .1 .0
+
+  abbrev sums : List ℤ
+  sums = c .merged .last .1 .1 .1 .1 .1 .1 .1 .0
+
+  sum-room : Room sum-keys sums
+  sum-room = record {
+    keys = let a = begin .pre .0 .first-room .keys in search needs;
+    coefficients = let a = begin .pre .0 .first-room .coefficients in search needs;
+  }
+
+  module _ (w : Turn-of (X begin) (begin .args .c) (begin .args .radius) (begin .args .keys .now)
+      (begin .args .coefficients .now) (begin .args .d) (begin .args .others .now) (begin .args .added .now)) where
+    sum-is : Sum-in (held (w .vars) (left .limited .result .count) (left .limited .result .radius) (spare passed)
+        (products passed)) (held (w .vars) (begin .args .d) 0 (begin .args .others .now) (begin .args .added .now))
+        (w .vars) (c .merged .result) sum-keys sums
+    sum-is = c .merged .ensures (turn-sum w _ _ (product-is left w) (told .enum-told .given .1) (room passed))
+
+same-length-5 : tie.Need-same-length-5
+same-length-5 c = search needs
+
+same-length-6 : tie.Need-same-length-6
+same-length-6 c = search needs
+
+same-length-7 : tie.Need-same-length-7
+same-length-7 c = search needs
+
+same-length-8 : tie.Need-same-length-8
+same-length-8 c = search needs
 
 returns-2 : tie.Need-returns-2
 returns-2 c =
-    let m = c .before .before .before in
-    sum-answer (m .before .pre) (product-is m) (c .before .enum-told .given .1) (c .added .ensures)
+    let m = c .before .before .before .before in
+    let s = begin m in
+    subst (λ z. Turned-in z (s .args .c) (s .args .radius) (s .args .keys .now) (s .args .coefficients .now)
+    (s .args .d) (s .args .others .now) (s .args .added .now)
+    (record { count = 0; radius = 0; verdict = Refused TooManyTerms 0 })
+    (sum-keys m) (sums m))
+    (back s) (λ w. turn-many w _ _ (product-is (left m) w) (told m .enum-told .given .1) _ _ (sum-is m w)
+    (omega (arith, c .if1 .taken)) refl)
+
+limited-requires-2 : tie.Need-limited-requires-2
+limited-requires-2 c κs =
+    let m = c .before .before .before .before .before in
+    (omega (arith, c .before .if1 .left), sum-room m .coefficients)
+
+same-length-9 : tie.Need-same-length-9
+same-length-9 c = search needs
+
+same-length-10 : tie.Need-same-length-10
+same-length-10 c = search needs
+
+same-length-11 : tie.Need-same-length-11
+same-length-11 c = search needs
+
+same-length-12 : tie.Need-same-length-12
+same-length-12 c = search needs
+
+returns-3 : tie.Need-returns-3
+returns-3 c =
+    let i = c .before .before in
+    let m = i .before .before .before .before in
+    let s = begin m in
+    subst (λ z. Turned-in z (s .args .c) (s .args .radius) (s .args .keys .now) (s .args .coefficients .now)
+    (s .args .d) (s .args .others .now) (s .args .added .now) (c .limited2 .result) (sum-keys m) (sums m))
+    (back s) (λ w.
+    let t = told m .enum-told .given .1 in
+    turn-end w _ _ (product-is (left m) w) t _ _ (sum-is m w) (omega (arith, i .if1 .left))
+    (c .limited2 .ensures (w .vars) _ (sum-room m)
+    (turn-packed w _ _ (product-is (left m) w) t _ _ (sum-is m w) (omega (arith, i .if1 .left)))))
 
 pub put-turn-spec : {M : Type 1} → statement M
-put-turn-spec = tie.close (tie.spec scaled-requires enum-told enum-told-2 returns added-requires returns-2)
+put-turn-spec =
+    tie.close
+    (tie.spec
+    scaled-requires
+    round-up-requires
+    limited-requires
+    enum-told
+    enum-told-2
+    same-length
+    same-length-2
+    same-length-3
+    same-length-4
+    returns
+    merged-requires
+    same-length-5
+    same-length-6
+    same-length-7
+    same-length-8
+    returns-2
+    limited-requires-2
+    same-length-9
+    same-length-10
+    same-length-11
+    same-length-12
+    returns-3)

@@ -1,0 +1,118 @@
+-- A model that lies in slices: what stands at a place, and one more term stored.
+use mathlib.Core.Path.{_≡_, refl, sym, _∙_, ap, ap₂}
+use mathlib.Core.List.{List, [], _∷_, _++_}
+use Prim.Native.Nat.{ℕ, zero, suc, _+_, _≤_, _<_}
+use native.Mathlib.Numerals.{add-one}
+use native.Mathlib.Omega.{arith}
+use lib.IntN.{ℤ, pos}
+use lib.ListN.{length, getD, set, length-set, List·getD-append}
+use lib.Seq.{getD-set-same}
+use Rattle.calculus.specs.Model.{most-terms}
+use Rattle.model_types.specs.declared.Term.{Term}
+use Rattle.model_types.specs.Arrays.{padded}
+use Rattle.model_types.specs.ArrayLaws.{length-padded}
+use Rattle.model_types.specs.ModelStruct.{zero-term, pad}
+use Rattle.model_slices.specs.HandedModels.{terms-of}
+use Rattle.model_slices.specs.HandedModelsLaws.{handed-more}
+use Rattle.model_horner.specs.Held.{held, Room}
+
+-- a term by its key and its coefficient
+abbrev pub pair : ℕ → ℤ → Term
+pair k c = record { key = k; coefficient = c }
+
+-- ---- the terms of two slices
+pub length-terms : (i : ℕ) (ks : List ℕ) (cs : List ℤ) → i ≤ length ks → i ≤ length cs → length (terms-of i ks cs) ≡ i
+unfolding terms-of
+length-terms zero ks cs h l = refl
+length-terms (suc i) [] cs h l = absurd (omega arith)
+length-terms (suc i) (k ∷ ks) [] h l = absurd (omega arith)
+length-terms (suc i) (k ∷ ks) (c ∷ cs) h l = ap suc (length-terms i ks cs (omega arith) (omega arith))
+
+terms-more : (i : ℕ) (ks : List ℕ) (cs : List ℤ) → i < length ks → i < length cs
+    → terms-of (suc i) ks cs ≡ terms-of i ks cs ++ (pair (getD ks i 0) (getD cs i (pos 0)) ∷ [])
+unfolding terms-of
+terms-more i [] cs h l = absurd (omega arith)
+terms-more i (k ∷ ks) [] h l = absurd (omega arith)
+terms-more zero (k ∷ ks) (c ∷ cs) h l = refl
+terms-more (suc i) (k ∷ ks) (c ∷ cs) h l =
+    ap (λ (r : List Term). pair k c ∷ r) (terms-more i ks cs (omega arith) (omega arith))
+
+pair-at : (n i : ℕ) (ks : List ℕ) (cs : List ℤ) → i < n → i < length ks → i < length cs
+    → getD (terms-of n ks cs) i zero-term ≡ pair (getD ks i 0) (getD cs i (pos 0))
+unfolding terms-of
+pair-at zero i ks cs h l m = absurd (omega arith)
+pair-at (suc n) i [] cs h l m = absurd (omega arith)
+pair-at (suc n) i (k ∷ ks) [] h l m = absurd (omega arith)
+pair-at (suc n) zero (k ∷ ks) (c ∷ cs) h l m = refl
+pair-at (suc n) (suc i) (k ∷ ks) (c ∷ cs) h l m = pair-at n i ks cs (omega arith) (omega arith) (omega arith)
+
+-- a store behind them
+terms-before : (n : ℕ) (ks : List ℕ) (cs : List ℤ) (k : ℕ) (c : ℤ)
+    → terms-of n (set ks n k) (set cs n c) ≡ terms-of n ks cs
+unfolding terms-of
+terms-before zero ks cs k c = refl
+terms-before (suc n) [] cs k c = refl
+terms-before (suc n) (x ∷ ks) [] k c = refl
+terms-before (suc n) (x ∷ ks) (z ∷ cs) k c =
+    ap (λ (r : List Term). pair x z ∷ r) (terms-before n ks cs k c)
+
+-- ---- the struct
+module _ (n count radius : ℕ) (ks : List ℕ) (cs : List ℤ) (room : Room ks cs) (few : count ≤ most-terms) where
+  pub held-long : length (held n count radius ks cs .terms) ≡ most-terms
+  unfolding held most-terms
+  held-long =
+      let l = length-terms count ks cs (omega (arith, room .keys)) (omega (arith, room .coefficients)) in
+      length-padded zero-term most-terms (terms-of count ks cs) (omega (arith, l))
+
+  pub held-whole : count ≤ length (held n count radius ks cs .terms)
+  held-whole = omega (arith, held-long)
+
+  pub held-at : (i : ℕ) → i < count
+      → getD (held n count radius ks cs .terms) i zero-term ≡ pair (getD ks i 0) (getD cs i (pos 0))
+  unfolding held padded most-terms
+  held-at i h =
+      let l = length-terms count ks cs (omega (arith, room .keys)) (omega (arith, room .coefficients)) in
+      List·getD-append (terms-of count ks cs) _ zero-term i (omega (arith, l))
+      ∙ pair-at count i ks cs h (omega (arith, room .keys)) (omega (arith, room .coefficients))
+
+-- one more
+pub stored-more : (count : ℕ) (ks : List ℕ) (cs : List ℤ) (k : ℕ) (c : ℤ) → Room ks cs → count < most-terms
+    → set (pad (terms-of count ks cs)) count (pair k c)
+    ≡ pad (terms-of (count + 1) (set ks count k) (set cs count c))
+unfolding most-terms
+stored-more count ks cs k c r h =
+    ap₂ (λ (l : List Term) (t : Term). set (pad l) count t) (sym (terms-before count ks cs k c))
+    (sym (ap₂ pair (getD-set-same ks count k 0 (omega (arith, r .keys)))
+    (getD-set-same cs count c (pos 0) (omega (arith, r .coefficients)))))
+    ∙ handed-more count (set ks count k) (set cs count c)
+    (omega (arith, r .keys, length-set ks count k)) (omega (arith, r .coefficients, length-set cs count c)) h
+
+pub room-still : {ks : List ℕ} {cs : List ℤ} (i : ℕ) (k : ℕ) (c : ℤ) → Room ks cs → Room (set ks i k) (set cs i c)
+room-still {ks = ks} {cs = cs} i k c r = record {
+  keys = length-set ks i k ∙ r .keys;
+  coefficients = length-set cs i c ∙ r .coefficients;
+}
+
+-- a term copied behind others
+pub copied-more : (i : ℕ) (ks ks₂ : List ℕ) (cs cs₂ : List ℤ) → i < length ks → i < length cs → Room ks₂ cs₂ → i < 64
+    → terms-of i ks₂ cs₂ ≡ terms-of i ks cs
+    → terms-of (i + 1) (set ks₂ i (getD ks i 0)) (set cs₂ i (getD cs i (pos 0))) ≡ terms-of (i + 1) ks cs
+copied-more i ks ks₂ cs cs₂ h l r k e =
+    next i (set ks₂ i (getD ks i 0)) (set cs₂ i (getD cs i (pos 0)))
+    (omega (arith, length-set ks₂ i (getD ks i 0), r .keys))
+    (omega (arith, length-set cs₂ i (getD cs i (pos 0)), r .coefficients))
+    ∙ ap₂ (λ (p : List Term) (t : Term). p ++ (t ∷ [])) (terms-before i ks₂ cs₂ _ _ ∙ e)
+    (ap₂ pair (getD-set-same ks₂ i (getD ks i 0) 0 (omega (arith, r .keys)))
+    (getD-set-same cs₂ i (getD cs i (pos 0)) (pos 0) (omega (arith, r .coefficients))))
+    ∙ sym (next i ks cs h l)
+  where
+    next : (i : ℕ) (ks : List ℕ) (cs : List ℤ) → i < length ks → i < length cs
+        → terms-of (i + 1) ks cs ≡ terms-of i ks cs ++ (pair (getD ks i 0) (getD cs i (pos 0)) ∷ [])
+    next i ks cs h l = ap (λ j. terms-of j ks cs) (add-one i) ∙ terms-more i ks cs h l
+
+-- so models with the same terms are the same
+pub held-same : (n count radius : ℕ) (ks ks₂ : List ℕ) (cs cs₂ : List ℤ) → terms-of count ks₂ cs₂ ≡ terms-of count ks cs
+    → held n count radius ks₂ cs₂ ≡ held n count radius ks cs
+unfolding held
+held-same n count radius ks ks₂ cs cs₂ e =
+    ap (λ (l : List Term). record { n = n; count = count; radius = radius; terms = pad l }) e

@@ -1,0 +1,193 @@
+-- The passes of Horner's rule over a model that lies in slices: each turn is that of the pass over a struct.
+use mathlib.Core.Path.{_≡_, sym, _∙_, ap, subst}
+use mathlib.Core.Bool.{not}
+use mathlib.Core.List.{List}
+use Prim.Native.Nat.{ℕ, _+_, _*_, _^_, _≤_, _<_, max}
+use native.Mathlib.Omega.{arith}
+use lib.Dec.{T, leb}
+use lib.IntN.{ℤ, pos, natAbs}
+use lib.ListN.{length, getD, set}
+use Rattle.fixed.specs.Fixed.{span-limit, capped}
+use Rattle.calculus.specs.Model.{most-degree, most-terms, span}
+use Rattle.calculus.specs.Terms.{is-nonzero}
+use Rattle.calculus.specs.Operations.{largest-exponent, part}
+use Rattle.model_keys.specs.Keys.{key-exponent, key-without, Slot}
+use Rattle.model_types.specs.declared.Term.{Term}
+use Rattle.model_types.specs.declared.Model.{Model}
+use Rattle.model_types.specs.ModelStruct.{zero-term, view, pad, pack}
+use Rattle.model_types.specs.ModelStructLaws.{limits}
+use Rattle.model_slices.specs.HandedModels.{terms-of}
+use Rattle.model_limits.specs.LimitLaws as L
+use Rattle.model_powers.specs.PowersLaws as P
+use Rattle.model_scaling.specs.Scaling.{scaled-coefficient, scaled-residual, scaled-pass}
+use Rattle.model_scaling.specs.ScaledPassLaws as S
+use Rattle.model_horner.specs.Held.{held, Room, Keys-of, Part-of, Scale-of}
+use Rattle.model_horner.specs.HeldLaws.{pair, held-whole, held-at, stored-more}
+
+-- ---- the largest exponent
+module _ {i count : ℕ} {ks : List ℕ} (w : Keys-of i count ks) where
+  abbrev keyed : Model
+  keyed = held (w .vars) count (w .radius) ks (w .coefficients)
+
+  pub keys-few : count ≤ most-terms
+  unfolding held
+  keys-few = limits most-degree keyed (w .variable .model) .few
+
+  keys-whole : count ≤ length (keyed .terms)
+  keys-whole = held-whole (w .vars) count (w .radius) ks (w .coefficients) (w .room) keys-few
+
+  pub keys-slot : Slot i
+  keys-slot = P.slot (w .variable)
+
+  pub largest-first : P.Largest i keyed 0 0
+  unfolding held
+  largest-first = P.largest-first (w .variable) keys-whole
+
+  pub largest-turn : {largest j more : ℕ} → P.Largest i keyed largest j → j < count
+      → more ≡ max largest (key-exponent i (getD ks j 0)) → P.Largest i keyed more (j + 1)
+  unfolding held
+  largest-turn {largest = largest} {j = j} l h e = P.largest-turn (w .variable) keys-whole l h
+      (e ∙ ap (λ (t : Term). max largest (key-exponent i (t .key)))
+      (sym (held-at (w .vars) count (w .radius) ks (w .coefficients) (w .room) keys-few j h)))
+
+  pub largest-end : {largest j : ℕ} → P.Largest i keyed largest j → count ≤ j
+      → largest ≡ largest-exponent i (view keyed .terms)
+  unfolding held
+  largest-end l h = P.largest-end (w .variable) keys-whole l h
+
+-- ---- the terms of one power
+module _ {i total : ℕ} {ks : List ℕ} {cs : List ℤ} (w : Part-of i total ks cs) where
+  abbrev parted : Model
+  parted = held (w .vars) total (w .radius) ks cs
+
+  pub part-few : total ≤ most-terms
+  unfolding held
+  part-few = limits most-degree parted (w .variable .model) .few
+
+  part-whole : total ≤ length (parted .terms)
+  part-whole = held-whole (w .vars) total (w .radius) ks cs (w .room) part-few
+
+  pub part-slot : Slot i
+  part-slot = P.slot (w .variable)
+
+  pub part-first : {k : ℕ} (ks₂ : List ℕ) (cs₂ : List ℤ) → P.Taken i parted k (pad (terms-of 0 ks₂ cs₂)) 0 0
+  unfolding held terms-of
+  part-first ks₂ cs₂ = P.taken-first (w .variable) part-whole
+
+  module _ {k : ℕ} (ks₂ : List ℕ) (cs₂ : List ℤ) {count j : ℕ}
+      (l : P.Taken i parted k (pad (terms-of count ks₂ cs₂)) count j) where
+    pub part-room : j < total → count < most-terms
+    unfolding held
+    part-room h = P.taken-room (w .variable) part-whole l h
+
+    module _ (h : j < total) where
+      at : getD (parted .terms) j zero-term ≡ pair (getD ks j 0) (getD cs j (pos 0))
+      at = held-at (w .vars) total (w .radius) ks cs (w .room) part-few j h
+
+      pub part-in : Room ks₂ cs₂ → key-exponent i (getD ks j 0) ≡ k → {x : ℕ} {z : ℤ}
+          → x ≡ key-without i (getD ks j 0) → z ≡ getD cs j (pos 0)
+          → P.Taken i parted k (pad (terms-of (count + 1) (set ks₂ count x) (set cs₂ count z))) (count + 1) (j + 1)
+      unfolding held
+      part-in r e {x = x} {z = z} a b =
+          subst (λ o. P.Taken i parted k o (count + 1) (j + 1)) (stored-more count ks₂ cs₂ x z r (part-room h))
+          (P.taken-in (w .variable) part-whole l h (ap (λ (t : Term). key-exponent i (t .key)) at ∙ e)
+          (a ∙ ap (λ (t : Term). key-without i (t .key)) (sym at)) (b ∙ ap (λ (t : Term). t .coefficient) (sym at)))
+
+      pub part-out : (key-exponent i (getD ks j 0) ≡ k → ⊥)
+          → P.Taken i parted k (pad (terms-of count ks₂ cs₂)) count (j + 1)
+      unfolding held
+      part-out e = P.taken-out (w .variable) part-whole l h
+          (λ q. e (ap (λ (t : Term). key-exponent i (t .key)) (sym at) ∙ q))
+
+    pub part-end : total ≤ j → held (w .vars) count 0 ks₂ cs₂ ≡ pack (part i k (view parted))
+    unfolding held
+    part-end h = P.taken-end (w .variable) part-whole l h
+
+-- ---- a product with a constant
+module _ {X : ℤ} {total radius : ℕ} {ks : List ℕ} {cs : List ℤ} (w : Scale-of X total radius ks cs) where
+  abbrev multiplied : Model
+  multiplied = held (w .vars) total radius ks cs
+
+  pub scale-few : total ≤ most-terms
+  unfolding held
+  scale-few = limits most-degree multiplied (w .scalable .model) .few
+
+  scale-whole : total ≤ length (multiplied .terms)
+  scale-whole = held-whole (w .vars) total radius ks cs (w .room) scale-few
+
+  pub carried-small : natAbs X * radius < 2 ^ 61
+  unfolding held
+  carried-small = S.carried-small (w .scalable) scale-whole
+
+  pub scale-first : {e : ℕ} (ks₂ : List ℕ) (cs₂ : List ℤ) → e ≡ natAbs X * radius
+      → S.Gathered X multiplied (pad (terms-of 0 ks₂ cs₂)) 0 e 0
+  unfolding held terms-of
+  scale-first ks₂ cs₂ q = S.gathered-first (w .scalable) scale-whole q
+
+  module _ (ks₂ : List ℕ) (cs₂ : List ℤ) {count error j : ℕ}
+      (g : S.Gathered X multiplied (pad (terms-of count ks₂ cs₂)) count error j) where
+    pub scale-room : count ≤ j
+    unfolding held
+    scale-room = S.gathered-room (w .scalable) scale-whole g
+
+    module _ (h : j < total) where
+      at-place : getD (multiplied .terms) j zero-term ≡ pair (getD ks j 0) (getD cs j (pos 0))
+      at-place = held-at (w .vars) total radius ks cs (w .room) scale-few j h
+
+      pub scale-fits : natAbs (getD cs j (pos 0)) * natAbs X < 2 ^ 63
+      unfolding held
+      scale-fits = subst (λ (t : Term). natAbs (t .coefficient) * natAbs X < 2 ^ 63) at-place
+          (S.product-fits (w .scalable) scale-whole j h)
+
+      pub scale-within : error + scaled-residual X (getD cs j (pos 0)) < 2 ^ 62
+      unfolding held
+      scale-within = subst (λ (t : Term). error + scaled-residual X (t .coefficient) < 2 ^ 62) at-place
+          (S.gathered-within (w .scalable) scale-whole g h)
+
+      module _ {r : ℕ} (e : r ≡ error + scaled-residual X (getD cs j (pos 0))) where
+        grows : r ≡ error + scaled-residual X (getD (multiplied .terms) j zero-term .coefficient)
+        grows = e ∙ ap (λ (t : Term). error + scaled-residual X (t .coefficient)) (sym at-place)
+
+        pub scale-keep : Room ks₂ cs₂ → T (is-nonzero (scaled-coefficient X (getD cs j (pos 0)))) → {z : ℤ}
+            → z ≡ scaled-coefficient X (getD cs j (pos 0))
+            → S.Gathered X multiplied (pad (terms-of (count + 1) (set ks₂ count (getD ks j 0)) (set cs₂ count z)))
+            (count + 1) r (j + 1)
+        unfolding held
+        scale-keep room t {z = z} q =
+            subst (λ o. S.Gathered X multiplied o (count + 1) r (j + 1))
+            (stored-more count ks₂ cs₂ (getD ks j 0) z room (omega (arith, scale-room, scale-few)))
+            (S.gathered-keep (w .scalable) scale-whole g h grows
+            (subst (λ (t : Term). T (is-nonzero (scaled-coefficient X (t .coefficient)))) (sym at-place) t)
+            (omega (arith, scale-few)) (ap (λ (t : Term). t .key) (sym at-place))
+            (q ∙ ap (λ (t : Term). scaled-coefficient X (t .coefficient)) (sym at-place)))
+
+        pub scale-drop : T (not (is-nonzero (scaled-coefficient X (getD cs j (pos 0)))))
+            → S.Gathered X multiplied (pad (terms-of count ks₂ cs₂)) count r (j + 1)
+        unfolding held
+        scale-drop t = S.gathered-drop (w .scalable) scale-whole g h grows
+            (subst (λ (t : Term). T (not (is-nonzero (scaled-coefficient X (t .coefficient))))) (sym at-place) t)
+
+    pub scale-end : total ≤ j → held (w .vars) count error ks₂ cs₂ ≡ pack (scaled-pass X (view multiplied))
+    unfolding held
+    scale-end l = S.gathered-end (w .scalable) scale-whole g l
+
+-- ---- the span
+module _ (n count radius : ℕ) (ks : List ℕ) (cs : List ℤ) (room : Room ks cs) (few : count ≤ most-terms) where
+  abbrev spanned : Model
+  spanned = held n count radius ks cs
+
+  pub span-first : L.Summed spanned radius 0
+  unfolding held
+  span-first = L.summed-first spanned (held-whole n count radius ks cs room few)
+
+  pub span-turn : (total i next : ℕ) → L.Summed spanned total i → i < count
+      → next ≡ capped (total + natAbs (getD cs i (pos 0))) → L.Summed spanned next (i + 1)
+  unfolding held
+  span-turn total i next h l e = L.summed-turn spanned (held-whole n count radius ks cs room few) total i next h l
+      (e ∙ ap (λ (t : Term). capped (total + natAbs (t .coefficient)))
+      (sym (held-at n count radius ks cs room few i l)))
+
+  pub span-end : (total i : ℕ) → L.Summed spanned total i → count ≤ i
+      → leb total span-limit ≡ leb (span (view spanned)) span-limit
+  unfolding held
+  span-end total i h l = L.summed-end spanned (held-whole n count radius ks cs room few) total i h l

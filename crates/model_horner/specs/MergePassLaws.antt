@@ -1,0 +1,116 @@
+-- The merge of two models that lie in slices: each turn is that of the merge of structs.
+use mathlib.Core.Path.{_≡_, sym, _∙_, ap, subst}
+use mathlib.Core.Bool.{true, false}
+use mathlib.Core.List.{List}
+use Prim.Native.Nat.{ℕ, _+_, _-_, _^_, _≤_, _<_, min}
+use native.Mathlib.Omega.{arith}
+use lib.IntN.{ℤ, pos, natAbs}
+use lib.ListN.{length, getD, set}
+use Rattle.fixed.specs.FixedLaws.{span-fits}
+use Rattle.calculus.specs.Model.{most-degree, most-terms}
+use Rattle.calculus.specs.Terms.{is-nonzero}
+use Rattle.model_types.specs.declared.Term.{Term}
+use Rattle.model_types.specs.declared.Model.{Model}
+use Rattle.model_types.specs.ModelStruct.{zero-term, pad}
+use Rattle.model_types.specs.ModelStructLaws.{limits}
+use Rattle.model_slices.specs.HandedModels.{terms-of}
+use Rattle.model_addition.specs.declared.Next.{Next}
+use Rattle.model_addition.specs.Merge.{Takes}
+use Rattle.model_addition.specs.MergeLaws.{Mergeable, Merged, Turn, nothing-stored, turn, skip, store, too-many}
+use Rattle.model_addition.specs.AddedLaws.{Whole, coefficient-within, mergeable, answer-too-many}
+use Rattle.model_addition.specs.AddedLaws.{sum-packed, sum-answer}
+use Rattle.model_horner.specs.Held.{held, Room, Sum-of, Sum-in}
+use Rattle.model_horner.specs.HeldLaws.{pair, held-long, held-at, stored-more}
+
+module _ {c d : ℕ} {ks ks₂ : List ℕ} {cs cs₂ : List ℤ} (w : Sum-of c ks cs d ks₂ cs₂) where
+  abbrev a : Model
+  a = held (w .vars) c (w .radius1) ks cs
+
+  abbrev b : Model
+  b = held (w .vars) d (w .radius2) ks₂ cs₂
+
+  pub first-few : c ≤ most-terms
+  unfolding held
+  first-few = limits most-degree a (w .operands .first) .few
+
+  pub second-few : d ≤ most-terms
+  unfolding held
+  second-few = limits most-degree b (w .operands .second) .few
+
+  first-whole : Whole a
+  first-whole = held-long (w .vars) c (w .radius1) ks cs (w .first-room) first-few
+
+  second-whole : Whole b
+  second-whole = held-long (w .vars) d (w .radius2) ks₂ cs₂ (w .second-room) second-few
+
+  lists : Mergeable a b
+  lists = mergeable a b (w .operands) first-whole second-whole
+
+  pub merge-first : (ks₃ : List ℕ) (cs₃ : List ℤ) → Merged a b (pad (terms-of 0 ks₃ cs₃)) 0 0 0
+  unfolding terms-of
+  merge-first ks₃ cs₃ = nothing-stored a b
+
+  -- ---- the terms that are read
+  module _ (i p : ℕ) (e : p ≡ min i (most-terms - 1)) (h : i < c) where
+    pub first-here : getD (a .terms) i zero-term ≡ pair (getD ks p 0) (getD cs p (pos 0))
+    first-here =
+        let q : i ≡ p = omega (arith, e, first-few) in
+        held-at (w .vars) c (w .radius1) ks cs (w .first-room) first-few i h
+        ∙ ap (λ k. pair (getD ks k 0) (getD cs k (pos 0))) q
+
+  module _ (j q : ℕ) (e : q ≡ min j (most-terms - 1)) (h : j < d) where
+    pub second-here : getD (b .terms) j zero-term ≡ pair (getD ks₂ q 0) (getD cs₂ q (pos 0))
+    second-here =
+        let r : j ≡ q = omega (arith, e, second-few) in
+        held-at (w .vars) d (w .radius2) ks₂ cs₂ (w .second-room) second-few j h
+        ∙ ap (λ k. pair (getD ks₂ k 0) (getD cs₂ k (pos 0))) r
+
+  pub merge-fits : (i j p q : ℕ) → p ≡ min i (most-terms - 1) → q ≡ min j (most-terms - 1) → i < c → j < d
+      → natAbs (getD cs p (pos 0)) + natAbs (getD cs₂ q (pos 0)) < 2 ^ 63
+  unfolding held
+  merge-fits i j p q e f h l = omega (
+    arith,
+    ap (λ (t : Term). natAbs (t .coefficient)) (first-here i p e h),
+    ap (λ (t : Term). natAbs (t .coefficient)) (second-here j q f l),
+    coefficient-within a (w .operands .first) first-whole i h,
+    coefficient-within b (w .operands .second) second-whole j l,
+    span-fits,
+  )
+
+  -- ---- a turn
+  module _ (ks₃ : List ℕ) (cs₃ : List ℤ) {count i j : ℕ} (m : Merged a b (pad (terms-of count ks₃ cs₃)) count i j) where
+    pub merge-turn : (p q : ℕ) → p ≡ min i (most-terms - 1) → q ≡ min j (most-terms - 1) → (r : Next)
+        → Takes i c (pair (getD ks p 0) (getD cs p (pos 0))) j d (pair (getD ks₂ q 0) (getD cs₂ q (pos 0))) r
+        → Turn a b i j r
+    unfolding held
+    merge-turn p q e f r t = turn a b lists m _ _ (λ h. first-here i p e h) (λ h. second-here j q f h) r t
+
+    module _ (r : Next) (t : Turn a b i j r) where
+      pub merge-skip : is-nonzero (r .term .coefficient) ≡ false
+          → Merged a b (pad (terms-of count ks₃ cs₃)) count (r .i) (r .j)
+      merge-skip z = skip a b lists m r t z
+
+      pub merge-store : is-nonzero (r .term .coefficient) ≡ true → count < most-terms → Room ks₃ cs₃ → {z : ℤ}
+          → z ≡ r .term .coefficient
+          → Merged a b (pad (terms-of (count + 1) (set ks₃ count (r .term .key)) (set cs₃ count z))) (count + 1)
+          (r .i) (r .j)
+      merge-store n k room e = subst (λ o. Merged a b o (count + 1) (r .i) (r .j))
+          (stored-more count ks₃ cs₃ (r .term .key) (r .term .coefficient) room k
+          ∙ ap (λ z. pad (terms-of (count + 1) (set ks₃ count (r .term .key)) (set cs₃ count z))) (sym e))
+          (store a b lists m r t n k)
+
+      pub merge-many : is-nonzero (r .term .coefficient) ≡ true → most-terms ≤ count → (ks₄ : List ℕ) (cs₄ : List ℤ)
+          → Sum-in a b (w .vars) 65 ks₄ cs₄
+      merge-many n k ks₄ cs₄ = record {
+        packed = λ h. absurd (omega arith);
+        sum = λ h. absurd (omega arith);
+        many = λ h. answer-too-many a b (w .operands) first-whole second-whole (too-many a b lists m r t n k);
+      }
+
+    pub merge-end : c + d ≤ i + j → Sum-in a b (w .vars) count ks₃ cs₃
+    unfolding held most-terms
+    merge-end h = record {
+      packed = λ l. sum-packed a b (w .operands) first-whole second-whole m h;
+      sum = λ l. sum-answer a b (w .operands) first-whole second-whole m h;
+      many = λ l. absurd (omega (arith, m .few));
+    }
