@@ -6,7 +6,7 @@ use crate::integrals::Integrals;
 use crate::renamed::Renamed;
 use crate::rows::Rows;
 use crate::shaped::{self, Shape};
-use crate::{archive, curves, cuts, doubles, renamed, sheets, stepping};
+use crate::{archive, curves, cuts, doubles, readings, renamed, sheets, stepping};
 use hechroung::{Ends, Exact, Integral, Model};
 use reference::calls::{Call, CallAnswer};
 use reference::model::monomial_of_key;
@@ -85,6 +85,7 @@ pub fn compare(case: &Case) -> Result<Seen, String> {
         Case::Cut(call) => cuts::compare(call),
         Case::ShapedCut(call, shape) => cuts::compare_shaped(call, shape),
         Case::Doubles(record, outputs) => doubles::compare(record, *outputs),
+        Case::Readings(row) => readings::compare_alone(row),
         Case::Archive(call, lengths) => archive::compare(call, *lengths),
     };
     let counted = found.map(|seen| Seen {

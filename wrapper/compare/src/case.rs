@@ -11,6 +11,7 @@ use reference::chebyshev::Call as CurveCall;
 use reference::cuts::Call as CutCall;
 use reference::doubles::Record;
 use reference::model::{FEW_VARIABLES, MOST_TERMS, MOST_VARIABLES};
+use reference::readings::{Call as RowCall, Reading};
 use reference::renaming::Reordering;
 use reference::sheet::Mark;
 use reference::stored::{StoredModel, StoredTerm};
@@ -45,6 +46,8 @@ pub enum Case {
     ShapedCut(CutCall, cuts::Shape),
     /// A curve in doubles, with slices of these lengths for the answer.
     Doubles(Record, [u8; 3]),
+    /// A row of readings held against a model.
+    Readings(RowCall),
     /// A model stored in the archive or restored from it, with slices of these lengths for keys, coefficients and
     /// numbers.
     Archive(archive::Call, [u8; 3]),
@@ -112,6 +115,7 @@ impl Case {
             },
             Case::Cut(call) | Case::ShapedCut(call, _) => Variables::of_n(call.f.n),
             Case::Doubles(..) => Variables::UpToFour,
+            Case::Readings(call) => Variables::of_n(call.f.n),
             Case::Archive(archive::Call::Store { f, .. }, _) => Variables::of_n(f.n),
             Case::Archive(archive::Call::Restore { bytes, .. }, _) => {
                 Variables::of_n(bytes.first().copied().unwrap_or(0))
@@ -135,6 +139,7 @@ impl Case {
             Case::Cut(_) => cuts::KIND,
             Case::ShapedCut(..) => "cut box, slices of any length",
             Case::Doubles(..) => doubles::NAME,
+            Case::Readings(_) => "row of readings",
             Case::Archive(archive::Call::Store { .. }, _) => "stored in the archive",
             Case::Archive(archive::Call::Restore { .. }, _) => "restored from the archive",
         }
@@ -207,7 +212,13 @@ impl Case {
                 bytes.extend(outputs);
                 "doubles"
             }
-
+            Case::Readings(call) => {
+                push_model(&mut bytes, &call.f);
+                call.readings
+                    .iter()
+                    .for_each(|reading| push_reading(&mut bytes, reading));
+                "readings"
+            }
             Case::Archive(archive::Call::Store { f, buffer }, lengths) => {
                 bytes.extend(lengths);
                 push_model(&mut bytes, f);
@@ -279,7 +290,14 @@ impl Case {
                 };
                 Case::Doubles(record, bytes.take()?)
             }
-
+            "readings" => {
+                let f = take_model(&mut bytes)?;
+                let mut readings = Vec::new();
+                while !bytes.0.is_empty() {
+                    readings.push(take_reading(&mut bytes)?);
+                }
+                Case::Readings(RowCall { f, readings })
+            }
             "store" => {
                 let lengths = bytes.take()?;
                 let f = take_model(&mut bytes)?;
@@ -377,6 +395,24 @@ pub fn push_model(bytes: &mut Vec<u8>, model: &StoredModel) {
         bytes.extend(term.key.to_le_bytes());
         bytes.extend(term.coefficient.to_le_bytes());
     }
+}
+
+/// The point, then the low and the high value.
+fn push_reading(bytes: &mut Vec<u8>, reading: &Reading) {
+    let numbers = reading.point.iter().chain([&reading.low, &reading.high]);
+    numbers.for_each(|number| bytes.extend(number.to_le_bytes()));
+}
+
+fn take_reading(bytes: &mut Bytes) -> Option<Reading> {
+    let mut point = [0; MOST_VARIABLES];
+    for x in &mut point {
+        *x = bytes.number()? as i64;
+    }
+    Some(Reading {
+        point,
+        low: bytes.number()? as i64,
+        high: bytes.number()? as i64,
+    })
 }
 
 /// All fields of the struct, those of all 16 and 64 places too.
@@ -513,7 +549,7 @@ pub fn take_model(bytes: &mut Bytes) -> Option<Box<StoredModel>> {
 #[cfg(test)]
 mod tests {
     use super::Case;
-    use crate::{renamed, stream};
+    use crate::{readings, renamed, stream};
 
     #[test]
     fn every_line_names_its_case() {
@@ -522,6 +558,10 @@ mod tests {
             assert_eq!(Case::from_line(&case.line()), Some(case));
             let (sheet, other) = renamed::case(5, number);
             let case = Case::Renamed(sheet, other);
+            assert_eq!(Case::from_line(&case.line()), Some(case));
+        }
+        for number in 0..300 {
+            let case = Case::Readings(readings::row(5, number));
             assert_eq!(Case::from_line(&case.line()), Some(case));
         }
     }
@@ -541,6 +581,7 @@ mod tests {
             "renamed 020000",
             "renamed 0201",
             "sheet 0",
+            "readings",
             "curve",
             "curve 08",
             "curve 0100",

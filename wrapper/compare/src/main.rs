@@ -301,20 +301,19 @@ fn doubles_records(records: u64, seed: u64) -> ExitCode {
     ended(&failures, unreached.is_empty())
 }
 
-/// Compares what generated rows of readings and named ones give. A difference names the row by its number.
+/// Compares what generated rows of readings and named ones give. A difference names the row by a line of hex.
 fn rows_of_readings(rows: u64, seed: u64) -> ExitCode {
     let started = Instant::now();
     let parts = by_processor(move |first, step| {
         let mut seen = readings::Seen::default();
         let mut failures = Vec::new();
         let named = (first == 0).then(readings::named).unwrap_or_default();
-        let named = named.into_iter().map(|row| ("a named row".to_owned(), row));
         let generated = (first..rows).step_by(step);
-        let generated =
-            generated.map(|number| (format!("row {number}"), readings::row(seed, number)));
-        for (name, row) in named.chain(generated) {
+        let generated = generated.map(|number| readings::row(seed, number));
+        for row in named.into_iter().chain(generated) {
             if let Err(difference) = readings::compare(&row, &mut seen) {
-                failures.push(format!("{name}: {difference}"));
+                let line = Case::Readings(row).line();
+                failures.push(format!("row of readings: {difference}\n{line}"));
             }
         }
         (seen, failures)

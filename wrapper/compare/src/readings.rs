@@ -2,7 +2,7 @@
 //! are long enough and with each of them one place too short, what the wrapper hands out, the single evaluations before
 //! the first contradiction, and that no function within the model passes through the reading that contradicts.
 
-use crate::agree::{pair, same, to_model};
+use crate::agree::{self, pair, same, to_model};
 use hechroung::raw::{self, Handed, HandedReadings, MISUSED};
 use hechroung::{evaluate, first_contradicting, Model, Reading, MOST_VARS};
 use reference::exact::readings::is_passed_through;
@@ -180,6 +180,18 @@ pub fn compare(call: &Call, seen: &mut Seen) -> Result<(), String> {
     }
     seen.note(&expected, rows.len());
     Ok(())
+}
+
+/// Compares one row that a line names.
+pub fn compare_alone(call: &Call) -> Result<agree::Seen, String> {
+    compare(call, &mut Seen::default())?;
+    Ok(match call.answer() {
+        ReadingsAnswer::Refused(refusal) => agree::Seen::of(Some(pair(refusal))),
+        accepted => agree::Seen {
+            text: format!("{accepted:?}"),
+            ..agree::Seen::of(None)
+        },
+    })
 }
 
 impl Seen {
