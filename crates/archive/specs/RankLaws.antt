@@ -11,8 +11,8 @@ use Rattle.calculus.specs.Monomial.{degree}
 use Rattle.calculus.specs.Key.{encode, decode, fits-digits, key-width, key-limit, key, key-fits, key-exponents}
 use Rattle.calculus.specs.Key.{monomial-of, key-degree}
 use Rattle.calculus.specs.Model.{most-degree}
-use Rattle.calculus.specs.TestLaws.{and-left, and-right, both}
-use Rattle.calculus.specs.MonomialKeyLaws.{key-monomial, monomial-length, monomial-degree}
+use Rattle.calculus_laws.specs.TestLaws.{and-left, and-right, both}
+use Rattle.calculus_laws.specs.MonomialKeyLaws.{key-monomial, monomial-length, monomial-degree}
 use Rattle.archive.specs.Ranks.{count-up, in-turn, monomials, rank-width, all-keys, short-keys, rank-count}
 use Rattle.archive.specs.Ranks.{place-of, rank-of}
 use Rattle.archive.specs.Ranks.{key-at, weight, keys-in-order}

@@ -8,7 +8,7 @@ use lib.Dec.{T, ltb, ltb→lt, lit<}
 use lib.ListN.{length, getD}
 use Rattle.calculus.specs.Key.{encode, key-width}
 use Rattle.calculus.specs.Model.{most-degree}
-use Rattle.calculus.specs.TestLaws.{and-left, and-right}
+use Rattle.calculus_laws.specs.TestLaws.{and-left, and-right}
 use Rattle.archive.specs.Ranks.{count-up, in-turn, monomials, rank-width, all-keys, rank-count, rank-of, key-at}
 use Rattle.archive.specs.RankSums.{up-to, less-by-three, less-by-two, two-sum, three-sum, four-sum, half-rank}
 use Rattle.archive.specs.RankSums.{rank-by-sums}

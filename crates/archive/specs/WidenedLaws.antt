@@ -14,9 +14,9 @@ use Rattle.algebra.specs.RationalOrder.{ℚO}
 use Rattle.fixed.specs.Fixed.{U}
 use Rattle.calculus.specs.Terms.{Terms, select, size}
 use Rattle.calculus.specs.Model.{Model, _-ℚ_, Point, In-box}
-use Rattle.calculus.specs.UnitLaws.{natural}
-use Rattle.calculus.specs.ValueLaws.{scaled-value, Near, scaled-split, sum-≤, scaled-≤}
-use Rattle.calculus.specs.ChainLaws.{_≡≤_}
+use Rattle.calculus_laws.specs.UnitLaws.{natural}
+use Rattle.calculus_laws.specs.ValueLaws.{scaled-value, Near, scaled-split, sum-≤, scaled-≤}
+use Rattle.calculus_laws.specs.ChainLaws.{_≡≤_}
 use Rattle.archive.specs.Archive.{terms-before, first-terms}
 
 -- whether a term is among the first j

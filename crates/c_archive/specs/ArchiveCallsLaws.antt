@@ -3,7 +3,7 @@ use mathlib.Core.Path.{_≡_, sym, subst}
 use mathlib.Core.Bool.{true}
 use Prim.Native.Nat.{ℕ, _≤_}
 use lib.Dec.{T, leb, leb→le}
-use Rattle.calculus.specs.TestLaws.{and-right}
+use Rattle.calculus_laws.specs.TestLaws.{and-right}
 use Rattle.model_slices.specs.HandedModels.{lent}
 use Rattle.c_archive.specs.ArchiveCalls.{store-fits}
 

@@ -14,7 +14,7 @@ use Rattle.calculus.specs.Operations.{Ends, zero-ends, zero-mixed, common-denom
 use Rattle.model.specs.OperationLaws.{exact-remainder}
 use Rattle.calculus.specs.Operations.{whole-integral}
 use Rattle.calculus.specs.Calls.{call-range, call-integral, call-evaluate}
-use Rattle.calculus.specs.TestLaws.{and-right}
+use Rattle.calculus_laws.specs.TestLaws.{and-right}
 use Rattle.model_types.specs.ModelStruct.{bounds, integral-answer}
 use Rattle.model_slices.specs.HandedModels.{lent, answer-numbers, model-room}
 use Rattle.model_slices.specs.HandedModelsLaws.{room-parts}

@@ -9,7 +9,7 @@ use lib.IntN.{ℤ, pos}
 use lib.ListN.{length, take, getD, set, replicate}
 use lib.Seq.{length-take-le}
 use Rattle.calculus.specs.Model.{most-terms}
-use Rattle.calculus.specs.TestLaws.{and-left, and-right}
+use Rattle.calculus_laws.specs.TestLaws.{and-left, and-right}
 use Rattle.chebyshev.specs.PowerRows.{places}
 use Rattle.model_types.specs.Arrays.{padded}
 use Rattle.model_types.specs.ArrayLaws.{take-more, padded-more}

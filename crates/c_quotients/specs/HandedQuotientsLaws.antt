@@ -4,7 +4,7 @@ use mathlib.Core.Bool.{true}
 use Prim.Native.Nat.{ℕ, _≤_}
 use lib.Dec.{T, leb, leb→le}
 use Rattle.calculus.specs.Model.{most-terms}
-use Rattle.calculus.specs.TestLaws.{and-left, and-right}
+use Rattle.calculus_laws.specs.TestLaws.{and-left, and-right}
 use Rattle.model_slices.specs.HandedModels.{answer-numbers, model-room}
 use Rattle.model_slices.specs.HandedModelsLaws.{room-parts}
 use Rattle.c_quotients.specs.HandedQuotients.{quotient-models, quotient-fits}

@@ -8,7 +8,7 @@ use native.Mathlib.Omega.{arith}
 use lib.Dec.{T, leb, leb→le}
 use lib.IntN.{ℤ}
 use lib.ListN.{length, getD, set}
-use Rattle.calculus.specs.TestLaws.{and-right}
+use Rattle.calculus_laws.specs.TestLaws.{and-right}
 use Rattle.readings.specs.Readings.{call-readings}
 use Rattle.model_types.specs.declared.Reading.{Reading}
 use Rattle.model_types.specs.declared.Model.{Model}

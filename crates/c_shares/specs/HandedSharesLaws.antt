@@ -8,7 +8,7 @@ use lib.Dec.{T, leb, leb→le}
 use lib.ListN.{length, take, getD, set, length-append}
 use lib.Seq.{length-take-le}
 use Rattle.calculus.specs.Model.{most-terms}
-use Rattle.calculus.specs.TestLaws.{and-left, and-right}
+use Rattle.calculus_laws.specs.TestLaws.{and-left, and-right}
 use Rattle.model_types.specs.ArrayLaws.{take-more}
 use Rattle.model_types.specs.declared.Shares.{Shares}
 use Rattle.model_slices.specs.HandedModels.{over, answer-numbers, model-room}

@@ -117,9 +117,22 @@ long-line = model 8 0
 unfoldable pub point : (a e f g h : ℤ) → List ℤ
 point a e f g h = a ∷ pos 0 ∷ pos 0 ∷ pos 0 ∷ e ∷ f ∷ g ∷ h ∷ []
 
--- ---- the table; the line is 5 + 3x
-unfoldable pub call-edges : List Call-edge
-call-edges =
+-- ---- the tables, by operation; the line is 5 + 3x
+-- each call hands back what its row says
+abbrev pub Hold : List Call-edge → Type 0
+Hold rows = map (λ r. r .given) rows ≡ map (λ r. r .wanted) rows
+
+-- what they open
+unfoldable pub call-forms : Unit {0}
+unfolding
+    calls forms one-term one-long-term terms-from
+    back gives refuses gives-ends refuses-ends refuses-integral bad cube two-variables outside near-limit times about
+    constant-and-square square-minus integrated square long-line point
+call-forms = tt
+
+-- constants and variables
+unfoldable pub constant-edges : List Call-edge
+constant-edges =
     -- 3 before 6
     refuses 1 (call-constant 0 (pos 1073741825)) 3 0
     ∷ refuses 1 (call-variable 9 10) 3 0
@@ -130,8 +143,17 @@ call-edges =
     ∷ gives 2 (call-variable 4 4) (one-term 4 0x0001 (pos 1048576))
     ∷ gives 2 (call-variable 8 8) (one-long-term 8 0x00000001 (pos 1048576))
     ∷ refuses 2 (call-variable 8 9) 6 0
+    ∷ []
+
+pub constant-edges-hold : Hold constant-edges
+unfolding call-forms constant-edges
+constant-edges-hold = refl
+
+-- sweep and negate, and the rules of a model
+unfoldable pub unary-edges : List Call-edge
+unary-edges =
     -- 5 before 6
-    ∷ refuses 3 (call-sweep (minus 1) bad) 5 0
+    refuses 3 (call-sweep (minus 1) bad) 5 0
     ∷ refuses 3 (call-sweep (minus 1) line) 6 0
     ∷ gives 3 (call-sweep (pos 1073741824) line) (model 1 3 (at-key 1 0x0000 (pos 5) ∷ []))
     -- a model's own n counts under 5, and so do its span and keys that do not rise
@@ -143,8 +165,17 @@ call-edges =
     -- no order is taken: degrees go up to 15
     ∷ gives 4 (call-negate (one-term 1 0xF000 (pos 1))) (one-term 1 0xF000 (minus 1))
     ∷ refuses 4 (call-negate (model 1 0 (term (pos 1) (16 ∷ []) ∷ []))) 5 0
+    ∷ []
+
+pub unary-edges-hold : Hold unary-edges
+unfolding call-forms unary-edges
+unary-edges-hold = refl
+
+-- the tests of two models, in their order
+unfoldable pub operand-edges : List Call-edge
+operand-edges =
     -- 3 before 5
-    ∷ refuses 5 (call-multiply 0 bad bad) 3 0
+    refuses 5 (call-multiply 0 bad bad) 3 0
     ∷ refuses 5 (call-substitute 16 1 bad bad) 3 0
     -- 5 at place 0, then 5 at place 1, then 10
     ∷ refuses 6 (call-add bad bad) 5 0
@@ -163,39 +194,47 @@ call-edges =
     ∷ gives 8 (call-multiply 3 line cube) (model 1 3 (at-key 1 0x3000 (pos 5) ∷ []))
     ∷ refuses 8 (call-substitute 2 1 cube line) 5 0
     ∷ refuses 8 (call-substitute 2 1 line cube) 5 1
-    -- and holds inside a substitution: y^2/2 put in for x in xy
-    ∷ gives 9 (call-substitute 2 1 two-variables (one-term 2 0x0200 (pos 524288))) (model 2 524288 [])
+    ∷ []
+
+pub operand-edges-hold : Hold operand-edges
+unfolding call-forms operand-edges
+operand-edges-hold = refl
+
+-- sums
+unfoldable pub addition-edges : List Call-edge
+addition-edges =
     -- 65 terms and a span above 2^30: 8 before 7
-    ∷ refuses 10 (call-add (model 2 0 (terms-from 0 64 (pos 16777216))) (one-term 2 0x8000 (pos 1073741824))) 8 0
+    refuses 10 (call-add (model 2 0 (terms-from 0 64 (pos 16777216))) (one-term 2 0x8000 (pos 1073741824))) 8 0
     ∷ refuses 10 (call-add (model 1 1073741824 []) (model 1 1 [])) 7 0
     ∷ gives 10 (call-add (model 1 1073741823 []) (model 1 1 [])) (model 1 1073741824 [])
-    -- 5 for ends
-    ∷ refuses-ends 11 (call-range bad) 5
-    ∷ refuses-integral 11 (call-integral bad) 5
-    -- evaluation: 5, then 6 above n, then 9 among the first n
-    ∷ refuses-ends 12 (call-evaluate (pos 1048577 ∷ pos 1 ∷ []) bad) 5
-    ∷ refuses-ends 12 (call-evaluate (pos 1048577 ∷ pos 1 ∷ []) line) 6
-    ∷ refuses-ends 12 (call-evaluate (pos 0 ∷ pos 0 ∷ pos 1 ∷ []) line) 6
-    ∷ refuses-ends 12 (call-evaluate (pos 1048577 ∷ pos 0 ∷ []) line) 9
-    ∷ refuses-ends 12 (call-evaluate (minus 1048577 ∷ pos 0 ∷ []) line) 9
-    ∷ gives-ends 12 (call-evaluate (pos 1048576 ∷ pos 0 ∷ []) line) (ends (pos 8) (pos 8))
-    ∷ gives-ends 12 (call-evaluate (minus 1048576 ∷ pos 0 ∷ []) line) (ends (pos 2) (pos 2))
-    -- 7 inside evaluation: at U - 1 the product is rounded to 1 with radius 1
-    ∷ refuses-ends 13 (call-evaluate (pos 1048575 ∷ []) (near-limit 1 1073741823)) 7
-    ∷ gives-ends 13 (call-evaluate (pos 1048575 ∷ []) (near-limit 1 1073741822))
-    (ends (pos 1073741822) (pos 1073741824))
-    -- 9 for any coordinate comes before it
-    ∷ refuses-ends 14 (call-evaluate (pos 1048575 ∷ pos 1048577 ∷ []) (near-limit 2 1073741823)) 9
+    ∷ []
+
+pub addition-edges-hold : Hold addition-edges
+unfolding call-forms addition-edges
+addition-edges-hold = refl
+
+-- products
+unfoldable pub product-edges : List Call-edge
+product-edges =
     -- halfway goes to the even coefficient: not away from 0 (1, 5), not toward it (3), not up (-3), not down (-1)
-    ∷ gives 15 (times (pos 1) (pos 524288)) (model 1 1 []) ∷ gives 15 (times (minus 1) (pos 524288)) (model 1 1 [])
+    gives 15 (times (pos 1) (pos 524288)) (model 1 1 []) ∷ gives 15 (times (minus 1) (pos 524288)) (model 1 1 [])
     ∷ gives 15 (times (pos 3) (pos 524288)) (about (pos 2)) ∷ gives 15 (times (minus 3) (pos 524288)) (about (minus 2))
     ∷ gives 15 (times (pos 5) (pos 524288)) (about (pos 2)) ∷ gives 15 (times (minus 5) (pos 524288)) (about (minus 2))
     -- z just below halfway, there and just above it
     ∷ gives 16 (times (pos 1) (pos 524287)) (model 1 1 []) ∷ gives 16 (times (minus 1) (pos 524287)) (model 1 1 [])
     ∷ gives 16 (times (pos 1) (pos 524288)) (model 1 1 []) ∷ gives 16 (times (pos 524288) (minus 1)) (model 1 1 [])
     ∷ gives 16 (times (pos 1) (pos 524289)) (about (pos 1)) ∷ gives 16 (times (minus 1) (pos 524289)) (about (minus 1))
+    ∷ []
+
+pub product-edges-hold : Hold product-edges
+unfolding call-forms product-edges
+product-edges-hold = refl
+
+-- ranges
+unfoldable pub range-edges : List Call-edge
+range-edges =
     -- the range: every exponent counts, and not the degree: xy, x^2 y, x^2 y^2
-    ∷ gives-ends 17 (call-range (one-term 2 0x1100 (pos 7))) (ends (minus 7) (pos 7))
+    gives-ends 17 (call-range (one-term 2 0x1100 (pos 7))) (ends (minus 7) (pos 7))
     ∷ gives-ends 17 (call-range (one-term 2 0x2100 (pos 7))) (ends (minus 7) (pos 7))
     ∷ gives-ends 17 (call-range (one-term 2 0x2200 (pos 7))) (ends (pos 0) (pos 7))
     -- an even power below 0: -x^2
@@ -210,13 +249,33 @@ call-edges =
     -- the radius counts on both sides: alone, and beside x^2
     ∷ gives-ends 21 (call-range (model 1 3 [])) (ends (minus 3) (pos 3))
     ∷ gives-ends 21 (call-range (constant-and-square 5 2 3)) (ends (pos 3) (pos 10))
+    ∷ []
+
+pub range-edges-hold : Hold range-edges
+unfolding call-forms range-edges
+range-edges-hold = refl
+
+-- substitutions
+unfoldable pub substitution-edges : List Call-edge
+substitution-edges =
+    -- and holds inside a substitution: y^2/2 put in for x in xy
+    gives 9 (call-substitute 2 1 two-variables (one-term 2 0x0200 (pos 524288))) (model 2 524288 [])
     -- 9 by this range: 2x^2 - 1 put in for x, then reaching one unit too high, then one too low
     ∷ gives 22 (call-substitute 2 1 (one-term 1 0x1000 (pos 1048576)) (square-minus 1048576 2097152))
     (square-minus 1048576 2097152)
     ∷ refuses 22 (call-substitute 2 1 (one-term 1 0x1000 (pos 1048576)) (square-minus 1048576 2097153)) 9 0
     ∷ refuses 22 (call-substitute 2 1 (one-term 1 0x1000 (pos 1048576)) (square-minus 1048577 2097152)) 9 0
+    ∷ []
+
+pub substitution-edges-hold : Hold substitution-edges
+unfolding call-forms substitution-edges
+substitution-edges-hold = refl
+
+-- antiderivatives
+unfoldable pub antiderivative-edges : List Call-edge
+antiderivative-edges =
     -- an antiderivative divides by the new exponent, here 2, halfway to the even; what is not exact costs 1
-    ∷ gives 23 (integrated (pos 1)) (model 1 1 []) ∷ gives 23 (integrated (minus 1)) (model 1 1 [])
+    gives 23 (integrated (pos 1)) (model 1 1 []) ∷ gives 23 (integrated (minus 1)) (model 1 1 [])
     ∷ gives 23 (integrated (pos 2)) (square 0 (pos 1)) ∷ gives 23 (integrated (minus 2)) (square 0 (minus 1))
     ∷ gives 23 (integrated (pos 3)) (square 1 (pos 2)) ∷ gives 23 (integrated (minus 3)) (square 1 (minus 2))
     ∷ gives 23 (integrated (pos 5)) (square 1 (pos 2)) ∷ gives 23 (integrated (minus 5)) (square 1 (minus 2))
@@ -251,6 +310,32 @@ call-edges =
     ∷ gives 28 (call-antiderivative 3 1 cube) (model 1 262144 [])
     ∷ gives 28 (call-antiderivative 2 1 (model 1 1073741821 (at-key 1 0x1000 (pos 3) ∷ [])))
     (model 1 1073741822 (at-key 1 0x2000 (pos 2) ∷ []))
+    ∷ []
+
+pub antiderivative-edges-hold : Hold antiderivative-edges
+unfolding call-forms antiderivative-edges
+antiderivative-edges-hold = refl
+
+-- ends that are refused, and evaluations
+unfoldable pub evaluation-edges : List Call-edge
+evaluation-edges =
+    -- 5 for ends
+    refuses-ends 11 (call-range bad) 5
+    ∷ refuses-integral 11 (call-integral bad) 5
+    -- evaluation: 5, then 6 above n, then 9 among the first n
+    ∷ refuses-ends 12 (call-evaluate (pos 1048577 ∷ pos 1 ∷ []) bad) 5
+    ∷ refuses-ends 12 (call-evaluate (pos 1048577 ∷ pos 1 ∷ []) line) 6
+    ∷ refuses-ends 12 (call-evaluate (pos 0 ∷ pos 0 ∷ pos 1 ∷ []) line) 6
+    ∷ refuses-ends 12 (call-evaluate (pos 1048577 ∷ pos 0 ∷ []) line) 9
+    ∷ refuses-ends 12 (call-evaluate (minus 1048577 ∷ pos 0 ∷ []) line) 9
+    ∷ gives-ends 12 (call-evaluate (pos 1048576 ∷ pos 0 ∷ []) line) (ends (pos 8) (pos 8))
+    ∷ gives-ends 12 (call-evaluate (minus 1048576 ∷ pos 0 ∷ []) line) (ends (pos 2) (pos 2))
+    -- 7 inside evaluation: at U - 1 the product is rounded to 1 with radius 1
+    ∷ refuses-ends 13 (call-evaluate (pos 1048575 ∷ []) (near-limit 1 1073741823)) 7
+    ∷ gives-ends 13 (call-evaluate (pos 1048575 ∷ []) (near-limit 1 1073741822))
+    (ends (pos 1073741822) (pos 1073741824))
+    -- 9 for any coordinate comes before it
+    ∷ refuses-ends 14 (call-evaluate (pos 1048575 ∷ pos 1048577 ∷ []) (near-limit 2 1073741823)) 9
     -- at eight coordinates, 1 for x1 and -1/2 for x5 and x8: 8 - 2 - 3
     ∷ gives-ends 29 (call-evaluate (point (pos 1048576) (minus 524288) (pos 7) (minus 9) (minus 524288)) long-line)
     (ends (pos 3) (pos 3))
@@ -268,9 +353,18 @@ call-edges =
     (near-limit 5 1073741823)) 9
     ∷ refuses-ends 30 (call-evaluate (point (pos 1048575) (pos 0) (pos 0) (pos 0) (minus 1048577))
     (near-limit 8 1073741823)) 9
+    ∷ []
+
+pub evaluation-edges-hold : Hold evaluation-edges
+unfolding call-forms evaluation-edges
+evaluation-edges-hold = refl
+
+-- variables 5 to 8
+unfoldable pub long-key-edges : List Call-edge
+long-key-edges =
     -- a product, a substitution, an antiderivative and a range in variables 5 to 8: x5 x8; x1/2 for x8 in that; its
     -- antiderivative in x8; x5 x8, x5^2 x8 and x5^2 x8^2
-    ∷ gives 31 (call-multiply 2 (one-long-term 8 0x00001000 (pos 1048576)) (one-long-term 8 0x00000001 (pos 7)))
+    gives 31 (call-multiply 2 (one-long-term 8 0x00001000 (pos 1048576)) (one-long-term 8 0x00000001 (pos 7)))
     (one-long-term 8 0x00001001 (pos 7))
     ∷ gives 31 (call-substitute 2 8 (one-long-term 8 0x00001001 (pos 8)) (one-long-term 8 0x10000000 (pos 524288)))
     (one-long-term 8 0x10001000 (pos 4))
@@ -280,13 +374,9 @@ call-edges =
     ∷ gives-ends 31 (call-range (one-long-term 8 0x00002002 (pos 7))) (ends (pos 0) (pos 7))
     ∷ []
 
--- each call hands back what its row says
-pub call-edges-hold : map (λ r. r .given) call-edges ≡ map (λ r. r .wanted) call-edges
-unfolding
-    calls forms one-term one-long-term terms-from
-    back gives refuses gives-ends refuses-ends refuses-integral bad cube two-variables outside near-limit times about
-    constant-and-square square-minus integrated square long-line point call-edges
-call-edges-hold = refl
+pub long-key-edges-hold : Hold long-key-edges
+unfolding call-forms long-key-edges
+long-key-edges-hold = refl
 
 -- ---- whether a model keeps the rules: x^15 y^i with degrees up to d
 unfoldable pub sound-to : (d i : ℕ) → Bool

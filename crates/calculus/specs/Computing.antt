@@ -12,8 +12,6 @@ use Rattle.calculus.specs.Tests as Te
 use Rattle.calculus.specs.Calls as C
 use Rattle.calculus.specs.Book as B
 use Rattle.calculus.specs.Shares as S
-use Rattle.calculus.specs.Outcome as Ou
-use Rattle.calculus.specs.Claim as Cl
 
 -- the numbers and the polynomials below the models
 unfoldable pub arithmetic : Unit {0}
@@ -81,12 +79,3 @@ unfolding
     C.require-two C.call-add C.call-subtract C.call-multiply C.call-substitute C.require-four C.call-quotient
     C.returned-model C.returned-ends C.returned-integral
 calls = tt
-
--- what is promised
-unfoldable pub promises : Unit {0}
-unfolding
-    B.operands
-    Ou.is-quotient Ou.is-antiderivative Ou.each-step Ou.no-quotient Ou.no-antiderivative
-    Ou.any-marked Ou.is-fed Ou.marks-after Ou.no-quotient-feeds
-    Cl.promised
-promises = tt

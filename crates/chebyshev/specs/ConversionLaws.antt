@@ -22,12 +22,12 @@ use Rattle.calculus.specs.Monomial.{degree}
 use Rattle.calculus.specs.Terms.{Terms, term, every}
 use Rattle.calculus.specs.Model.{Model, most-degree, fits, _-ℚ_}
 use Rattle.calculus.specs.Model as M
-use Rattle.calculus.specs.FitsLaws.{fits-degree}
-use Rattle.calculus.specs.TermsLaws.{every-head, every-tail}
-use Rattle.calculus.specs.ChainLaws.{_≡≤_, _≤≡_}
-use Rattle.calculus.specs.UnitLaws.{natural, natural-*, natural-nonneg, U-inverse}
-use Rattle.calculus.specs.ValueLaws.{scaled-value, U-value, scaled-nil, scaled-cons, scaled-drop-zeros}
-use Rattle.calculus.specs.ValueLaws as P
+use Rattle.calculus_laws.specs.FitsLaws.{fits-degree}
+use Rattle.calculus_laws.specs.TermsLaws.{every-head, every-tail}
+use Rattle.calculus_laws.specs.ChainLaws.{_≡≤_, _≤≡_}
+use Rattle.calculus_laws.specs.UnitLaws.{natural, natural-*, natural-nonneg, U-inverse}
+use Rattle.calculus_laws.specs.ValueLaws.{scaled-value, U-value, scaled-nil, scaled-cons, scaled-drop-zeros}
+use Rattle.calculus_laws.specs.ValueLaws as P
 use Rattle.chebyshev.specs.Coefficients.{Row, value}
 use Rattle.chebyshev.specs.CoefficientsLaws.{value-nil, value-cons, value-added}
 use Rattle.chebyshev.specs.PowerRows.{places}

@@ -8,7 +8,7 @@ use Rattle.algebra.specs.Rational.{ℚ, _≤ℚ_, _÷_}
 use Rattle.algebra.specs.RationalRing.{ℚR}
 use Rattle.fixed.specs.Fixed.{U, span-limit}
 use Rattle.calculus.specs.Model.{_/U, distance, Point, In-box}
-use Rattle.calculus.specs.Outcome.{coordinate}
+use Rattle.calculus.specs.Functions.{coordinate}
 use Rattle.chebyshev.specs.Recurrence.{chebyshev}
 use Rattle.chebyshev.specs.Coefficients.{Row, size}
 use Rattle.chebyshev.specs.Coefficients as C

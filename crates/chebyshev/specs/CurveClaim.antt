@@ -12,8 +12,7 @@ use Rattle.calculus.specs.Model.{Model, most-degree, _-ℚ_, Point, In-box}
 use Rattle.calculus.specs.Model as M
 use Rattle.calculus.specs.Refusal.{Result, done, _followed-by_}
 use Rattle.calculus.specs.Operations.{Ends}
-use Rattle.calculus.specs.Outcome.{Function}
-use Rattle.calculus.specs.Claim.{Lies}
+use Rattle.calculus.specs.Functions.{Function, Lies}
 use Rattle.chebyshev.specs.Curve.{Curve, sound, value, Within}
 use Rattle.chebyshev.specs.CurveOperations.{negate}
 use Rattle.chebyshev.specs.CurveCalls.{call-negate, call-range, call-add, call-subtract, call-multiply}

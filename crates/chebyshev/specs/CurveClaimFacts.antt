@@ -21,13 +21,12 @@ use Rattle.fixed.specs.FixedLaws.{U-pos, U-even}
 use Rattle.calculus.specs.Model.{Model, zero-model, _/U, _-ℚ_, distance, Point, In-box}
 use Rattle.calculus.specs.Model as M
 use Rattle.calculus.specs.Operations.{zero-ends}
-use Rattle.calculus.specs.Outcome.{Function, coordinate}
-use Rattle.calculus.specs.Claim.{Lies}
-use Rattle.calculus.specs.ChainLaws.{_≤≤_, _≡≤_, _≤≡_, equal}
-use Rattle.calculus.specs.UnitLaws.{natural, natural-≤, abs-whole}
-use Rattle.calculus.specs.ValueLaws.{abs-zero}
-use Rattle.calculus.specs.ValueLaws as P
-use Rattle.calculus.specs.ClaimFacts.{radius-nonneg, false-≤}
+use Rattle.calculus.specs.Functions.{Function, coordinate, Lies}
+use Rattle.calculus_laws.specs.ChainLaws.{_≤≤_, _≡≤_, _≤≡_, equal}
+use Rattle.calculus_laws.specs.UnitLaws.{natural, natural-≤, abs-whole}
+use Rattle.calculus_laws.specs.ValueLaws.{abs-zero}
+use Rattle.calculus_laws.specs.ValueLaws as P
+use Rattle.claim.specs.ClaimFacts.{radius-nonneg, false-≤}
 use Rattle.chebyshev.specs.Recurrence.{chebyshev}
 use Rattle.chebyshev.specs.RecurrenceLaws.{chebyshev-zero, chebyshev-one, chebyshev-next}
 use Rattle.chebyshev.specs.RingIntegersLaws.{int-whole}

@@ -12,13 +12,12 @@ use Rattle.calculus.specs.Monomial.{index-of}
 use Rattle.calculus.specs.Model.{Model, most-vars, most-degree, between, _-ℚ_, Point, In-box}
 use Rattle.calculus.specs.Model as M
 use Rattle.calculus.specs.Refusal.{over-span, bad-model, not-one-variable, Result}
-use Rattle.calculus.specs.RefusalLaws.{If-accepted, holds, require-accepted, If-done, is-done, if-done, placed}
-use Rattle.calculus.specs.RefusalLaws.{require-at-done}
-use Rattle.calculus.specs.Outcome.{Function, coordinate}
-use Rattle.calculus.specs.Claim.{Lies}
-use Rattle.calculus.specs.SoundLaws.{Sound, sound-parts, parts-sound}
-use Rattle.calculus.specs.UnitLaws.{natural}
-use Rattle.calculus.specs.ValueLaws as P
+use Rattle.calculus_laws.specs.RefusalLaws.{If-accepted, holds, require-accepted, If-done, is-done, if-done, placed}
+use Rattle.calculus_laws.specs.RefusalLaws.{require-at-done}
+use Rattle.calculus.specs.Functions.{Function, coordinate, Lies}
+use Rattle.calculus_laws.specs.SoundLaws.{Sound, sound-parts, parts-sound}
+use Rattle.calculus_laws.specs.UnitLaws.{natural}
+use Rattle.calculus_laws.specs.ValueLaws as P
 use Rattle.chebyshev.specs.PowerRows.{places}
 use Rattle.chebyshev.specs.Curve.{Curve, span, sound, value, Within}
 use Rattle.chebyshev.specs.CurveOperations.{limited-curve, negate, added, add, subtract, multiplied, multiply}

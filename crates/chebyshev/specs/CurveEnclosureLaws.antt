@@ -14,10 +14,10 @@ use Rattle.algebra.specs.RationalLaws.{whole-+, whole-neg}
 use Rattle.fixed.specs.Fixed.{U}
 use Rattle.fixed.specs.FixedLaws.{U-pos}
 use Rattle.calculus.specs.Model.{_-ℚ_}
-use Rattle.calculus.specs.Claim.{Lies}
-use Rattle.calculus.specs.ChainLaws.{_≤≤_, _≡≤_, _≤≡_}
-use Rattle.calculus.specs.UnitLaws.{natural, natural-+, natural-*}
-use Rattle.calculus.specs.ValueLaws.{sum-≤}
+use Rattle.calculus.specs.Functions.{Lies}
+use Rattle.calculus_laws.specs.ChainLaws.{_≤≤_, _≡≤_, _≤≡_}
+use Rattle.calculus_laws.specs.UnitLaws.{natural, natural-+, natural-*}
+use Rattle.calculus_laws.specs.ValueLaws.{sum-≤}
 use Rattle.chebyshev.specs.Recurrence.{chebyshev}
 use Rattle.chebyshev.specs.Coefficients.{size}
 use Rattle.chebyshev.specs.Coefficients as C

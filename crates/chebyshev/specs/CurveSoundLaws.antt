@@ -15,12 +15,12 @@ use Rattle.calculus.specs.Terms.{term, every, is-nonzero, drop-zeros, rising-fr
 use Rattle.calculus.specs.Model.{Model, most-degree, most-terms, fits}
 use Rattle.calculus.specs.Model as M
 use Rattle.calculus.specs.Refusal.{over-span}
-use Rattle.calculus.specs.RefusalLaws.{If-accepted, holds, require-accepted}
-use Rattle.calculus.specs.TestLaws.{and-left, and-right, both}
-use Rattle.calculus.specs.TermsLaws.{every-nil, every-cons, every-select, length-select, rising-cons, rising-select}
-use Rattle.calculus.specs.TermsLaws.{nonzero-drop-zeros}
-use Rattle.calculus.specs.FitsLaws.{fits-by}
-use Rattle.calculus.specs.SoundLaws.{Sound}
+use Rattle.calculus_laws.specs.RefusalLaws.{If-accepted, holds, require-accepted}
+use Rattle.calculus_laws.specs.TestLaws.{and-left, and-right, both}
+use Rattle.calculus_laws.specs.TermsLaws.{every-nil, every-cons, every-select, length-select, rising-cons}
+use Rattle.calculus_laws.specs.TermsLaws.{rising-select, nonzero-drop-zeros}
+use Rattle.calculus_laws.specs.FitsLaws.{fits-by}
+use Rattle.calculus_laws.specs.SoundLaws.{Sound}
 use Rattle.chebyshev.specs.Coefficients.{Row, size}
 use Rattle.chebyshev.specs.PowerRows.{places, combine}
 use Rattle.chebyshev.specs.Tables.{chebyshev-table}

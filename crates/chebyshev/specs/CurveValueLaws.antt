@@ -21,10 +21,10 @@ use Rattle.fixed.specs.DivisionLaws.{divided-up-ok}
 use Rattle.fixed.specs.Fixed.{U}
 use Rattle.fixed.specs.FixedLaws.{U-pos}
 use Rattle.calculus.specs.Model.{_-ℚ_, distance}
-use Rattle.calculus.specs.ChainLaws.{_≤≤_, _≡≤_, _≤≡_}
-use Rattle.calculus.specs.UnitLaws.{natural, natural-*, natural-≤, natural-nonneg, U-times, U-times-≤}
-use Rattle.calculus.specs.UnitLaws.{U-cancel, U-abs}
-use Rattle.calculus.specs.ValueLaws.{sum-≤}
+use Rattle.calculus_laws.specs.ChainLaws.{_≤≤_, _≡≤_, _≤≡_}
+use Rattle.calculus_laws.specs.UnitLaws.{natural, natural-*, natural-≤, natural-nonneg, U-times, U-times-≤}
+use Rattle.calculus_laws.specs.UnitLaws.{U-cancel, U-abs}
+use Rattle.calculus_laws.specs.ValueLaws.{sum-≤}
 use Rattle.chebyshev.specs.Recurrence.{chebyshev}
 use Rattle.chebyshev.specs.RecurrenceLaws.{chebyshev-zero, chebyshev-≤}
 use Rattle.chebyshev.specs.Coefficients.{Row, size}

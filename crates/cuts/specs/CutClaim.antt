@@ -1,6 +1,6 @@
 -- What is claimed of the cut range; CutClaimProof proves it of every accepted call (`cut-claim`), that the pieces are
 -- all of the box (`in-a-piece`), that depth 0 answers the range (`uncut`), and that no call is refused with 9
--- (`never-leaves`). It rests on the definitions that calculus/Claim names, and on Cuts.
+-- (`never-leaves`). It rests on the definitions that claim/Claim names, and on Cuts.
 use mathlib.Core.Path.{_≡_}
 use Prim.Native.Nat.{ℕ, _^_, _<_}
 use lib.IntN.{pos}
@@ -11,8 +11,7 @@ use Rattle.algebra.specs.RationalOrder.{ℚO}
 use Rattle.fixed.specs.Fixed.{U}
 use Rattle.calculus.specs.Model.{Model, Point, In-box, Within}
 use Rattle.calculus.specs.Operations.{Ends, range}
-use Rattle.calculus.specs.Outcome.{Function}
-use Rattle.calculus.specs.Claim.{Lies}
+use Rattle.calculus.specs.Functions.{Function, Lies}
 use Rattle.cuts.specs.Cuts.{half-width, piece-middle}
 
 -- of a model f whose cut range is e

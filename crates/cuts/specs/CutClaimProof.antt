@@ -18,13 +18,12 @@ use Rattle.calculus.specs.Model.{Model, sound, _-ℚ_, In-box, value, Within}
 use Rattle.calculus.specs.Refusal.{bad-limits, bad-model, bad-step, cut-too-deep, done}
 use Rattle.calculus.specs.Operations.{Ends, range}
 use Rattle.calculus.specs.Tests.{order-sound, variable-sound}
-use Rattle.calculus.specs.Outcome.{0ℚ}
-use Rattle.calculus.specs.Claim.{Lies}
-use Rattle.calculus.specs.RefusalLaws.{if-done, require-at-passed}
-use Rattle.calculus.specs.BookLaws.{variable-inside}
-use Rattle.calculus.specs.UnitLaws.{natural, natural-≤, natural-nonneg, U-times-≤, U-abs}
-use Rattle.calculus.specs.ValueLaws.{scaled-value, Near, U-value, near-at, abs-zero}
-use Rattle.calculus.specs.ChainLaws.{_≤≤_, _≡≤_, _≤≡_}
+use Rattle.calculus.specs.Functions.{0ℚ, Lies}
+use Rattle.calculus_laws.specs.RefusalLaws.{if-done, require-at-passed}
+use Rattle.calculus_laws.specs.BookLaws.{variable-inside}
+use Rattle.calculus_laws.specs.UnitLaws.{natural, natural-≤, natural-nonneg, U-times-≤, U-abs}
+use Rattle.calculus_laws.specs.ValueLaws.{scaled-value, Near, U-value, near-at, abs-zero}
+use Rattle.calculus_laws.specs.ChainLaws.{_≤≤_, _≡≤_, _≤≡_}
 use Rattle.cuts.specs.Cuts.{most-depth, call-cut-range}
 use Rattle.cuts.specs.CutClaim.{Cut-claim, In-a-piece}
 use Rattle.cuts.specs.PieceLaws.{Cut, find-cut, place-in, place-inside, place-value}

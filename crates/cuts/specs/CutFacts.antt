@@ -26,9 +26,9 @@ use Rattle.calculus.specs.Model.{_/U, _-ℚ_, Point, In-box, value, Within}
 use Rattle.calculus.specs.Operations.{Ends}
 use Rattle.calculus.specs.Forms.{forms, ends, minus}
 use Rattle.calculus.specs.Computing.{models}
-use Rattle.calculus.specs.UnitLaws.{natural, natural-*, natural-+, abs-whole, U-times}
-use Rattle.calculus.specs.ValueLaws.{scaled-value, Near, U-value, near-at, scaled-nil}
-use Rattle.calculus.specs.ChainLaws.{_≡≤_, _≤≡_, equal}
+use Rattle.calculus_laws.specs.UnitLaws.{natural, natural-*, natural-+, abs-whole, U-times}
+use Rattle.calculus_laws.specs.ValueLaws.{scaled-value, Near, U-value, near-at, scaled-nil}
+use Rattle.calculus_laws.specs.ChainLaws.{_≡≤_, _≤≡_, equal}
 use Rattle.cuts.specs.CutClaim.{Cut-claim}
 use Rattle.cuts.specs.Edges.{cuts, bowl, band, all-pieces, other-models}
 use Rattle.cuts.specs.CutClaimProof.{cut-claim, value-within}

@@ -21,18 +21,17 @@ use Rattle.calculus.specs.Refusal.{too-many-terms, over-span, leaves-box, accep
 use Rattle.calculus.specs.Operations.{Ends, range, substitute, limited, horner, multiply, add, widen, range-in-box}
 use Rattle.calculus.specs.Operations.{largest-exponent, part}
 use Rattle.calculus.specs.Tests.{order-sound, variable-sound}
-use Rattle.calculus.specs.Outcome.{Function, 0ℚ, coordinate, with-coordinate}
-use Rattle.calculus.specs.Claim.{Lies}
-use Rattle.calculus.specs.RangeInsideLaws.{Inside}
-use Rattle.calculus.specs.BookLaws.{variable-inside}
-use Rattle.calculus.specs.RefusalLaws.{If-accepted, holds, then-accepted, If-done, is-done, followed-done, placed}
-use Rattle.calculus.specs.RefusalLaws.{constantly}
-use Rattle.calculus.specs.RefusalLaws.{require-at-done, require-passed}
-use Rattle.calculus.specs.UnitLaws.{natural, U-times-≤, U-abs}
-use Rattle.calculus.specs.ValueLaws.{Near, at-near}
-use Rattle.calculus.specs.RangeLaws.{range-encloses}
-use Rattle.calculus.specs.SubstituteLaws.{substitute-near}
-use Rattle.calculus.specs.ChainLaws.{_≡≤_, _≤≡_}
+use Rattle.calculus.specs.Functions.{Function, 0ℚ, coordinate, with-coordinate, Lies}
+use Rattle.calculus_laws.specs.RangeInsideLaws.{Inside}
+use Rattle.calculus_laws.specs.BookLaws.{variable-inside}
+use Rattle.calculus_laws.specs.RefusalLaws.{If-accepted, holds, then-accepted, If-done, is-done, followed-done, placed}
+use Rattle.calculus_laws.specs.RefusalLaws.{constantly}
+use Rattle.calculus_laws.specs.RefusalLaws.{require-at-done, require-passed}
+use Rattle.calculus_laws.specs.UnitLaws.{natural, U-times-≤, U-abs}
+use Rattle.calculus_laws.specs.ValueLaws.{Near, at-near}
+use Rattle.calculus_laws.specs.RangeLaws.{range-encloses}
+use Rattle.calculus_laws.specs.SubstituteLaws.{substitute-near}
+use Rattle.calculus_laws.specs.ChainLaws.{_≡≤_, _≤≡_}
 use Rattle.cuts.specs.Cuts.{hull, overlap, most-depth, piece, piece-range, hull-from, pieces-hull, cut-range}
 use Rattle.cuts.specs.Cuts.{call-cut-range}
 use Rattle.cuts.specs.EndsLaws.{hull-left, hull-right, overlap-both, larger-left, smaller-left}

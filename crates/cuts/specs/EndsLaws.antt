@@ -10,8 +10,8 @@ use Rattle.algebra.specs.RationalLaws.{whole-≤}
 use Rattle.algebra.specs.IntegerRing.{≤ℤ-total}
 use Rattle.fixed.specs.Fixed.{U}
 use Rattle.calculus.specs.Operations.{Ends}
-use Rattle.calculus.specs.Claim.{Lies}
-use Rattle.calculus.specs.ChainLaws.{_≤≤_}
+use Rattle.calculus.specs.Functions.{Lies}
+use Rattle.calculus_laws.specs.ChainLaws.{_≤≤_}
 use Rattle.cuts.specs.Cuts.{smaller, larger, hull, overlap}
 use Rattle.cuts.specs.Edges.{cuts}
 

@@ -25,19 +25,19 @@ use Rattle.polynomial.specs.BoxLaws.{box-length}
 use Rattle.fixed.specs.Fixed.{U}
 use Rattle.fixed.specs.Computing.{numbers}
 use Rattle.calculus.specs.Monomial.{zeros, index-of}
-use Rattle.calculus.specs.MonomialLaws.{degree-zeros, monomial-constant, monomial-single}
+use Rattle.calculus_laws.specs.MonomialLaws.{degree-zeros, monomial-constant, monomial-single}
 use Rattle.calculus.specs.Terms.{Terms, select, sum-over, sum-ℤ, size}
 use Rattle.calculus.specs.Model.{Model, _-ℚ_, Point, In-box}
 use Rattle.calculus.specs.Operations.{is-constant, constant-part, below, above, range, range-in-box}
 use Rattle.calculus.specs.SymmetricRange.{variation}
-use Rattle.calculus.specs.RangeInsideLaws.{below-varies, above-varies}
-use Rattle.calculus.specs.Outcome.{coordinate}
-use Rattle.calculus.specs.TestLaws.{both}
-use Rattle.calculus.specs.SumLaws.{ℕ-addition, sum-cons, sum-nil, sum-split, sum-drop-zeros}
-use Rattle.calculus.specs.UnitLaws.{natural, natural-+}
-use Rattle.calculus.specs.ValueLaws.{Near, scaled-nil, scaled-cons, scaled-drop-zeros}
-use Rattle.calculus.specs.EnclosureLaws.{exact-near}
-use Rattle.calculus.specs.ChainLaws.{_≤≤_, _≡≤_, _≤≡_}
+use Rattle.calculus_laws.specs.RangeInsideLaws.{below-varies, above-varies}
+use Rattle.calculus.specs.Functions.{coordinate}
+use Rattle.calculus_laws.specs.TestLaws.{both}
+use Rattle.calculus_laws.specs.SumLaws.{ℕ-addition, sum-cons, sum-nil, sum-split, sum-drop-zeros}
+use Rattle.calculus_laws.specs.UnitLaws.{natural, natural-+}
+use Rattle.calculus_laws.specs.ValueLaws.{Near, scaled-nil, scaled-cons, scaled-drop-zeros}
+use Rattle.calculus_laws.specs.EnclosureLaws.{exact-near}
+use Rattle.calculus_laws.specs.ChainLaws.{_≤≤_, _≡≤_, _≤≡_}
 use Rattle.cuts.specs.Edges.{cuts}
 use Rattle.cuts.specs.Cuts.{most-depth, half-width, piece-middle, piece}
 open Ring ℚR using (*-one, +-zero)

@@ -17,29 +17,29 @@ use Rattle.fixed.specs.FixedLaws.{U-pos, round-is, residual-is}
 use Rattle.fixed.specs.NearestLaws.{nearest-exact}
 use Rattle.fixed.specs.Computing.{numbers}
 use Rattle.calculus.specs.Monomial.{degree, zeros, single, index-of, less}
-use Rattle.calculus.specs.MonomialLaws.{length-replace, degree-raise, less-raise}
+use Rattle.calculus_laws.specs.MonomialLaws.{length-replace, degree-raise, less-raise}
 use Rattle.calculus.specs.Terms.{Terms, term, every, select, sum-over, sum-ℕ, size, map-coefficients, map-monomials}
 use Rattle.calculus.specs.Terms.{is-nonzero, nonzero, rising, drop-zeros, distinct}
-use Rattle.calculus.specs.TermsLaws.{by-select, every-head, every-tail, every-nil, every-cons, every-select}
-use Rattle.calculus.specs.TermsLaws.{every-implies, every-both, every-selected, every-map-monomials, length-select}
-use Rattle.calculus.specs.TermsLaws.{rising-select}
-use Rattle.calculus.specs.TermsLaws.{rising-map-monomials, rising-map-coefficients, every-map-coefficients}
+use Rattle.calculus_laws.specs.TermsLaws.{by-select, every-head, every-tail, every-nil, every-cons, every-select}
+use Rattle.calculus_laws.specs.TermsLaws.{every-implies, every-both, every-selected, every-map-monomials, length-select}
+use Rattle.calculus_laws.specs.TermsLaws.{rising-select}
+use Rattle.calculus_laws.specs.TermsLaws.{rising-map-monomials, rising-map-coefficients, every-map-coefficients}
 use Rattle.calculus.specs.Model.{Model, most-terms, span, fits, sound}
-use Rattle.calculus.specs.FitsLaws.{fits-length, fits-degree}
+use Rattle.calculus_laws.specs.FitsLaws.{fits-length, fits-degree}
 use Rattle.calculus.specs.Refusal.{too-many-terms, over-span, leaves-box, Answer, accepted, _then_, done, at-place}
 use Rattle.calculus.specs.Refusal.{_followed-by_}
-use Rattle.calculus.specs.RefusalLaws.{require-passed}
+use Rattle.calculus_laws.specs.RefusalLaws.{require-passed}
 use Rattle.calculus.specs.Operations.{limited, variable, add, products, within-order, above-order, rounding, swept}
 use Rattle.calculus.specs.Operations.{carried}
 use Rattle.calculus.specs.Operations.{error, multiply, range-in-box, largest-exponent, part-terms, part, horner, widen}
 use Rattle.calculus.specs.Operations.{Ends, range, substitute}
-use Rattle.calculus.specs.SumLaws.{ℕ-addition, ℤ-addition, if-so, if-ℤ, sum-select, sum-map-monomials, sum-both}
-use Rattle.calculus.specs.SumLaws.{sum-cong, sum-split, sum-map-coefficients}
-use Rattle.calculus.specs.CanonicalLaws.{at-monomial, coefficient-at, coefficient-nil, coefficient-map}
-use Rattle.calculus.specs.CanonicalLaws.{coefficient-select, rising-distinct, canonical-unique}
-use Rattle.calculus.specs.ProductLaws.{kept-coefficient, product-terms, sum-terms, rounding-same, swept-same}
-use Rattle.calculus.specs.ProductLaws.{products-distinct, products-coefficients}
-use Rattle.calculus.specs.SoundLaws.{Canonical, Sound, sound-parts, part-canonical}
+use Rattle.calculus_laws.specs.SumLaws.{ℕ-addition, ℤ-addition, if-so, if-ℤ, sum-select, sum-map-monomials, sum-both}
+use Rattle.calculus_laws.specs.SumLaws.{sum-cong, sum-split, sum-map-coefficients}
+use Rattle.calculus_laws.specs.CanonicalLaws.{at-monomial, coefficient-at, coefficient-nil, coefficient-map}
+use Rattle.calculus_laws.specs.CanonicalLaws.{coefficient-select, rising-distinct, canonical-unique}
+use Rattle.calculus_laws.specs.ProductLaws.{kept-coefficient, product-terms, sum-terms, rounding-same, swept-same}
+use Rattle.calculus_laws.specs.ProductLaws.{products-distinct, products-coefficients}
+use Rattle.calculus_laws.specs.SoundLaws.{Canonical, Sound, sound-parts, part-canonical}
 use lib.Signed.{leZ}
 use Rattle.cuts.specs.Cuts.{smaller, larger, overlap, most-depth, half-width, piece-middle, piece}
 use Rattle.cuts.specs.Cuts.{piece-range, hull-from, pieces-hull, cut-range}

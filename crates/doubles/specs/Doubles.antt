@@ -11,7 +11,7 @@ use Rattle.calculus.specs.Terms.{term, drop-zeros}
 use Rattle.calculus.specs.Model.{Model, distance, Point, In-box}
 use Rattle.calculus.specs.Refusal.{bad-double, Result, at-place, require-at}
 use Rattle.calculus.specs.Operations.{limited, one-if-any}
-use Rattle.calculus.specs.Outcome.{coordinate}
+use Rattle.calculus.specs.Functions.{coordinate}
 
 -- three coefficients, for powers 0, 1 and 2 of one variable, and a radius
 pub record Delivery : Type 0 where

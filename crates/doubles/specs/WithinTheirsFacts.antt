@@ -28,11 +28,11 @@ use Rattle.fixed.specs.Fixed.{U}
 use Rattle.calculus.specs.Terms.{term}
 use Rattle.calculus.specs.Model.{Model, _-ℚ_, distance, Point, In-box, Within}
 use Rattle.calculus.specs.Refusal.{bad-double, done}
-use Rattle.calculus.specs.RefusalLaws.{if-done, placed, require-at-done}
-use Rattle.calculus.specs.UnitLaws.{natural, natural-*, natural-≤, natural-nonneg, abs-whole}
-use Rattle.calculus.specs.ValueLaws.{scaled-value, Near, at-near, scaled-nil, scaled-cons, abs-zero}
-use Rattle.calculus.specs.EnclosureLaws.{limited-accepted}
-use Rattle.calculus.specs.ChainLaws.{_≤≤_, _≡≤_, _≤≡_, equal}
+use Rattle.calculus_laws.specs.RefusalLaws.{if-done, placed, require-at-done}
+use Rattle.calculus_laws.specs.UnitLaws.{natural, natural-*, natural-≤, natural-nonneg, abs-whole}
+use Rattle.calculus_laws.specs.ValueLaws.{scaled-value, Near, at-near, scaled-nil, scaled-cons, abs-zero}
+use Rattle.calculus_laws.specs.EnclosureLaws.{limited-accepted}
+use Rattle.calculus_laws.specs.ChainLaws.{_≤≤_, _≡≤_, _≤≡_, equal}
 use Rattle.doubles.specs.Computing.{conversions}
 use Rattle.doubles.specs.Doubles.{Delivery, signed, numerator, denominator, exact, is-finite, is-negative}
 use Rattle.doubles.specs.Doubles.{their-value, Within-theirs, units, converted, deliverable, call-doubles}

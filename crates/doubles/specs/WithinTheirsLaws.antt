@@ -25,14 +25,15 @@ use Rattle.calculus.specs.Terms.{term}
 use Rattle.calculus.specs.Model.{Model, _-ℚ_, distance, Point, In-box, Within}
 use Rattle.calculus.specs.Refusal.{bad-double, done}
 use Rattle.calculus.specs.Operations.{one-if-any}
-use Rattle.calculus.specs.Outcome.{coordinate}
-use Rattle.calculus.specs.SumLaws.{if-so, if-ℕ}
-use Rattle.calculus.specs.RefusalLaws.{if-done, placed, require-at-done}
-use Rattle.calculus.specs.UnitLaws.{natural, U-times-≤, U-abs}
-use Rattle.calculus.specs.ValueLaws.{scaled-value, Near, near-at, scaled-nil, scaled-cons, scaled-drop-zeros, sum-≤}
-use Rattle.calculus.specs.EnclosureLaws.{limited-accepted}
-use Rattle.calculus.specs.AntiderivativeEnclosureLaws.{rounded-≤, swept-≤}
-use Rattle.calculus.specs.ChainLaws.{_≤≤_, _≡≤_, _≤≡_}
+use Rattle.calculus.specs.Functions.{coordinate}
+use Rattle.calculus_laws.specs.SumLaws.{if-so, if-ℕ}
+use Rattle.calculus_laws.specs.RefusalLaws.{if-done, placed, require-at-done}
+use Rattle.calculus_laws.specs.UnitLaws.{natural, U-times-≤, U-abs}
+use Rattle.calculus_laws.specs.ValueLaws.{scaled-value, Near, near-at, scaled-nil, scaled-cons, scaled-drop-zeros}
+use Rattle.calculus_laws.specs.ValueLaws.{sum-≤}
+use Rattle.calculus_laws.specs.EnclosureLaws.{limited-accepted}
+use Rattle.calculus_laws.specs.AntiderivativeEnclosureLaws.{rounded-≤, swept-≤}
+use Rattle.calculus_laws.specs.ChainLaws.{_≤≤_, _≡≤_, _≤≡_}
 use Rattle.doubles.specs.Doubles.{Delivery, numerator, denominator, exact, their-value, Within-theirs, units}
 use Rattle.doubles.specs.Doubles.{coefficient, inexact, radius-up, model-of, converted, deliverable, call-doubles}
 open Ring ℚR using (*-one)

@@ -6,7 +6,7 @@ use native.Mathlib.Omega.{arith}
 use Rattle.calculus.specs.Refusal.{Result, done, stopped}
 use Rattle.calculus.specs.Book as B
 use Rattle.calculus.specs.Book.{Book, summary, run-sound}
-use Rattle.calculus.specs.BookLaws.{sound-ran}
+use Rattle.calculus_laws.specs.BookLaws.{sound-ran}
 use Rattle.format.specs.Format.{read, run-sheet}
 use Rattle.format.specs.HeldBook.{Held-book, view-book}
 use Rattle.format.specs.HeldBookLaws.{held-tested-done}

@@ -4,7 +4,7 @@ use mathlib.Core.Bool.{true, _&&_}
 use Prim.Native.Nat.{ℕ, _≤_, min}
 use lib.Dec.{T, leb, leb→le}
 use Rattle.calculus.specs.Book.{most-models, most-steps}
-use Rattle.calculus.specs.TestLaws.{and-right}
+use Rattle.calculus_laws.specs.TestLaws.{and-right}
 use Rattle.exports.specs.WriteCalls.{book-fits}
 
 pub fits-numbers : (mc models sc steps numbers : ℕ) → book-fits mc models sc steps numbers ≡ true → 2 ≤ numbers

@@ -14,10 +14,10 @@ use Rattle.calculus.specs.Tests.{vars-sound, order-sound, variable-sound}
 use Rattle.calculus.specs.Book.{Step, input, constant, variable, negate, add, subtract, multiply, substitute, sweep}
 use Rattle.calculus.specs.Book.{quotient, antiderivative, Book, most-models, most-steps, limits-sound, model-sound}
 use Rattle.calculus.specs.Book.{step-sound, run, run-sound}
-use Rattle.calculus.specs.TestLaws.{and-left, and-right, both}
+use Rattle.calculus_laws.specs.TestLaws.{and-left, and-right, both}
 use Rattle.calculus.specs.Refusal.{all-from}
-use Rattle.calculus.specs.RefusalLaws.{require-at-passed, require-each-passed, Passed, passed-at, passed-each}
-use Rattle.calculus.specs.BookLaws.{Passes, run-passes, between-low, between-high}
+use Rattle.calculus_laws.specs.RefusalLaws.{require-at-passed, require-each-passed, Passed, passed-at, passed-each}
+use Rattle.calculus_laws.specs.BookLaws.{Passes, run-passes, between-low, between-high}
 use Rattle.format.specs.HeldBook.{Held-model, Held-step, Held-book, view-model}
 use Rattle.format.specs.HeldBook.{view-step, view-steps, view-book, outline, outline-of}
 use Rattle.format.specs.HeldBook.{held-model-sound, held-step-sound, held-tested, Held-passes}

@@ -10,7 +10,7 @@ use lib.Seq.{take-at, take-suc, take-length, take-append-le, take-append-add}
 use lib.Seq.{drop-append-add, drop-cons, getD-append-add}
 use Rattle.calculus.specs.Refusal.{done, all-from}
 use Rattle.calculus.specs.Book.{Book}
-use Rattle.calculus.specs.TestLaws.{and-left, and-right}
+use Rattle.calculus_laws.specs.TestLaws.{and-left, and-right}
 use Rattle.format.specs.Bytes.{All-bytes, join}
 use Rattle.format.specs.BytesLaws.{join-++}
 use Rattle.format.specs.HeldBook.{Held-model, Held-step, Held-book, outline, outline-of, held-model-sound}

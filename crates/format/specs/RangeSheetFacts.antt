@@ -1,11 +1,11 @@
 -- Sheets that the symmetric range refused and that are accepted: the claim holds of each. As books, with what the
--- symmetric range says of them and with functions and a point for the claim, they stand in calculus/RangeFacts.
+-- symmetric range says of them and with functions and a point for the claim, they stand in claim/RangeFacts.
 use mathlib.Core.Path.{_≡_, refl}
 use mathlib.Core.List.{List, [], _∷_}
 use Prim.Native.Nat.{ℕ}
 use Rattle.calculus.specs.Refusal.{done, _followed-by_}
 use Rattle.calculus.specs.Book.{summary}
-use Rattle.calculus.specs.RangeFacts.{folding, folded, folded-result, bending, bent, bent-result}
+use Rattle.claim.specs.RangeFacts.{folding, folded, folded-result, bending, bent, bent-result}
 use Rattle.format.specs.HeldBook.{view-book}
 use Rattle.format.specs.Format.{read, run-sheet}
 use Rattle.format.specs.SheetClaim.{Sheet-claim}

@@ -12,15 +12,15 @@ use lib.Seq.{drop-at, take-at}
 use Rattle.fixed.specs.Fixed.{span-limit}
 use Rattle.fixed.specs.FixedLaws.{span-four-bytes}
 use Rattle.calculus.specs.Key.{key-width, key-limit, short-key}
-use Rattle.calculus.specs.MonomialKeyLaws.{key-word}
+use Rattle.calculus_laws.specs.MonomialKeyLaws.{key-word}
 use Rattle.calculus.specs.Terms.{every, size}
 use Rattle.calculus.specs.Model.{zero-model, between, fits}
 use Rattle.calculus.specs.Refusal.{bad-length, bad-mark, bad-limits, bad-offset, bad-model, bad-step, short-buffer}
 use Rattle.calculus.specs.Refusal.{done, require-at, require-each, _followed-by_}
 use Rattle.calculus.specs.Book.{Book, limits-sound}
-use Rattle.calculus.specs.TestLaws.{and-left, and-right, both}
+use Rattle.calculus_laws.specs.TestLaws.{and-left, and-right, both}
 use Rattle.calculus.specs.Refusal.{all-from}
-use Rattle.calculus.specs.RefusalLaws.{require-at-passed, require-each-passed, Passed, passed-at}
+use Rattle.calculus_laws.specs.RefusalLaws.{require-at-passed, require-each-passed, Passed, passed-at}
 use Rattle.format.specs.Bytes.{join, u32, u16-bytes, u32-bytes, signed, bits}
 use Rattle.format.specs.HeldBook.{Held-term, Held-model, Held-step, Held-book, view-held-term}
 use Rattle.format.specs.HeldBook.{outline, outline-of}

@@ -7,7 +7,7 @@ use lib.ListN.{length, take, drop, length-append, length-map}
 use lib.Seq.{drop-at, take-at}
 use Rattle.calculus.specs.Refusal.{done, _followed-by_, all-from}
 use Rattle.calculus.specs.Book.{Book}
-use Rattle.calculus.specs.TestLaws.{and-left, and-right}
+use Rattle.calculus_laws.specs.TestLaws.{and-left, and-right}
 use Rattle.format.specs.Bytes.{All-bytes, join}
 use Rattle.format.specs.HeldBook.{Held-model, Held-step, Held-book, outline, outline-of}
 use Rattle.format.specs.HeldBook.{held-model-sound, Held-passes}

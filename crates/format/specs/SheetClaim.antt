@@ -4,7 +4,7 @@ use mathlib.Core.List.{List}
 use Prim.Native.Nat.{ℕ}
 use Rattle.calculus.specs.Refusal.{done}
 use Rattle.calculus.specs.Book.{Summary}
-use Rattle.calculus.specs.Claim.{Claim}
+use Rattle.claim.specs.Claim.{Claim}
 use Rattle.format.specs.HeldBook.{Held-book, view-book}
 use Rattle.format.specs.Format.{read}
 

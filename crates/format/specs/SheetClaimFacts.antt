@@ -7,8 +7,8 @@ use Rattle.calculus.specs.Model.{Model}
 use Rattle.calculus.specs.Refusal.{done, _followed-by_}
 use Rattle.calculus.specs.Operations.{Ends, zero-ends, Mixed}
 use Rattle.calculus.specs.Book.{Book}
-use Rattle.calculus.specs.Claim.{Claim}
-use Rattle.calculus.specs.ClaimFacts.{one-step, range-refutes}
+use Rattle.claim.specs.Claim.{Claim}
+use Rattle.claim.specs.ClaimFacts.{one-step, range-refutes}
 use Rattle.format.specs.HeldBook.{view-book}
 use Rattle.format.specs.Format.{read}
 use Rattle.format.specs.SheetClaim.{Sheet-claim}

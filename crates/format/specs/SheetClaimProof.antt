@@ -4,7 +4,7 @@ use mathlib.Core.List.{List}
 use Prim.Native.Nat.{ℕ}
 use Rattle.calculus.specs.Refusal.{Result, done, stopped, _followed-by_}
 use Rattle.calculus.specs.Book.{Summary, run, run-sound}
-use Rattle.calculus.specs.ClaimProof.{claim-sound}
+use Rattle.claim.specs.ClaimProof.{claim-sound}
 use Rattle.format.specs.HeldBook.{Held-book, view-book}
 use Rattle.format.specs.Format.{read, run-sheet}
 use Rattle.format.specs.HeldBookLaws.{view-passes, view-run}

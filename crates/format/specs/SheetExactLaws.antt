@@ -4,7 +4,7 @@ use mathlib.Core.List.{List}
 use Prim.Native.Nat.{ℕ}
 use Rattle.calculus.specs.Refusal.{done}
 use Rattle.calculus.specs.Book.{Summary, run-sound}
-use Rattle.calculus.specs.ExactRunLaws.{Exact-answer, sound-run-exact}
+use Rattle.claim.specs.ExactRunLaws.{Exact-answer, sound-run-exact}
 use Rattle.format.specs.HeldBook.{view-book}
 use Rattle.format.specs.Format.{read, run-sheet}
 use Rattle.format.specs.HeldBookLaws.{view-passes}

@@ -3,7 +3,7 @@ use mathlib.Core.Path.{_≡_, sym, _∙_, ap}
 use mathlib.Core.List.{List, []}
 use Prim.Native.Nat.{ℕ}
 use Rattle.calculus.specs.Refusal.{Refusal, done, stopped, returned, _followed-by_}
-use Rattle.calculus.specs.BookLaws.{tested-passes}
+use Rattle.calculus_laws.specs.BookLaws.{tested-passes}
 use Rattle.calculus.specs.Shares.{all-rows, rows-sound, reported, shares-rows}
 use Rattle.format.specs.HeldBook.{Held-book, view-book}
 use Rattle.format.specs.Format.{read, sheet-rows}

@@ -7,9 +7,9 @@ use lib.ListN.{length, getD}
 use Rattle.calculus.specs.Refusal.{Refusal, Result, done, stopped, _followed-by_}
 use Rattle.calculus.specs.Book.{most-steps, Summary, run, run-sound}
 use Rattle.calculus.specs.Shares.{no-shares, rows-sound, reported, shares-rows}
-use Rattle.calculus.specs.ShareLaws.{Accounts, length-rows}
-use Rattle.calculus.specs.ShareRunLaws.{last-accounts, refused-rows, rows-count}
-use Rattle.calculus.specs.BookLaws.{Passes}
+use Rattle.calculus_laws.specs.ShareLaws.{Accounts, length-rows}
+use Rattle.calculus_laws.specs.ShareRunLaws.{last-accounts, refused-rows, rows-count}
+use Rattle.calculus_laws.specs.BookLaws.{Passes}
 use Rattle.format.specs.HeldBook.{Held-book, view-book, held-tested, Held-passes}
 use Rattle.format.specs.Format.{read, sheet-bytes, run-sheet, sheet-rows}
 use Rattle.format.specs.HeldBookLaws.{view-passes, view-run, held-tested-passes}

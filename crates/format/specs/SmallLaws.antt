@@ -15,10 +15,10 @@ use Rattle.calculus.specs.Terms.{every, sum-over, size}
 use Rattle.calculus.specs.Model.{most-terms, span, fits}
 use Rattle.calculus.specs.Tests.{constant-sound, variable-sound, threshold-sound}
 use Rattle.calculus.specs.Book.{last-code, Book, model-sound}
-use Rattle.calculus.specs.TestLaws.{and-left, and-right}
-use Rattle.calculus.specs.MonomialKeyLaws.{fits-below, fits-key, fits-short}
-use Rattle.calculus.specs.SoundLaws.{Sound, sound-parts}
-use Rattle.calculus.specs.BookLaws.{between-high}
+use Rattle.calculus_laws.specs.TestLaws.{and-left, and-right}
+use Rattle.calculus_laws.specs.MonomialKeyLaws.{fits-below, fits-key, fits-short}
+use Rattle.calculus_laws.specs.SoundLaws.{Sound, sound-parts}
+use Rattle.calculus_laws.specs.BookLaws.{between-high}
 use Rattle.format.specs.HeldBook.{Held-term, Held-model, Held-step, view-held-term, view-model}
 use Rattle.format.specs.HeldBook.{held-model-sound, held-step-sound}
 use Rattle.format.specs.Format.{short-keys}

@@ -13,7 +13,7 @@ use Rattle.algebra.specs.Integer.{minus}
 use Rattle.calculus.specs.Tests.{constant-sound, variable-sound, threshold-sound}
 use Rattle.calculus.specs.Book.{Step, input, constant, variable, negate, add, subtract, multiply, substitute, sweep}
 use Rattle.calculus.specs.Book.{quotient, antiderivative, last-code, Book, step-sound}
-use Rattle.calculus.specs.TestLaws.{and-left, and-right, both, same-tests}
+use Rattle.calculus_laws.specs.TestLaws.{and-left, and-right, both, same-tests}
 use Rattle.format.specs.HeldBook.{Held-step, Form, form, forms, step-of, view-step, held-step-sound}
 use Rattle.format.specs.Fields.{limit-a, limit-b, names-variable, v-sound, earlier, value-sound, fields-sound}
 

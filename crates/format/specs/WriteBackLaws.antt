@@ -12,10 +12,10 @@ use Rattle.calculus.specs.Model.{between}
 use Rattle.calculus.specs.Refusal.{bad-length, bad-mark, bad-limits, bad-offset, bad-model, bad-step, short-buffer}
 use Rattle.calculus.specs.Refusal.{Result, done, stopped, require-at, require-each, _followed-by_}
 use Rattle.calculus.specs.Book.{Book, limits-sound}
-use Rattle.calculus.specs.TestLaws.{and-left, and-right, both}
+use Rattle.calculus_laws.specs.TestLaws.{and-left, and-right, both}
 use Rattle.calculus.specs.Refusal.{all-from}
-use Rattle.calculus.specs.RefusalLaws.{require-at-passed, Passed, passed-at, passed-each}
-use Rattle.calculus.specs.BookLaws.{between-low}
+use Rattle.calculus_laws.specs.RefusalLaws.{require-at-passed, Passed, passed-at, passed-each}
+use Rattle.calculus_laws.specs.BookLaws.{between-low}
 use Rattle.format.specs.Bytes.{byte, All-bytes, join, u16, u32, u16-bytes, u32-bytes}
 use Rattle.format.specs.HeldBook.{Held-term, Held-model, Held-step, Held-book, outline, outline-of}
 use Rattle.format.specs.HeldBook.{held-model-sound, held-step-sound, Held-passes}

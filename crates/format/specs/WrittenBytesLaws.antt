@@ -9,7 +9,7 @@ use lib.ListN.{length}
 use Rattle.calculus.specs.Key.{key-width}
 use Rattle.calculus.specs.Refusal.{done}
 use Rattle.calculus.specs.Book.{Book}
-use Rattle.calculus.specs.TestLaws.{and-left, and-right}
+use Rattle.calculus_laws.specs.TestLaws.{and-left, and-right}
 use Rattle.calculus.specs.Refusal.{all-from}
 use Rattle.calculus.specs.Key.{short-key}
 use Rattle.format.specs.Bytes.{byte, All-bytes, join, u16-bytes, u32-bytes}

@@ -11,7 +11,7 @@ use Rattle.calculus.specs.Calls.{call-antiderivative, call-add, call-subtract, 
 use Rattle.calculus.specs.Calls.{call-quotient}
 use Rattle.model_call_tests.specs.Admission.{single-model, sweeping, integrating, two-models}
 use Rattle.model_call_tests.specs.Admission.{substituting, dividing}
-use Rattle.calculus.specs.RefusalLaws.{at-followed}
+use Rattle.calculus_laws.specs.RefusalLaws.{at-followed}
 use Rattle.model_call_tests.specs.AdmissionLaws.{two-followed, four-followed}
 pub use Rattle.product_calls.specs.MultiplyCallLaws.{multiply-is}
 

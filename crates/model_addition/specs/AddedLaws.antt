@@ -13,9 +13,9 @@ use Rattle.calculus.specs.Model.{most-vars, most-degree, most-terms, between, f
 use Rattle.calculus.specs.Refusal.{too-many-terms, stopped, at-place}
 use Rattle.calculus.specs.Operations.{limited, negate, add}
 use Rattle.calculus.specs.Tests.{vars-sound}
-use Rattle.calculus.specs.SoundLaws as S
-use Rattle.calculus.specs.SoundLaws.{Canonical, sound-parts, parts-sound, negate-sound}
-use Rattle.calculus.specs.TermsLaws.{every-++, every-select, every-collect}
+use Rattle.calculus_laws.specs.SoundLaws as S
+use Rattle.calculus_laws.specs.SoundLaws.{Canonical, sound-parts, parts-sound, negate-sound}
+use Rattle.calculus_laws.specs.TermsLaws.{every-++, every-select, every-collect}
 use Rattle.model_types.specs.declared.Term.{Term}
 use Rattle.model_types.specs.declared.Model.{Model}
 use Rattle.model_types.specs.ModelStruct.{zero-term, view, pack-term, pad, pack, answer}

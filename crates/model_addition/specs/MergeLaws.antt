@@ -11,12 +11,12 @@ use Rattle.calculus.specs.Key.{key-width, key-fits, monomial-of}
 use Rattle.calculus.specs.Monomial.{less}
 use Rattle.calculus.specs.Terms.{Terms, term, every, select, rising-from, rising, is-nonzero, drop-zeros, collect}
 use Rattle.calculus.specs.Model.{most-degree, most-terms, fits}
-use Rattle.calculus.specs.TermsLaws.{every-head, every-nil, rising-cons}
+use Rattle.calculus_laws.specs.TermsLaws.{every-head, every-nil, rising-cons}
 use Rattle.model_types.specs.declared.Term.{Term}
 use Rattle.model_types.specs.declared.Model.{Model}
 use Rattle.model_types.specs.ModelStruct.{zero-term, view-term, pack-term, pad}
 use Rattle.model_types.specs.ModelStructLaws.{read, rest-more, rest-end, packed-more, pack-view-term}
-use Rattle.calculus.specs.MonomialKeyLaws.{fits-key, fits-below, less-monomials}
+use Rattle.calculus_laws.specs.MonomialKeyLaws.{fits-key, fits-below, less-monomials}
 use Rattle.model_addition.specs.declared.Next.{Next}
 use Rattle.model_addition.specs.Merge.{Takes, from-first, from-second, from-both}
 use Rattle.model_addition.specs.SumTermsLaws.{sum-terms, unless-zero, zero-dropped, nonzero-kept, Above}

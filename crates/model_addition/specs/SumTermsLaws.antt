@@ -13,10 +13,10 @@ use Rattle.polynomial.specs.Polynomial.{Term}
 use Rattle.calculus.specs.Monomial.{less}
 use Rattle.calculus.specs.Terms.{Terms, term, every, select, rising-from, rising, is-nonzero, drop-zeros}
 use Rattle.calculus.specs.Terms.{insert, collect}
-use Rattle.calculus.specs.TermsLaws.{by-insert, every-head, every-tail, every-nil, every-cons, every-++}
-use Rattle.calculus.specs.TermsLaws.{every-collect, rising-head, rising-rest, rising-below, rising-any}
-use Rattle.calculus.specs.CanonicalLaws.{coefficient-at, share, at-additive, coefficient-cons, coefficient-++}
-use Rattle.calculus.specs.CanonicalLaws.{canonical-same}
+use Rattle.calculus_laws.specs.TermsLaws.{by-insert, every-head, every-tail, every-nil, every-cons, every-++}
+use Rattle.calculus_laws.specs.TermsLaws.{every-collect, rising-head, rising-rest, rising-below, rising-any}
+use Rattle.calculus_laws.specs.CanonicalLaws.{coefficient-at, share, at-additive, coefficient-cons, coefficient-++}
+use Rattle.calculus_laws.specs.CanonicalLaws.{canonical-same}
 use Rattle.model_types.specs.ModelStructLaws.{select-++}
 
 -- the terms of a sum

@@ -5,7 +5,7 @@ use lib.Dec.{T, eqb, ltb}
 use lib.IntN.{ℤ, natAbs}
 use Rattle.fixed.specs.Division.{divided-up, nearest}
 use Rattle.calculus.specs.Key.{key-degree}
-use Rattle.calculus.specs.SumLaws.{if-ℕ, if-ℤ}
+use Rattle.calculus_laws.specs.SumLaws.{if-ℕ, if-ℤ}
 use Rattle.calculus.specs.Model.{most-degree, sound}
 use Rattle.model_types.specs.declared.Model.{Model}
 use Rattle.model_types.specs.ModelStruct.{view}

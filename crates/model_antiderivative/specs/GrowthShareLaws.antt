@@ -6,11 +6,11 @@ use lib.IntN.{natAbs}
 use lib.ListN.{length}
 use Rattle.fixed.specs.Fixed.{span-limit}
 use Rattle.calculus.specs.Terms.{sum-over, sum-ℕ, size}
-use Rattle.calculus.specs.SumLaws.{ℕ-addition, sum-mono}
+use Rattle.calculus_laws.specs.SumLaws.{ℕ-addition, sum-mono}
 use Rattle.calculus.specs.Model.{span}
 use Rattle.calculus.specs.Operations.{growth-rounding, growth-swept, antiderivative}
 use Rattle.calculus.specs.Shares.{grown, antiderivative-shares}
-use Rattle.calculus.specs.GrowthLaws.{rounding-of, growth-of-le, rounding-sum, growth-le}
+use Rattle.calculus_laws.specs.GrowthLaws.{rounding-of, growth-of-le, rounding-sum, growth-le}
 use Rattle.model_types.specs.declared.Model.{Model}
 use Rattle.model_types.specs.ModelStruct.{view, pack}
 use Rattle.model_types.specs.ModelStructLaws.{view-terms, sum-more, read-within-span, limits}

@@ -13,16 +13,16 @@ use Rattle.polynomial.specs.Polynomial as P
 use Rattle.polynomial.specs.VariableAntiderivativeLaws.{exponent-raise}
 use Rattle.fixed.specs.Division.{divided-up, nearest}
 use Rattle.calculus.specs.Monomial.{degree, index-of}
-use Rattle.calculus.specs.MonomialLaws.{index-suc, degree-raise, raise-replace, exponent-degree}
-use Rattle.calculus.specs.MonomialKeyLaws.{monomial-length, monomial-degree}
+use Rattle.calculus_laws.specs.MonomialLaws.{index-suc, degree-raise, raise-replace, exponent-degree}
+use Rattle.calculus_laws.specs.MonomialKeyLaws.{monomial-length, monomial-degree}
 use Rattle.calculus.specs.Key.{key-width, key, key-fits, key-degree}
 use Rattle.calculus.specs.Terms.{Terms, term, select, sum-over, sum-ℕ, size, is-nonzero, drop-zeros}
-use Rattle.calculus.specs.TermsLaws.{length-select}
-use Rattle.calculus.specs.SumLaws.{ℕ-addition, if-so, if-ℕ, if-ℤ, sum-mono}
+use Rattle.calculus_laws.specs.TermsLaws.{length-select}
+use Rattle.calculus_laws.specs.SumLaws.{ℕ-addition, if-so, if-ℕ, if-ℤ, sum-mono}
 use Rattle.calculus.specs.Model.{most-degree, most-terms, span}
 use Rattle.calculus.specs.Operations.{is-inexact, antiderivative}
-use Rattle.calculus.specs.GrowthLaws.{up, new-exponent, stays, rounding-of, growth-of, growth-of-le, growth-sum}
-use Rattle.calculus.specs.GrowthLaws.{new-coefficient, new-term, antiderivative-terms}
+use Rattle.calculus_laws.specs.GrowthLaws.{up, new-exponent, stays, rounding-of, growth-of, growth-of-le, growth-sum}
+use Rattle.calculus_laws.specs.GrowthLaws.{new-coefficient, new-term, antiderivative-terms}
 use Rattle.model_types.specs.declared.Term.{Term}
 use Rattle.model_types.specs.declared.Model.{Model}
 use Rattle.model_types.specs.ModelStruct.{zero-term, view-term, view, pack-term, pad, pack}

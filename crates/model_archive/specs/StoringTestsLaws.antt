@@ -12,7 +12,7 @@ use Rattle.calculus.specs.Model.{Model, most-degree, between, sound}
 use Rattle.calculus.specs.Refusal as R
 use Rattle.calculus.specs.Refusal.{done, stopped, require-at, bad-limits, bad-model, short-buffer, returned}
 use Rattle.calculus.specs.Refusal.{_followed-by_}
-use Rattle.calculus.specs.RefusalLaws.{require-at-passed}
+use Rattle.calculus_laws.specs.RefusalLaws.{require-at-passed}
 use Rattle.format.specs.WriteLoopLaws.{sets-front}
 use Rattle.model_types.specs.declared.Refusal.the-variants.{BadLimits, BadModel, ShortBuffer}
 use Rattle.model_types.specs.declared.Verdict.the-variants.{Accepted, Refused}

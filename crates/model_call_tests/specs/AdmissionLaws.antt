@@ -8,11 +8,11 @@ use lib.Dec.{T, eqb, eqb→eq}
 use lib.IntN.{ℤ}
 use lib.ListN.{take}
 use Rattle.calculus.specs.Model.{Model, most-degree, sound}
-use Rattle.calculus.specs.TestLaws.{and-left, and-right}
-use Rattle.calculus.specs.BookLaws.{between-low, between-high}
+use Rattle.calculus_laws.specs.TestLaws.{and-left, and-right}
+use Rattle.calculus_laws.specs.BookLaws.{between-low, between-high}
 use Rattle.calculus.specs.Refusal as R
 use Rattle.calculus.specs.Refusal.{Result, done, stopped, require-at, _followed-by_}
-use Rattle.calculus.specs.RefusalLaws.{passed-at, at-followed}
+use Rattle.calculus_laws.specs.RefusalLaws.{passed-at, at-followed}
 use Rattle.calculus.specs.Tests.{order-sound, variable-sound, all-in-unit}
 use Rattle.calculus.specs.Calls.{require-two, require-four}
 use Rattle.model_types.specs.declared.Refusal.{Refusal}

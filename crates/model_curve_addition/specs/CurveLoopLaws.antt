@@ -11,7 +11,7 @@ use lib.ListN.{length, take, getD, set, replicate, List·getD-map}
 use lib.Seq.{length-take-le}
 use Rattle.fixed.specs.Fixed.{span-limit, capped}
 use Rattle.fixed.specs.FixedLaws.{span-four-bytes, capped-more, capped-within}
-use Rattle.calculus.specs.TestLaws.{and-right}
+use Rattle.calculus_laws.specs.TestLaws.{and-right}
 use Rattle.chebyshev.specs.Coefficients.{Row, size, sum}
 use Rattle.chebyshev.specs.PowerRows.{places}
 use Rattle.chebyshev.specs.Curve.{span, sound}

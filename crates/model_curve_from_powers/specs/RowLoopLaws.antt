@@ -16,7 +16,7 @@ use Rattle.calculus.specs.Terms.{Terms, sum-over}
 use Rattle.calculus.specs.Terms as P
 use Rattle.calculus.specs.Model as M
 use Rattle.calculus.specs.Model.{most-degree}
-use Rattle.calculus.specs.SoundLaws.{sound-parts}
+use Rattle.calculus_laws.specs.SoundLaws.{sound-parts}
 use Rattle.calculus.specs.Refusal.{stopped, bad-model, not-one-variable, at-place, require-at}
 use Rattle.chebyshev.specs.Coefficients.{Row, size, add-at}
 use Rattle.chebyshev.specs.PowerRows.{places, zeros, combine}

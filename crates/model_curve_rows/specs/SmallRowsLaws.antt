@@ -9,7 +9,7 @@ use lib.Dec.{T, eqb, leb, eqb→eq, leb→le}
 use lib.IntN.{ℤ, pos, natAbs, _+ℤ_, _*ℤ_}
 use lib.ListN.{length, take, drop, getD, set}
 use Rattle.algebra.specs.Integer.{natAbs-add, natAbs-mul}
-use Rattle.calculus.specs.TestLaws.{and-left, and-right}
+use Rattle.calculus_laws.specs.TestLaws.{and-left, and-right}
 use Rattle.chebyshev.specs.Coefficients.{Row, sum, scale, size}
 use Rattle.chebyshev.specs.PowerRows.{places, zeros, combine}
 use Rattle.chebyshev.specs.RowLengthLaws.{sum-length, scale-length}

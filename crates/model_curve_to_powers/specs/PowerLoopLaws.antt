@@ -13,7 +13,7 @@ use Rattle.polynomial.specs.Polynomial.{Term}
 use Rattle.calculus.specs.Key.{key, key-width}
 use Rattle.calculus.specs.Terms as P
 use Rattle.calculus.specs.Terms.{Terms, term, drop-zeros, is-nonzero, select, sum-over}
-use Rattle.calculus.specs.SumLaws.{sum-snoc, ℕ-addition}
+use Rattle.calculus_laws.specs.SumLaws.{sum-snoc, ℕ-addition}
 use Rattle.calculus.specs.Model.{most-terms}
 use Rattle.model_types.specs.Arrays.{padded}
 use Rattle.model_types.specs.declared.Term as S

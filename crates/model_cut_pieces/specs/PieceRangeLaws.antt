@@ -7,10 +7,10 @@ use native.Mathlib.Omega.{arith}
 use lib.Dec.{T}
 use lib.IntN.{ℤ}
 use Rattle.calculus.specs.Terms.{is-nonzero, drop-zeros}
-use Rattle.calculus.specs.TermsLaws.{length-select}
+use Rattle.calculus_laws.specs.TermsLaws.{length-select}
 use Rattle.calculus.specs.Model as C
 use Rattle.calculus.specs.Model.{most-terms, most-degree, sound}
-use Rattle.calculus.specs.SoundLaws.{substitute-sound}
+use Rattle.calculus_laws.specs.SoundLaws.{substitute-sound}
 use Rattle.calculus.specs.Refusal as R
 use Rattle.calculus.specs.Refusal.{accepted, refused, done, stopped, _then_, at-place}
 use Rattle.calculus.specs.Operations.{range, substitute}

@@ -13,16 +13,16 @@ use Rattle.fixed.specs.Fixed.{U}
 use Rattle.fixed.specs.FixedLaws.{U-within}
 use Rattle.polynomial.specs.Polynomial.{replace}
 use Rattle.calculus.specs.Monomial.{zeros, single, index-of, less}
-use Rattle.calculus.specs.MonomialLaws.{length-zeros, length-single, degree-zeros, degree-single}
+use Rattle.calculus_laws.specs.MonomialLaws.{length-zeros, length-single, degree-zeros, degree-single}
 use Rattle.calculus.specs.Key.{key-width, key-limit}
-use Rattle.calculus.specs.MonomialKeyLaws.{monomial-zero, monomial-variable}
+use Rattle.calculus_laws.specs.MonomialKeyLaws.{monomial-zero, monomial-variable}
 use Rattle.calculus.specs.Terms.{Terms, term, select, is-nonzero, drop-zeros, rising-from, rising}
-use Rattle.calculus.specs.TermsLaws.{by-select, length-select, rising-select, nonzero-drop-zeros, every-select}
-use Rattle.calculus.specs.TermsLaws.{every-cons, every-nil}
-use Rattle.calculus.specs.TestLaws.{both}
+use Rattle.calculus_laws.specs.TermsLaws.{by-select, length-select, rising-select, nonzero-drop-zeros, every-select}
+use Rattle.calculus_laws.specs.TermsLaws.{every-cons, every-nil}
+use Rattle.calculus_laws.specs.TestLaws.{both}
 use Rattle.calculus.specs.Model.{most-terms, fits, span}
-use Rattle.calculus.specs.FitsLaws.{fits-by}
-use Rattle.calculus.specs.SoundLaws.{Sound}
+use Rattle.calculus_laws.specs.FitsLaws.{fits-by}
+use Rattle.calculus_laws.specs.SoundLaws.{Sound}
 use Rattle.model_keys.specs.Keys.{key-raised}
 use Rattle.model_types.specs.declared.Term.{Term}
 use Rattle.model_types.specs.declared.Model.{Model}

@@ -5,9 +5,9 @@ use lib.Dec.{leb}
 use borrow.Author.Tests.{le-leb, lt-leb}
 use Rattle.calculus.specs.Model as C
 use Rattle.calculus.specs.Model.{most-degree, sound}
-use Rattle.calculus.specs.BookLaws.{between-low, between-high}
+use Rattle.calculus_laws.specs.BookLaws.{between-low, between-high}
 use Rattle.calculus.specs.Refusal.{cut-too-deep, Result, stopped, require-at, _followed-by_}
-use Rattle.calculus.specs.RefusalLaws.{passed-at, at-followed}
+use Rattle.calculus_laws.specs.RefusalLaws.{passed-at, at-followed}
 use Rattle.calculus.specs.Operations.{Ends}
 use Rattle.calculus.specs.Tests.{order-sound, variable-sound}
 use Rattle.model_types.specs.declared.Model.{Model}

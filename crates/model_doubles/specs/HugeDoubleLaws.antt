@@ -17,7 +17,7 @@ use Rattle.fixed.specs.NearestLaws.{nearest-exact}
 use Rattle.fixed.specs.Fixed.{U, span-limit}
 use Rattle.fixed.specs.FixedLaws.{span-four-bytes}
 use Rattle.calculus.specs.Terms.{term, size, sum-over}
-use Rattle.calculus.specs.SumLaws.{ℕ-addition, sum-drop-zeros}
+use Rattle.calculus_laws.specs.SumLaws.{ℕ-addition, sum-drop-zeros}
 use Rattle.calculus.specs.Model.{span}
 use Rattle.calculus.specs.Refusal.{refused, over-span, require}
 use Rattle.calculus.specs.Operations.{limited}

@@ -9,7 +9,7 @@ use lib.ListN.{length, length-append}
 use Rattle.calculus.specs.Computing.{runs}
 use Rattle.calculus.specs.Key.{key-width, monomial-of, fits-digits, decode}
 use Rattle.calculus.specs.Terms.{term, is-nonzero, drop-zeros, every}
-use Rattle.calculus.specs.TermsLaws.{every-select, length-select}
+use Rattle.calculus_laws.specs.TermsLaws.{every-select, length-select}
 use Rattle.calculus.specs.Model as C
 use Rattle.calculus.specs.Model.{zero-model, most-terms, fits}
 use Rattle.doubles.specs.Doubles.{model-of}

@@ -11,15 +11,15 @@ use Rattle.algebra.specs.Integer.{Is, is, is-nat, is-neg, is-add, natAbs-parts}
 use Rattle.algebra.specs.IntegerRing.{of-le}
 use Rattle.fixed.specs.Fixed.{U}
 use Rattle.calculus.specs.Monomial.{degree, zeros}
-use Rattle.calculus.specs.MonomialLaws.{degree-zeros}
+use Rattle.calculus_laws.specs.MonomialLaws.{degree-zeros}
 use Rattle.calculus.specs.Terms.{Terms, term, select, sum-over, is-nonzero, drop-zeros}
-use Rattle.calculus.specs.TermsLaws.{by-select, zero-coefficient}
-use Rattle.calculus.specs.SumLaws.{ℕ-addition, ℤ-addition, if-so}
+use Rattle.calculus_laws.specs.TermsLaws.{by-select, zero-coefficient}
+use Rattle.calculus_laws.specs.SumLaws.{ℕ-addition, ℤ-addition, if-so}
 use Rattle.calculus.specs.Model as C
 use Rattle.calculus.specs.Operations.{Ends, constant, is-constant, constant-part, even-powers, can-fall, can-rise}
 use Rattle.calculus.specs.Operations.{below}
 use Rattle.calculus.specs.Operations.{above, range, range-in-box}
-use Rattle.calculus.specs.RangeLaws.{steady-sum, below-sum, above-sum}
+use Rattle.calculus_laws.specs.RangeLaws.{steady-sum, below-sum, above-sum}
 
 module _ (n : ℕ) where
   -- a model of these terms

@@ -5,7 +5,7 @@ use lib.IntN.{ℤ}
 use lib.ListN.{take}
 use Rattle.calculus.specs.Model.{Model, most-degree, sound}
 use Rattle.calculus.specs.Refusal.{at-place, require-at, _followed-by_}
-use Rattle.calculus.specs.RefusalLaws.{at-followed}
+use Rattle.calculus_laws.specs.RefusalLaws.{at-followed}
 use Rattle.calculus.specs.Operations as Op
 use Rattle.calculus.specs.Calls.{call-evaluate}
 use Rattle.model_call_tests.specs.Admission.{at-point}

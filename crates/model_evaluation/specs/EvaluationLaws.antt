@@ -11,14 +11,14 @@ use lib.ListN.{length, take, drop, getD, drop-of-length-le}
 use lib.Seq.{drop-cons, getD-take, length-take-le}
 use Rattle.fixed.specs.Fixed.{U}
 use Rattle.fixed.specs.FixedLaws.{U-within}
-use Rattle.calculus.specs.TestLaws.{and-left, and-right}
+use Rattle.calculus_laws.specs.TestLaws.{and-left, and-right}
 use Rattle.calculus.specs.Model as C
 use Rattle.calculus.specs.Model.{most-degree, sound}
 use Rattle.calculus.specs.Refusal as R
 use Rattle.calculus.specs.Refusal.{accepted, done, _then_, at-place}
 use Rattle.calculus.specs.Operations.{Ends, constant, range, substitute, put-constants, evaluate}
 use Rattle.calculus.specs.Tests.{vars-sound, all-in-unit}
-use Rattle.calculus.specs.SoundLaws.{Sound, sound-parts, constant-sound, substitute-sound}
+use Rattle.calculus_laws.specs.SoundLaws.{Sound, sound-parts, constant-sound, substitute-sound}
 use Rattle.model_types.specs.declared.Model.{Model}
 use Rattle.model_types.specs.declared.Refusal.{Refusal}
 use Rattle.model_types.specs.declared.Verdict.the-variants.{Accepted, Refused}

@@ -11,11 +11,11 @@ use Rattle.calculus.specs.Model as C
 use Rattle.calculus.specs.Model.{most-degree, sound, span}
 use Rattle.calculus.specs.Refusal as R
 use Rattle.calculus.specs.Refusal.{leaves-box, accepted, require, _then_, at-place}
-use Rattle.calculus.specs.RefusalLaws.{If-accepted, then-accepted}
+use Rattle.calculus_laws.specs.RefusalLaws.{If-accepted, then-accepted}
 use Rattle.calculus.specs.Operations.{constant, multiply, add, range-in-box, largest-exponent, part, horner, widen}
 use Rattle.calculus.specs.Operations.{substitute}
 use Rattle.calculus.specs.Tests.{vars-sound}
-use Rattle.calculus.specs.SoundLaws.{Canonical, Sound, sound-parts, constant-sound, multiply-sound, add-sound}
+use Rattle.calculus_laws.specs.SoundLaws.{Canonical, Sound, sound-parts, constant-sound, multiply-sound, add-sound}
 use Rattle.model_types.specs.declared.Model.{Model}
 use Rattle.model_types.specs.declared.Refusal.{Refusal}
 use Rattle.model_types.specs.declared.Verdict.the-variants.{Accepted, Refused}

@@ -10,8 +10,8 @@ use lib.ListN.{length}
 use lib.Pow.{pow-add}
 use Rattle.calculus.specs.Monomial.{degree}
 use Rattle.calculus.specs.Key.{encode, decode, fits-digits, key-width, key-limit, key-degree, Below}
-use Rattle.calculus.specs.KeyLaws.{encode-lt, encode-decode, decode-length, decode-below}
-use Rattle.calculus.specs.TestLaws.{both}
+use Rattle.calculus_laws.specs.KeyLaws.{encode-lt, encode-decode, decode-length, decode-below}
+use Rattle.calculus_laws.specs.TestLaws.{both}
 
 -- ---- digits add up to no more than the largest for each
 pub degree-below : (b : ℕ) (k : List ℕ) → Below (suc b) k → degree k ≤ b * length k

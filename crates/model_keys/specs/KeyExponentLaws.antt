@@ -7,10 +7,10 @@ use lib.Dec.{T, lit<}
 use lib.ListN.{length, getD}
 use Rattle.polynomial.specs.Polynomial.{exponent, without, replace}
 use Rattle.calculus.specs.Monomial.{index-of}
-use Rattle.calculus.specs.MonomialLaws.{index-suc}
+use Rattle.calculus_laws.specs.MonomialLaws.{index-suc}
 use Rattle.calculus.specs.Key.{encode, decode, key-width, key, key-fits, monomial-of}
-use Rattle.calculus.specs.MonomialKeyLaws.{encode-raised, key-monomial, monomial-digits, monomial-length, fits-below}
-use Rattle.calculus.specs.MonomialKeyLaws.{decode-zero, exponent-zeros, by-fits}
+use Rattle.calculus_laws.specs.MonomialKeyLaws.{encode-raised, key-monomial, monomial-digits, monomial-length}
+use Rattle.calculus_laws.specs.MonomialKeyLaws.{fits-below, decode-zero, exponent-zeros, by-fits}
 use Rattle.model_keys.specs.Keys.{Slot, key-exponent, key-without, Raisable, key-raised}
 
 -- ---- digits to any base

@@ -11,7 +11,7 @@ use lib.Pow.{pow-add, pow-pos, field, mod-mod-pow}
 use Rattle.polynomial.specs.Integral.{first, rest, divisor}
 use Rattle.calculus.specs.Monomial.{degree}
 use Rattle.calculus.specs.Key.{encode, decode, key-width, key-limit, key-degree, Below}
-use Rattle.calculus.specs.KeyLaws.{encode-lt, decode-length, decode-below}
+use Rattle.calculus_laws.specs.KeyLaws.{encode-lt, decode-length, decode-below}
 use Rattle.model_keys.specs.KeyDegreeLaws.{degree-below}
 use Rattle.model_keys.specs.Keys.{key-divisor, wide-base, wide-width, degree-base, widened, wide-exponents}
 use Rattle.model_keys.specs.Keys.{narrowed}

@@ -14,7 +14,7 @@ use lib.Pow.{pow-pos, pow-add}
 use Rattle.polynomial.specs.Integral.{even, first, rest, all-even, divisor}
 use Rattle.calculus.specs.Monomial.{zeros}
 use Rattle.calculus.specs.Key.{decode, key-width, key-exponents, key-fits, monomial-of}
-use Rattle.calculus.specs.MonomialKeyLaws.{key-all, monomial-digits, monomial-length}
+use Rattle.calculus_laws.specs.MonomialKeyLaws.{key-all, monomial-digits, monomial-length}
 use Rattle.model_keys.specs.Keys.{key-even, key-divisor}
 use Rattle.model_keys.specs.KeyShiftLaws.{digit-bits}
 

@@ -9,7 +9,7 @@ use borrow.Author.Tests.{lt-ltb}
 use lib.Pow.{pow-add, pow-pos, pow-lt, field, mod-mod-pow}
 use Rattle.polynomial.specs.Polynomial.{exponent}
 use Rattle.calculus.specs.Monomial.{index-of}
-use Rattle.calculus.specs.MonomialLaws.{index-suc}
+use Rattle.calculus_laws.specs.MonomialLaws.{index-suc}
 use Rattle.calculus.specs.Key.{decode, fits-digits, key-width, key-limit, key-fits}
 use Rattle.model_keys.specs.Keys.{Slot, key-exponent, key-without, Raisable, key-raised}
 

@@ -6,10 +6,10 @@ use native.Mathlib.Omega.{arith}
 use lib.Dec.{lit<, lit≤}
 use lib.ListN.{length, length-append}
 use Rattle.calculus.specs.Monomial.{degree, zeros}
-use Rattle.calculus.specs.MonomialLaws.{length-zeros, degree-zeros}
+use Rattle.calculus_laws.specs.MonomialLaws.{length-zeros, degree-zeros}
 use Rattle.calculus.specs.Key.{encode, decode, Below, key-width, key-limit, key, monomial-of}
-use Rattle.calculus.specs.KeyLaws.{decode-encode, decode-length}
-use Rattle.calculus.specs.MonomialKeyLaws.{by-fits, encode-constant, key-monomial, monomial-below}
+use Rattle.calculus_laws.specs.KeyLaws.{decode-encode, decode-length}
+use Rattle.calculus_laws.specs.MonomialKeyLaws.{by-fits, encode-constant, key-monomial, monomial-below}
 use Rattle.model_keys.specs.Keys.{wide-base, wide-width, degree-base, wide-code, wide-key, widened}
 use Rattle.model_keys.specs.Keys.{wide-exponents, narrowed}
 use Rattle.model_keys.specs.KeyDegreeLaws.{degree-below}

@@ -12,12 +12,12 @@ use Rattle.polynomial.specs.Polynomial.{exponent, without}
 use Rattle.calculus.specs.Monomial.{index-of}
 use Rattle.calculus.specs.Key.{key-width, key-fits}
 use Rattle.calculus.specs.Terms.{Terms, term, select, size, map-monomials}
-use Rattle.calculus.specs.TermsLaws.{length-select}
-use Rattle.calculus.specs.SumLaws.{ℕ-addition, sum-map-monomials}
+use Rattle.calculus_laws.specs.TermsLaws.{length-select}
+use Rattle.calculus_laws.specs.SumLaws.{ℕ-addition, sum-map-monomials}
 use Rattle.calculus.specs.Model as C
 use Rattle.calculus.specs.Model.{most-degree, most-terms, span}
 use Rattle.calculus.specs.Operations.{largest-exponent, part-terms, part}
-use Rattle.calculus.specs.SoundLaws.{Sound, part-canonical}
+use Rattle.calculus_laws.specs.SoundLaws.{Sound, part-canonical}
 use Rattle.model_types.specs.declared.Term.{Term}
 use Rattle.model_types.specs.declared.Model.{Model}
 use Rattle.model_types.specs.ModelStruct.{zero-term, places, view-term, view, pack-term, pad, pack}

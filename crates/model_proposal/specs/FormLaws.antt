@@ -7,16 +7,16 @@ use lib.Dec.{T, lit<}
 use Rattle.fixed.specs.FixedLaws.{U-within}
 use Rattle.calculus.specs.Monomial.{zeros}
 use Rattle.calculus.specs.Key.{key-width, key}
-use Rattle.calculus.specs.MonomialKeyLaws.{word-key, key-monomial, monomial-zero}
+use Rattle.calculus_laws.specs.MonomialKeyLaws.{word-key, key-monomial, monomial-zero}
 use Rattle.calculus.specs.Model as C
 use Rattle.calculus.specs.Model.{one-model, most-degree, sound}
 use Rattle.calculus.specs.Refusal as R
 use Rattle.calculus.specs.Refusal.{at-place}
-use Rattle.calculus.specs.RefusalLaws.{If-accepted, then-accepted}
+use Rattle.calculus_laws.specs.RefusalLaws.{If-accepted, then-accepted}
 use Rattle.calculus.specs.Operations.{subtract, multiply, bare, defect, deviation}
 use Rattle.calculus.specs.Tests.{vars-sound}
-use Rattle.calculus.specs.SoundLaws.{Sound, sound-parts, multiply-sound, subtract-sound, bare-sound, constant-sound}
-use Rattle.calculus.specs.SoundLaws.{one-constant}
+use Rattle.calculus_laws.specs.SoundLaws.{Sound, sound-parts, multiply-sound, subtract-sound, bare-sound}
+use Rattle.calculus_laws.specs.SoundLaws.{constant-sound, one-constant}
 use Rattle.model_types.specs.declared.Model.{Model}
 use Rattle.model_types.specs.declared.Refusal.{Refusal}
 use Rattle.model_types.specs.declared.Verdict.the-variants.{Accepted, Refused}

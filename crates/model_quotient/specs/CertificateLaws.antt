@@ -20,7 +20,7 @@ use Rattle.calculus.specs.Refusal as R
 use Rattle.calculus.specs.Refusal.{uncertified, stopped, at-place, require}
 use Rattle.calculus.specs.Operations.{limited, widen, bare, range, constant-part, below, above, defect, deviation}
 use Rattle.calculus.specs.Operations.{largest-end, largest-value, quotient-radius, certified, quotient}
-use Rattle.calculus.specs.SoundLaws.{sound-parts}
+use Rattle.calculus_laws.specs.SoundLaws.{sound-parts}
 use Rattle.model_types.specs.declared.Term.{Term}
 use Rattle.model_types.specs.declared.Model.{Model}
 use Rattle.model_types.specs.declared.Refusal.{Refusal}

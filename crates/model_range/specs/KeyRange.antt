@@ -4,7 +4,7 @@ use Prim.Native.Nat.{ℕ}
 use lib.Dec.{eqb}
 use lib.IntN.{ℤ, pos, natAbs}
 use lib.Signed.{leZ}
-use Rattle.calculus.specs.SumLaws.{ℕ-addition, if-ℤ, if-so}
+use Rattle.calculus_laws.specs.SumLaws.{ℕ-addition, if-ℤ, if-so}
 use Rattle.model_keys.specs.Keys.{key-even}
 
 -- in the constant part: c at key 0

@@ -9,9 +9,9 @@ use lib.IntN.{ℤ, pos, natAbs, _+ℤ_}
 use lib.ListN.{length, getD}
 use lib.Signed.{leZ}
 use Rattle.calculus.specs.Key.{key-width, key-fits, monomial-of}
-use Rattle.calculus.specs.MonomialKeyLaws.{fits-below, constant-monomial}
+use Rattle.calculus_laws.specs.MonomialKeyLaws.{fits-below, constant-monomial}
 use Rattle.calculus.specs.Terms.{size}
-use Rattle.calculus.specs.SumLaws.{ℕ-addition, ℤ-addition, if-ℤ, if-so}
+use Rattle.calculus_laws.specs.SumLaws.{ℕ-addition, ℤ-addition, if-ℤ, if-so}
 use Rattle.calculus.specs.Model.{most-degree, span, sound}
 use Rattle.calculus.specs.Operations.{is-constant, constant-part, even-powers, can-fall, can-rise, below, above}
 use Rattle.model_keys.specs.Keys.{key-even}

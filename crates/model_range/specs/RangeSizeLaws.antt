@@ -3,11 +3,11 @@ use Prim.Native.Nat.{_+_, _≤_}
 use native.Mathlib.Omega.{arith}
 use lib.IntN.{natAbs}
 use Rattle.calculus.specs.Terms.{select, size}
-use Rattle.calculus.specs.SumLaws.{ℕ-addition, sum-split}
+use Rattle.calculus_laws.specs.SumLaws.{ℕ-addition, sum-split}
 use Rattle.calculus.specs.Model.{Model, span}
 use Rattle.calculus.specs.Operations.{is-constant, constant-part, below, above}
 use Rattle.calculus.specs.SymmetricRange.{variation}
-use Rattle.calculus.specs.RangeInsideLaws.{below-varies, above-varies}
+use Rattle.calculus_laws.specs.RangeInsideLaws.{below-varies, above-varies}
 use Rattle.model_types.specs.ModelStructLaws.{sum-abs}
 
 -- the constant part and what varies are within the span

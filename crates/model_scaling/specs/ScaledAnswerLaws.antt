@@ -8,11 +8,11 @@ use lib.ListN.{length, length-map}
 use Rattle.fixed.specs.Fixed.{round-up}
 use Rattle.calculus.specs.Key.{key-width}
 use Rattle.calculus.specs.Terms.{term, every, map-coefficients, is-nonzero, drop-zeros}
-use Rattle.calculus.specs.TermsLaws.{every-select, every-map-coefficients, length-select}
+use Rattle.calculus_laws.specs.TermsLaws.{every-select, every-map-coefficients, length-select}
 use Rattle.calculus.specs.Model as C
 use Rattle.calculus.specs.Model.{most-degree, most-terms, fits, sound}
 use Rattle.calculus.specs.Operations.{limited, constant, multiply}
-use Rattle.calculus.specs.SoundLaws.{Sound, sound-parts}
+use Rattle.calculus_laws.specs.SoundLaws.{Sound, sound-parts}
 use Rattle.model_types.specs.declared.Model.{Model}
 use Rattle.model_types.specs.ModelStruct.{view, pack}
 use Rattle.model_types.specs.ModelStructLaws.{view-pack, limits}

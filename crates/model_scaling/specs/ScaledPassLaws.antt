@@ -13,11 +13,11 @@ use Rattle.fixed.specs.Fixed.{U, span-limit, residual}
 use Rattle.fixed.specs.FixedLaws.{residual-le, span-fits, U-within, span-square-fits}
 use Rattle.calculus.specs.Key.{key-limit}
 use Rattle.calculus.specs.Terms.{Terms, term, select, sum-over, sum-ℕ, size, map-coefficients, is-nonzero, drop-zeros}
-use Rattle.calculus.specs.TermsLaws.{length-select}
-use Rattle.calculus.specs.SumLaws.{ℕ-addition}
+use Rattle.calculus_laws.specs.TermsLaws.{length-select}
+use Rattle.calculus_laws.specs.SumLaws.{ℕ-addition}
 use Rattle.calculus.specs.Model as C
 use Rattle.calculus.specs.Model.{most-degree, most-terms, span}
-use Rattle.calculus.specs.MonomialKeyLaws.{fits-below}
+use Rattle.calculus_laws.specs.MonomialKeyLaws.{fits-below}
 use Rattle.model_types.specs.declared.Term.{Term}
 use Rattle.model_types.specs.declared.Model.{Model}
 use Rattle.model_types.specs.ModelStruct.{zero-term, view-term, view, pack-term, pad, pack}

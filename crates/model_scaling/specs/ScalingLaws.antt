@@ -16,14 +16,14 @@ use Rattle.calculus.specs.Monomial.{degree, zeros}
 use Rattle.calculus.specs.Terms.{Terms, term, every, select, sum-over, sum-ℕ, size, map-coefficients, rising}
 use Rattle.calculus.specs.Terms.{is-nonzero}
 use Rattle.calculus.specs.Terms.{drop-zeros, insert, collect}
-use Rattle.calculus.specs.TermsLaws.{by-select, every-head, every-tail, rising-map-coefficients, rising-any}
-use Rattle.calculus.specs.TermsLaws.{every-map-coefficients, every-implies, zero-coefficient}
-use Rattle.calculus.specs.SumLaws.{ℕ-addition, sum-map-coefficients}
-use Rattle.calculus.specs.TestLaws.{and-left, and-right}
+use Rattle.calculus_laws.specs.TermsLaws.{by-select, every-head, every-tail, rising-map-coefficients, rising-any}
+use Rattle.calculus_laws.specs.TermsLaws.{every-map-coefficients, every-implies, zero-coefficient}
+use Rattle.calculus_laws.specs.SumLaws.{ℕ-addition, sum-map-coefficients}
+use Rattle.calculus_laws.specs.TestLaws.{and-left, and-right}
 use Rattle.calculus.specs.Model.{Model, fits}
 use Rattle.calculus.specs.Operations.{limited, constant, products, within-order, above-order, kept, rounding, swept}
 use Rattle.calculus.specs.Operations.{carried, error, multiply}
-use Rattle.calculus.specs.SoundLaws.{Canonical}
+use Rattle.calculus_laws.specs.SoundLaws.{Canonical}
 use Rattle.model_addition.specs.SumTermsLaws.{rising-above, insert-first}
 use Rattle.model_scaling.specs.Scaling.{scaled-coefficient, scaled-residual, scaled-terms, scaled-error}
 

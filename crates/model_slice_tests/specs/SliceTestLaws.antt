@@ -12,7 +12,7 @@ use Rattle.calculus.specs.Key.{key-limit}
 use Rattle.fixed.specs.Fixed.{span-limit, capped}
 use Rattle.calculus.specs.Model.{most-terms, sound}
 use Rattle.calculus.specs.Tests.{vars-sound}
-use Rattle.calculus.specs.TestLaws.{and-left, and-right}
+use Rattle.calculus_laws.specs.TestLaws.{and-left, and-right}
 use Rattle.model_types.specs.declared.Term.{Term}
 use Rattle.model_types.specs.declared.Model.{Model}
 use Rattle.model_types.specs.Arrays.{padded}

@@ -17,12 +17,12 @@ use Rattle.fixed.specs.FixedLaws.{capped-more, capped-within}
 use Rattle.calculus.specs.Terms.{Terms, every, is-nonzero, nonzero, rising-from, rising, sum-over, size}
 use Rattle.calculus.specs.Model.{most-vars, most-terms, between, span, fits, sound}
 use Rattle.calculus.specs.Tests.{vars-sound}
-use Rattle.calculus.specs.TestLaws.{and-left, and-right}
+use Rattle.calculus_laws.specs.TestLaws.{and-left, and-right}
 use Rattle.model_types.specs.declared.Term.{Term}
 use Rattle.model_types.specs.declared.Model.{Model}
 use Rattle.model_types.specs.ModelStruct.{zero-term, view-term, view, term-sound}
 use Rattle.calculus.specs.Key.{key-degree}
-use Rattle.calculus.specs.MonomialKeyLaws.{fits-monomial, less-monomials, above-empty}
+use Rattle.calculus_laws.specs.MonomialKeyLaws.{fits-monomial, less-monomials, above-empty}
 use Rattle.model_types.specs.ModelStructLaws.{vars-range, read, size-more, length-read, length-view, view-is, rest-more}
 use Rattle.model_types.specs.ModelStructLaws.{rest-end}
 

@@ -13,7 +13,7 @@ use Rattle.calculus.specs.Operations.{range-in-box, largest-exponent, part, hor
 use Rattle.calculus.specs.Shares as S
 use Rattle.calculus.specs.Shares.{no-shares, product-shares, shares-of, horner-shares, carrying, substitute-shares}
 use Rattle.calculus.specs.Tests.{vars-sound}
-use Rattle.calculus.specs.SoundLaws.{Sound, sound-parts}
+use Rattle.calculus_laws.specs.SoundLaws.{Sound, sound-parts}
 use Rattle.model_types.specs.declared.Model.{Model}
 use Rattle.model_types.specs.declared.Refusal.{Refusal}
 use Rattle.model_types.specs.declared.Verdict.the-variants.{Accepted, Refused}

@@ -8,10 +8,10 @@ use Rattle.calculus.specs.Refusal as R
 use Rattle.calculus.specs.Refusal.{accepted, refused, _then_, at-place}
 use Rattle.calculus.specs.Shares as S
 use Rattle.calculus.specs.Shares.{shares-of, product-shares}
-use Rattle.calculus.specs.RefusalLaws.{If-accepted, then-accepted}
+use Rattle.calculus_laws.specs.RefusalLaws.{If-accepted, then-accepted}
 use Rattle.calculus.specs.Operations.{multiply, add}
 use Rattle.calculus.specs.Tests.{vars-sound}
-use Rattle.calculus.specs.SoundLaws.{Canonical, Sound, sound-parts, multiply-sound, add-sound}
+use Rattle.calculus_laws.specs.SoundLaws.{Canonical, Sound, sound-parts, multiply-sound, add-sound}
 use Rattle.model_types.specs.declared.Model.{Model}
 use Rattle.model_types.specs.declared.Refusal.{Refusal}
 use Rattle.model_types.specs.declared.Verdict.the-variants.{Accepted, Refused}

@@ -17,18 +17,18 @@ use Rattle.polynomial.specs.Polynomial as P
 use Rattle.fixed.specs.Fixed.{U, span-limit}
 use Rattle.calculus.specs.Key.{key-width, key-limit, key, key-fits, monomial-of}
 use Rattle.calculus.specs.Key.{Below}
-use Rattle.calculus.specs.KeyLaws.{below-degree}
+use Rattle.calculus_laws.specs.KeyLaws.{below-degree}
 use Rattle.calculus.specs.Terms.{Terms, term, every, select, sum-over, sum-ℕ, sum-ℤ, size, is-nonzero, drop-zeros}
 use Rattle.calculus.specs.Operations.{constant, variable}
-use Rattle.calculus.specs.TermsLaws.{every-head, every-tail, by-select}
-pub use Rattle.calculus.specs.LoopLaws.{select-++}
-use Rattle.calculus.specs.SumLaws.{Addition, sum-snoc, sum-split, ℕ-addition, at-term, if-so}
+use Rattle.calculus_laws.specs.TermsLaws.{every-head, every-tail, by-select}
+pub use Rattle.calculus_laws.specs.LoopLaws.{select-++}
+use Rattle.calculus_laws.specs.SumLaws.{Addition, sum-snoc, sum-split, ℕ-addition, at-term, if-so}
 use Rattle.calculus.specs.Model as C
 use Rattle.calculus.specs.Model.{zero-model, most-terms, most-vars, most-degree, between, fits, sound, span}
 use Rattle.calculus.specs.Tests.{vars-sound}
-use Rattle.calculus.specs.BookLaws.{between-low, between-high}
-use Rattle.calculus.specs.FitsLaws.{fits-length, fits-degree}
-use Rattle.calculus.specs.SoundLaws.{sound-parts}
+use Rattle.calculus_laws.specs.BookLaws.{between-low, between-high}
+use Rattle.calculus_laws.specs.FitsLaws.{fits-length, fits-degree}
+use Rattle.calculus_laws.specs.SoundLaws.{sound-parts}
 use Rattle.calculus.specs.Refusal as R
 pub use Rattle.model_types.specs.ArrayLaws.{take-more}
 use Rattle.model_types.specs.ArrayLaws.{first-take, length-first, padded-more, length-padded-least, take-padded}
@@ -43,8 +43,8 @@ use Rattle.model_types.specs.declared.Refusal.the-variants.{NotOneVariab
 use Rattle.model_types.specs.declared.Refusal.the-variants.{BadDouble, BadRank}
 use Rattle.model_types.specs.ModelStruct.{refusal, cause, one-term, zero-term, places, view-term, view}
 use Rattle.model_types.specs.ModelStruct.{pack-term, pad, pack}
-use Rattle.calculus.specs.MonomialKeyLaws.{key-monomial, monomial-key, fits-key, fits-below}
-use Rattle.calculus.specs.MonomialKeyLaws.{monomial-zero, monomial-variable}
+use Rattle.calculus_laws.specs.MonomialKeyLaws.{key-monomial, monomial-key, fits-key, fits-below}
+use Rattle.calculus_laws.specs.MonomialKeyLaws.{monomial-zero, monomial-variable}
 use Rattle.model_keys.specs.Keys.{key-raised}
 
 -- ---- terms selected, one more at the end

@@ -8,16 +8,16 @@ use lib.Dec.{T, eqb, leb→le, le→leb}
 use lib.IntN.{pos}
 use lib.ListN.{length}
 use Rattle.calculus.specs.Monomial.{degree}
-use Rattle.calculus.specs.TestLaws.{and-left, and-right, both}
-use Rattle.calculus.specs.TermsLaws.{every-implies}
+use Rattle.calculus_laws.specs.TestLaws.{and-left, and-right, both}
+use Rattle.calculus_laws.specs.TermsLaws.{every-implies}
 use Rattle.calculus.specs.Model as C
 use Rattle.calculus.specs.Model.{most-degree, most-vars, between, fits, sound}
 use Rattle.calculus.specs.Refusal as R
 use Rattle.calculus.specs.Refusal.{accepted, refused, _then_, at-place}
-use Rattle.calculus.specs.RefusalLaws.{If-accepted, holds, vacuous}
+use Rattle.calculus_laws.specs.RefusalLaws.{If-accepted, holds, vacuous}
 use Rattle.calculus.specs.Operations.{Ends, zero-ends}
 use Rattle.calculus.specs.Tests.{vars-sound}
-use Rattle.calculus.specs.SoundLaws.{Canonical, Sound, sound-parts, parts-sound}
+use Rattle.calculus_laws.specs.SoundLaws.{Canonical, Sound, sound-parts, parts-sound}
 use Rattle.model_types.specs.declared.Model.{Model}
 use Rattle.model_types.specs.declared.Refusal.{Refusal}
 use Rattle.model_types.specs.declared.Verdict.the-variants.{Accepted, Refused}

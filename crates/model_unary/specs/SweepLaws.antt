@@ -10,14 +10,14 @@ use lib.ListN.{length, getD, set, length-append}
 use Rattle.polynomial.specs.Polynomial as P
 use Rattle.calculus.specs.Key.{key-width, key-limit, monomial-of}
 use Rattle.calculus.specs.Terms.{Terms, select, sum-over, size}
-use Rattle.calculus.specs.TermsLaws.{length-select}
-use Rattle.calculus.specs.SumLaws.{ℕ-addition, sum-snoc}
+use Rattle.calculus_laws.specs.TermsLaws.{length-select}
+use Rattle.calculus_laws.specs.SumLaws.{ℕ-addition, sum-snoc}
 use Rattle.calculus.specs.Model.{most-terms, span}
 use Rattle.calculus.specs.Operations.{is-small, sweep}
 use Rattle.model_types.specs.declared.Term.{Term}
 use Rattle.model_types.specs.declared.Model.{Model}
 use Rattle.model_types.specs.ModelStruct.{zero-term, view-term, view, pack-term, pad, pack}
-use Rattle.calculus.specs.MonomialKeyLaws.{constant-monomial}
+use Rattle.calculus_laws.specs.MonomialKeyLaws.{constant-monomial}
 use Rattle.model_types.specs.ModelStructLaws.{pack-view-term, read, length-read, term-at, view-is, read-within-span}
 use Rattle.model_types.specs.ModelStructLaws.{select-more, select-same, select-turn, sum-select-le, size-more}
 

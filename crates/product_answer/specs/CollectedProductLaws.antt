@@ -17,8 +17,8 @@ use Rattle.calculus.specs.Refusal.{too-many-terms, refused, stopped, at-place}
 use Rattle.calculus.specs.Operations.{limited, products, kept, rounding, swept, error, carried, multiply}
 use Rattle.calculus.specs.Shares as S
 use Rattle.calculus.specs.Shares.{product-shares, shares-of}
-use Rattle.calculus.specs.FitsLaws.{kept-fits}
-use Rattle.calculus.specs.SoundLaws.{sound-parts}
+use Rattle.calculus_laws.specs.FitsLaws.{kept-fits}
+use Rattle.calculus_laws.specs.SoundLaws.{sound-parts}
 use Rattle.model_types.specs.declared.Model.{Model}
 use Rattle.model_types.specs.declared.Answer.{Answer}
 use Rattle.model_types.specs.declared.Shares.{Shares}

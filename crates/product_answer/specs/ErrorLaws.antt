@@ -16,8 +16,8 @@ use Rattle.calculus.specs.Terms.{Terms, sum-over, sum-ℕ, size, insert, collec
 use Rattle.calculus.specs.Model.{Model, span}
 use Rattle.calculus.specs.Operations.{products, within-order, above-order, carried, rounding, swept, error, slack}
 use Rattle.calculus.specs.Shares.{product-shares}
-use Rattle.calculus.specs.TermsLaws.{by-insert}
-use Rattle.calculus.specs.SumLaws.{ℕ-addition, sum-split}
+use Rattle.calculus_laws.specs.TermsLaws.{by-insert}
+use Rattle.calculus_laws.specs.SumLaws.{ℕ-addition, sum-split}
 use Rattle.product_collector.specs.ProductsLaws.{size-product}
 use Rattle.product_answer.specs.ErrorShares.{error-shares}
 

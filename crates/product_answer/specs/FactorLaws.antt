@@ -16,8 +16,8 @@ use Rattle.calculus.specs.Terms.{every, size}
 use Rattle.calculus.specs.Model.{most-terms, most-degree, fits, sound, span}
 use Rattle.calculus.specs.Operations.{multiply}
 use Rattle.calculus.specs.Shares.{product-shares}
-use Rattle.calculus.specs.FitsLaws.{fits-more}
-use Rattle.calculus.specs.SoundLaws.{sound-parts}
+use Rattle.calculus_laws.specs.FitsLaws.{fits-more}
+use Rattle.calculus_laws.specs.SoundLaws.{sound-parts}
 use Rattle.model_types.specs.declared.Model.{Model}
 use Rattle.model_types.specs.declared.Accounted.{Accounted}
 use Rattle.model_types.specs.ModelStruct.{view}

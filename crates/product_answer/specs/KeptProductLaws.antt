@@ -12,7 +12,7 @@ use lib.Seq.{set-getD}
 use Rattle.fixed.specs.Fixed.{span-limit, capped, round-up}
 use Rattle.fixed.specs.FixedLaws.{capped-more, capped-within}
 use Rattle.calculus.specs.Terms.{Terms, size, sum-over}
-use Rattle.calculus.specs.SumLaws.{ℕ-addition, sum-snoc}
+use Rattle.calculus_laws.specs.SumLaws.{ℕ-addition, sum-snoc}
 use Rattle.calculus.specs.Model.{most-terms, span, zero-model}
 use Rattle.calculus.specs.Model as C
 use Rattle.calculus.specs.Refusal as R

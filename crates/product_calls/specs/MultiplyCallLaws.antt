@@ -3,7 +3,7 @@ use mathlib.Core.Path.{_≡_, sym, _∙_, ap}
 use Prim.Native.Nat.{ℕ}
 use Rattle.calculus.specs.Model.{Model}
 use Rattle.calculus.specs.Refusal.{at-place, require-at, _followed-by_}
-use Rattle.calculus.specs.RefusalLaws.{at-followed}
+use Rattle.calculus_laws.specs.RefusalLaws.{at-followed}
 use Rattle.calculus.specs.Operations as Op
 use Rattle.calculus.specs.Tests.{order-sound}
 use Rattle.calculus.specs.Calls.{call-multiply}

@@ -9,7 +9,7 @@ use Rattle.algebra.specs.Lexicographic.{same, less}
 use Rattle.algebra.specs.IntegerRing.{ℤR}
 use Rattle.polynomial.specs.Polynomial.{Term, add-exponents, times, product}
 use Rattle.calculus.specs.Terms.{Terms, term, every, select, map-coefficients, map-monomials}
-use Rattle.calculus.specs.TermsLaws.{on-monomials, every-head, every-tail}
+use Rattle.calculus_laws.specs.TermsLaws.{on-monomials, every-head, every-tail}
 use Rattle.product_table.specs.Table.{accumulated}
 use Rattle.product_table.specs.AccumulatedLaws.{every-accumulated}
 use Rattle.product_table.specs.Insertion.{inserted, sorted-into}

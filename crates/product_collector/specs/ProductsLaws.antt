@@ -9,7 +9,7 @@ use Rattle.algebra.specs.Integer.{natAbs-mul}
 use Rattle.algebra.specs.IntegerRing.{ℤR}
 use Rattle.polynomial.specs.Polynomial.{Term, times, product}
 use Rattle.calculus.specs.Terms.{Terms, sum-over, size}
-use Rattle.calculus.specs.SumLaws.{ℕ-addition, sum-++}
+use Rattle.calculus_laws.specs.SumLaws.{ℕ-addition, sum-++}
 
 size-append : (p q : Terms) → size (p ++ q) ≡ size p + size q
 unfolding size

@@ -8,9 +8,9 @@ use lib.Dec.{T, lit<}
 use lib.ListN.{length}
 use Rattle.calculus.specs.Monomial.{degree}
 use Rattle.calculus.specs.Key.{encode}
-use Rattle.calculus.specs.KeyLaws.{below-degree, encode-lt}
+use Rattle.calculus_laws.specs.KeyLaws.{below-degree, encode-lt}
 use Rattle.calculus.specs.Model.{fits}
-use Rattle.calculus.specs.FitsLaws.{fits-length, fits-degree}
+use Rattle.calculus_laws.specs.FitsLaws.{fits-length, fits-degree}
 use Rattle.model_keys.specs.Keys.{wide-base, wide-width, wide-key}
 use Rattle.product_dense.specs.Grid.{first-of, second-of, third-of, fourth-of, others-of, upper, digit-sum}
 use Rattle.product_dense.specs.Grid.{Four-told, Low-key}

@@ -8,7 +8,7 @@ use lib.ListN.{length, getD}
 use Rattle.algebra.specs.IntegerRing.{ℤR}
 use Rattle.polynomial.specs.Polynomial.{times, product}
 use Rattle.calculus.specs.Terms.{Terms, size}
-use Rattle.calculus.specs.CanonicalLaws.{coefficient-at}
+use Rattle.calculus_laws.specs.CanonicalLaws.{coefficient-at}
 use Rattle.model_keys.specs.Keys.{wide-degree}
 use Rattle.product_table.specs.Table.{at-key, terms}
 use Rattle.product_dense.specs.declared.Sides.{Sides}

@@ -17,10 +17,10 @@ use Rattle.algebra.specs.Lexicographic.{same}
 use Rattle.algebra.specs.LexicographicLaws.{same-ok, same-refl}
 use Rattle.polynomial.specs.Polynomial.{Term, add-exponents, times, product}
 use Rattle.calculus.specs.Terms.{Terms, term, sum-over, size}
-use Rattle.calculus.specs.SumLaws.{ℕ-addition, sum-++}
-use Rattle.calculus.specs.CanonicalLaws.{coefficient-at, coefficient-nil, coefficient-cons, coefficient-++, share}
-use Rattle.calculus.specs.CanonicalLaws.{share-here, share-elsewhere}
-use Rattle.calculus.specs.LoopLaws.{times-snoc, product-snoc}
+use Rattle.calculus_laws.specs.SumLaws.{ℕ-addition, sum-++}
+use Rattle.calculus_laws.specs.CanonicalLaws.{coefficient-at, coefficient-nil, coefficient-cons, coefficient-++, share}
+use Rattle.calculus_laws.specs.CanonicalLaws.{share-here, share-elsewhere}
+use Rattle.calculus_laws.specs.LoopLaws.{times-snoc, product-snoc}
 use Rattle.model_keys.specs.Keys.{wide-degree}
 use Rattle.product_collector.specs.ProductsLaws.{size-times, size-product}
 use Rattle.product_table.specs.Table.{at-key, none, terms}

@@ -13,11 +13,11 @@ use Rattle.algebra.specs.LexicographicLaws.{same-ok}
 use Rattle.algebra.specs.IntegerRing.{ℤR}
 use Rattle.polynomial.specs.Polynomial.{add-exponents, times, product}
 use Rattle.calculus.specs.Terms.{Terms, size, rising, absent, distinct}
-use Rattle.calculus.specs.TestLaws.{and-left, and-right}
-use Rattle.calculus.specs.TermsLaws.{every-nil, every-cons}
-use Rattle.calculus.specs.CanonicalLaws.{coefficient-at, Same-coefficients, coefficient-nil, coefficient-cons, share}
-use Rattle.calculus.specs.CanonicalLaws.{share-here, share-elsewhere, absent-zero, rising-distinct}
-use Rattle.calculus.specs.ProductLaws.{size-same}
+use Rattle.calculus_laws.specs.TestLaws.{and-left, and-right}
+use Rattle.calculus_laws.specs.TermsLaws.{every-nil, every-cons}
+use Rattle.calculus_laws.specs.CanonicalLaws.{coefficient-at, Same-coefficients, coefficient-nil, coefficient-cons}
+use Rattle.calculus_laws.specs.CanonicalLaws.{share, share-here, share-elsewhere, absent-zero, rising-distinct}
+use Rattle.calculus_laws.specs.ProductLaws.{size-same}
 use Rattle.model_keys.specs.Keys.{wide-degree}
 use Rattle.product_table.specs.Table.{at-key, terms}
 use Rattle.product_collector.specs.Collector.{accumulated-all}

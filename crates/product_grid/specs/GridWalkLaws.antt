@@ -12,8 +12,8 @@ use Rattle.algebra.specs.Lexicographic.{same, less}
 use Rattle.algebra.specs.LexicographicLaws.{same-refl}
 use Rattle.polynomial.specs.Polynomial.{Term}
 use Rattle.calculus.specs.Terms.{Terms, rising-from, rising, absent}
-use Rattle.calculus.specs.TestLaws.{both}
-use Rattle.calculus.specs.TermsLaws.{every-head, every-tail}
+use Rattle.calculus_laws.specs.TestLaws.{both}
+use Rattle.calculus_laws.specs.TermsLaws.{every-head, every-tail}
 use Rattle.product_table.specs.Table.{at-key}
 use Rattle.product_table.specs.InsertLaws.{less-key}
 use Rattle.product_rising.specs.Rising.{in-turn, steps-within, first-step, second-step, third-step, fourth-step}

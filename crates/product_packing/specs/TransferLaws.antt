@@ -9,11 +9,11 @@ use lib.IntN.{ℤ, pos, natAbs}
 use lib.ListN.{length, getD, set, length-set, length-map}
 use Rattle.polynomial.specs.Polynomial.{exponent}
 use Rattle.calculus.specs.Key.{key-width, key-limit, Below}
-use Rattle.calculus.specs.KeyLaws.{below-degree}
+use Rattle.calculus_laws.specs.KeyLaws.{below-degree}
 use Rattle.calculus.specs.Terms.{Terms, term, every, sum-over, size, map-monomials}
-use Rattle.calculus.specs.TermsLaws.{every-head, every-tail}
+use Rattle.calculus_laws.specs.TermsLaws.{every-head, every-tail}
 use Rattle.calculus.specs.Model.{most-terms, most-degree, fits}
-use Rattle.calculus.specs.FitsLaws.{fits-length, fits-degree}
+use Rattle.calculus_laws.specs.FitsLaws.{fits-length, fits-degree}
 use Rattle.model_keys.specs.Keys.{widened, wide-exponents, narrowed}
 use Rattle.model_keys.specs.WideKeyLaws.{widened-monomial, narrowed-key, exponents-below}
 use Rattle.model_types.specs.declared.Term.{Term}

@@ -13,7 +13,7 @@ use lib.ListN.{length, set, length-append}
 use Rattle.polynomial.specs.Polynomial.{Term}
 use Rattle.calculus.specs.Terms.{Terms, select, size}
 use Rattle.calculus.specs.Model.{most-terms}
-use Rattle.calculus.specs.SumLaws.{ℕ-addition, sum-++}
+use Rattle.calculus_laws.specs.SumLaws.{ℕ-addition, sum-++}
 use Rattle.model_keys.specs.Keys.{wide-degree}
 use Rattle.product_table.specs.Table.{at-key, terms}
 use Rattle.product_table.specs.TermArrayLaws.{terms-push}

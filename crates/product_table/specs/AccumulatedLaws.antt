@@ -12,12 +12,12 @@ use Rattle.algebra.specs.LexicographicLaws.{same-ok, same-refl}
 use Rattle.algebra.specs.Integer.{natAbs-add}
 use Rattle.polynomial.specs.Polynomial.{Term}
 use Rattle.calculus.specs.Terms.{Terms, term, every, sum-over, size}
-use Rattle.calculus.specs.TestLaws.{and-left, and-right}
-use Rattle.calculus.specs.TermsLaws.{on-monomials, every-head, every-tail, every-nil, every-cons}
+use Rattle.calculus_laws.specs.TestLaws.{and-left, and-right}
+use Rattle.calculus_laws.specs.TermsLaws.{on-monomials, every-head, every-tail, every-nil, every-cons}
 use Rattle.calculus.specs.Terms.{absent}
-use Rattle.calculus.specs.CanonicalLaws.{coefficient-at, Same-coefficients, coefficient-cons, coefficient-++}
+use Rattle.calculus_laws.specs.CanonicalLaws.{coefficient-at, Same-coefficients, coefficient-cons, coefficient-++}
 use Rattle.calculus.specs.Terms.{distinct}
-use Rattle.calculus.specs.LoopLaws.{add-at, distinct-add-at, coefficient-add-at, distinct-snoc}
+use Rattle.calculus_laws.specs.LoopLaws.{add-at, distinct-add-at, coefficient-add-at, distinct-snoc}
 use Rattle.product_table.specs.Table.{none, accumulated}
 
 -- ---- by cases: the monomial is the first term's, or is looked for behind it

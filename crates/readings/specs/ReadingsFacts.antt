@@ -15,11 +15,11 @@ use Rattle.fixed.specs.Fixed.{U}
 use Rattle.calculus.specs.Computing.{calls}
 use Rattle.calculus.specs.Model.{Model, _/U, _-ℚ_, Point, Within}
 use Rattle.calculus.specs.Refusal.{done}
-use Rattle.calculus.specs.Outcome.{Function}
-use Rattle.calculus.specs.UnitLaws.{natural, natural-≤, abs-whole, U-times}
-use Rattle.calculus.specs.ValueLaws.{Near, scaled-value, scaled-nil, near-at}
-use Rattle.calculus.specs.EvaluateLaws.{point-of}
-use Rattle.calculus.specs.ChainLaws.{_≡≤_, equal}
+use Rattle.calculus.specs.Functions.{Function}
+use Rattle.calculus_laws.specs.UnitLaws.{natural, natural-≤, abs-whole, U-times}
+use Rattle.calculus_laws.specs.ValueLaws.{Near, scaled-value, scaled-nil, near-at}
+use Rattle.calculus_laws.specs.EvaluateLaws.{point-of}
+use Rattle.calculus_laws.specs.ChainLaws.{_≡≤_, equal}
 use Rattle.readings.specs.Readings.{Reading, most-readings, in-order, contradicts, with-place, held}
 use Rattle.readings.specs.Readings.{first-contradicting, call-readings}
 use Rattle.readings.specs.ReadingsLaws.{Passes-through, Contradicted, contradicted}

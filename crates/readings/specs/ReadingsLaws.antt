@@ -19,11 +19,10 @@ use Rattle.calculus.specs.Model.{Model, most-degree, sound, Point, Within}
 use Rattle.calculus.specs.Refusal.{Refusal, bad-model, bad-step, leaves-box, bad-reading, Result, done, stopped}
 use Rattle.calculus.specs.Refusal.{require-at, require-each, _followed-by_}
 use Rattle.calculus.specs.Operations.{Ends}
-use Rattle.calculus.specs.Outcome.{Function}
-use Rattle.calculus.specs.Claim.{Lies}
+use Rattle.calculus.specs.Functions.{Function, Lies}
 use Rattle.calculus.specs.Calls.{call-evaluate}
-use Rattle.calculus.specs.RefusalLaws.{if-done, passed-at}
-use Rattle.calculus.specs.EvaluateLaws.{point-of, evaluate-encloses}
+use Rattle.calculus_laws.specs.RefusalLaws.{if-done, passed-at}
+use Rattle.calculus_laws.specs.EvaluateLaws.{point-of, evaluate-encloses}
 use Rattle.readings.specs.Readings.{Reading, in-order, contradicts, with-place, Found, held, first-contradicting}
 use Rattle.readings.specs.Readings.{call-readings, most-readings}
 

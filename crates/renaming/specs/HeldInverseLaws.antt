@@ -9,15 +9,15 @@ use lib.Dec.{T, eqb, ltb}
 use lib.IntN.{natAbs}
 use lib.ListN.{length, length-map, length-append, getElem?}
 use Rattle.calculus.specs.Key.{key-width, key-limit, key}
-use Rattle.calculus.specs.MonomialKeyLaws.{key-monomial, fits-key, fits-below}
+use Rattle.calculus_laws.specs.MonomialKeyLaws.{key-monomial, fits-key, fits-below}
 use Rattle.calculus.specs.Terms.{Terms, every}
 use Rattle.calculus.specs.Model.{fits}
 use Rattle.calculus.specs.Refusal.{all-from}
 use Rattle.calculus.specs.Tests.{variable-sound}
 use Rattle.calculus.specs.Book.{Step, variable, substitute, antiderivative, Book, step-sound}
-use Rattle.calculus.specs.TestLaws.{and-left, and-right}
-use Rattle.calculus.specs.TermsLaws.{every-head, every-tail}
-use Rattle.calculus.specs.SoundLaws.{Canonical}
+use Rattle.calculus_laws.specs.TestLaws.{and-left, and-right}
+use Rattle.calculus_laws.specs.TermsLaws.{every-head, every-tail}
+use Rattle.calculus_laws.specs.SoundLaws.{Canonical}
 use Rattle.format.specs.Bytes.{join}
 use Rattle.format.specs.HeldBook.{Held-term, Held-model, Held-step, Held-book, view-held-term, view-model, form, forms}
 use Rattle.format.specs.HeldBook.{step-of, view-step, outline, outline-of, held-model-sound, held-step-sound}

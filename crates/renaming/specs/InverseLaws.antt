@@ -12,12 +12,12 @@ use Rattle.calculus.specs.Refusal.{all-from}
 use Rattle.calculus.specs.Tests.{variable-sound}
 use Rattle.calculus.specs.Book.{Step, input, constant, variable, negate, add, subtract, multiply, substitute, sweep}
 use Rattle.calculus.specs.Book.{quotient, antiderivative, Book, model-sound, step-sound}
-use Rattle.calculus.specs.TestLaws.{and-left, and-right}
-use Rattle.calculus.specs.MonomialLaws.{index-suc}
-use Rattle.calculus.specs.SumLaws.{ℤ-addition}
-use Rattle.calculus.specs.CanonicalLaws.{at-monomial, coefficient-at}
-use Rattle.calculus.specs.SoundLaws.{Canonical, sound-parts}
-use Rattle.calculus.specs.BookLaws.{Passes, model-vars, between-low, variable-inside}
+use Rattle.calculus_laws.specs.TestLaws.{and-left, and-right}
+use Rattle.calculus_laws.specs.MonomialLaws.{index-suc}
+use Rattle.calculus_laws.specs.SumLaws.{ℤ-addition}
+use Rattle.calculus_laws.specs.CanonicalLaws.{at-monomial, coefficient-at}
+use Rattle.calculus_laws.specs.SoundLaws.{Canonical, sound-parts}
+use Rattle.calculus_laws.specs.BookLaws.{Passes, model-vars, between-low, variable-inside}
 use Rattle.renaming.specs.Reordering.{Reordering, inverse, rename, rename-variable, rename-terms, rename-model}
 use Rattle.renaming.specs.Reordering.{rename-step, rename-book}
 use Rattle.renaming.specs.RenamedMonomialLaws.{exponent-from, rename-unique, index-renamed}

@@ -4,7 +4,7 @@ use mathlib.Core.Bool.{Bool, true, false}
 use Prim.Native.Nat.{ℕ}
 use Rattle.calculus.specs.Model.{Model}
 use Rattle.calculus.specs.Refusal.{Refusal, Answer, accepted, refused, require, _then_}
-use Rattle.calculus.specs.RefusalLaws.{If-accepted, holds}
+use Rattle.calculus_laws.specs.RefusalLaws.{If-accepted, holds}
 use Rattle.renaming.specs.Reordering.{Reordering, rename-model}
 
 module _ {n : ℕ} (ρ : Reordering n) where

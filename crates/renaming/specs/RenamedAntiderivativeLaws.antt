@@ -12,12 +12,12 @@ use Rattle.fixed.specs.Division.{divided-up, nearest}
 use Rattle.calculus.specs.Monomial.{degree, index-of}
 use Rattle.calculus.specs.Model.{Model}
 use Rattle.calculus.specs.Operations.{is-inexact, growth-rounding, growth-swept, antiderivative}
-use Rattle.calculus.specs.MonomialLaws.{length-raise}
-use Rattle.calculus.specs.SumLaws.{Addition, ℕ-addition, ℤ-addition, if-so, if-so-nothing, if-ℕ, sum}
-use Rattle.calculus.specs.CanonicalLaws.{at-monomial, coefficient-at}
-use Rattle.calculus.specs.GrowthLaws.{up, new-exponent, stays, divided-sum, rounding-of, rounding-sum, swept-of}
-use Rattle.calculus.specs.GrowthLaws.{swept-sum}
-use Rattle.calculus.specs.SoundLaws.{Sound, antiderivative-sound}
+use Rattle.calculus_laws.specs.MonomialLaws.{length-raise}
+use Rattle.calculus_laws.specs.SumLaws.{Addition, ℕ-addition, ℤ-addition, if-so, if-so-nothing, if-ℕ, sum}
+use Rattle.calculus_laws.specs.CanonicalLaws.{at-monomial, coefficient-at}
+use Rattle.calculus_laws.specs.GrowthLaws.{up, new-exponent, stays, divided-sum, rounding-of, rounding-sum, swept-of}
+use Rattle.calculus_laws.specs.GrowthLaws.{swept-sum}
+use Rattle.calculus_laws.specs.SoundLaws.{Sound, antiderivative-sound}
 use Rattle.renaming.specs.Reordering.{Reordering, rename, rename-variable, rename-terms, rename-model}
 use Rattle.renaming.specs.RenamedMonomialLaws.{renamed-inside, exponent-renamed, raise-renamed}
 use Rattle.renaming.specs.SymmetryLaws.{degree-renamed}

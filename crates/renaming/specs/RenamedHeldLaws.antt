@@ -10,20 +10,20 @@ use lib.IntN.{natAbs}
 use lib.ListN.{length-map, getElem?}
 use Rattle.algebra.specs.Integer.{minus}
 use Rattle.calculus.specs.Key.{key-width, key, monomial-of}
-use Rattle.calculus.specs.KeyLaws.{below-degree}
-use Rattle.calculus.specs.MonomialKeyLaws.{monomial-key}
+use Rattle.calculus_laws.specs.KeyLaws.{below-degree}
+use Rattle.calculus_laws.specs.MonomialKeyLaws.{monomial-key}
 use Rattle.calculus.specs.Terms.{Terms, every}
 use Rattle.calculus.specs.Model.{fits, sound}
 use Rattle.calculus.specs.Refusal.{all-from}
 use Rattle.calculus.specs.Tests.{vars-sound}
 use Rattle.calculus.specs.Book.{Step, input, constant, variable, negate, add, subtract, multiply, substitute, sweep}
 use Rattle.calculus.specs.Book.{quotient, antiderivative, Book, model-sound, step-sound}
-use Rattle.calculus.specs.TestLaws.{and-left, and-right, both}
-use Rattle.calculus.specs.TermsLaws.{every-head, every-tail}
-use Rattle.calculus.specs.FitsLaws.{fits-length, fits-degree}
-use Rattle.calculus.specs.SoundLaws.{Canonical, sound-parts}
-use Rattle.calculus.specs.BookLaws.{model-vars}
-use Rattle.calculus.specs.BookSoundLaws.{vars-pass}
+use Rattle.calculus_laws.specs.TestLaws.{and-left, and-right, both}
+use Rattle.calculus_laws.specs.TermsLaws.{every-head, every-tail}
+use Rattle.calculus_laws.specs.FitsLaws.{fits-length, fits-degree}
+use Rattle.calculus_laws.specs.SoundLaws.{Canonical, sound-parts}
+use Rattle.calculus_laws.specs.BookLaws.{model-vars}
+use Rattle.calculus_laws.specs.BookSoundLaws.{vars-pass}
 use Rattle.format.specs.Fields as F
 use Rattle.format.specs.HeldBook.{Held-model, Held-step, Held-book, view-held-term, view-model, form, forms, step-of}
 use Rattle.format.specs.HeldBook.{view-step, view-steps, view-book, outline, outline-of, held-model-sound}

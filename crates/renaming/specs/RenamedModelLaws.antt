@@ -19,10 +19,10 @@ use Rattle.calculus.specs.Operations.{above, range, range-in-box, widen, integr
 use Rattle.calculus.specs.Operations.{common-denominator, has-exact, integral-parts, Mixed, zero-mixed, mixed-part}
 use Rattle.calculus.specs.Operations.{exact-part, one-if-any, Ends, exact-ends, integral}
 use Rattle.calculus.specs.Operations.{largest-value}
-use Rattle.calculus.specs.TermsLaws.{every-implies}
-use Rattle.calculus.specs.FitsLaws.{fits-length}
-use Rattle.calculus.specs.SumLaws.{ℕ-addition, ℤ-addition}
-use Rattle.calculus.specs.SoundLaws.{Canonical, Bounded, Sound}
+use Rattle.calculus_laws.specs.TermsLaws.{every-implies}
+use Rattle.calculus_laws.specs.FitsLaws.{fits-length}
+use Rattle.calculus_laws.specs.SumLaws.{ℕ-addition, ℤ-addition}
+use Rattle.calculus_laws.specs.SoundLaws.{Canonical, Bounded, Sound}
 use Rattle.renaming.specs.Reordering.{Reordering, rename, rename-terms, rename-model}
 use Rattle.renaming.specs.RenamedAnswerLaws.{rename-answer, require-renamed}
 use Rattle.renaming.specs.RenamedMonomialLaws.{length-rename}

@@ -7,8 +7,8 @@ use native.Nat.{ℕᴺ-discrete}
 use lib.ListN.{length}
 use Rattle.polynomial.specs.Polynomial.{add-exponents, exponent, without, raise, replace}
 use Rattle.calculus.specs.Monomial.{zeros, index-of, single}
-use Rattle.calculus.specs.MonomialKeyLaws.{exponent-zeros}
-use Rattle.calculus.specs.MonomialLaws.{length-zeros, length-replace, length-plus, length-without, raise-replace}
+use Rattle.calculus_laws.specs.MonomialKeyLaws.{exponent-zeros}
+use Rattle.calculus_laws.specs.MonomialLaws.{length-zeros, length-replace, length-plus, length-without, raise-replace}
 use Rattle.renaming.specs.Reordering.{Reordering, rename, rename-variable}
 use Rattle.renaming.specs.ExponentLaws.{same-exponents, length-tabulate, exponent-tabulate, exponent-add}
 use Rattle.renaming.specs.ExponentLaws.{exponent-without-here, exponent-without-there, exponent-replace-here}

@@ -11,11 +11,12 @@ use Rattle.calculus.specs.Terms.{Terms, term, select, map-coefficients, map-mon
 use Rattle.calculus.specs.Terms.{collect}
 use Rattle.calculus.specs.Model.{Model, zero-model}
 use Rattle.calculus.specs.Operations.{limited, constant, variable, negate, add, subtract, is-small, sweep}
-use Rattle.calculus.specs.TermsLaws.{by-select, every-select, every-collect, every-++, nonzero-drop-zeros}
-use Rattle.calculus.specs.SumLaws.{ℤ-addition, if-so-nothing, sum-++, sum-drop-zeros, sum-collect, sum-map-coefficients}
-use Rattle.calculus.specs.CanonicalLaws.{at-monomial, at-additive, coefficient-at, coefficient-++, canonical-rising}
-use Rattle.calculus.specs.CanonicalLaws.{canonical-coefficients}
-use Rattle.calculus.specs.SoundLaws.{Canonical, negate-canonical}
+use Rattle.calculus_laws.specs.TermsLaws.{by-select, every-select, every-collect, every-++, nonzero-drop-zeros}
+use Rattle.calculus_laws.specs.SumLaws.{ℤ-addition, if-so-nothing, sum-++, sum-drop-zeros, sum-collect}
+use Rattle.calculus_laws.specs.SumLaws.{sum-map-coefficients}
+use Rattle.calculus_laws.specs.CanonicalLaws.{at-monomial, at-additive, coefficient-at, coefficient-++}
+use Rattle.calculus_laws.specs.CanonicalLaws.{canonical-rising, canonical-coefficients}
+use Rattle.calculus_laws.specs.SoundLaws.{Canonical, negate-canonical}
 use Rattle.renaming.specs.Reordering.{Reordering, rename, rename-variable, rename-terms, rename-model}
 use Rattle.renaming.specs.RenamedAnswerLaws.{rename-answer}
 use Rattle.renaming.specs.RenamedMonomialLaws.{rename-zeros, rename-single}

@@ -14,14 +14,14 @@ use Rattle.calculus.specs.Terms.{Terms, select, size, is-nonzero, distinct, dro
 use Rattle.calculus.specs.Model.{Model}
 use Rattle.calculus.specs.Operations.{limited, products, within-order, above-order, kept, rounding, swept, carried}
 use Rattle.calculus.specs.Operations.{error, multiply}
-use Rattle.calculus.specs.MonomialLaws.{length-plus}
-use Rattle.calculus.specs.TermsLaws.{every-select, every-map-coefficients, every-collect, every-product}
-use Rattle.calculus.specs.TermsLaws.{nonzero-drop-zeros}
-use Rattle.calculus.specs.SumLaws.{ℕ-addition, ℤ-addition, if-so, sum, sum-select, sum-cong, sum-map-coefficients}
-use Rattle.calculus.specs.CanonicalLaws.{at-monomial, coefficient-at, Same-coefficients, coefficient-drop-zeros}
-use Rattle.calculus.specs.CanonicalLaws.{rising-distinct}
-use Rattle.calculus.specs.ProductLaws.{rounding-same, swept-same, products-rising, products-distinct}
-use Rattle.calculus.specs.ProductLaws.{products-coefficients, kept-coefficient, coefficient-kept, kept-rising}
+use Rattle.calculus_laws.specs.MonomialLaws.{length-plus}
+use Rattle.calculus_laws.specs.TermsLaws.{every-select, every-map-coefficients, every-collect, every-product}
+use Rattle.calculus_laws.specs.TermsLaws.{nonzero-drop-zeros}
+use Rattle.calculus_laws.specs.SumLaws.{ℕ-addition, ℤ-addition, if-so, sum, sum-select, sum-cong, sum-map-coefficients}
+use Rattle.calculus_laws.specs.CanonicalLaws.{at-monomial, coefficient-at, Same-coefficients, coefficient-drop-zeros}
+use Rattle.calculus_laws.specs.CanonicalLaws.{rising-distinct}
+use Rattle.calculus_laws.specs.ProductLaws.{rounding-same, swept-same, products-rising, products-distinct}
+use Rattle.calculus_laws.specs.ProductLaws.{products-coefficients, kept-coefficient, coefficient-kept, kept-rising}
 use Rattle.renaming.specs.Reordering.{Reordering, rename, rename-terms, rename-model}
 use Rattle.renaming.specs.RenamedAnswerLaws.{rename-answer}
 use Rattle.renaming.specs.RenamedMonomialLaws.{rename-add}

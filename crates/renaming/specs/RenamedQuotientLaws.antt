@@ -9,9 +9,9 @@ use Rattle.calculus.specs.Model.{Model, one-model}
 use Rattle.calculus.specs.Refusal.{uncertified, Answer, require, _then_}
 use Rattle.calculus.specs.Operations.{subtract, multiply, widen, bare, defect, deviation, largest-value}
 use Rattle.calculus.specs.Operations.{quotient-radius, certified, quotient}
-use Rattle.calculus.specs.RefusalLaws.{If-accepted, then-accepted}
-use Rattle.calculus.specs.SoundLaws.{Canonical, Sound, constant-sound, subtract-sound, multiply-sound, bare-canonical}
-use Rattle.calculus.specs.SoundLaws.{one-constant}
+use Rattle.calculus_laws.specs.RefusalLaws.{If-accepted, then-accepted}
+use Rattle.calculus_laws.specs.SoundLaws.{Canonical, Sound, constant-sound, subtract-sound, multiply-sound}
+use Rattle.calculus_laws.specs.SoundLaws.{bare-canonical, one-constant}
 use Rattle.renaming.specs.Reordering.{Reordering, rename-model}
 use Rattle.renaming.specs.RenamedAnswerLaws.{rename-answer, then-renamed, require-renamed}
 use Rattle.renaming.specs.RenamedModelLaws.{canonical-in-order, widen-renamed, largest-value-renamed}

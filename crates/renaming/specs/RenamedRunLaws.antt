@@ -13,12 +13,12 @@ use Rattle.calculus.specs.Tests.{variable-sound}
 use Rattle.calculus.specs.Book.{Step, input, constant, variable, negate, add, subtract, multiply, substitute, sweep}
 use Rattle.calculus.specs.Book.{quotient, antiderivative, Book, step-sound, model-of, result-of, run-step, run-steps}
 use Rattle.calculus.specs.Book.{last, Summary, summary, run-sound, run}
-use Rattle.calculus.specs.TestLaws.{and-left, and-right}
-use Rattle.calculus.specs.RefusalLaws.{If-accepted, holds, If-done, is-done}
-use Rattle.calculus.specs.EachLaws.{All, nil, each-snoc, each-last}
-use Rattle.calculus.specs.SoundLaws.{zero-sound}
-use Rattle.calculus.specs.BookLaws.{Passes, run-passes, variable-inside, next-number}
-use Rattle.calculus.specs.BookSoundLaws.{Good, operand, step-good, run-good}
+use Rattle.calculus_laws.specs.TestLaws.{and-left, and-right}
+use Rattle.calculus_laws.specs.RefusalLaws.{If-accepted, holds, If-done, is-done}
+use Rattle.calculus_laws.specs.EachLaws.{All, nil, each-snoc, each-last}
+use Rattle.calculus_laws.specs.SoundLaws.{zero-sound}
+use Rattle.calculus_laws.specs.BookLaws.{Passes, run-passes, variable-inside, next-number}
+use Rattle.calculus_laws.specs.BookSoundLaws.{Good, operand, step-good, run-good}
 use Rattle.renaming.specs.Reordering.{Reordering, rename-model, rename-step, rename-summary, rename-result}
 use Rattle.renaming.specs.Reordering.{rename-book}
 use Rattle.renaming.specs.RenamedAnswerLaws.{rename-answer}

@@ -18,12 +18,12 @@ use Rattle.calculus.specs.Book.{quotient, antiderivative, Book, step-sound, res
 use Rattle.calculus.specs.Shares.{Shares, no-shares, product-shares, shares-of, horner-shares, carrying}
 use Rattle.calculus.specs.Shares.{substitute-shares, grown, sweep-shares, antiderivative-shares, all-carried}
 use Rattle.calculus.specs.Shares.{step-shares, rows-of, run-shares, rows-sound, reported, shares-rows}
-use Rattle.calculus.specs.TestLaws.{and-left, and-right}
-use Rattle.calculus.specs.RefusalLaws.{If-accepted, holds}
-use Rattle.calculus.specs.EachLaws.{All, nil, each-snoc}
-use Rattle.calculus.specs.SoundLaws.{Canonical, part-canonical}
-use Rattle.calculus.specs.BookLaws.{Passes, tested-passes, variable-inside, next-number}
-use Rattle.calculus.specs.BookSoundLaws.{Good, operand, step-good}
+use Rattle.calculus_laws.specs.TestLaws.{and-left, and-right}
+use Rattle.calculus_laws.specs.RefusalLaws.{If-accepted, holds}
+use Rattle.calculus_laws.specs.EachLaws.{All, nil, each-snoc}
+use Rattle.calculus_laws.specs.SoundLaws.{Canonical, part-canonical}
+use Rattle.calculus_laws.specs.BookLaws.{Passes, tested-passes, variable-inside, next-number}
+use Rattle.calculus_laws.specs.BookSoundLaws.{Good, operand, step-good}
 use Rattle.renaming.specs.Reordering.{Reordering, rename-variable, rename-model, rename-step, rename-book}
 use Rattle.renaming.specs.RenamedTermsLaws.{In-order}
 use Rattle.renaming.specs.RenamedAnswerLaws.{rename-answer}

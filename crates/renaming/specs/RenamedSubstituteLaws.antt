@@ -12,11 +12,11 @@ use Rattle.calculus.specs.Model.{Model}
 use Rattle.calculus.specs.Refusal.{require, _then_, leaves-box}
 use Rattle.calculus.specs.Operations.{add, multiply, range-in-box, largest-exponent, part-terms, part, horner, widen}
 use Rattle.calculus.specs.Operations.{substitute}
-use Rattle.calculus.specs.RefusalLaws.{If-accepted, then-accepted, weaken}
-use Rattle.calculus.specs.SumLaws as S
-use Rattle.calculus.specs.SumLaws.{ℤ-addition, sum-cong, sum-map-monomials}
-use Rattle.calculus.specs.CanonicalLaws.{at-monomial, coefficient-at}
-use Rattle.calculus.specs.SoundLaws.{Canonical, Sound, add-sound, multiply-sound, part-canonical, horner-canonical}
+use Rattle.calculus_laws.specs.RefusalLaws.{If-accepted, then-accepted, weaken}
+use Rattle.calculus_laws.specs.SumLaws as S
+use Rattle.calculus_laws.specs.SumLaws.{ℤ-addition, sum-cong, sum-map-monomials}
+use Rattle.calculus_laws.specs.CanonicalLaws.{at-monomial, coefficient-at}
+use Rattle.calculus_laws.specs.SoundLaws.{Canonical, Sound, add-sound, multiply-sound, part-canonical, horner-canonical}
 use Rattle.renaming.specs.Reordering.{Reordering, rename, rename-variable, rename-terms, rename-model}
 use Rattle.renaming.specs.RenamedAnswerLaws.{rename-answer, then-renamed, require-renamed}
 use Rattle.renaming.specs.Additions.{ℕ-max}

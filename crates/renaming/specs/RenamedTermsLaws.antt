@@ -10,12 +10,12 @@ use Rattle.algebra.specs.LexicographicLaws.{same-ok, same-refl}
 use Rattle.calculus.specs.Monomial.{same}
 use Rattle.calculus.specs.Terms.{Terms, every, select, size, map-monomials, rising, is-nonzero, nonzero, absent}
 use Rattle.calculus.specs.Terms.{distinct}
-use Rattle.calculus.specs.TestLaws.{and-left, and-right, both}
-use Rattle.calculus.specs.TermsLaws.{every-head, every-tail, every-nil, every-cons, every-select, every-collect}
-use Rattle.calculus.specs.TermsLaws.{every-map-monomials, rising-select, rising-collect}
-use Rattle.calculus.specs.SumLaws.{Addition, ℕ-addition, ℤ-addition, if-so, sum, sum-select, sum-map-monomials}
-use Rattle.calculus.specs.CanonicalLaws.{at-monomial, coefficient-at, coefficient-collect, rising-distinct}
-use Rattle.calculus.specs.CanonicalLaws.{canonical-unique, sum-collect-distinct}
+use Rattle.calculus_laws.specs.TestLaws.{and-left, and-right, both}
+use Rattle.calculus_laws.specs.TermsLaws.{every-head, every-tail, every-nil, every-cons, every-select, every-collect}
+use Rattle.calculus_laws.specs.TermsLaws.{every-map-monomials, rising-select, rising-collect}
+use Rattle.calculus_laws.specs.SumLaws.{Addition, ℕ-addition, ℤ-addition, if-so, sum, sum-select, sum-map-monomials}
+use Rattle.calculus_laws.specs.CanonicalLaws.{at-monomial, coefficient-at, coefficient-collect, rising-distinct}
+use Rattle.calculus_laws.specs.CanonicalLaws.{canonical-unique, sum-collect-distinct}
 use Rattle.renaming.specs.Reordering.{Reordering, rename, rename-terms}
 use Rattle.renaming.specs.Additions.{both-tests}
 use Rattle.renaming.specs.TermSumLaws.{every-sum, length-sum, sum-agree}

@@ -13,10 +13,10 @@ use Rattle.calculus.specs.Tests.{vars-sound, order-sound, variable-sound}
 use Rattle.calculus.specs.Book.{Step, input, constant, variable, negate, add, subtract, multiply, substitute, sweep}
 use Rattle.calculus.specs.Book.{quotient, antiderivative, Book, most-models, most-steps, limits-sound, model-sound}
 use Rattle.calculus.specs.Book.{step-sound}
-use Rattle.calculus.specs.TestLaws.{and-left, and-right, both}
-use Rattle.calculus.specs.SoundLaws.{Sound, sound-parts, parts-sound}
-use Rattle.calculus.specs.BookLaws.{Passes, model-vars, variable-inside}
-use Rattle.calculus.specs.BookSoundLaws.{vars-pass}
+use Rattle.calculus_laws.specs.TestLaws.{and-left, and-right, both}
+use Rattle.calculus_laws.specs.SoundLaws.{Sound, sound-parts, parts-sound}
+use Rattle.calculus_laws.specs.BookLaws.{Passes, model-vars, variable-inside}
+use Rattle.calculus_laws.specs.BookSoundLaws.{vars-pass}
 use Rattle.format.specs.HeldBookLaws.{step-same}
 use Rattle.renaming.specs.Reordering.{Reordering, rename-variable, rename-model, rename-step, rename-book}
 use Rattle.renaming.specs.RenamedModelLaws.{sound-renamed}

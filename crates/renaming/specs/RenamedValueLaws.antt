@@ -15,8 +15,8 @@ use Rattle.polynomial.specs.Polynomial.{exponent, monomial, eval}
 use Rattle.polynomial.specs.Box.{none, more}
 use Rattle.calculus.specs.Terms.{Terms, sum-over}
 use Rattle.calculus.specs.Model.{Model, _/U, Point, In-box, polynomial, value}
-use Rattle.calculus.specs.SumLaws.{Addition, ℚ-addition, sum}
-use Rattle.calculus.specs.SoundLaws.{Canonical}
+use Rattle.calculus_laws.specs.SumLaws.{Addition, ℚ-addition, sum}
+use Rattle.calculus_laws.specs.SoundLaws.{Canonical}
 use Rattle.renaming.specs.Reordering.{Reordering, tabulate, rename, rename-point, rename-model}
 use Rattle.renaming.specs.TotalLaws.{total, total-cong, total-first, total-reordered}
 use Rattle.renaming.specs.ExponentLaws.{length-tabulate, element-tabulate}

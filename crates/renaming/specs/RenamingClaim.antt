@@ -8,7 +8,7 @@ use Rattle.calculus.specs.Model.{Model, Point, In-box, value, sound}
 use Rattle.calculus.specs.Refusal.{done}
 use Rattle.calculus.specs.Book.{Book, run}
 use Rattle.calculus.specs.Shares.{shares-rows}
-use Rattle.calculus.specs.BookLaws.{Passes}
+use Rattle.calculus_laws.specs.BookLaws.{Passes}
 use Rattle.format.specs.Bytes.{All-bytes}
 use Rattle.format.specs.HeldBook.{Held-book, view-book, Held-passes}
 use Rattle.format.specs.Format.{read, sheet-bytes, run-sheet, sheet-rows}

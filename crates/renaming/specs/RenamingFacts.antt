@@ -18,7 +18,7 @@ use Rattle.calculus.specs.Refusal.{accepted}
 use Rattle.calculus.specs.Operations.{Ends, is-constant, constant-part, even-powers, can-fall, can-rise, below, above}
 use Rattle.calculus.specs.Operations.{range, evaluate}
 use Rattle.calculus.specs.Computing.{calls}
-use Rattle.calculus.specs.SoundLaws.{Canonical}
+use Rattle.calculus_laws.specs.SoundLaws.{Canonical}
 use Rattle.calculus.specs.Forms.{at-key, model, ends, minus, forms}
 use Rattle.renaming.specs.Reordering.{Reordering, rename-model}
 use Rattle.renaming.specs.RenamedModelLaws.{canonical-in-order, range-renamed}

@@ -3,7 +3,7 @@ use mathlib.Core.Path.{_∙_, ap}
 use lib.ListN.{length}
 use Rattle.algebra.specs.RationalOrder.{ℚO}
 use Rattle.polynomial.specs.BoxLaws.{box-length}
-use Rattle.calculus.specs.SoundLaws.{sound-parts}
+use Rattle.calculus_laws.specs.SoundLaws.{sound-parts}
 use Rattle.format.specs.Format.{sheet-bytes}
 use Rattle.format.specs.WriteBackLaws.{read-passes, read-sheet}
 use Rattle.format.specs.WrittenBytesLaws.{sheet-all}

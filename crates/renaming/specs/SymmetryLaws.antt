@@ -8,7 +8,7 @@ use lib.ListN.{length}
 use Rattle.polynomial.specs.Polynomial.{exponent}
 use Rattle.polynomial.specs.Integral.{even, first, rest, all-even, divisor}
 use Rattle.calculus.specs.Monomial.{degree}
-use Rattle.calculus.specs.SumLaws.{Addition, ℕ-addition}
+use Rattle.calculus_laws.specs.SumLaws.{Addition, ℕ-addition}
 use Rattle.renaming.specs.Reordering.{Reordering, rename}
 use Rattle.renaming.specs.Additions.{ℕ-product, both-tests}
 use Rattle.renaming.specs.TotalLaws.{total, total-cong, total-first, total-reordered}

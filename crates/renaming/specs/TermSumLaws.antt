@@ -12,8 +12,8 @@ use Rattle.polynomial.specs.Polynomial.{Term, add-exponents, exponent, times, p
 use Rattle.calculus.specs.Monomial.{index-of}
 use Rattle.calculus.specs.Terms.{Terms, every, sum-over, sum-ℕ}
 use Rattle.calculus.specs.Operations.{largest-exponent}
-use Rattle.calculus.specs.TermsLaws.{every-head, every-tail}
-use Rattle.calculus.specs.SumLaws.{Addition, sum, sum-nil, sum-cons, sum-++}
+use Rattle.calculus_laws.specs.TermsLaws.{every-head, every-tail}
+use Rattle.calculus_laws.specs.SumLaws.{Addition, sum, sum-nil, sum-cons, sum-++}
 
 -- ---- as sums
 pub every-sum : (f : List ℕ → ℤ → Bool) (p : Terms) → every f p ≡ sum-over _&&_ true f p

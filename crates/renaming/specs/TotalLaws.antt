@@ -5,8 +5,8 @@ use Prim.Native.Nat.{ℕ, zero, suc, _<_}
 use native.Mathlib.Omega.{arith}
 use borrow.Author.Tests.{ne-eqb}
 use lib.Dec.{T, eqb, eqb→eq, eqb-refl}
-use Rattle.calculus.specs.SumLaws.{Addition, plus-swap, if-so}
-use Rattle.calculus.specs.TestLaws.{same-tests}
+use Rattle.calculus_laws.specs.SumLaws.{Addition, plus-swap, if-so}
+use Rattle.calculus_laws.specs.TestLaws.{same-tests}
 use Rattle.renaming.specs.Reordering.{Reordering}
 
 -- two tests of equality, of numbers that are equal together

@@ -21,14 +21,14 @@ use Rattle.calculus.specs.Operations.{constant-part}
 use Rattle.calculus.specs.Book as B
 use Rattle.calculus.specs.Book.{Step, Book, model-of, result-of, run-step, last, summary, model-sound, step-sound}
 use Rattle.calculus.specs.Book.{operands, returned-summary}
-use Rattle.calculus.specs.SoundLaws.{Sound}
-use Rattle.calculus.specs.BookLaws.{Passes, model-passes}
-use Rattle.calculus.specs.BookSoundLaws.{Good, step-good}
-use Rattle.calculus.specs.EachLaws.{nil}
-use Rattle.calculus.specs.TestLaws.{and-left, and-right}
-use Rattle.calculus.specs.RefusalLaws.{If-accepted, holds}
-use Rattle.calculus.specs.Claim.{Claim}
-use Rattle.calculus.specs.ClaimFacts.{one-step, radius-refutes, negated, passing-refuted}
+use Rattle.calculus_laws.specs.SoundLaws.{Sound}
+use Rattle.calculus_laws.specs.BookLaws.{Passes, model-passes}
+use Rattle.calculus_laws.specs.BookSoundLaws.{Good, step-good}
+use Rattle.calculus_laws.specs.EachLaws.{nil}
+use Rattle.calculus_laws.specs.TestLaws.{and-left, and-right}
+use Rattle.calculus_laws.specs.RefusalLaws.{If-accepted, holds}
+use Rattle.claim.specs.Claim.{Claim}
+use Rattle.claim.specs.ClaimFacts.{one-step, radius-refutes, negated, passing-refuted}
 use Rattle.model_types.specs.Arrays.{first-places, padded}
 use Rattle.model_types.specs.ModelStruct.{view-term, view, pack-term, pack, refusal, cause, verdict-number}
 use Rattle.model_types.specs.ModelStruct.{verdict-place}

@@ -6,7 +6,7 @@ use Rattle.calculus.specs.Refusal.{Result, done}
 use Rattle.calculus.specs.Book as B
 use Rattle.calculus.specs.Book.{run-sound}
 use Rattle.calculus.specs.Shares.{Shares, rows-sound, reported}
-use Rattle.calculus.specs.Claim.{Claim}
+use Rattle.claim.specs.Claim.{Claim}
 use Rattle.format.specs.HeldBook.{Held-book, view-book, held-tested}
 use Rattle.format.specs.Format.{run-sheet, sheet-rows}
 use Rattle.format.specs.SheetClaim.{Sheet-claim}

@@ -8,13 +8,13 @@ use lib.ListN.{replicate}
 use Rattle.calculus.specs.Model as C
 use Rattle.calculus.specs.Model.{most-degree, sound, zero-model}
 use Rattle.calculus.specs.Refusal.{Result, done, stopped, returned, _followed-by_}
-use Rattle.calculus.specs.TestLaws.{and-right}
+use Rattle.calculus_laws.specs.TestLaws.{and-right}
 use Rattle.calculus.specs.Book as B
 use Rattle.calculus.specs.Book.{most-steps, run-steps, last, summary, model-sound, run-sound}
 use Rattle.calculus.specs.Shares.{Shares, no-shares, all-rows, rows-sound, reported}
-use Rattle.calculus.specs.BookSoundLaws.{result-sound}
-use Rattle.calculus.specs.Claim.{Claim}
-use Rattle.calculus.specs.ClaimProof.{claim-sound}
+use Rattle.calculus_laws.specs.BookSoundLaws.{result-sound}
+use Rattle.claim.specs.Claim.{Claim}
+use Rattle.claim.specs.ClaimProof.{claim-sound}
 use Rattle.model_types.specs.declared.Model.{Model}
 use Rattle.model_types.specs.declared.Refusal.{Refusal}
 use Rattle.model_types.specs.declared.Verdict.the-variants.{Accepted, Refused}

@@ -7,7 +7,7 @@ use native.Mathlib.Omega.{arith}
 use Rattle.calculus.specs.Refusal as R
 use Rattle.calculus.specs.Refusal.{Result, done, stopped, require-at, require-each, _followed-by_}
 use Rattle.calculus.specs.Refusal.{bad-limits, bad-model, bad-step}
-use Rattle.calculus.specs.RefusalLaws.{at-followed}
+use Rattle.calculus_laws.specs.RefusalLaws.{at-followed}
 use Rattle.calculus.specs.Book.{limits-sound}
 use Rattle.model_types.specs.declared.Refusal.{Refusal}
 use Rattle.model_types.specs.declared.Verdict.the-variants.{Accepted, Refused}

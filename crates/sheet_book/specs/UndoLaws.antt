@@ -9,7 +9,7 @@ use lib.Seq.{getD-take}
 use Rattle.calculus.specs.Model.{most-terms}
 use Rattle.calculus.specs.Refusal.{Result, done, stopped}
 use Rattle.calculus.specs.Book.{most-models, most-steps}
-use Rattle.calculus.specs.BookLaws.{all-from-at}
+use Rattle.calculus_laws.specs.BookLaws.{all-from-at}
 use Rattle.model_types.specs.declared.Model.{Model}
 use Rattle.model_types.specs.declared.Verdict.the-variants.{Accepted}
 use Rattle.model_types.specs.Arrays.{first-places, padded}

@@ -10,7 +10,7 @@ use Rattle.fixed.specs.FixedLaws.{span-four-bytes}
 use Rattle.calculus.specs.Terms.{sum-over, size}
 use Rattle.calculus.specs.Model.{most-terms}
 use Rattle.calculus.specs.Book as C
-use Rattle.calculus.specs.BookLaws.{all-from-at}
+use Rattle.calculus_laws.specs.BookLaws.{all-from-at}
 use Rattle.model_types.specs.declared.Model.{Model}
 use Rattle.format.specs.Bytes.{join}
 use Rattle.format.specs.HeldBook.{Held-term, Held-model, view-held-term, outline-of}

@@ -15,9 +15,9 @@ use Rattle.calculus.specs.Refusal as R
 use Rattle.calculus.specs.Refusal.{accepted, at-place}
 use Rattle.calculus.specs.Operations as Op
 use Rattle.calculus.specs.Tests.{variable-sound}
-use Rattle.calculus.specs.RefusalLaws.{If-accepted, holds, vacuous, weaken}
-use Rattle.calculus.specs.SoundLaws.{Sound, sound-parts, add-sound, subtract-sound}
-use Rattle.calculus.specs.BookLaws.{between-low, between-high}
+use Rattle.calculus_laws.specs.RefusalLaws.{If-accepted, holds, vacuous, weaken}
+use Rattle.calculus_laws.specs.SoundLaws.{Sound, sound-parts, add-sound, subtract-sound}
+use Rattle.calculus_laws.specs.BookLaws.{between-low, between-high}
 use Rattle.calculus.specs.Book.{Step, Book, last-code, model-of, run-step}
 use Rattle.calculus.specs.Shares.{Shares, all-carried, product-shares, step-shares}
 use Rattle.model_types.specs.declared.Model.{Model}

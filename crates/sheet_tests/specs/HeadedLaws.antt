@@ -9,8 +9,8 @@ use borrow.Author.Tests.{eq-eqb, ne-eqb}
 use Rattle.calculus.specs.Model.{between}
 use Rattle.calculus.specs.Refusal.{bad-length, bad-mark, bad-limits, bad-offset}
 use Rattle.calculus.specs.Refusal.{Refusal, Result, done, stopped, require-at, _followed-by_}
-use Rattle.calculus.specs.RefusalLaws.{require-at-passed, passed-at}
-use Rattle.calculus.specs.BookLaws.{between-low, between-high}
+use Rattle.calculus_laws.specs.RefusalLaws.{require-at-passed, passed-at}
+use Rattle.calculus_laws.specs.BookLaws.{between-low, between-high}
 use Rattle.model_types.specs.declared.Refusal as D
 use Rattle.model_types.specs.declared.Verdict.the-variants.{Accepted, Refused}
 use Rattle.model_types.specs.ModelStruct.{verdict, cause}

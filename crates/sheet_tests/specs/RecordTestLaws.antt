@@ -10,9 +10,9 @@ use lib.Seq.{length-take-le}
 use borrow.Author.Tests.{eq-eqb}
 use Rattle.calculus.specs.Refusal.{bad-limits, bad-offset, bad-model, bad-step}
 use Rattle.calculus.specs.Refusal.{Result, done, stopped, require-at, require-each, _followed-by_}
-use Rattle.calculus.specs.RefusalLaws.{require-at-passed}
+use Rattle.calculus_laws.specs.RefusalLaws.{require-at-passed}
 use Rattle.calculus.specs.Book.{Book, limits-sound, model-sound}
-use Rattle.calculus.specs.TestLaws.{and-left}
+use Rattle.calculus_laws.specs.TestLaws.{and-left}
 use Rattle.format.specs.HeldBook.{Held-model, Held-step, Held-book, view-model, outline, held-model-sound}
 use Rattle.format.specs.HeldBook.{held-step-sound}
 use Rattle.format.specs.Format.{trailer-sound, read-model, model-length, read-models, read-steps, read-records}

@@ -9,8 +9,8 @@ use Rattle.calculus.specs.Model as C
 use Rattle.calculus.specs.Model.{zero-model}
 use Rattle.calculus.specs.Refusal as R
 use Rattle.calculus.specs.Refusal.{stopped}
-use Rattle.calculus.specs.SoundLaws.{Sound}
-use Rattle.calculus.specs.EachLaws.{All}
+use Rattle.calculus_laws.specs.SoundLaws.{Sound}
+use Rattle.calculus_laws.specs.EachLaws.{All}
 use Rattle.calculus.specs.Book.{model-of, run-steps}
 use Rattle.calculus.specs.Shares as S
 use Rattle.calculus.specs.Shares.{no-shares, run-shares, rows-sound}

@@ -21,18 +21,18 @@ use Rattle.calculus.specs.Refusal as R
 use Rattle.calculus.specs.Refusal.{accepted, refused, done, stopped, at-place, _followed-by_}
 use Rattle.calculus.specs.Operations.{multiply, quotient}
 use Rattle.calculus.specs.Tests.{vars-sound, variable-sound}
-use Rattle.calculus.specs.TestLaws.{and-right}
+use Rattle.calculus_laws.specs.TestLaws.{and-right}
 use Rattle.calculus.specs.Refusal.{all-from}
-use Rattle.calculus.specs.SoundLaws.{Sound, zero-sound}
-use Rattle.calculus.specs.EachLaws.{All, nil, each-snoc, each-at, each-last}
+use Rattle.calculus_laws.specs.SoundLaws.{Sound, zero-sound}
+use Rattle.calculus_laws.specs.EachLaws.{All, nil, each-snoc, each-at, each-last}
 use Rattle.calculus.specs.Book.{Step, input, last-code, Book, most-steps, model-sound, step-sound}
 use Rattle.calculus.specs.Book.{model-of, result-of, run-step, run-steps, last}
-use Rattle.calculus.specs.RefusalLaws.{weaken}
+use Rattle.calculus_laws.specs.RefusalLaws.{weaken}
 use Rattle.calculus.specs.Shares as S
 use Rattle.calculus.specs.Shares.{no-shares, shares-of, all-carried, product-shares, step-shares, rows-of, run-shares}
 use Rattle.calculus.specs.Shares.{all-rows, rows-sound}
-use Rattle.calculus.specs.BookLaws.{Passes, model-passes, all-from-at, next-number}
-use Rattle.calculus.specs.BookSoundLaws.{step-good}
+use Rattle.calculus_laws.specs.BookLaws.{Passes, model-passes, all-from-at, next-number}
+use Rattle.calculus_laws.specs.BookSoundLaws.{step-good}
 use Rattle.model_types.specs.ArrayLaws.{length-padded}
 use Rattle.model_types.specs.declared.Model.{Model}
 use Rattle.model_types.specs.declared.Term.{Term}

@@ -9,7 +9,7 @@ use lib.ListN.{length, drop}
 use lib.Seq.{sets}
 use Rattle.calculus.specs.Refusal as R
 use Rattle.calculus.specs.Refusal.{done, stopped, require-at, short-buffer, returned, _followed-by_}
-use Rattle.calculus.specs.RefusalLaws.{require-at-passed}
+use Rattle.calculus_laws.specs.RefusalLaws.{require-at-passed}
 use Rattle.model_types.specs.declared.Refusal.{Refusal}
 use Rattle.model_types.specs.declared.Refusal.the-variants.{ShortBuffer}
 use Rattle.model_types.specs.declared.Verdict.{Verdict}

@@ -16,7 +16,7 @@ use Rattle.fixed.specs.FixedLaws.{span-four-bytes}
 use Rattle.calculus.specs.Monomial.{degree}
 use Rattle.calculus.specs.Key.{key-width}
 use Rattle.calculus.specs.Terms.{Terms, every, size, sum-over}
-use Rattle.calculus.specs.TermsLaws.{every-head, every-tail}
+use Rattle.calculus_laws.specs.TermsLaws.{every-head, every-tail}
 use Rattle.calculus.specs.Model.{Model, most-degree, most-terms, fits, sound, span}
 use Rattle.calculus.specs.Refusal.{Refusal, bad-length, bad-mark, bad-limits, bad-offset, bad-model, bad-step}
 use Rattle.calculus.specs.Refusal.{over-span, too-many-terms, leaves-box, variables-differ, short-buffer}
@@ -25,8 +25,8 @@ use Rattle.calculus.specs.Refusal.{number, Result, done, stopped}
 use Rattle.calculus.specs.Operations.{Ends, range, constant-part, below, above, integral, Mixed}
 use Rattle.calculus.specs.Operations.{common-denominator, has-exact, exact-part}
 use Rattle.calculus.specs.Book.{Summary, summary}
-use Rattle.calculus.specs.FitsLaws.{fits-length, fits-degree}
-use Rattle.calculus.specs.SoundLaws.{sound-parts}
+use Rattle.calculus_laws.specs.FitsLaws.{fits-length, fits-degree}
+use Rattle.calculus_laws.specs.SoundLaws.{sound-parts}
 use Rattle.model_types.specs.ModelStructLaws.{vars-range, sound-vars}
 use Rattle.model.specs.OperationLaws.{below-within, above-within, ends-within, exact-within, exact-remainder}
 use Rattle.format.specs.Bytes.{join}

@@ -12,9 +12,9 @@ use borrow.Author.Tests.{lt-leb}
 use Rattle.calculus.specs.Model.{most-degree, between, sound}
 use Rattle.calculus.specs.Refusal.{bad-length, done, stopped, require-at, _followed-by_}
 use Rattle.calculus.specs.Book.{Book, limits-sound, model-sound, Summary, summary, run-sound}
-use Rattle.calculus.specs.TestLaws.{and-right}
-use Rattle.calculus.specs.BookLaws.{Ran, sound-ran}
-use Rattle.calculus.specs.BookSoundLaws.{result-sound}
+use Rattle.calculus_laws.specs.TestLaws.{and-right}
+use Rattle.calculus_laws.specs.BookLaws.{Ran, sound-ran}
+use Rattle.calculus_laws.specs.BookSoundLaws.{result-sound}
 use Rattle.model.specs.OperationLaws.{sound-order}
 use Rattle.format.specs.ReadLoopLaws.{and-false}
 use Rattle.format.specs.HeldBook.{Held-book, view-book, outline, outline-of, Held-passes}

@@ -11,8 +11,8 @@ use Rattle.calculus.specs.Refusal.{Refusal, bad-model, bad-step, Answer, accept
 use Rattle.calculus.specs.Refusal.{at-place, require-at, require-each, _followed-by_}
 use Rattle.calculus.specs.Tests.{vars-sound, order-sound}
 use Rattle.calculus.specs.Book.{Step, Book, most-models, most-steps, limits-sound, run-steps, run-sound}
-use Rattle.calculus.specs.TestLaws.{and-left, and-right}
-use Rattle.calculus.specs.BookLaws.{Passes, between-high, next-number}
+use Rattle.calculus_laws.specs.TestLaws.{and-left, and-right}
+use Rattle.calculus_laws.specs.BookLaws.{Passes, between-high, next-number}
 use Rattle.format.specs.HeldBook.{Held-model, view-book, held-step-sound, outline}
 use Rattle.format.specs.Format.{read-model, read-models, Trailer, read-trailer, trailer-of, read-steps}
 use Rattle.format.specs.Format.{trailer-sound, read-records, read, run-sheet}

@@ -6,7 +6,7 @@ use native.Mathlib.Omega.{arith}
 use mir.Facts.{toZ-ofZ}
 use Rattle.fixed.specs.Division.{nearest}
 use Rattle.fixed.specs.MachineLaws.{answered}
-use Rattle.calculus.specs.SumLaws.{if-so}
+use Rattle.calculus_laws.specs.SumLaws.{if-so}
 use Rattle.model_antiderivative.specs.Antiderivatives.{key-coefficient}
 use Rattle.model_antiderivative.proofs.divided.Statement.{statement}
 use Rattle.model_antiderivative.proofs.divided.Tie as tie

@@ -7,7 +7,7 @@ use native.Mathlib.Omega.{arith}
 use lib.IntN.{natAbs}
 use mir.Facts.{toZ-ofZ}
 use Rattle.fixed.specs.Division.{divided-up}
-use Rattle.calculus.specs.SumLaws.{if-so}
+use Rattle.calculus_laws.specs.SumLaws.{if-so}
 use Rattle.model_keys.specs.Keys.{key-exponent}
 use Rattle.model_antiderivative.specs.Antiderivatives.{key-rounding, key-growth}
 use Rattle.model_antiderivative.proofs.growth.Statement.{statement}

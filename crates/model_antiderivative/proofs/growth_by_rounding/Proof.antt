@@ -3,7 +3,7 @@ use mathlib.Core.Path.{sym, _∙_, ap}
 use borrow.Author.Needs.{needs}
 use borrow.Author.Tests.{not-true, not-false}
 use mir.Facts.{toZ-ofZ}
-use Rattle.calculus.specs.SumLaws.{if-so}
+use Rattle.calculus_laws.specs.SumLaws.{if-so}
 use Rattle.model_antiderivative.specs.Antiderivatives.{key-rounding, key-growth}
 use Rattle.model_antiderivative.specs.PassLaws.{growth-stays}
 use Rattle.model_antiderivative.proofs.growth_by_rounding.Statement.{statement}

@@ -6,7 +6,7 @@ use mathlib.Core.Bool.{true}
 use lib.Dec.{T}
 use lib.ListN.{length}
 use Rattle.calculus.specs.Model.{most-terms, most-degree, between, sound}
-use Rattle.calculus.specs.BookLaws.{between-high}
+use Rattle.calculus_laws.specs.BookLaws.{between-high}
 use Rattle.model_types.specs.declared.Verdict.the-variants.{Accepted}
 use Rattle.model_types.specs.ModelStruct.{view}
 use Rattle.model_types.specs.ModelStructLaws.{Limits, limits, length-view}

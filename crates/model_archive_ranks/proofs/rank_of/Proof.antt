@@ -4,7 +4,7 @@ use native.Mathlib.Omega.{arith}
 use lib.ListN.{getD}
 use mir.Syntax.{w64}
 use borrow.Author.Needs.{needs, fits-under}
-use Rattle.calculus.specs.MonomialKeyLaws.{word-key}
+use Rattle.calculus_laws.specs.MonomialKeyLaws.{word-key}
 use Rattle.archive.specs.RankLaws.{Rankable}
 use Rattle.archive.specs.RankSums.{up-to, less-by-three, less-by-two, two-sum, three-sum, four-sum, half-rank}
 use Rattle.archive.specs.RankSums.{rank-by-sums}

@@ -5,7 +5,7 @@ use native.Mathlib.Omega.{arith}
 use borrow.Author.Needs.{needs}
 use lib.ListN.{set}
 use mir.Facts.{toZ-ofZ}
-use Rattle.calculus.specs.MonomialKeyLaws.{word-key}
+use Rattle.calculus_laws.specs.MonomialKeyLaws.{word-key}
 use Rattle.model_types.specs.ZeroTestLaws.{zero-bits, nonzero-bits}
 use Rattle.model_doubles.specs.OneMoreTermLaws.{with-none, with-one}
 use Rattle.model_doubles.proofs.with_term.Statement.{statement}

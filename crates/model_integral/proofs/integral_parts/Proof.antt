@@ -14,7 +14,7 @@ use Rattle.polynomial.specs.Integral.{all-even}
 use Rattle.fixed.specs.MachineLaws.{answered}
 use Rattle.calculus.specs.Key.{key-width, key-fits}
 use Rattle.calculus.specs.Terms.{size}
-use Rattle.calculus.specs.SumLaws.{ℤ-addition}
+use Rattle.calculus_laws.specs.SumLaws.{ℤ-addition}
 use Rattle.calculus.specs.Model.{most-terms, most-degree}
 use Rattle.calculus.specs.Operations.{integral-parts, common-denominator}
 use Rattle.model_types.specs.declared.Term.{Term}

@@ -2,7 +2,7 @@
 use Prim.Native.Nat.{ℕ, _+_, _*_, _/_, _^_, _<_}
 use native.Mathlib.Omega.{arith}
 use lib.Bits.{bitAnd, and-le-l, and-le-r}
-use Rattle.calculus.specs.MonomialKeyLaws.{word-key}
+use Rattle.calculus_laws.specs.MonomialKeyLaws.{word-key}
 use Rattle.model_keys.specs.KeyDegreeLaws.{key-word-degree}
 use Rattle.model_keys.proofs.degree.Statement.{statement}
 use Rattle.model_keys.proofs.degree.Tie as tie

@@ -3,7 +3,7 @@ use mathlib.Core.Path.{_≡_, sym, _∙_, ap₂, subst}
 use Prim.Native.Nat.{ℕ, _*_, _/_, _%_, _<_, _≤_}
 use native.Mathlib.Nat as NatL
 use native.Mathlib.Omega.{arith}
-use Rattle.calculus.specs.MonomialKeyLaws.{word-key}
+use Rattle.calculus_laws.specs.MonomialKeyLaws.{word-key}
 use Rattle.model_keys.specs.KeyHalvesLaws.{half-divisor-le, divisor-halves, divisor-upper}
 use borrow.Author.Needs.{needs}
 use Rattle.model_keys.proofs.divisor.Statement.{statement}

@@ -1,6 +1,6 @@
 -- `key_fits` is the test that the digits after the n-th are 0.
 use native.Mathlib.Omega.{arith}
-use Rattle.calculus.specs.MonomialKeyLaws.{word-key}
+use Rattle.calculus_laws.specs.MonomialKeyLaws.{word-key}
 use Rattle.model_keys.specs.KeyShiftLaws.{bits-small, unit-pos, fits-shifted}
 use Rattle.model_keys.proofs.key_fits.Statement.{statement}
 use Rattle.model_keys.proofs.key_fits.Tie as tie

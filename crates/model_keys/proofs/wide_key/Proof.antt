@@ -2,7 +2,7 @@
 use mathlib.Core.Path.{sym, subst}
 use Prim.Native.Nat.{_/_, _%_, _^_, _<_}
 use native.Mathlib.Omega.{arith}
-use Rattle.calculus.specs.MonomialKeyLaws.{word-key}
+use Rattle.calculus_laws.specs.MonomialKeyLaws.{word-key}
 use Rattle.model_keys.specs.KeyHalvesLaws.{half-wide-lt, wide-halves, key-degree-lt}
 use borrow.Author.Needs.{needs}
 use Rattle.model_keys.proofs.wide_key.Statement.{statement}

@@ -2,7 +2,7 @@
 use native.Mathlib.Omega.{arith}
 use borrow.Author.Needs.{needs}
 use Rattle.calculus.specs.Key.{key-width}
-use Rattle.calculus.specs.MonomialKeyLaws.{word-key}
+use Rattle.calculus_laws.specs.MonomialKeyLaws.{word-key}
 use Rattle.model_keys.specs.Keys.{Slot}
 use Rattle.model_keys.specs.KeyShiftLaws.{bits-small, counted-le, without-shifted}
 use Rattle.model_keys.proofs.without.Statement.{statement}

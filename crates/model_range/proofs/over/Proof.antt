@@ -6,7 +6,7 @@ use lib.Signed.{leZ}
 use mir.Facts.{toZ-ofZ}
 use mir.Syntax.{w64}
 use mir.Val.{toZ, ofZ}
-use Rattle.calculus.specs.SumLaws.{if-so}
+use Rattle.calculus_laws.specs.SumLaws.{if-so}
 use Rattle.model_range.specs.KeyRange.{even-rise}
 use Rattle.model_range.proofs.over.Statement.{statement}
 use Rattle.model_range.proofs.over.Tie as tie

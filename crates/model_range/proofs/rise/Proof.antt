@@ -6,7 +6,7 @@ use lib.IntN.{natAbs}
 use mir.Facts.{toZ-ofZ}
 use mir.Syntax.{w64}
 use mir.Val.{toZ, ofZ}
-use Rattle.calculus.specs.SumLaws.{if-so}
+use Rattle.calculus_laws.specs.SumLaws.{if-so}
 use Rattle.model_range.specs.KeyRange.{even-rise, key-rise}
 use Rattle.model_range.proofs.rise.Statement.{statement}
 use Rattle.model_range.proofs.rise.Tie as tie

@@ -2,7 +2,7 @@
 use mathlib.Core.Path.{refl}
 use borrow.Author.Tests.{eq-eqb, ne-eqb}
 use mir.Facts.{toZ-ofZ}
-use Rattle.calculus.specs.SumLaws.{if-so}
+use Rattle.calculus_laws.specs.SumLaws.{if-so}
 use Rattle.model_range.specs.KeyRange.{key-steady}
 use Rattle.model_range.proofs.steady.Statement.{statement}
 use Rattle.model_range.proofs.steady.Tie as tie

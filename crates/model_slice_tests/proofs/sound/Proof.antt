@@ -12,7 +12,7 @@ use mir.Syntax.{w32, w64}
 use mir.Val.{Fits, toZ, ofZ}
 use Rattle.fixed.specs.Fixed.{capped}
 use Rattle.calculus.specs.Key.{key-limit}
-use Rattle.calculus.specs.MonomialKeyLaws.{word-key}
+use Rattle.calculus_laws.specs.MonomialKeyLaws.{word-key}
 use Rattle.calculus.specs.Model.{most-terms}
 use Rattle.calculus.specs.Tests.{vars-sound}
 use Rattle.model_types.specs.ModelStruct.{term-sound}

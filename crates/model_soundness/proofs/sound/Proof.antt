@@ -12,7 +12,7 @@ use mir.Syntax.{w64}
 use mir.Val.{toZ, ofZ}
 use Rattle.fixed.specs.Fixed.{capped}
 use Rattle.calculus.specs.Key.{key-limit}
-use Rattle.calculus.specs.MonomialKeyLaws.{word-key}
+use Rattle.calculus_laws.specs.MonomialKeyLaws.{word-key}
 use Rattle.calculus.specs.Model.{most-terms}
 use Rattle.calculus.specs.Tests.{vars-sound}
 use Rattle.model_types.specs.declared.Term.{Term}

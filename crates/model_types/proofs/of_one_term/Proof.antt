@@ -5,7 +5,7 @@ use mir.Facts.{toZ-ofZ}
 use Rattle.calculus.specs.Model.{most-terms}
 use Rattle.model_types.specs.Arrays.{padded}
 use Rattle.model_types.specs.ModelStruct.{one-term, pack, pack-term}
-use Rattle.calculus.specs.MonomialKeyLaws.{word-key, key-monomial}
+use Rattle.calculus_laws.specs.MonomialKeyLaws.{word-key, key-monomial}
 use Rattle.model_types.proofs.of_one_term.Statement.{statement}
 use Rattle.model_types.proofs.of_one_term.Tie as tie
 

@@ -10,7 +10,7 @@ use mir.Syntax.{w64}
 use mir.Val.{toZ, ofZ}
 use Rattle.fixed.specs.FixedLaws.{span-fits}
 use Rattle.fixed.specs.MachineLaws.{answered}
-use Rattle.calculus.specs.MonomialKeyLaws.{word-key}
+use Rattle.calculus_laws.specs.MonomialKeyLaws.{word-key}
 use Rattle.calculus.specs.Terms.{term, map-coefficients}
 use Rattle.calculus.specs.Model.{most-terms}
 use Rattle.calculus.specs.Operations.{negate}

@@ -8,7 +8,7 @@ use lib.ListN.{length, getD, length-set}
 use mir.Facts.{toZ-ofZ}
 use mir.Syntax.{w64}
 use mir.Val.{toZ, ofZ}
-use Rattle.calculus.specs.MonomialKeyLaws.{word-key}
+use Rattle.calculus_laws.specs.MonomialKeyLaws.{word-key}
 use Rattle.model_slices.specs.HandedModels.{handed}
 use Rattle.product_packing.specs.TransferLaws.{Unpacking}
 use Rattle.product_slices.specs.HandedTerms.{Handed}

@@ -15,7 +15,7 @@ use Rattle.fixed.specs.Fixed.{capped}
 use Rattle.calculus.specs.Key.{key-limit}
 use Rattle.calculus.specs.Model.{most-terms, sound}
 use Rattle.calculus.specs.Book.{most-models}
-use Rattle.calculus.specs.MonomialKeyLaws.{word-key}
+use Rattle.calculus_laws.specs.MonomialKeyLaws.{word-key}
 use Rattle.model_types.specs.declared.Term.{Term}
 use Rattle.model_types.specs.ModelStruct.{view, term-sound}
 use Rattle.format.specs.Bytes.{byte}

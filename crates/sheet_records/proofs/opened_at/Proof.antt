@@ -45,7 +45,7 @@ use denote.Triple.Table.{entered, cited}
 use denote.Triple.Walked.{says, Stays, stay-none-slice, walkOf, goes-none-slice, Walks, ends-at, walked, walk-meets}
 use denote.Exit.{yes}
 use denote.Triple.Clauses.{ensured, lasts}
-use Rattle.calculus.specs.TestLaws.{and-left}
+use Rattle.calculus_laws.specs.TestLaws.{and-left}
 use Rattle.model_types.proofs.Verdict.Laws as V′
 use Rattle.sheet_book.specs.declared.Start.{Start}
 use Rattle.sheet_book.proofs.Start as S

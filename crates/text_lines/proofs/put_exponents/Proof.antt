@@ -5,7 +5,7 @@ use native.Mathlib.Omega.{arith}
 use borrow.Author.Needs.{needs}
 use lib.ListN.{length, getD}
 use Rattle.calculus.specs.Key.{monomial-of}
-use Rattle.calculus.specs.MonomialKeyLaws.{monomial-length}
+use Rattle.calculus_laws.specs.MonomialKeyLaws.{monomial-length}
 use Rattle.model.specs.OperationLaws.{monomial-place}
 use Rattle.text_decimal.specs.Put.{natural}
 use Rattle.text_decimal.specs.PutLaws.{put-as, put-length}

@@ -7,7 +7,7 @@ use lib.Dec.{T}
 use Rattle.calculus.specs.Model.{between}
 use Rattle.calculus.specs.Refusal.{require-at}
 use Rattle.calculus.specs.Tests.{vars-sound, variable-sound}
-use Rattle.calculus.specs.BookLaws.{between-low, between-high}
+use Rattle.calculus_laws.specs.BookLaws.{between-low, between-high}
 use Rattle.calculus.specs.Calls.{call-variable}
 use Rattle.model_types.specs.ModelStruct.{cause, answer}
 use Rattle.model_types.specs.ModelStructLaws.{vars-range}
