@@ -11,7 +11,7 @@ use Rattle.algebra.specs.Ordered.{abs}
 use Rattle.algebra.specs.Rational.{ℚ, _+ℚ_, _*ℚ_}
 use Rattle.algebra.specs.RationalRing.{ℚR}
 use Rattle.algebra.specs.RationalOrder.{ℚO}
-use Rattle.fixed.specs.Fixed.{U}
+use Rattle.numbers.specs.Fixed.{U}
 use Rattle.calculus.specs.Terms.{Terms, select, size}
 use Rattle.calculus.specs.Model.{Model, _-ℚ_, Point, In-box}
 use Rattle.calculus_laws.specs.UnitLaws.{natural}

@@ -1,7 +1,7 @@
 -- Named lists of definitions: a fact that computes opens all of them by `unfolding` one name.
 use Rattle.polynomial.specs.Polynomial as P
 use Rattle.polynomial.specs.Integral as I
-use Rattle.fixed.specs.Computing as F
+use Rattle.numbers.specs.Computing as F
 use Rattle.calculus.specs.Monomial as Mo
 use Rattle.calculus.specs.Key as K
 use Rattle.calculus.specs.Terms as T

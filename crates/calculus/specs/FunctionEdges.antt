@@ -9,7 +9,7 @@ use Rattle.algebra.specs.RationalRing.{ℚR}
 use Rattle.algebra.specs.RationalLaws.{whole-≤}
 use Rattle.polynomial.specs.Polynomial.{exponent, raise}
 use Rattle.polynomial.specs.Antiderivative.{antiderivative-in}
-use Rattle.fixed.specs.Fixed.{U}
+use Rattle.numbers.specs.Fixed.{U}
 use Rattle.calculus.specs.Monomial.{index-of}
 use Rattle.calculus.specs.Forms.{ends, minus, forms}
 use Rattle.calculus.specs.Functions.{0ℚ, antiderivative-of, Lies}

@@ -8,7 +8,7 @@ use Rattle.algebra.specs.RationalField.{ℚF}
 use Rattle.polynomial.specs.Polynomial.{Polynomial, eval, replace}
 use Rattle.polynomial.specs.Integral as I
 use Rattle.polynomial.specs.Antiderivative.{antiderivative-in}
-use Rattle.fixed.specs.Fixed.{U}
+use Rattle.numbers.specs.Fixed.{U}
 use Rattle.calculus.specs.Monomial.{index-of}
 use Rattle.calculus.specs.Model.{Point}
 use Rattle.calculus.specs.Operations.{Ends}

@@ -11,7 +11,7 @@ use Rattle.algebra.specs.RationalRing.{ℚR}
 use Rattle.algebra.specs.RationalOrder.{ℚO}
 use Rattle.polynomial.specs.Polynomial.{Polynomial, eval}
 use Rattle.polynomial.specs.Box.{Box}
-use Rattle.fixed.specs.Fixed.{U, span-limit}
+use Rattle.numbers.specs.Fixed.{U, span-limit}
 use Rattle.calculus.specs.Monomial.{degree, zeros}
 use Rattle.calculus.specs.Terms.{Terms, term, size, every, nonzero, rising}
 

@@ -9,8 +9,8 @@ use lib.Signed.{leZ}
 use Rattle.algebra.specs.IntegerRing.{ℤR}
 use Rattle.polynomial.specs.Polynomial.{product, exponent, without, raise}
 use Rattle.polynomial.specs.Integral.{all-even, divisor}
-use Rattle.fixed.specs.Division.{floor, ceiling, remainder, divided-up, nearest}
-use Rattle.fixed.specs.Fixed.{U, span-limit, round, residual, round-up}
+use Rattle.numbers.specs.Division.{floor, ceiling, remainder, divided-up, nearest}
+use Rattle.numbers.specs.Fixed.{U, span-limit, round, residual, round-up}
 use Rattle.calculus.specs.Monomial.{degree, zeros, single, index-of}
 use Rattle.calculus.specs.Terms.{Terms, term, select, sum-ℕ, sum-ℤ, size, map-coefficients, map-terms}
 use Rattle.calculus.specs.Terms.{map-monomials, drop-zeros, collect}

@@ -4,7 +4,7 @@ use mathlib.Core.Bool.{Bool, not, _&&_}
 use Prim.Native.Nat.{ℕ, _+_}
 use lib.IntN.{pos, negℤ, _+ℤ_, _-ℤ_}
 use lib.Signed.{leZ}
-use Rattle.fixed.specs.Fixed.{U}
+use Rattle.numbers.specs.Fixed.{U}
 use Rattle.calculus.specs.Terms.{select, size}
 use Rattle.calculus.specs.Model.{Model}
 use Rattle.calculus.specs.Operations.{Ends, is-constant, constant-part}

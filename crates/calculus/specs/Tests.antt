@@ -5,7 +5,7 @@ use Prim.Native.Nat.{ℕ}
 use lib.Dec.{leb}
 use lib.IntN.{ℤ, natAbs}
 use lib.Signed.{nonNeg}
-use Rattle.fixed.specs.Fixed.{U, span-limit}
+use Rattle.numbers.specs.Fixed.{U, span-limit}
 use Rattle.calculus.specs.Terms.{is-nonzero}
 use Rattle.calculus.specs.Model.{most-vars, most-degree, between}
 

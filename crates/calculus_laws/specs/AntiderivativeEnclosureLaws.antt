@@ -27,10 +27,10 @@ use Rattle.polynomial.specs.Antiderivative.{antiderivative-in}
 use Rattle.polynomial.specs.VariableAntiderivativeLaws.{exponent-raise, eval-antiderivative-sum}
 use Rattle.polynomial.specs.VariableAntiderivativeLaws.{eval-antiderivative-scale}
 use Rattle.polynomial.specs.VariableAntiderivativeLaws.{antiderivative-bounded}
-use Rattle.fixed.specs.Fixed.{U}
-use Rattle.fixed.specs.Division.{divided-up, nearest}
-use Rattle.fixed.specs.DivisionLaws.{divided-up-ok}
-use Rattle.fixed.specs.NearestLaws.{nearest-le, nearest-divides}
+use Rattle.numbers.specs.Fixed.{U}
+use Rattle.numbers.specs.Division.{divided-up, nearest}
+use Rattle.numbers.specs.DivisionLaws.{divided-up-ok}
+use Rattle.numbers.specs.NearestLaws.{nearest-le, nearest-divides}
 use Rattle.calculus.specs.Monomial.{index-of}
 use Rattle.calculus.specs.Terms.{Terms, sum-over, sum-ℕ}
 use Rattle.calculus.specs.Model.{Model, _/U, _-ℚ_, distance, Point, In-box, polynomial, value, At}

@@ -6,7 +6,7 @@ use Prim.Native.Nat.{ℕ, _<_, _≤_}
 use lib.Dec.{T, leb, ltb, eqb, eqb-refl, leb→le, ltb→lt}
 use lib.IntN.{natAbs}
 use lib.ListN.{length}
-use Rattle.fixed.specs.Fixed.{span-limit}
+use Rattle.numbers.specs.Fixed.{span-limit}
 use Rattle.calculus.specs.Model.{Model, zero-model, most-vars, most-degree, between, sound}
 use Rattle.calculus.specs.Refusal.{done}
 use Rattle.calculus.specs.Tests.{vars-sound, order-sound, constant-sound}

@@ -16,8 +16,8 @@ use Rattle.algebra.specs.RationalRing.{ℚR}
 use Rattle.algebra.specs.RationalOrder.{ℚO}
 use Rattle.polynomial.specs.Polynomial.{monomial}
 use Rattle.polynomial.specs.BoxLaws.{box-length}
-use Rattle.fixed.specs.Fixed.{U, span-limit}
-use Rattle.fixed.specs.FixedLaws.{round-up-ok}
+use Rattle.numbers.specs.Fixed.{U, span-limit}
+use Rattle.numbers.specs.FixedLaws.{round-up-ok}
 use Rattle.calculus.specs.Monomial.{degree, zeros, index-of, single}
 use Rattle.calculus.specs.Terms.{Terms, term, select, size, drop-zeros, collect}
 use Rattle.calculus.specs.Model.{Model, zero-model, one-model, most-terms, span, _/U, _-ℚ_, Point, In-box}

@@ -13,7 +13,7 @@ use Rattle.algebra.specs.RationalOrder.{ℚO}
 use Rattle.polynomial.specs.Polynomial.{replace}
 use Rattle.polynomial.specs.Box.{none, more}
 use Rattle.polynomial.specs.BoxLaws.{box-length}
-use Rattle.fixed.specs.Fixed.{U}
+use Rattle.numbers.specs.Fixed.{U}
 use Rattle.calculus.specs.Monomial.{index-of}
 use Rattle.calculus.specs.Model.{Model, most-degree, sound, _/U, Point, In-box, Within}
 use Rattle.calculus.specs.Refusal.{bad-model, bad-step, leaves-box}

@@ -23,8 +23,8 @@ use Rattle.algebra.specs.RationalLaws.{whole-+, whole-*, whole-≤, ≤-whole, 
 use Rattle.polynomial.specs.Integral as I
 use Rattle.polynomial.specs.Integral.{all-even, divisor, moment}
 use Rattle.polynomial.specs.IntegralLaws.{divisor-pos}
-use Rattle.fixed.specs.Division.{floor, ceiling, remainder}
-use Rattle.fixed.specs.DivisionLaws.{floor-le, division, remainder-lt}
+use Rattle.numbers.specs.Division.{floor, ceiling, remainder}
+use Rattle.numbers.specs.DivisionLaws.{floor-le, division, remainder-lt}
 use Rattle.calculus.specs.Terms.{Terms, every, sum-over}
 use Rattle.calculus.specs.Model.{Model, Point, In-box, most-degree, fits, sound}
 use Rattle.calculus.specs.Operations.{common-denominator, exact-vars, has-exact, integral-parts, mixed-part}

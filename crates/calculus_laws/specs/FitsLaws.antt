@@ -7,7 +7,7 @@ use native.Mathlib.Omega.{arith}
 use lib.Dec.{T, eqb, leb, eqb→eq, eqb-refl, leb→le, le→leb}
 use lib.ListN.{length}
 use Rattle.polynomial.specs.Polynomial.{add-exponents}
-use Rattle.fixed.specs.Fixed.{round}
+use Rattle.numbers.specs.Fixed.{round}
 use Rattle.calculus.specs.Monomial.{degree}
 use Rattle.calculus.specs.Terms.{Terms, every, is-nonzero, drop-zeros}
 use Rattle.calculus.specs.Model.{Model, fits}

@@ -11,9 +11,9 @@ use lib.IntN.{ℤ, pos, natAbs}
 use lib.ListN.{length, length-map}
 use Rattle.polynomial.specs.Polynomial.{Term, exponent, raise}
 use Rattle.polynomial.specs.VariableAntiderivativeLaws.{exponent-raise}
-use Rattle.fixed.specs.Division.{divided-up, nearest}
-use Rattle.fixed.specs.DivisionLaws.{divided-up-le}
-use Rattle.fixed.specs.NearestLaws.{nearest-le-abs, nearest-shrinks}
+use Rattle.numbers.specs.Division.{divided-up, nearest}
+use Rattle.numbers.specs.DivisionLaws.{divided-up-le}
+use Rattle.numbers.specs.NearestLaws.{nearest-le-abs, nearest-shrinks}
 use Rattle.calculus.specs.Monomial.{degree, index-of}
 use Rattle.calculus.specs.Terms.{Terms, term, select, sum-over, sum-ℕ, size, map-terms, map-monomials}
 use Rattle.calculus.specs.Terms.{is-nonzero, drop-zeros}

@@ -21,9 +21,9 @@ use Rattle.polynomial.specs.PolynomialLaws.{eval-scale}
 use Rattle.polynomial.specs.Integral as I
 use Rattle.polynomial.specs.Integral.{all-even, divisor, moment}
 use Rattle.polynomial.specs.IntegralLaws.{divisor-pos, integral-scale, integral-mono}
-use Rattle.fixed.specs.Division.{floor, ceiling}
-use Rattle.fixed.specs.DivisionLaws.{floor-le, le-ceiling}
-use Rattle.fixed.specs.Fixed.{U}
+use Rattle.numbers.specs.Division.{floor, ceiling}
+use Rattle.numbers.specs.DivisionLaws.{floor-le, le-ceiling}
+use Rattle.numbers.specs.Fixed.{U}
 use Rattle.calculus.specs.Terms.{Terms, sum-over}
 use Rattle.calculus.specs.Model.{Model, _-ℚ_, Point, In-box}
 use Rattle.calculus.specs.Operations.{Ends, integral-sum, term-by-term}

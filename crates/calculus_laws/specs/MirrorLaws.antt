@@ -8,8 +8,8 @@ use lib.Dec.{eqb, leb}
 use lib.IntN.{negℤ}
 use lib.ListN.{length}
 use Rattle.algebra.specs.Integer.{natAbs-neg}
-use Rattle.fixed.specs.Fixed.{span-limit, residual, round, round-up}
-use Rattle.fixed.specs.FixedLaws.{round-neg, residual-neg}
+use Rattle.numbers.specs.Fixed.{span-limit, residual, round, round-up}
+use Rattle.numbers.specs.FixedLaws.{round-neg, residual-neg}
 use Rattle.calculus.specs.Monomial.{degree}
 use Rattle.calculus.specs.Terms.{Terms, term, sum-ℕ, size, map-coefficients, is-nonzero, drop-zeros, collect}
 use Rattle.calculus.specs.Model.{Model, most-terms, span}

@@ -9,8 +9,8 @@ use lib.Dec.{T, leb}
 use lib.IntN.{ℤ, pos, _+ℤ_, natAbs}
 use Rattle.algebra.specs.IntegerRing.{ℤR}
 use Rattle.polynomial.specs.Polynomial.{product}
-use Rattle.fixed.specs.Fixed.{U, round, residual, round-up}
-use Rattle.fixed.specs.FixedLaws.{round-zero, residual-zero, round-up-ok}
+use Rattle.numbers.specs.Fixed.{U, round, residual, round-up}
+use Rattle.numbers.specs.FixedLaws.{round-zero, residual-zero, round-up-ok}
 use Rattle.calculus.specs.Monomial.{degree}
 use Rattle.calculus.specs.Terms.{Terms, select, sum-over, size, rising, is-nonzero, nonzero, drop-zeros, collect}
 use Rattle.calculus.specs.Model.{Model}

@@ -17,9 +17,9 @@ use Rattle.algebra.specs.RationalRing.{ℚR}
 use Rattle.algebra.specs.RationalOrder.{ℚO}
 use Rattle.algebra.specs.RationalField.{ℚF}
 use Rattle.algebra.specs.RationalLaws.{/ℚ-back, whole-reciprocal, whole-≤, ≤-whole}
-use Rattle.fixed.specs.Division.{divided-up}
-use Rattle.fixed.specs.Fixed.{U}
-use Rattle.fixed.specs.DivisionLaws.{divided-up-ok}
+use Rattle.numbers.specs.Division.{divided-up}
+use Rattle.numbers.specs.Fixed.{U}
+use Rattle.numbers.specs.DivisionLaws.{divided-up-ok}
 use Rattle.calculus.specs.Model.{Model, one-model, _/U, _-ℚ_, Point, In-box, value}
 use Rattle.calculus.specs.Refusal.{uncertified, Answer}
 use Rattle.calculus.specs.Operations.{multiply, subtract, Ends, range, widen, bare, defect, deviation}

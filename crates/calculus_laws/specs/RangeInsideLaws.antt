@@ -10,7 +10,7 @@ use lib.Signed.{leZ, _≤ℤ_, leZ-yes}
 use Rattle.algebra.specs.Integer.{natAbs-add, natAbs-neg}
 use Rattle.algebra.specs.IntegerRing.{ℤR, ℤO}
 use Rattle.algebra.specs.OrderedLaws.{+-mono, neg-mono}
-use Rattle.fixed.specs.Fixed.{U}
+use Rattle.numbers.specs.Fixed.{U}
 use Rattle.calculus.specs.Terms.{Terms, select, sum-over, sum-ℕ, size}
 use Rattle.calculus.specs.Model.{Model}
 use Rattle.calculus.specs.Operations.{Ends, is-constant, constant-part, even-powers, can-fall, can-rise, below}

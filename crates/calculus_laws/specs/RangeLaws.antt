@@ -17,7 +17,7 @@ use Rattle.algebra.specs.RationalOrder.{ℚO}
 use Rattle.algebra.specs.RationalLaws.{whole-+, whole-neg, whole-≤}
 use Rattle.polynomial.specs.Polynomial.{monomial}
 use Rattle.polynomial.specs.BoxLaws.{monomial-even}
-use Rattle.fixed.specs.Fixed.{U}
+use Rattle.numbers.specs.Fixed.{U}
 use Rattle.calculus.specs.Monomial.{degree}
 use Rattle.calculus.specs.Terms.{Terms, sum-over, sum-ℕ, sum-ℤ, size}
 use Rattle.calculus.specs.Model.{Model, _-ℚ_, Point, In-box}

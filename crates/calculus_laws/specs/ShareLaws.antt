@@ -5,8 +5,8 @@ use Prim.Native.Nat.{ℕ, zero, suc, _+_, _-_, _*_, _<_, _≤_}
 use native.Mathlib.Omega.{arith}
 use lib.IntN.{natAbs}
 use lib.ListN.{length, getD, take, replicate, length-append, length-replicate}
-use Rattle.fixed.specs.Fixed.{U, round-up}
-use Rattle.fixed.specs.FixedLaws.{round-up-ok}
+use Rattle.numbers.specs.Fixed.{U, round-up}
+use Rattle.numbers.specs.FixedLaws.{round-up-ok}
 use Rattle.calculus.specs.Terms.{size, select}
 use Rattle.calculus.specs.Model.{Model, zero-model}
 use Rattle.calculus.specs.Refusal.{Refusal, leaves-box, Answer, accepted, refused, _then_, done, stopped}

@@ -9,8 +9,8 @@ use lib.Dec.{T, eqb, leb, eqb→eq, eqb-refl, leb→le, le→leb, lit≤}
 use lib.IntN.{ℤ, pos, negsuc, negℤ, natAbs}
 use lib.ListN.{length}
 use Rattle.polynomial.specs.Polynomial.{exponent, without, raise}
-use Rattle.fixed.specs.Fixed.{U, span-limit}
-use Rattle.fixed.specs.FixedLaws.{U-pos, U-within}
+use Rattle.numbers.specs.Fixed.{U, span-limit}
+use Rattle.numbers.specs.FixedLaws.{U-pos, U-within}
 use Rattle.calculus.specs.Monomial.{degree, zeros, index-of, single}
 use Rattle.calculus.specs.Terms.{Terms, term, every, select, sum-over, size, map-monomials}
 use Rattle.calculus.specs.Terms.{rising-from, rising, is-nonzero, nonzero, drop-zeros, collect}

@@ -16,7 +16,7 @@ use Rattle.algebra.specs.RationalOrder.{ℚO}
 use Rattle.polynomial.specs.Polynomial.{monomial, exponent, without, replace}
 use Rattle.polynomial.specs.PolynomialLaws.{monomial-replace}
 use Rattle.polynomial.specs.BoxLaws.{box-length}
-use Rattle.fixed.specs.Fixed.{U}
+use Rattle.numbers.specs.Fixed.{U}
 use Rattle.calculus.specs.Monomial.{index-of}
 use Rattle.calculus.specs.Terms.{Terms, sum-over}
 use Rattle.calculus.specs.Model.{Model, _-ℚ_, Point, In-box}

@@ -15,8 +15,8 @@ use Rattle.algebra.specs.RationalRing.{ℚR}
 use Rattle.algebra.specs.RationalOrder.{ℚO}
 use Rattle.algebra.specs.RationalLaws.{whole-+, whole-*, whole-neg, whole-≤, whole-reciprocal, ÷-back}
 use Rattle.algebra.specs.RationalField.{ℚF}
-use Rattle.fixed.specs.Fixed.{U}
-use Rattle.fixed.specs.FixedLaws.{U-suc}
+use Rattle.numbers.specs.Fixed.{U}
+use Rattle.numbers.specs.FixedLaws.{U-suc}
 use Rattle.calculus.specs.Model.{_/U}
 use Rattle.calculus_laws.specs.ChainLaws.{_≡≤_, _≤≡_}
 

@@ -17,8 +17,8 @@ use Rattle.algebra.specs.RationalLaws.{whole-+, whole-*, whole-neg}
 use Rattle.polynomial.specs.Polynomial.{Term, monomial, eval, times, product}
 use Rattle.polynomial.specs.PolynomialLaws.{monomial-add}
 use Rattle.polynomial.specs.BoxLaws.{monomial-le}
-use Rattle.fixed.specs.Fixed.{U, round, residual}
-use Rattle.fixed.specs.FixedLaws.{residual-is}
+use Rattle.numbers.specs.Fixed.{U, round, residual}
+use Rattle.numbers.specs.FixedLaws.{residual-is}
 use Rattle.calculus.specs.Terms.{Terms, select, sum-over, sum-ℕ, size, map-coefficients, drop-zeros, collect}
 use Rattle.calculus.specs.Model.{Model, _/U, _-ℚ_, distance, Point, In-box, polynomial, value, At}
 use Rattle.calculus.specs.Operations.{products}

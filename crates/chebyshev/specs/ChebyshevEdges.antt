@@ -5,7 +5,7 @@ use mathlib.Core.List.{List, [], _∷_, _++_, map}
 use Prim.Native.Nat.{ℕ, _+_, _-_}
 use lib.IntN.{ℤ, pos}
 use lib.ListN.{length, replicate}
-use Rattle.fixed.specs.Fixed.{U, span-limit}
+use Rattle.numbers.specs.Fixed.{U, span-limit}
 use Rattle.calculus.specs.Terms.{Terms, term}
 use Rattle.calculus.specs.Model.{Model}
 use Rattle.calculus.specs.Refusal.{Result, Returned}

@@ -16,8 +16,8 @@ use Rattle.algebra.specs.RingLaws.{one-*}
 use Rattle.algebra.specs.RationalLaws.{nat-whole, ÷-back}
 use Rattle.chebyshev.specs.RingIntegersLaws.{int-whole}
 use Rattle.polynomial.specs.Polynomial.{exponent, monomial}
-use Rattle.fixed.specs.Fixed.{U}
-use Rattle.fixed.specs.FixedLaws.{U-pos}
+use Rattle.numbers.specs.Fixed.{U}
+use Rattle.numbers.specs.FixedLaws.{U-pos}
 use Rattle.calculus.specs.Monomial.{degree}
 use Rattle.calculus.specs.Terms.{Terms, term, every}
 use Rattle.calculus.specs.Model.{Model, most-degree, fits, _-ℚ_}

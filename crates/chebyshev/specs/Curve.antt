@@ -6,7 +6,7 @@ use lib.IntN.{pos}
 use lib.ListN.{length}
 use Rattle.algebra.specs.Rational.{ℚ, _≤ℚ_, _÷_}
 use Rattle.algebra.specs.RationalRing.{ℚR}
-use Rattle.fixed.specs.Fixed.{U, span-limit}
+use Rattle.numbers.specs.Fixed.{U, span-limit}
 use Rattle.calculus.specs.Model.{_/U, distance, Point, In-box}
 use Rattle.calculus.specs.Functions.{coordinate}
 use Rattle.chebyshev.specs.Recurrence.{chebyshev}

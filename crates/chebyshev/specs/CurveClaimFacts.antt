@@ -15,9 +15,9 @@ use Rattle.algebra.specs.RationalRing.{ℚR}
 use Rattle.algebra.specs.RationalOrder.{ℚO}
 use Rattle.algebra.specs.RationalLaws.{≤-whole, whole-+, whole-neg, ÷-back}
 use Rattle.polynomial.specs.Box.{none, more}
-use Rattle.fixed.specs.Computing.{numbers}
-use Rattle.fixed.specs.Fixed.{U}
-use Rattle.fixed.specs.FixedLaws.{U-pos, U-even}
+use Rattle.numbers.specs.Computing.{numbers}
+use Rattle.numbers.specs.Fixed.{U}
+use Rattle.numbers.specs.FixedLaws.{U-pos, U-even}
 use Rattle.calculus.specs.Model.{Model, zero-model, _/U, _-ℚ_, distance, Point, In-box}
 use Rattle.calculus.specs.Model as M
 use Rattle.calculus.specs.Operations.{zero-ends}

@@ -7,7 +7,7 @@ use Rattle.algebra.specs.Ordered.{abs}
 use Rattle.algebra.specs.Rational.{ℚ, _+ℚ_, _*ℚ_, negℚ, _≤ℚ_}
 use Rattle.algebra.specs.RationalOrder.{ℚO}
 use Rattle.polynomial.specs.Box.{none, more}
-use Rattle.fixed.specs.Fixed.{span-limit}
+use Rattle.numbers.specs.Fixed.{span-limit}
 use Rattle.calculus.specs.Monomial.{index-of}
 use Rattle.calculus.specs.Model.{Model, most-vars, most-degree, between, _-ℚ_, Point, In-box}
 use Rattle.calculus.specs.Model as M

@@ -11,8 +11,8 @@ use Rattle.algebra.specs.Rational.{ℚ, _+ℚ_, _*ℚ_, negℚ, whole, _≤ℚ_
 use Rattle.algebra.specs.RationalRing.{ℚR}
 use Rattle.algebra.specs.RationalOrder.{ℚO}
 use Rattle.algebra.specs.RationalLaws.{whole-+, whole-neg}
-use Rattle.fixed.specs.Fixed.{U}
-use Rattle.fixed.specs.FixedLaws.{U-pos}
+use Rattle.numbers.specs.Fixed.{U}
+use Rattle.numbers.specs.FixedLaws.{U-pos}
 use Rattle.calculus.specs.Model.{_-ℚ_}
 use Rattle.calculus.specs.Functions.{Lies}
 use Rattle.calculus_laws.specs.ChainLaws.{_≤≤_, _≡≤_, _≤≡_}

@@ -10,10 +10,10 @@ use lib.ListN.{length, take, drop, replicate, length-map}
 use Rattle.algebra.specs.Integer.{natAbs-neg}
 use Rattle.algebra.specs.IntegerRing.{ℤR}
 use Rattle.algebra.specs.RingSolver.{_⊞_, _⊠_, ⊝_, ring}
-use Rattle.fixed.specs.Division.{divided-up, nearest}
-use Rattle.fixed.specs.NearestLaws.{nearest-neg, left-neg}
-use Rattle.fixed.specs.Fixed.{U, span-limit}
-use Rattle.fixed.specs.FixedLaws.{U-pos}
+use Rattle.numbers.specs.Division.{divided-up, nearest}
+use Rattle.numbers.specs.NearestLaws.{nearest-neg, left-neg}
+use Rattle.numbers.specs.Fixed.{U, span-limit}
+use Rattle.numbers.specs.FixedLaws.{U-pos}
 use Rattle.calculus.specs.Refusal.{over-span, bad-model, accepted, require, at-place, require-at}
 use Rattle.calculus.specs.Refusal.{Result, done, stopped, _followed-by_}
 use Rattle.chebyshev.specs.Recurrence.{apart}

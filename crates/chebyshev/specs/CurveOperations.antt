@@ -5,8 +5,8 @@ use lib.Dec.{leb}
 use lib.IntN.{ℤ, pos, negℤ, _+ℤ_, _-ℤ_, _*ℤ_}
 use lib.ListN.{take, drop, replicate, getD}
 use Rattle.polynomial.specs.Polynomial.{exponent}
-use Rattle.fixed.specs.Division.{divided-up, nearest}
-use Rattle.fixed.specs.Fixed.{U, span-limit}
+use Rattle.numbers.specs.Division.{divided-up, nearest}
+use Rattle.numbers.specs.Fixed.{U, span-limit}
 use Rattle.calculus.specs.Terms.{Terms, term, drop-zeros}
 use Rattle.calculus.specs.Model.{Model}
 use Rattle.calculus.specs.Model as M

@@ -9,7 +9,7 @@ use lib.IntN.{pos, negℤ}
 use lib.ListN.{length, take, replicate, length-take, length-map}
 use Rattle.algebra.specs.Integer.{natAbs-neg}
 use Rattle.algebra.specs.LexicographicLaws.{cons-less}
-use Rattle.fixed.specs.Fixed.{span-limit}
+use Rattle.numbers.specs.Fixed.{span-limit}
 use Rattle.calculus.specs.Monomial.{degree}
 use Rattle.calculus.specs.Terms.{term, every, is-nonzero, drop-zeros, rising-from, rising}
 use Rattle.calculus.specs.Model.{Model, most-degree, most-terms, fits}

@@ -16,10 +16,10 @@ use Rattle.algebra.specs.RationalRing.{ℚR}
 use Rattle.algebra.specs.RationalOrder.{ℚO}
 use Rattle.algebra.specs.RationalField.{ℚF}
 use Rattle.algebra.specs.RationalLaws.{nat-whole, whole-reciprocal, ÷-back}
-use Rattle.fixed.specs.Division.{divided-up, nearest}
-use Rattle.fixed.specs.DivisionLaws.{divided-up-ok}
-use Rattle.fixed.specs.Fixed.{U}
-use Rattle.fixed.specs.FixedLaws.{U-pos}
+use Rattle.numbers.specs.Division.{divided-up, nearest}
+use Rattle.numbers.specs.DivisionLaws.{divided-up-ok}
+use Rattle.numbers.specs.Fixed.{U}
+use Rattle.numbers.specs.FixedLaws.{U-pos}
 use Rattle.calculus.specs.Model.{_-ℚ_, distance}
 use Rattle.calculus_laws.specs.ChainLaws.{_≤≤_, _≡≤_, _≤≡_}
 use Rattle.calculus_laws.specs.UnitLaws.{natural, natural-*, natural-≤, natural-nonneg, U-times, U-times-≤}

@@ -24,8 +24,8 @@ use Rattle.polynomial.specs.PolynomialLaws.{eval-sum, eval-constant}
 use Rattle.polynomial.specs.Integral as I
 use Rattle.polynomial.specs.Antiderivative.{antiderivative-in}
 use Rattle.polynomial.specs.VariableAntiderivativeLaws.{antiderivative-constant}
-use Rattle.fixed.specs.Fixed.{U}
-use Rattle.fixed.specs.FixedLaws.{U-suc}
+use Rattle.numbers.specs.Fixed.{U}
+use Rattle.numbers.specs.FixedLaws.{U-suc}
 use Rattle.calculus.specs.Monomial.{index-of}
 use Rattle.calculus.specs.Terms.{term}
 use Rattle.calculus.specs.Model.{Model, zero-model, _/U, _-ℚ_, distance, Point, polynomial, value, At}

@@ -2,7 +2,7 @@
 -- this order:
 --   crate algebra: the fractions, their sum, product and order
 --   crate polynomial: polynomials and their value, the box, the integral over it
---   crate fixed: the unit U, rounding
+--   crate numbers: the unit U, rounding
 --   crate calculus:
 --     Monomial, Terms, Model: a model, and which functions are within it
 --     Refusal, Operations, Tests, Book: the run of a book, which gives the last result, its range and its integral

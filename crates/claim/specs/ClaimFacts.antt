@@ -23,7 +23,7 @@ use Rattle.algebra.specs.RationalLaws.{≤-whole, nat-whole, whole-+, whole-neg
 use Rattle.polynomial.specs.Polynomial as P
 use Rattle.polynomial.specs.Box.{none, more}
 use Rattle.polynomial.specs.IntegralLaws.{integral-constant}
-use Rattle.fixed.specs.Fixed.{U}
+use Rattle.numbers.specs.Fixed.{U}
 use Rattle.calculus.specs.Model.{Model, zero-model, _/U, _-ℚ_, distance, Point, In-box, polynomial, value, At}
 use Rattle.calculus.specs.Model.{Within}
 use Rattle.calculus.specs.Operations as Op

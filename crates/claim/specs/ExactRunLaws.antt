@@ -12,7 +12,7 @@ use Rattle.algebra.specs.RationalField.{ℚF}
 use Rattle.polynomial.specs.Polynomial.{scale}
 use Rattle.polynomial.specs.Integral as I
 use Rattle.polynomial.specs.IntegralLaws.{integral-scale}
-use Rattle.fixed.specs.Fixed.{U}
+use Rattle.numbers.specs.Fixed.{U}
 use Rattle.calculus.specs.Terms.{Terms, term}
 use Rattle.calculus.specs.Model.{Model, most-degree, polynomial, sound}
 use Rattle.calculus.specs.Refusal.{bad-model, done}

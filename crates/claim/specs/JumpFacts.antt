@@ -25,8 +25,8 @@ use Rattle.algebra.specs.RationalLaws.{≤-whole, whole-+, whole-*, whole-neg, 
 use Rattle.polynomial.specs.Polynomial.{monomial, eval, replace}
 use Rattle.polynomial.specs.Box.{none, more}
 use Rattle.polynomial.specs.BoxLaws.{monomial-le}
-use Rattle.fixed.specs.Fixed.{U}
-use Rattle.fixed.specs.FixedLaws.{U-suc}
+use Rattle.numbers.specs.Fixed.{U}
+use Rattle.numbers.specs.FixedLaws.{U-suc}
 use Rattle.calculus.specs.Monomial.{index-of}
 use Rattle.calculus.specs.Model.{Model, zero-model, _/U, _-ℚ_, distance, Point, In-box, polynomial, value, At}
 use Rattle.calculus.specs.Model.{Within}

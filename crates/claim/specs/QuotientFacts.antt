@@ -17,8 +17,8 @@ use Rattle.algebra.specs.RationalOrder.{ℚO}
 use Rattle.algebra.specs.RationalLaws.{/ℚ-back, ≤-whole, whole-+, whole-*, whole-neg}
 use Rattle.polynomial.specs.Polynomial.{eval}
 use Rattle.polynomial.specs.Box.{none, more}
-use Rattle.fixed.specs.FixedLaws.{U-even}
-use Rattle.fixed.specs.Fixed.{U}
+use Rattle.numbers.specs.FixedLaws.{U-even}
+use Rattle.numbers.specs.Fixed.{U}
 use Rattle.calculus.specs.Monomial.{index-of}
 use Rattle.calculus.specs.Model.{Model, zero-model, _/U, _-ℚ_, Point, In-box, polynomial, value, At}
 use Rattle.calculus.specs.Refusal.{done}

@@ -21,7 +21,7 @@ use Rattle.algebra.specs.RationalLaws.{≤-whole}
 use Rattle.polynomial.specs.Polynomial.{monomial}
 use Rattle.polynomial.specs.Box.{none, more}
 use Rattle.polynomial.specs.Integral.{even, first, rest, all-even}
-use Rattle.fixed.specs.Fixed.{U}
+use Rattle.numbers.specs.Fixed.{U}
 use Rattle.calculus.specs.Monomial.{degree}
 use Rattle.calculus.specs.Terms.{term, sum-over}
 use Rattle.calculus.specs.Model.{Model, one-model, _-ℚ_, Point, In-box, value, Within}

@@ -8,7 +8,7 @@ use lib.Signed.{_≤ℤ_}
 use Rattle.algebra.specs.Ordered.{abs}
 use Rattle.algebra.specs.Rational.{ℚ, _+ℚ_, _*ℚ_, whole, _≤ℚ_}
 use Rattle.algebra.specs.RationalOrder.{ℚO}
-use Rattle.fixed.specs.Fixed.{U}
+use Rattle.numbers.specs.Fixed.{U}
 use Rattle.calculus.specs.Model.{Model, Point, In-box, Within}
 use Rattle.calculus.specs.Operations.{Ends, range}
 use Rattle.calculus.specs.Functions.{Function, Lies}

@@ -13,7 +13,7 @@ use Rattle.algebra.specs.RationalRing.{ℚR}
 use Rattle.algebra.specs.RationalOrder.{ℚO}
 use Rattle.algebra.specs.RationalLaws.{≤-whole}
 use Rattle.polynomial.specs.Box.{none, more}
-use Rattle.fixed.specs.Fixed.{U}
+use Rattle.numbers.specs.Fixed.{U}
 use Rattle.calculus.specs.Model.{Model, sound, _-ℚ_, In-box, value, Within}
 use Rattle.calculus.specs.Refusal.{bad-limits, bad-model, bad-step, cut-too-deep, done}
 use Rattle.calculus.specs.Operations.{Ends, range}

@@ -19,8 +19,8 @@ use Rattle.algebra.specs.RationalField.{ℚF}
 use Rattle.algebra.specs.RationalLaws.{≤-whole, whole-reciprocal}
 use Rattle.polynomial.specs.Polynomial.{monomial}
 use Rattle.polynomial.specs.Box.{none, more}
-use Rattle.fixed.specs.Fixed.{U}
-use Rattle.fixed.specs.Computing.{numbers}
+use Rattle.numbers.specs.Fixed.{U}
+use Rattle.numbers.specs.Computing.{numbers}
 use Rattle.calculus.specs.Terms.{sum-over}
 use Rattle.calculus.specs.Model.{_/U, _-ℚ_, Point, In-box, value, Within}
 use Rattle.calculus.specs.Operations.{Ends}

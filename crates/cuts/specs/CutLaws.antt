@@ -13,7 +13,7 @@ use Rattle.algebra.specs.RationalOrder.{ℚO}
 use Rattle.polynomial.specs.Polynomial.{replace}
 use Rattle.polynomial.specs.Box.{none, more}
 use Rattle.polynomial.specs.BoxLaws.{box-length, box-replace}
-use Rattle.fixed.specs.Fixed.{U, span-limit}
+use Rattle.numbers.specs.Fixed.{U, span-limit}
 use Rattle.calculus.specs.Monomial.{index-of}
 use Rattle.calculus.specs.Model.{Model, sound, most-terms, span, Point, In-box, Within}
 use Rattle.calculus.specs.Refusal.{bad-limits, bad-model, bad-step, cut-too-deep, Answer, Result, at-place}

@@ -8,7 +8,7 @@ use mathlib.Core.Logic.{_⊎_, inl, inr}
 use Rattle.algebra.specs.Rational.{ℚ, _≤ℚ_, _*ℚ_, whole}
 use Rattle.algebra.specs.RationalLaws.{whole-≤}
 use Rattle.algebra.specs.IntegerRing.{≤ℤ-total}
-use Rattle.fixed.specs.Fixed.{U}
+use Rattle.numbers.specs.Fixed.{U}
 use Rattle.calculus.specs.Operations.{Ends}
 use Rattle.calculus.specs.Functions.{Lies}
 use Rattle.calculus_laws.specs.ChainLaws.{_≤≤_}

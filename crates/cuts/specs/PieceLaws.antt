@@ -22,8 +22,8 @@ use Rattle.algebra.specs.RationalOrder.{ℚO}
 use Rattle.algebra.specs.RationalField.{ℚF}
 use Rattle.algebra.specs.RationalLaws.{whole-+, whole-neg, whole-reciprocal, ÷-back}
 use Rattle.polynomial.specs.BoxLaws.{box-length}
-use Rattle.fixed.specs.Fixed.{U}
-use Rattle.fixed.specs.Computing.{numbers}
+use Rattle.numbers.specs.Fixed.{U}
+use Rattle.numbers.specs.Computing.{numbers}
 use Rattle.calculus.specs.Monomial.{zeros, index-of}
 use Rattle.calculus_laws.specs.MonomialLaws.{degree-zeros, monomial-constant, monomial-single}
 use Rattle.calculus.specs.Terms.{Terms, select, sum-over, sum-ℤ, size}

@@ -12,10 +12,10 @@ use Rattle.algebra.specs.LexicographicLaws.{less-cons, cons-less}
 use Rattle.algebra.specs.RingLaws.{zero-*}
 use Rattle.algebra.specs.IntegerRing.{ℤR}
 use Rattle.polynomial.specs.Polynomial.{add-exponents, exponent, without, raise, replace, times, product}
-use Rattle.fixed.specs.Fixed.{U, span-limit, round, residual, round-up}
-use Rattle.fixed.specs.FixedLaws.{U-pos, round-is, residual-is}
-use Rattle.fixed.specs.NearestLaws.{nearest-exact}
-use Rattle.fixed.specs.Computing.{numbers}
+use Rattle.numbers.specs.Fixed.{U, span-limit, round, residual, round-up}
+use Rattle.numbers.specs.FixedLaws.{U-pos, round-is, residual-is}
+use Rattle.numbers.specs.NearestLaws.{nearest-exact}
+use Rattle.numbers.specs.Computing.{numbers}
 use Rattle.calculus.specs.Monomial.{degree, zeros, single, index-of, less}
 use Rattle.calculus_laws.specs.MonomialLaws.{length-replace, degree-raise, less-raise}
 use Rattle.calculus.specs.Terms.{Terms, term, every, select, sum-over, sum-ℕ, size, map-coefficients, map-monomials}

@@ -5,8 +5,8 @@ use Prim.Native.Nat.{ℕ, _+_, _*_, _%_}
 use lib.Ieee.{Float, nan, inf, fin, up, down, lt}
 use lib.IntN.{ℤ, pos, negℤ, natAbs, _*ℤ_}
 use Rattle.algebra.specs.Rational.{ℚ, _+ℚ_, _*ℚ_, _≤ℚ_, whole, _÷_}
-use Rattle.fixed.specs.Division.{divided-up, nearest}
-use Rattle.fixed.specs.Fixed.{U}
+use Rattle.numbers.specs.Division.{divided-up, nearest}
+use Rattle.numbers.specs.Fixed.{U}
 use Rattle.calculus.specs.Terms.{term, drop-zeros}
 use Rattle.calculus.specs.Model.{Model, distance, Point, In-box}
 use Rattle.calculus.specs.Refusal.{bad-double, Result, at-place, require-at}

@@ -4,7 +4,7 @@ use mathlib.Core.Bool.{Bool, true, false, cond}
 use mathlib.Core.List.{[], _∷_}
 use Prim.Native.Nat.{ℕ, _+_, _-_, _*_, _^_}
 use lib.IntN.{ℤ, pos, negℤ}
-use Rattle.fixed.specs.Computing.{numbers}
+use Rattle.numbers.specs.Computing.{numbers}
 use Rattle.calculus.specs.Computing.{runs}
 use Rattle.calculus.specs.Terms.{term}
 use Rattle.calculus.specs.Model.{Model}

@@ -12,9 +12,9 @@ use lib.IntN.{pos, natAbs, _*ℤ_}
 use Rattle.algebra.specs.Integer.{natAbs-neg}
 use Rattle.algebra.specs.IntegerRing.{ℤR}
 use Rattle.algebra.specs.RingSolver.{_⊠_, ⊝_, ring}
-use Rattle.fixed.specs.Division.{divided-up, nearest}
-use Rattle.fixed.specs.SameFractionLaws.{nearest-same, rest-same, up-same}
-use Rattle.fixed.specs.Fixed.{U}
+use Rattle.numbers.specs.Division.{divided-up, nearest}
+use Rattle.numbers.specs.SameFractionLaws.{nearest-same, rest-same, up-same}
+use Rattle.numbers.specs.Fixed.{U}
 use Rattle.calculus.specs.Operations.{one-if-any}
 use Rattle.doubles.specs.Doubles.{signed, numerator, denominator, units, coefficient, inexact, radius-up}
 

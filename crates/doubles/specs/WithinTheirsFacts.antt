@@ -23,8 +23,8 @@ use Rattle.algebra.specs.RationalField.{ℚF}
 use Rattle.algebra.specs.RationalLaws.{whole-+, whole-*, whole-neg, ≤-whole, whole-reciprocal}
 use Rattle.polynomial.specs.Polynomial.{monomial}
 use Rattle.polynomial.specs.Box.{none, more}
-use Rattle.fixed.specs.Computing.{numbers}
-use Rattle.fixed.specs.Fixed.{U}
+use Rattle.numbers.specs.Computing.{numbers}
+use Rattle.numbers.specs.Fixed.{U}
 use Rattle.calculus.specs.Terms.{term}
 use Rattle.calculus.specs.Model.{Model, _-ℚ_, distance, Point, In-box, Within}
 use Rattle.calculus.specs.Refusal.{bad-double, done}

@@ -19,7 +19,7 @@ use Rattle.algebra.specs.RationalLaws.{whole-*}
 use Rattle.polynomial.specs.Polynomial.{monomial}
 use Rattle.polynomial.specs.Box.{none, more}
 use Rattle.polynomial.specs.BoxLaws.{monomial-le}
-use Rattle.fixed.specs.Fixed.{U}
+use Rattle.numbers.specs.Fixed.{U}
 use Rattle.calculus.specs.Monomial.{index-of}
 use Rattle.calculus.specs.Terms.{term}
 use Rattle.calculus.specs.Model.{Model, _-ℚ_, distance, Point, In-box, Within}

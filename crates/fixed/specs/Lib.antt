@@ -1,8 +1,2 @@
-pub mod Division
-pub mod DivisionLaws
-pub mod NearestLaws
-pub mod SameFractionLaws
-pub mod Fixed
-pub mod Computing
-pub mod FixedLaws
+pub mod RoundedStruct
 pub mod MachineLaws

@@ -1,14 +1,15 @@
 // Numbers in fixed point: the unit, the span limit, exact arithmetic on 64-bit numbers, and rounding to the unit.
 // No function traps or wraps: each takes every input, or a `requires` leaves out what has no answer in 64 bits.
-// Callers know the limits and the rounding by name and by the laws in specs/FixedLaws.antt and specs/DivisionLaws.antt.
+// Callers know the limits and the rounding by name and by the laws in crates/numbers (FixedLaws and DivisionLaws).
 ghost use mathlib.Core.Bool.{_&&_};
 ghost use mathlib.Core.Path.{_≡_};
 ghost use Prim.Native.Nat.{_+_, _*_, _^_, _<_};
 ghost use lib.Dec.{leb};
 ghost use lib.IntN.{pos, negsuc, natAbs, negℤ, _+ℤ_, _-ℤ_, _*ℤ_};
 ghost use lib.Signed.{nonNeg};
-ghost use Rattle.fixed.specs.Division.{floor, ceiling, remainder, divided-up, nearest};
-ghost use Rattle.fixed.specs.Fixed.{U, span-limit, rounded, round-up, capped};
+ghost use Rattle.numbers.specs.Division.{floor, ceiling, remainder, divided-up, nearest};
+ghost use Rattle.numbers.specs.Fixed.{U, span-limit, round-up, capped};
+ghost use Rattle.fixed.specs.RoundedStruct.{rounded};
 
 // The unit U, by its binary digits: with a power of two the floor of z / U is a shift. It is public for a constant of
 // the layer above, by which the digits of a double are moved.

@@ -5,7 +5,7 @@ use Prim.Native.Nat.{ℕ, zero, suc, _-_, _*_}
 use Prim.Native.String.{String}
 use lib.IntN.{pos, negsuc, negℤ}
 use lib.ListN.{replicate, length}
-use Rattle.fixed.specs.Fixed.{U}
+use Rattle.numbers.specs.Fixed.{U}
 use Rattle.calculus.specs.Key.{short-key}
 use Rattle.calculus.specs.Refusal.{uncertified, done, stopped}
 use Rattle.calculus.specs.Forms.{at-key, at-long-key, model, ends, mixed, gives}

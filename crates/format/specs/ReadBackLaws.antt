@@ -9,8 +9,8 @@ use lib.Dec.{T, eqb, leb, le→leb, eqb-refl}
 use lib.IntN.{ℤ, natAbs}
 use lib.ListN.{length, take, drop, length-append, length-replicate}
 use lib.Seq.{drop-at, take-at}
-use Rattle.fixed.specs.Fixed.{span-limit}
-use Rattle.fixed.specs.FixedLaws.{span-four-bytes}
+use Rattle.numbers.specs.Fixed.{span-limit}
+use Rattle.numbers.specs.FixedLaws.{span-four-bytes}
 use Rattle.calculus.specs.Key.{key-width, key-limit, short-key}
 use Rattle.calculus_laws.specs.MonomialKeyLaws.{key-word}
 use Rattle.calculus.specs.Terms.{every, size}

@@ -8,8 +8,8 @@ use lib.Dec.{T, eqb, leb, ltb, leb→le, eqb→eq, ltb→lt}
 use lib.IntN.{ℤ, natAbs}
 use lib.Signed.{nonNeg}
 use lib.ListN.{length, length-map}
-use Rattle.fixed.specs.Fixed.{span-limit}
-use Rattle.fixed.specs.FixedLaws.{span-four-bytes}
+use Rattle.numbers.specs.Fixed.{span-limit}
+use Rattle.numbers.specs.FixedLaws.{span-four-bytes}
 use Rattle.calculus.specs.Key.{key-width, key-limit, short-width, short-key, key-fits, monomial-of}
 use Rattle.calculus.specs.Terms.{every, sum-over, size}
 use Rattle.calculus.specs.Model.{most-terms, span, fits}

@@ -6,7 +6,7 @@ use native.Mathlib.Omega.{arith}
 use lib.Dec.{T, lit<}
 use lib.IntN.{natAbs}
 use lib.ListN.{length, getD}
-use Rattle.fixed.specs.Fixed.{span-limit}
+use Rattle.numbers.specs.Fixed.{span-limit}
 use Rattle.calculus.specs.Terms.{every, is-nonzero, drop-zeros}
 use Rattle.calculus.specs.Model as C
 use Rattle.calculus.specs.Model.{most-vars, most-degree, most-terms, between, fits, sound, span}

@@ -3,7 +3,7 @@ use mathlib.Core.Bool.{Bool, not}
 use Prim.Native.Nat.{ℕ, _+_, _%_, _≤_}
 use lib.Dec.{T, eqb, ltb}
 use lib.IntN.{ℤ, natAbs}
-use Rattle.fixed.specs.Division.{divided-up, nearest}
+use Rattle.numbers.specs.Division.{divided-up, nearest}
 use Rattle.calculus.specs.Key.{key-degree}
 use Rattle.calculus_laws.specs.SumLaws.{if-ℕ, if-ℤ}
 use Rattle.calculus.specs.Model.{most-degree, sound}

@@ -4,7 +4,7 @@ use Prim.Native.Nat.{ℕ, _+_, _-_, _≤_, _<_}
 use native.Mathlib.Omega.{arith}
 use lib.IntN.{natAbs}
 use lib.ListN.{length}
-use Rattle.fixed.specs.Fixed.{span-limit}
+use Rattle.numbers.specs.Fixed.{span-limit}
 use Rattle.calculus.specs.Terms.{sum-over, sum-ℕ, size}
 use Rattle.calculus_laws.specs.SumLaws.{ℕ-addition, sum-mono}
 use Rattle.calculus.specs.Model.{span}

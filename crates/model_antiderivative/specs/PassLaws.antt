@@ -11,7 +11,7 @@ use lib.IntN.{ℤ, natAbs}
 use lib.ListN.{length, getD, set, length-map, length-append}
 use Rattle.polynomial.specs.Polynomial as P
 use Rattle.polynomial.specs.VariableAntiderivativeLaws.{exponent-raise}
-use Rattle.fixed.specs.Division.{divided-up, nearest}
+use Rattle.numbers.specs.Division.{divided-up, nearest}
 use Rattle.calculus.specs.Monomial.{degree, index-of}
 use Rattle.calculus_laws.specs.MonomialLaws.{index-suc, degree-raise, raise-replace, exponent-degree}
 use Rattle.calculus_laws.specs.MonomialKeyLaws.{monomial-length, monomial-degree}

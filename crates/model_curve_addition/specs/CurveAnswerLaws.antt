@@ -4,7 +4,7 @@ use mathlib.Core.Bool.{true, false}
 use borrow.Author.Tests.{eq-eqb}
 use lib.Dec.{leb, eqb}
 use lib.ListN.{length}
-use Rattle.fixed.specs.Fixed.{span-limit}
+use Rattle.numbers.specs.Fixed.{span-limit}
 use Rattle.calculus.specs.Refusal.{stopped, over-span, bad-model, at-place, require, require-at}
 use Rattle.chebyshev.specs.Curve as C
 use Rattle.chebyshev.specs.Curve.{span, sound}

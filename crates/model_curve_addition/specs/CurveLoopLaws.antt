@@ -9,8 +9,8 @@ use borrow.Author.Tests.{eq-eqb}
 use lib.IntN.{ℤ, pos, negℤ, natAbs, _+ℤ_}
 use lib.ListN.{length, take, getD, set, replicate, List·getD-map}
 use lib.Seq.{length-take-le}
-use Rattle.fixed.specs.Fixed.{span-limit, capped}
-use Rattle.fixed.specs.FixedLaws.{span-four-bytes, capped-more, capped-within}
+use Rattle.numbers.specs.Fixed.{span-limit, capped}
+use Rattle.numbers.specs.FixedLaws.{span-four-bytes, capped-more, capped-within}
 use Rattle.calculus_laws.specs.TestLaws.{and-right}
 use Rattle.chebyshev.specs.Coefficients.{Row, size, sum}
 use Rattle.chebyshev.specs.PowerRows.{places}

@@ -8,9 +8,9 @@ use lib.Dec.{T, eqb}
 use lib.IntN.{ℤ, pos, natAbs, _+ℤ_, _-ℤ_, _*ℤ_}
 use lib.ListN.{length, take, drop, getD, set, replicate, length-set}
 use Rattle.polynomial.specs.Polynomial.{exponent}
-use Rattle.fixed.specs.Fixed.{span-limit}
-use Rattle.fixed.specs.FixedLaws.{span-four-bytes}
-use Rattle.fixed.specs.Division.{nearest, divided-up}
+use Rattle.numbers.specs.Fixed.{span-limit}
+use Rattle.numbers.specs.FixedLaws.{span-four-bytes}
+use Rattle.numbers.specs.Division.{nearest, divided-up}
 use Rattle.calculus.specs.Key.{monomial-of}
 use Rattle.calculus.specs.Terms.{Terms, sum-over}
 use Rattle.calculus.specs.Terms as P

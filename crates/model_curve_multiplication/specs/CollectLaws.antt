@@ -9,8 +9,8 @@ use lib.Dec.{T}
 use lib.IntN.{ℤ, pos, natAbs, _+ℤ_, _*ℤ_}
 use lib.ListN.{length, drop, getD, set, replicate, length-set}
 use Rattle.algebra.specs.Integer.{natAbs-add, natAbs-mul}
-use Rattle.fixed.specs.Computing.{numbers}
-use Rattle.fixed.specs.Fixed.{U, span-limit}
+use Rattle.numbers.specs.Computing.{numbers}
+use Rattle.numbers.specs.Fixed.{U, span-limit}
 use Rattle.calculus.specs.Refusal.{stopped, bad-model, at-place, require-at}
 use Rattle.model_types.specs.CurveStruct.{curve-answer}
 use Rattle.chebyshev.specs.CurveCalls.{call-multiply, require-two}

@@ -10,8 +10,8 @@ use lib.Seq.{length-take-le, getD-take}
 use Rattle.algebra.specs.Integer.{natAbs-add, natAbs-mul, natAbs-neg}
 use Rattle.algebra.specs.IntegerRing.{ℤR}
 use Rattle.algebra.specs.RingSolver.{_⊟_, ring}
-use Rattle.fixed.specs.Division.{nearest, divided-up}
-use Rattle.fixed.specs.NearestLaws.{left-le-abs}
+use Rattle.numbers.specs.Division.{nearest, divided-up}
+use Rattle.numbers.specs.NearestLaws.{left-le-abs}
 use Rattle.chebyshev.specs.Coefficients.{Row, size}
 use Rattle.chebyshev.specs.PowerRows.{places}
 use Rattle.chebyshev.specs.CurveOperations.{swept, residuals, rounded}

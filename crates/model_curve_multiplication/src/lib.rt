@@ -4,7 +4,7 @@ ghost use Prim.Native.Nat.{_+_, _*_, _^_, _≤_, _<_};
 ghost use lib.Dec.{T};
 ghost use lib.ListN.{length};
 ghost use lib.IntN.{pos, natAbs, _-ℤ_, _*ℤ_};
-ghost use Rattle.fixed.specs.Division.{nearest};
+ghost use Rattle.numbers.specs.Division.{nearest};
 ghost use Rattle.chebyshev.specs.Recurrence as R;
 ghost use Rattle.chebyshev.specs.Curve.{sound, span};
 ghost use Rattle.chebyshev.specs.CurveOperations.{products, swept, rounded, carried};

@@ -7,8 +7,8 @@ use native.Mathlib.Omega.{arith}
 use lib.Dec.{T}
 use lib.IntN.{ℤ, pos, natAbs}
 use lib.ListN.{length, drop, getD}
-use Rattle.fixed.specs.Fixed.{span-limit}
-use Rattle.fixed.specs.FixedLaws.{span-four-bytes}
+use Rattle.numbers.specs.Fixed.{span-limit}
+use Rattle.numbers.specs.FixedLaws.{span-four-bytes}
 use Rattle.calculus.specs.Refusal.{stopped, done, bad-model, require-at}
 use Rattle.chebyshev.specs.Coefficients.{Row, size}
 use Rattle.chebyshev.specs.Curve as C

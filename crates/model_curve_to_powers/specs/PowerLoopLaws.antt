@@ -19,7 +19,7 @@ use Rattle.model_types.specs.Arrays.{padded}
 use Rattle.model_types.specs.declared.Term as S
 use Rattle.model_types.specs.ModelStruct.{zero-term, pad, pack-term}
 use Rattle.model_types.specs.ModelStructLaws.{select-in, select-out, packed-more, take-more}
-use Rattle.fixed.specs.Fixed.{span-limit}
+use Rattle.numbers.specs.Fixed.{span-limit}
 use Rattle.calculus.specs.Model as M
 use Rattle.calculus.specs.Refusal.{stopped, over-span, bad-model, at-place, require, require-at}
 use Rattle.chebyshev.specs.PowerRows.{places}

@@ -9,8 +9,8 @@ use borrow.Author.Tests.{ne-eqb}
 use lib.Dec.{T, T-not, lit<, lit≤}
 use lib.IntN.{pos}
 use lib.ListN.{length}
-use Rattle.fixed.specs.Fixed.{U}
-use Rattle.fixed.specs.FixedLaws.{U-within}
+use Rattle.numbers.specs.Fixed.{U}
+use Rattle.numbers.specs.FixedLaws.{U-within}
 use Rattle.polynomial.specs.Polynomial.{replace}
 use Rattle.calculus.specs.Monomial.{zeros, single, index-of, less}
 use Rattle.calculus_laws.specs.MonomialLaws.{length-zeros, length-single, degree-zeros, degree-single}

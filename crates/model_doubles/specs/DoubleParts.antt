@@ -4,7 +4,7 @@ use mathlib.Core.Bool.{true, false, cond}
 use Prim.Native.Nat.{ℕ, _+_, _-_, _*_, _%_, _^_, _≤_, _<_, min}
 use lib.Ieee.{Float}
 use lib.Ieee.Exact.{HasValue}
-use Rattle.fixed.specs.Division.{divided-up, nearest}
+use Rattle.numbers.specs.Division.{divided-up, nearest}
 use Rattle.calculus.specs.Model as C
 use Rattle.calculus.specs.Operations.{one-if-any}
 use Rattle.doubles.specs.Doubles.{is-finite, signed, model-of}

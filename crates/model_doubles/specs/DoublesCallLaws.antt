@@ -7,7 +7,7 @@ use native.Mathlib.Omega.{arith}
 use borrow.Author.Tests.{le-leb, leb-true}
 use lib.Dec.{T, leb}
 use lib.IntN.{natAbs}
-use Rattle.fixed.specs.Fixed.{span-limit}
+use Rattle.numbers.specs.Fixed.{span-limit}
 use Rattle.calculus.specs.Model as C
 use Rattle.calculus.specs.Refusal.{stopped, bad-double, over-span, at-place, require-at}
 use Rattle.calculus.specs.Operations.{limited}

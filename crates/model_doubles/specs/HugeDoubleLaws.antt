@@ -11,11 +11,11 @@ use lib.Ieee.{Float}
 use lib.IntN.{ℤ, natAbs}
 use lib.Pow.{pow-add, pow-pos}
 use Rattle.algebra.specs.IntegerRing.{ℤR}
-use Rattle.fixed.specs.Division.{nearest}
-use Rattle.fixed.specs.DivisionLaws.{divided-up-ok}
-use Rattle.fixed.specs.NearestLaws.{nearest-exact}
-use Rattle.fixed.specs.Fixed.{U, span-limit}
-use Rattle.fixed.specs.FixedLaws.{span-four-bytes}
+use Rattle.numbers.specs.Division.{nearest}
+use Rattle.numbers.specs.DivisionLaws.{divided-up-ok}
+use Rattle.numbers.specs.NearestLaws.{nearest-exact}
+use Rattle.numbers.specs.Fixed.{U, span-limit}
+use Rattle.numbers.specs.FixedLaws.{span-four-bytes}
 use Rattle.calculus.specs.Terms.{term, size, sum-over}
 use Rattle.calculus_laws.specs.SumLaws.{ℕ-addition, sum-drop-zeros}
 use Rattle.calculus.specs.Model.{span}

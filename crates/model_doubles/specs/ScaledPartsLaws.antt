@@ -11,11 +11,11 @@ use lib.IntN.{pos, natAbs, _-ℤ_, _*ℤ_}
 use lib.Pow.{pow-add, pow-pos, pow-mono}
 use Rattle.algebra.specs.IntegerRing.{ℤR}
 use Rattle.algebra.specs.RingSolver.{𝟎, _⊟_, _⊠_, ring}
-use Rattle.fixed.specs.Computing.{numbers}
-use Rattle.fixed.specs.Division.{divided-up, nearest}
-use Rattle.fixed.specs.DivisionLaws.{divided-up-le, divided-up-unique}
-use Rattle.fixed.specs.NearestLaws.{nearest-unique}
-use Rattle.fixed.specs.Fixed.{U}
+use Rattle.numbers.specs.Computing.{numbers}
+use Rattle.numbers.specs.Division.{divided-up, nearest}
+use Rattle.numbers.specs.DivisionLaws.{divided-up-le, divided-up-unique}
+use Rattle.numbers.specs.NearestLaws.{nearest-unique}
+use Rattle.numbers.specs.Fixed.{U}
 use Rattle.calculus.specs.Operations.{one-if-any}
 use Rattle.doubles.specs.Doubles.{signed, coefficient, inexact, radius-up}
 use Rattle.doubles.specs.DoubleBits.{smallest-in-one}

@@ -4,7 +4,7 @@ ghost use mathlib.Core.Path.{_≡_};
 ghost use mathlib.Core.Bool.{not, _&&_};
 ghost use lib.Dec.{leb};
 ghost use Prim.Native.Nat.{_%_, _^_, _<_, _≤_};
-ghost use Rattle.fixed.specs.Division.{«divided-up»};
+ghost use Rattle.numbers.specs.Division.{«divided-up»};
 ghost use Rattle.calculus.specs.Model as C;
 ghost use Rattle.calculus.specs.Operations.{«one-if-any»};
 ghost use Rattle.doubles.specs.Doubles.{signed, «model-of», «call-doubles»};

@@ -9,7 +9,7 @@ use lib.IntN.{ℤ, pos, negsuc, negℤ, _+ℤ_, _-ℤ_, natAbs}
 use lib.Signed.{leZ, _≤ℤ_}
 use Rattle.algebra.specs.Integer.{Is, is, is-nat, is-neg, is-add, natAbs-parts}
 use Rattle.algebra.specs.IntegerRing.{of-le}
-use Rattle.fixed.specs.Fixed.{U}
+use Rattle.numbers.specs.Fixed.{U}
 use Rattle.calculus.specs.Monomial.{degree, zeros}
 use Rattle.calculus_laws.specs.MonomialLaws.{degree-zeros}
 use Rattle.calculus.specs.Terms.{Terms, term, select, sum-over, is-nonzero, drop-zeros}

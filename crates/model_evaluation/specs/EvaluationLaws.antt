@@ -9,8 +9,8 @@ use lib.Dec.{T, leb, leb→le}
 use lib.IntN.{ℤ, pos, natAbs}
 use lib.ListN.{length, take, drop, getD, drop-of-length-le}
 use lib.Seq.{drop-cons, getD-take, length-take-le}
-use Rattle.fixed.specs.Fixed.{U}
-use Rattle.fixed.specs.FixedLaws.{U-within}
+use Rattle.numbers.specs.Fixed.{U}
+use Rattle.numbers.specs.FixedLaws.{U-within}
 use Rattle.calculus_laws.specs.TestLaws.{and-left, and-right}
 use Rattle.calculus.specs.Model as C
 use Rattle.calculus.specs.Model.{most-degree, sound}

@@ -5,8 +5,8 @@ use Prim.Native.Nat.{ℕ, zero, suc, _-_, _≤_, _<_}
 use native.Mathlib.Omega.{arith}
 use lib.Dec.{T}
 use lib.IntN.{ℤ, natAbs}
-use Rattle.fixed.specs.Fixed.{span-limit}
-use Rattle.fixed.specs.FixedLaws.{U-within}
+use Rattle.numbers.specs.Fixed.{span-limit}
+use Rattle.numbers.specs.FixedLaws.{U-within}
 use Rattle.calculus.specs.Model as C
 use Rattle.calculus.specs.Model.{most-degree, sound, span}
 use Rattle.calculus.specs.Refusal as R

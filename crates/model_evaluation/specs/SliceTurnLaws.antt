@@ -4,7 +4,7 @@ use mathlib.Core.List.{List}
 use Prim.Native.Nat.{ℕ, _+_, _-_, _≤_, _<_}
 use native.Mathlib.Omega.{arith}
 use lib.IntN.{ℤ}
-use Rattle.fixed.specs.Fixed.{round-up, capped}
+use Rattle.numbers.specs.Fixed.{round-up, capped}
 use Rattle.calculus.specs.Model as C
 use Rattle.calculus.specs.Model.{most-degree, most-terms}
 use Rattle.calculus.specs.Refusal as R

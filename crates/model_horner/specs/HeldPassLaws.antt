@@ -7,7 +7,7 @@ use native.Mathlib.Omega.{arith}
 use lib.Dec.{T, leb}
 use lib.IntN.{ℤ, pos, natAbs}
 use lib.ListN.{length, getD, set}
-use Rattle.fixed.specs.Fixed.{span-limit, capped}
+use Rattle.numbers.specs.Fixed.{span-limit, capped}
 use Rattle.calculus.specs.Model.{most-degree, most-terms, span}
 use Rattle.calculus.specs.Terms.{is-nonzero}
 use Rattle.calculus.specs.Operations.{largest-exponent, part}

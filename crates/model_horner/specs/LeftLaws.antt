@@ -6,7 +6,7 @@ use Prim.Native.Nat.{ℕ}
 use native.Mathlib.Omega.{arith}
 use lib.Dec.{leb}
 use lib.IntN.{ℤ}
-use Rattle.fixed.specs.Fixed.{span-limit}
+use Rattle.numbers.specs.Fixed.{span-limit}
 use Rattle.calculus.specs.Model.{span}
 use Rattle.calculus.specs.Refusal.{at-place}
 use Rattle.calculus.specs.Operations.{limited}

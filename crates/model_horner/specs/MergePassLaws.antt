@@ -6,7 +6,7 @@ use Prim.Native.Nat.{ℕ, _+_, _-_, _^_, _≤_, _<_, min}
 use native.Mathlib.Omega.{arith}
 use lib.IntN.{ℤ, pos, natAbs}
 use lib.ListN.{length, getD, set}
-use Rattle.fixed.specs.FixedLaws.{span-fits}
+use Rattle.numbers.specs.FixedLaws.{span-fits}
 use Rattle.calculus.specs.Model.{most-degree, most-terms}
 use Rattle.calculus.specs.Terms.{is-nonzero}
 use Rattle.model_types.specs.declared.Term.{Term}

@@ -5,7 +5,7 @@ ghost use mathlib.Core.List.{List};
 ghost use Prim.Native.Nat.{ℕ, _≤_, max};
 ghost use lib.Dec.{leb};
 ghost use lib.ListN.{length};
-ghost use Rattle.fixed.specs.Fixed.{«span-limit»};
+ghost use Rattle.numbers.specs.Fixed.{«span-limit»};
 ghost use Rattle.calculus.specs.Model.{span};
 ghost use Rattle.calculus.specs.Refusal.{«at-place»};
 ghost use Rattle.calculus.specs.Operations.{«largest-exponent», part, limited};

@@ -1,6 +1,6 @@
 -- How many parts of the common denominator an integral can have.
 use Prim.Native.Nat.{ℕ, _*_}
-use Rattle.fixed.specs.Fixed.{span-limit}
+use Rattle.numbers.specs.Fixed.{span-limit}
 use Rattle.calculus.specs.Model.{Model}
 use Rattle.calculus.specs.Operations.{common-denominator, mixed-part, exact-ends, Integral}
 

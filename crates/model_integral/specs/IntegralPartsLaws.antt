@@ -10,10 +10,10 @@ use lib.Dec.{eqb, lit<}
 use lib.IntN.{ℤ, pos, natAbs, negℤ, _+ℤ_, _-ℤ_, _*ℤ_}
 use Rattle.algebra.specs.Integer.{is, natAbs-mul, natAbs-bound, natAbs-apart, natAbs-add, natAbs-neg}
 use Rattle.polynomial.specs.Integral.{all-even, divisor}
-use Rattle.fixed.specs.Computing.{numbers}
-use Rattle.fixed.specs.Division.{floor, ceiling, remainder}
-use Rattle.fixed.specs.DivisionLaws.{division, remainder-lt}
-use Rattle.fixed.specs.Fixed.{span-limit}
+use Rattle.numbers.specs.Computing.{numbers}
+use Rattle.numbers.specs.Division.{floor, ceiling, remainder}
+use Rattle.numbers.specs.DivisionLaws.{division, remainder-lt}
+use Rattle.numbers.specs.Fixed.{span-limit}
 use Rattle.calculus.specs.Terms.{Terms, select, sum-over, sum-ℕ, size}
 use Rattle.calculus.specs.Model.{Model, span}
 use Rattle.calculus.specs.Operations.{common-denominator, has-exact, integral-parts, mixed-part, zero-mixed, exact-part}

@@ -3,7 +3,7 @@ ghost use mathlib.Core.Path.{_≡_};
 ghost use Prim.Native.Nat.{_*_, _/_, _^_, _<_, _≤_};
 ghost use lib.Dec.{T};
 ghost use lib.IntN.{pos, natAbs, _*ℤ_};
-ghost use Rattle.fixed.specs.Division.{floor, remainder};
+ghost use Rattle.numbers.specs.Division.{floor, remainder};
 ghost use Rattle.calculus.specs.Model.{«most-degree», sound};
 ghost use Rattle.calculus.specs.Refusal.{done};
 ghost use Rattle.calculus.specs.Operations.{«common-denominator», «integral-parts», «one-if-any», «whole-integral»};

@@ -8,9 +8,9 @@ use lib.Dec.{lit<}
 use lib.IntN.{ℤ, pos, natAbs, _*ℤ_}
 use Rattle.algebra.specs.Integer.{natAbs-mul}
 use Rattle.polynomial.specs.Integral.{all-even, divisor}
-use Rattle.fixed.specs.DivisionLaws.{floor-le-abs, ceiling-le-abs}
-use Rattle.fixed.specs.Fixed.{span-limit}
-use Rattle.fixed.specs.FixedLaws.{span-fits}
+use Rattle.numbers.specs.DivisionLaws.{floor-le-abs, ceiling-le-abs}
+use Rattle.numbers.specs.Fixed.{span-limit}
+use Rattle.numbers.specs.FixedLaws.{span-fits}
 use Rattle.calculus.specs.Key.{key-width}
 use Rattle.calculus.specs.Terms.{Terms, select, sum-over, sum-ℕ, size}
 use Rattle.calculus.specs.Model.{Model, span}

@@ -2,7 +2,7 @@
 use mathlib.Core.Bool.{Bool, true, false}
 use Prim.Native.Nat.{ℕ}
 use lib.IntN.{ℤ}
-use Rattle.fixed.specs.Division.{floor, ceiling}
+use Rattle.numbers.specs.Division.{floor, ceiling}
 
 -- up or down
 unfoldable pub rule : (up : Bool) → ℤ → ℕ → ℤ

@@ -8,8 +8,8 @@ use borrow.Author.Tests.{le-leb, lt-leb}
 use lib.Dec.{T, leb}
 use lib.IntN.{natAbs}
 use lib.ListN.{length, getD}
-use Rattle.fixed.specs.Fixed.{span-limit, capped}
-use Rattle.fixed.specs.FixedLaws.{capped-same, capped-more, capped-above, capped-within}
+use Rattle.numbers.specs.Fixed.{span-limit, capped}
+use Rattle.numbers.specs.FixedLaws.{capped-same, capped-more, capped-above, capped-within}
 use Rattle.calculus.specs.Key.{key-width}
 use Rattle.calculus.specs.Terms.{Terms, every, size, sum-over}
 use Rattle.calculus.specs.Model as C

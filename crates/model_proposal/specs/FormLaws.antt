@@ -4,7 +4,7 @@ use mathlib.Core.Bool.{true}
 use Prim.Native.Nat.{ℕ, _≤_}
 use native.Mathlib.Omega.{arith}
 use lib.Dec.{T, lit<}
-use Rattle.fixed.specs.FixedLaws.{U-within}
+use Rattle.numbers.specs.FixedLaws.{U-within}
 use Rattle.calculus.specs.Monomial.{zeros}
 use Rattle.calculus.specs.Key.{key-width, key}
 use Rattle.calculus_laws.specs.MonomialKeyLaws.{word-key, key-monomial, monomial-zero}

@@ -1,7 +1,7 @@
 -- What the forms of a proposal certify, and what is asked where the first one's bound is known.
 use Prim.Native.Nat.{ℕ, _≤_}
 use lib.Dec.{T}
-use Rattle.fixed.specs.Fixed.{span-limit}
+use Rattle.numbers.specs.Fixed.{span-limit}
 use Rattle.calculus.specs.Model as C
 use Rattle.calculus.specs.Model.{sound}
 use Rattle.calculus.specs.Refusal as R

@@ -10,9 +10,9 @@ use lib.IntN.{pos, negℤ}
 use lib.ListN.{length, take, getD, set, length-append}
 use lib.Seq.{length-take-le, take-all, set-set}
 use Rattle.algebra.specs.Integer.{natAbs-neg, natAbs-add}
-use Rattle.fixed.specs.Division.{divided-up}
-use Rattle.fixed.specs.Fixed.{U, span-limit}
-use Rattle.fixed.specs.FixedLaws.{U-within, span-square-fits}
+use Rattle.numbers.specs.Division.{divided-up}
+use Rattle.numbers.specs.Fixed.{U, span-limit}
+use Rattle.numbers.specs.FixedLaws.{U-within, span-square-fits}
 use Rattle.calculus.specs.Key.{key-width}
 use Rattle.calculus.specs.Model as C
 use Rattle.calculus.specs.Model.{most-degree, most-terms, sound, span}

@@ -5,7 +5,7 @@ use native.Mathlib.Omega.{arith}
 use lib.Dec.{T, lit<}
 use lib.IntN.{ℤ}
 use lib.ListN.{length, length-map}
-use Rattle.fixed.specs.Fixed.{round-up}
+use Rattle.numbers.specs.Fixed.{round-up}
 use Rattle.calculus.specs.Key.{key-width}
 use Rattle.calculus.specs.Terms.{term, every, map-coefficients, is-nonzero, drop-zeros}
 use Rattle.calculus_laws.specs.TermsLaws.{every-select, every-map-coefficients, length-select}

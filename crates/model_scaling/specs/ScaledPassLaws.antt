@@ -9,8 +9,8 @@ use lib.Dec.{T, lit<}
 use lib.IntN.{ℤ, _*ℤ_, natAbs}
 use lib.ListN.{length, getD, set, length-map, length-append}
 use Rattle.polynomial.specs.Polynomial as P
-use Rattle.fixed.specs.Fixed.{U, span-limit, residual}
-use Rattle.fixed.specs.FixedLaws.{residual-le, span-fits, U-within, span-square-fits}
+use Rattle.numbers.specs.Fixed.{U, span-limit, residual}
+use Rattle.numbers.specs.FixedLaws.{residual-le, span-fits, U-within, span-square-fits}
 use Rattle.calculus.specs.Key.{key-limit}
 use Rattle.calculus.specs.Terms.{Terms, term, select, sum-over, sum-ℕ, size, map-coefficients, is-nonzero, drop-zeros}
 use Rattle.calculus_laws.specs.TermsLaws.{length-select}

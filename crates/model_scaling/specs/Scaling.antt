@@ -2,7 +2,7 @@
 use Prim.Native.Nat.{ℕ, _+_, _*_, _≤_}
 use lib.Dec.{T}
 use lib.IntN.{ℤ, _*ℤ_, natAbs}
-use Rattle.fixed.specs.Fixed.{U, round, residual}
+use Rattle.numbers.specs.Fixed.{U, round, residual}
 use Rattle.calculus.specs.Terms.{Terms, sum-ℕ, map-coefficients, drop-zeros}
 use Rattle.calculus.specs.Model as C
 use Rattle.calculus.specs.Model.{most-degree, sound}

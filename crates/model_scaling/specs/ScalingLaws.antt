@@ -10,8 +10,8 @@ use lib.ListN.{length}
 use Rattle.algebra.specs.IntegerRing.{ℤR}
 use Rattle.algebra.specs.RingLaws.{*-zero}
 use Rattle.polynomial.specs.Polynomial.{Term, add-exponents, times, product}
-use Rattle.fixed.specs.Fixed.{round, residual, round-up}
-use Rattle.fixed.specs.FixedLaws.{round-zero, residual-zero}
+use Rattle.numbers.specs.Fixed.{round, residual, round-up}
+use Rattle.numbers.specs.FixedLaws.{round-zero, residual-zero}
 use Rattle.calculus.specs.Monomial.{degree, zeros}
 use Rattle.calculus.specs.Terms.{Terms, term, every, select, sum-over, sum-ℕ, size, map-coefficients, rising}
 use Rattle.calculus.specs.Terms.{is-nonzero}

@@ -9,7 +9,7 @@ use lib.Dec.{T, eqb, leb, leb→le}
 use lib.IntN.{ℤ, pos, natAbs}
 use lib.ListN.{length, getD, length-append, length-replicate}
 use Rattle.calculus.specs.Key.{key-limit}
-use Rattle.fixed.specs.Fixed.{span-limit, capped}
+use Rattle.numbers.specs.Fixed.{span-limit, capped}
 use Rattle.calculus.specs.Model.{most-terms, sound}
 use Rattle.calculus.specs.Tests.{vars-sound}
 use Rattle.calculus_laws.specs.TestLaws.{and-left, and-right}

@@ -12,8 +12,8 @@ use lib.ListN.{length, take, drop, getD}
 use Rattle.polynomial.specs.Polynomial as P
 use Rattle.calculus.specs.Monomial.{less}
 use Rattle.calculus.specs.Key.{key-width, key-limit, key-fits, monomial-of}
-use Rattle.fixed.specs.Fixed.{span-limit, capped}
-use Rattle.fixed.specs.FixedLaws.{capped-more, capped-within}
+use Rattle.numbers.specs.Fixed.{span-limit, capped}
+use Rattle.numbers.specs.FixedLaws.{capped-more, capped-within}
 use Rattle.calculus.specs.Terms.{Terms, every, is-nonzero, nonzero, rising-from, rising, sum-over, size}
 use Rattle.calculus.specs.Model.{most-vars, most-terms, between, span, fits, sound}
 use Rattle.calculus.specs.Tests.{vars-sound}

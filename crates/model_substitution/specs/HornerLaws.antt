@@ -4,7 +4,7 @@ use mathlib.Core.Bool.{true, false}
 use Prim.Native.Nat.{ℕ, zero, suc, _-_, _^_, _≤_, _<_}
 use native.Mathlib.Omega.{arith}
 use lib.Dec.{lit<}
-use Rattle.fixed.specs.Fixed.{span-limit}
+use Rattle.numbers.specs.Fixed.{span-limit}
 use Rattle.calculus.specs.Model as C
 use Rattle.calculus.specs.Model.{span}
 use Rattle.calculus.specs.Refusal as R

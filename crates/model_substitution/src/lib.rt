@@ -1,7 +1,7 @@
 // Substitution by Horner's rule.
 ghost use mathlib.Core.Path.{_≡_};
 ghost use Prim.Native.Nat.{_*_, _^_, _≤_, _<_};
-ghost use Rattle.fixed.specs.Fixed.{«span-limit»};
+ghost use Rattle.numbers.specs.Fixed.{«span-limit»};
 ghost use Rattle.calculus.specs.Model.{«most-terms»};
 ghost use Rattle.calculus.specs.Refusal.{«at-place»};
 ghost use Rattle.calculus.specs.Operations.{substitute};

@@ -14,7 +14,7 @@ use lib.ListN.{List·getD-map}
 use lib.Seq.{length-take-le, drop-cons, getD-take}
 use Rattle.algebra.specs.Integer.{natAbs-add}
 use Rattle.polynomial.specs.Polynomial as P
-use Rattle.fixed.specs.Fixed.{U, span-limit}
+use Rattle.numbers.specs.Fixed.{U, span-limit}
 use Rattle.calculus.specs.Key.{key-width, key-limit, key, key-fits, monomial-of}
 use Rattle.calculus.specs.Key.{Below}
 use Rattle.calculus_laws.specs.KeyLaws.{below-degree}

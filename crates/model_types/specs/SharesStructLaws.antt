@@ -3,8 +3,8 @@ use mathlib.Core.Path.{_≡_, refl, sym, _∙_, ap, ap₂}
 use Prim.Native.Nat.{ℕ, _*_, _^_, _≤_, _<_}
 use native.Mathlib.Nat as NatL
 use native.Mathlib.Omega.{arith}
-use Rattle.fixed.specs.Fixed.{U, span-limit}
-use Rattle.fixed.specs.FixedLaws.{U-within, span-square-fits}
+use Rattle.numbers.specs.Fixed.{U, span-limit}
+use Rattle.numbers.specs.FixedLaws.{U-within, span-square-fits}
 use Rattle.calculus.specs.Model as C
 use Rattle.calculus.specs.Model.{zero-model}
 use Rattle.calculus.specs.Refusal as R

@@ -1,7 +1,7 @@
 // Models held in memory: their types, the answers of a refused call, and the models of constants and variables.
 ghost use mathlib.Core.Path.{_≡_};
 ghost use Prim.Native.Nat.{_+_, _*_, _^_, _≤_, _<_};
-ghost use Rattle.fixed.specs.Fixed.{U, «span-limit»};
+ghost use Rattle.numbers.specs.Fixed.{U, «span-limit»};
 ghost use Rattle.calculus.specs.Key.{«key-width»};
 ghost use Rattle.calculus.specs.Model.{«zero-model», between};
 ghost use Rattle.calculus.specs.Model as C;

@@ -7,7 +7,7 @@ use native.Mathlib.Omega.{arith}
 use lib.Dec.{T}
 use lib.IntN.{ℤ}
 use lib.ListN.{length}
-use Rattle.fixed.specs.Fixed.{round-up}
+use Rattle.numbers.specs.Fixed.{round-up}
 use Rattle.calculus.specs.Key.{key-width}
 use Rattle.calculus.specs.Terms.{every, drop-zeros}
 use Rattle.calculus.specs.Model as C

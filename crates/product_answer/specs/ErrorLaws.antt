@@ -9,8 +9,8 @@ use lib.IntN.{ℤ, natAbs}
 use Rattle.algebra.specs.Integer.{natAbs-add}
 use Rattle.algebra.specs.IntegerRing.{ℤR}
 use Rattle.polynomial.specs.Polynomial.{Term, product}
-use Rattle.fixed.specs.Fixed.{U, span-limit, residual, round-up}
-use Rattle.fixed.specs.FixedLaws.{U-within, span-fits, span-square-fits, residual-le-abs, round-up-least}
+use Rattle.numbers.specs.Fixed.{U, span-limit, residual, round-up}
+use Rattle.numbers.specs.FixedLaws.{U-within, span-fits, span-square-fits, residual-le-abs, round-up-least}
 use Rattle.calculus.specs.Monomial.{degree}
 use Rattle.calculus.specs.Terms.{Terms, sum-over, sum-ℕ, size, insert, collect}
 use Rattle.calculus.specs.Model.{Model, span}

@@ -1,6 +1,6 @@
 -- The shares of a product's error E by themselves.
 use Prim.Native.Nat.{ℕ, _+_, _-_, _*_}
-use Rattle.fixed.specs.Fixed.{U, round-up}
+use Rattle.numbers.specs.Fixed.{U, round-up}
 use Rattle.calculus.specs.Shares.{Shares}
 
 -- three shares of E, and what rounding E up adds

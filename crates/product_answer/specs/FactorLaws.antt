@@ -9,8 +9,8 @@ use lib.IntN.{ℤ}
 use lib.ListN.{length}
 use Rattle.algebra.specs.IntegerRing.{ℤR}
 use Rattle.polynomial.specs.Polynomial.{product}
-use Rattle.fixed.specs.Fixed.{span-limit}
-use Rattle.fixed.specs.FixedLaws.{span-square-fits}
+use Rattle.numbers.specs.Fixed.{span-limit}
+use Rattle.numbers.specs.FixedLaws.{span-square-fits}
 use Rattle.calculus.specs.Key.{key-width}
 use Rattle.calculus.specs.Terms.{every, size}
 use Rattle.calculus.specs.Model.{most-terms, most-degree, fits, sound, span}

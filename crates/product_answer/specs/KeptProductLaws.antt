@@ -9,8 +9,8 @@ use lib.Dec.{leb}
 use lib.IntN.{ℤ, pos, natAbs}
 use lib.ListN.{length, getD, length-map}
 use lib.Seq.{set-getD}
-use Rattle.fixed.specs.Fixed.{span-limit, capped, round-up}
-use Rattle.fixed.specs.FixedLaws.{capped-more, capped-within}
+use Rattle.numbers.specs.Fixed.{span-limit, capped, round-up}
+use Rattle.numbers.specs.FixedLaws.{capped-more, capped-within}
 use Rattle.calculus.specs.Terms.{Terms, size, sum-over}
 use Rattle.calculus_laws.specs.SumLaws.{ℕ-addition, sum-snoc}
 use Rattle.calculus.specs.Model.{most-terms, span, zero-model}

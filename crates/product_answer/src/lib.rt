@@ -5,7 +5,7 @@ ghost use mathlib.Core.List.{List};
 ghost use Prim.Native.Nat.{ℕ, _+_, _*_, _^_, _<_, _≤_};
 ghost use lib.Dec.{leb};
 ghost use lib.ListN.{length};
-ghost use Rattle.fixed.specs.Fixed.{«round-up», «span-limit»};
+ghost use Rattle.numbers.specs.Fixed.{«round-up», «span-limit»};
 ghost use Rattle.calculus.specs.Terms.{size};
 ghost use Rattle.calculus.specs.Operations.{multiply};
 ghost use Rattle.calculus.specs.Shares.{«product-shares»};

@@ -2,7 +2,7 @@
 use mathlib.Core.Bool.{true, false, not}
 use Prim.Native.Nat.{ℕ, _+_}
 use lib.Dec.{leb}
-use Rattle.fixed.specs.Fixed.{round, residual}
+use Rattle.numbers.specs.Fixed.{round, residual}
 use Rattle.calculus.specs.Terms.{Terms, select, sum-ℕ, size, map-coefficients, drop-zeros}
 use Rattle.calculus.specs.Model.{most-terms}
 use Rattle.product_gathering.specs.declared.Gathered.{Gathered}

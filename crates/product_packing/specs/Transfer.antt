@@ -6,7 +6,7 @@ use lib.IntN.{ℤ}
 use lib.ListN.{length, getD}
 use Rattle.polynomial.specs.Polynomial as P
 use Rattle.polynomial.specs.Polynomial.{exponent}
-use Rattle.fixed.specs.Fixed.{span-limit}
+use Rattle.numbers.specs.Fixed.{span-limit}
 use Rattle.calculus.specs.Key.{key-width, Below}
 use Rattle.calculus.specs.Terms.{Terms, size}
 use Rattle.calculus.specs.Model.{most-terms, span}

@@ -6,7 +6,7 @@ use native.Mathlib.Omega.{arith}
 use lib.IntN.{ℤ, pos, natAbs}
 use lib.ListN.{length, getD, set, List·getD-append}
 use lib.Seq.{set-getD}
-use Rattle.fixed.specs.FixedLaws.{span-fits}
+use Rattle.numbers.specs.FixedLaws.{span-fits}
 use Rattle.calculus.specs.Key.{key-limit}
 use Rattle.calculus.specs.Model.{most-terms}
 use Rattle.model_keys.specs.Keys.{widened}

@@ -11,7 +11,7 @@ use Rattle.algebra.specs.Ordered.{abs}
 use Rattle.algebra.specs.Rational.{ℚ, _*ℚ_, _≤ℚ_, whole}
 use Rattle.algebra.specs.RationalRing.{ℚR}
 use Rattle.algebra.specs.RationalOrder.{ℚO}
-use Rattle.fixed.specs.Fixed.{U}
+use Rattle.numbers.specs.Fixed.{U}
 use Rattle.calculus.specs.Computing.{calls}
 use Rattle.calculus.specs.Model.{Model, _/U, _-ℚ_, Point, Within}
 use Rattle.calculus.specs.Refusal.{done}

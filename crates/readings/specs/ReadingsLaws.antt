@@ -14,7 +14,7 @@ use lib.Signed.{leZ, ltZ, _≤ℤ_, leZ-yes, ltZ-yes, ltZ-no, ≤ℤ-refl, <ℤ-
 use Rattle.algebra.specs.Rational.{ℚ, _*ℚ_, _≤ℚ_, whole}
 use Rattle.algebra.specs.RationalLaws.{≤-whole}
 use Rattle.algebra.specs.RationalOrder.{≤ℚ-trans}
-use Rattle.fixed.specs.Fixed.{U}
+use Rattle.numbers.specs.Fixed.{U}
 use Rattle.calculus.specs.Model.{Model, most-degree, sound, Point, Within}
 use Rattle.calculus.specs.Refusal.{Refusal, bad-model, bad-step, leaves-box, bad-reading, Result, done, stopped}
 use Rattle.calculus.specs.Refusal.{require-at, require-each, _followed-by_}

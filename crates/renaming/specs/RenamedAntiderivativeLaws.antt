@@ -8,7 +8,7 @@ use lib.Dec.{eqb, leb, eqb→eq}
 use lib.IntN.{ℤ, natAbs}
 use lib.ListN.{length}
 use Rattle.polynomial.specs.Polynomial.{exponent}
-use Rattle.fixed.specs.Division.{divided-up, nearest}
+use Rattle.numbers.specs.Division.{divided-up, nearest}
 use Rattle.calculus.specs.Monomial.{degree, index-of}
 use Rattle.calculus.specs.Model.{Model}
 use Rattle.calculus.specs.Operations.{is-inexact, growth-rounding, growth-swept, antiderivative}

@@ -9,8 +9,8 @@ use lib.IntN.{ℤ, pos, _+ℤ_, _-ℤ_, _*ℤ_, natAbs}
 use lib.ListN.{length}
 use lib.Signed.{leZ}
 use Rattle.polynomial.specs.Integral.{all-even, divisor}
-use Rattle.fixed.specs.Fixed.{span-limit}
-use Rattle.fixed.specs.Division.{floor, ceiling, remainder}
+use Rattle.numbers.specs.Fixed.{span-limit}
+use Rattle.numbers.specs.Division.{floor, ceiling, remainder}
 use Rattle.calculus.specs.Terms.{Terms, select, sum-ℤ, size}
 use Rattle.calculus.specs.Model.{Model, most-terms, span, fits}
 use Rattle.calculus.specs.Refusal.{accepted, require, over-span, too-many-terms}

@@ -5,7 +5,7 @@ use mathlib.Core.List.{List, [], _∷_, _++_}
 use Prim.Native.Nat.{ℕ, _+_, _<_}
 use lib.Dec.{leb}
 use lib.IntN.{ℤ, pos, negℤ, _+ℤ_, natAbs}
-use Rattle.fixed.specs.Fixed.{U}
+use Rattle.numbers.specs.Fixed.{U}
 use Rattle.calculus.specs.Monomial.{zeros, index-of, single}
 use Rattle.calculus.specs.Terms.{Terms, term, select, map-coefficients, map-monomials, is-nonzero, drop-zeros, insert}
 use Rattle.calculus.specs.Terms.{collect}

@@ -8,7 +8,7 @@ use lib.IntN.{ℤ, _*ℤ_, natAbs}
 use lib.ListN.{length}
 use Rattle.algebra.specs.IntegerRing.{ℤR}
 use Rattle.polynomial.specs.Polynomial.{add-exponents, product}
-use Rattle.fixed.specs.Fixed.{round, residual, round-up}
+use Rattle.numbers.specs.Fixed.{round, residual, round-up}
 use Rattle.calculus.specs.Monomial.{degree}
 use Rattle.calculus.specs.Terms.{Terms, select, size, is-nonzero, distinct, drop-zeros}
 use Rattle.calculus.specs.Model.{Model}

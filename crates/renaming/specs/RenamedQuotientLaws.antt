@@ -3,8 +3,8 @@ use mathlib.Core.Path.{_≡_, refl, sym, _∙_, ap, ap₂, subst}
 use Prim.Native.Nat.{ℕ}
 use lib.Dec.{ltb}
 use lib.IntN.{pos}
-use Rattle.fixed.specs.Fixed.{U}
-use Rattle.fixed.specs.FixedLaws.{U-within}
+use Rattle.numbers.specs.Fixed.{U}
+use Rattle.numbers.specs.FixedLaws.{U-within}
 use Rattle.calculus.specs.Model.{Model, one-model}
 use Rattle.calculus.specs.Refusal.{uncertified, Answer, require, _then_}
 use Rattle.calculus.specs.Operations.{subtract, multiply, widen, bare, defect, deviation, largest-value}

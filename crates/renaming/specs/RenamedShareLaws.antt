@@ -6,7 +6,7 @@ use Prim.Native.Nat.{ℕ, zero, suc, _-_, _*_, _<_}
 use lib.Dec.{T, ltb}
 use lib.IntN.{natAbs}
 use lib.ListN.{length}
-use Rattle.fixed.specs.Fixed.{U, round-up}
+use Rattle.numbers.specs.Fixed.{U, round-up}
 use Rattle.calculus.specs.Monomial.{index-of}
 use Rattle.calculus.specs.Model.{Model}
 use Rattle.calculus.specs.Refusal.{Answer, accepted, refused, _then_, done, all-from}

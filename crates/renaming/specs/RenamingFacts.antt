@@ -10,7 +10,7 @@ use lib.IntN.{ℤ, pos, _+ℤ_, _-ℤ_, natAbs}
 use lib.ListN.{getD}
 use lib.Signed.{leZ}
 use Rattle.polynomial.specs.Integral.{even, first}
-use Rattle.fixed.specs.Fixed.{U}
+use Rattle.numbers.specs.Fixed.{U}
 use Rattle.calculus.specs.Monomial.{degree}
 use Rattle.calculus.specs.Terms.{size, select}
 use Rattle.calculus.specs.Model.{Model}

@@ -8,7 +8,7 @@ use mathlib.Core.Option.{some}
 use Prim.Native.Nat.{ℕ, _+_, _-_, _<_, _≤_}
 use lib.Dec.{T, ltb}
 use lib.ListN.{length, getElem?}
-use Rattle.fixed.specs.Fixed.{span-limit}
+use Rattle.numbers.specs.Fixed.{span-limit}
 use Rattle.calculus.specs.Terms.{size}
 use Rattle.calculus.specs.Model as C
 use Rattle.calculus.specs.Model.{zero-model}

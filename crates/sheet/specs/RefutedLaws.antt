@@ -9,7 +9,7 @@ use native.Mathlib.Omega.{arith}
 use lib.Dec.{T, eqb}
 use lib.IntN.{pos, _+ℤ_, natAbs}
 use lib.ListN.{length, getD}
-use Rattle.fixed.specs.Fixed.{span-limit}
+use Rattle.numbers.specs.Fixed.{span-limit}
 use Rattle.calculus.specs.Key as K
 use Rattle.calculus.specs.Key.{key-width}
 use Rattle.calculus.specs.Terms.{size, every}

@@ -6,7 +6,7 @@ use native.Mathlib.Omega.{arith}
 use lib.Dec.{T}
 use lib.IntN.{natAbs}
 use lib.ListN.{length, getD}
-use Rattle.fixed.specs.FixedLaws.{span-four-bytes}
+use Rattle.numbers.specs.FixedLaws.{span-four-bytes}
 use Rattle.calculus.specs.Terms.{sum-over, size}
 use Rattle.calculus.specs.Model.{most-terms}
 use Rattle.calculus.specs.Book as C

@@ -14,7 +14,7 @@ use lib.Signed.{nonNeg}
 use lib.ListN.{length, drop, getD, set, replicate, length-map, length-replicate, getD-replicate, drop-of-length-le}
 use lib.ListN.{List·getD-map, List·getD-append, length-append}
 use lib.Seq.{drop-cons, ext-getD, getD-at}
-use Rattle.fixed.specs.Fixed.{span-limit}
+use Rattle.numbers.specs.Fixed.{span-limit}
 use Rattle.calculus.specs.Model as C
 use Rattle.calculus.specs.Model.{most-degree, most-terms, zero-model, sound}
 use Rattle.calculus.specs.Refusal as R

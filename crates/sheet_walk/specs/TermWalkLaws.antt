@@ -9,7 +9,7 @@ use lib.Dec.{leb}
 use lib.IntN.{pos, natAbs}
 use lib.ListN.{length, getD, drop, length-map, List·getD-append, List·getD-map}
 use lib.Seq.{drop-drop}
-use Rattle.fixed.specs.Fixed.{span-limit, capped}
+use Rattle.numbers.specs.Fixed.{span-limit, capped}
 use Rattle.calculus.specs.Key.{key-width, key-limit}
 use Rattle.calculus.specs.Model.{most-terms, sound}
 use Rattle.calculus.specs.Tests.{vars-sound}

@@ -7,10 +7,10 @@ use mir.Facts.{toZ-ofZ}
 use mir.Syntax.{w64}
 use mir.Val.{SFits, toZ, ofZ}
 use Rattle.algebra.specs.Integer.{is, is-mul, is-nat}
-use Rattle.fixed.specs.Division.{floor, remainder}
-use Rattle.fixed.specs.DivisionLaws.{division, remainder-is, remainder-lt}
-use Rattle.fixed.specs.Fixed.{U}
-use Rattle.fixed.specs.FixedLaws.{U-pos}
+use Rattle.numbers.specs.Division.{floor, remainder}
+use Rattle.numbers.specs.DivisionLaws.{division, remainder-is, remainder-lt}
+use Rattle.numbers.specs.Fixed.{U}
+use Rattle.numbers.specs.FixedLaws.{U-pos}
 use Rattle.fixed.specs.MachineLaws.{fits-range, range-of, fits-size}
 use Rattle.fixed.proofs.above_whole_units.Statement.{statement}
 use Rattle.fixed.proofs.above_whole_units.Tie as tie

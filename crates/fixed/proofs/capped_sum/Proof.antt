@@ -1,7 +1,7 @@
 -- `capped_sum` is the capped sum: what would exceed the limit is never added.
 use native.Mathlib.Omega.{arith}
 use borrow.Author.Needs.{needs}
-use Rattle.fixed.specs.Fixed.{span-limit, capped}
+use Rattle.numbers.specs.Fixed.{span-limit, capped}
 use Rattle.fixed.proofs.capped_sum.Statement.{statement}
 use Rattle.fixed.proofs.capped_sum.Tie as tie
 

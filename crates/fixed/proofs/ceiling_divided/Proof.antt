@@ -7,8 +7,8 @@ use mir.Facts.{toZ-ofZ}
 use mir.Syntax.{w64}
 use mir.Val.{toZ, ofZ}
 use Rattle.algebra.specs.Integer.{natAbs-neg}
-use Rattle.fixed.specs.Division.{floor, ceiling}
-use Rattle.fixed.specs.DivisionLaws.{floor-le-abs}
+use Rattle.numbers.specs.Division.{floor, ceiling}
+use Rattle.numbers.specs.DivisionLaws.{floor-le-abs}
 use Rattle.fixed.specs.MachineLaws.{answered}
 use Rattle.fixed.proofs.ceiling_divided.Statement.{statement}
 use Rattle.fixed.proofs.ceiling_divided.Tie as tie

@@ -2,7 +2,7 @@
 use Prim.Native.Nat.{_<_, _%_}
 use native.Mathlib.Omega.{arith}
 use borrow.Author.Needs.{needs}
-use Rattle.fixed.specs.DivisionLaws.{divided-up-exact, divided-up-inexact, inexact-below}
+use Rattle.numbers.specs.DivisionLaws.{divided-up-exact, divided-up-inexact, inexact-below}
 use Rattle.fixed.proofs.divided_up.Statement.{statement}
 use Rattle.fixed.proofs.divided_up.Tie as tie
 

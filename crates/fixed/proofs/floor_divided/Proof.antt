@@ -7,7 +7,7 @@ use borrow.Author.Needs.{needs}
 use lib.IntN.{pos, negsuc, natAbs, _-ℤ_}
 use lib.Signed.{mag}
 use mir.Facts.{toZ-ofZ}
-use Rattle.fixed.specs.Division.{floor}
+use Rattle.numbers.specs.Division.{floor}
 use Rattle.fixed.specs.MachineLaws.{answered, complement-pos, negative, not-negative}
 use Rattle.fixed.proofs.floor_divided.Statement.{statement}
 use Rattle.fixed.proofs.floor_divided.Tie as tie

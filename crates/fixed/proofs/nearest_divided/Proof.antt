@@ -7,8 +7,8 @@ use lib.IntN.{pos, negℤ, natAbs, negℤ-negℤ}
 use mir.Facts.{toZ-ofZ}
 use mir.Syntax.{w64}
 use mir.Val.{toZ, ofZ}
-use Rattle.fixed.specs.Division.{nearest}
-use Rattle.fixed.specs.NearestLaws.{nearest-neg, nearest-le-abs}
+use Rattle.numbers.specs.Division.{nearest}
+use Rattle.numbers.specs.NearestLaws.{nearest-neg, nearest-le-abs}
 use Rattle.fixed.specs.MachineLaws.{answered, negative, not-negative}
 use Rattle.fixed.proofs.nearest_divided.Statement.{statement}
 use Rattle.fixed.proofs.nearest_divided.Tie as tie

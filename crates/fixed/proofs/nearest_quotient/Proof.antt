@@ -5,9 +5,9 @@ use native.Mathlib.Nat as NatL
 use native.Mathlib.Omega.{arith}
 use borrow.Author.Needs.{needs}
 use lib.IntN.{pos}
-use Rattle.fixed.specs.Division.{floor, remainder, nearest}
-use Rattle.fixed.specs.DivisionLaws.{division}
-use Rattle.fixed.specs.NearestLaws.{nearest-down, nearest-up}
+use Rattle.numbers.specs.Division.{floor, remainder, nearest}
+use Rattle.numbers.specs.DivisionLaws.{division}
+use Rattle.numbers.specs.NearestLaws.{nearest-down, nearest-up}
 use Rattle.fixed.proofs.nearest_quotient.Statement.{statement}
 use Rattle.fixed.proofs.nearest_quotient.Tie as tie
 

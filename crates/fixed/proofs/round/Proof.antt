@@ -9,12 +9,13 @@ use mir.Facts.{toZ-ofZ}
 use mir.Syntax.{w64}
 use mir.Val.{SFits, toZ, ofZ}
 use Rattle.algebra.specs.Integer.{is, is-add, is-nat, is-sub-mul, natAbs-bound, natAbs-apart}
-use Rattle.fixed.specs.Division.{floor, remainder}
-use Rattle.fixed.specs.DivisionLaws.{division, remainder-lt}
-use Rattle.fixed.specs.Fixed.{U, round, rounded}
-use Rattle.fixed.specs.FixedLaws.{U-pos, U-even, round-is, residual-is}
+use Rattle.numbers.specs.Division.{floor, remainder}
+use Rattle.numbers.specs.DivisionLaws.{division, remainder-lt}
+use Rattle.numbers.specs.Fixed.{U, round}
+use Rattle.fixed.specs.RoundedStruct.{rounded}
+use Rattle.numbers.specs.FixedLaws.{U-pos, U-even, round-is, residual-is}
 use Rattle.fixed.specs.MachineLaws.{answered, fits-range, range-of}
-use Rattle.fixed.specs.NearestLaws.{nearest-down, nearest-up}
+use Rattle.numbers.specs.NearestLaws.{nearest-down, nearest-up}
 use Rattle.fixed.proofs.round.Statement.{statement}
 use Rattle.fixed.proofs.round.Tie as tie
 

@@ -1,8 +1,8 @@
 -- `round_up` is E / U rounded up.
 use native.Mathlib.Omega.{arith}
 use borrow.Author.Needs.{needs}
-use Rattle.fixed.specs.Division.{divided-up}
-use Rattle.fixed.specs.Fixed.{U, round-up}
+use Rattle.numbers.specs.Division.{divided-up}
+use Rattle.numbers.specs.Fixed.{U, round-up}
 use Rattle.fixed.proofs.round_up.Statement.{statement}
 use Rattle.fixed.proofs.round_up.Tie as tie
 

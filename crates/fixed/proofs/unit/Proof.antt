@@ -1,7 +1,7 @@
 -- `unit` is U.
 use mathlib.Core.Path.{refl}
 use borrow.Author.Needs.{needs}
-use Rattle.fixed.specs.Fixed.{U}
+use Rattle.numbers.specs.Fixed.{U}
 use Rattle.fixed.proofs.unit.Statement.{statement}
 use Rattle.fixed.proofs.unit.Tie as tie
 

@@ -3,8 +3,8 @@ use borrow.Author.Needs.{needs}
 use lib.Signed.{mag-shr}
 use mir.Facts.{toZ-ofZ}
 use mir.ValLaws.{sfits-le}
-use Rattle.fixed.specs.Division.{floor}
-use Rattle.fixed.specs.Fixed.{U}
+use Rattle.numbers.specs.Division.{floor}
+use Rattle.numbers.specs.Fixed.{U}
 use Rattle.fixed.proofs.whole_units.Statement.{statement}
 use Rattle.fixed.proofs.whole_units.Tie as tie
 

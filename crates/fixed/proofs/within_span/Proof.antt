@@ -1,6 +1,6 @@
 -- `within_span` is the test against the span limit.
 use mathlib.Core.Path.{refl}
-use Rattle.fixed.specs.Fixed.{span-limit}
+use Rattle.numbers.specs.Fixed.{span-limit}
 use Rattle.fixed.proofs.within_span.Statement.{statement}
 use Rattle.fixed.proofs.within_span.Tie as tie
 

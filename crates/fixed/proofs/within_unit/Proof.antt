@@ -1,7 +1,7 @@
 -- `within_unit` is the test of the size against the unit.
 use borrow.Author.Needs.{needs}
 use mir.Facts.{toZ-ofZ}
-use Rattle.fixed.specs.Fixed.{U}
+use Rattle.numbers.specs.Fixed.{U}
 use Rattle.fixed.proofs.within_unit.Statement.{statement}
 use Rattle.fixed.proofs.within_unit.Tie as tie
 

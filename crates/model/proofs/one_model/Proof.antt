@@ -1,6 +1,6 @@
 -- `Model::ONE` is the model of 1 in one variable.
 use mathlib.Core.Path.{refl}
-use Rattle.fixed.specs.Computing.{numbers}
+use Rattle.numbers.specs.Computing.{numbers}
 use Rattle.calculus.specs.Monomial.{zeros}
 use Rattle.calculus.specs.Key.{encode, key-width}
 use Rattle.calculus.specs.Model.{one-model, most-terms}

@@ -4,7 +4,7 @@ use Prim.Native.Nat.{ℕ, _+_, _-_, _<_, _≤_, min}
 use native.Mathlib.Omega.{arith}
 use borrow.Author.Needs.{needs}
 use lib.ListN.{getD, length-map}
-use Rattle.fixed.specs.FixedLaws.{span-fits}
+use Rattle.numbers.specs.FixedLaws.{span-fits}
 use Rattle.calculus.specs.Model.{most-degree, most-terms}
 use Rattle.model_types.specs.Arrays.{padded}
 use Rattle.model_types.specs.declared.Term.{Term}

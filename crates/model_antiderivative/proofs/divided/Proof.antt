@@ -4,7 +4,7 @@ use borrow.Author.Needs.{needs}
 use borrow.Author.Tests.{not-true, not-false}
 use native.Mathlib.Omega.{arith}
 use mir.Facts.{toZ-ofZ}
-use Rattle.fixed.specs.Division.{nearest}
+use Rattle.numbers.specs.Division.{nearest}
 use Rattle.fixed.specs.MachineLaws.{answered}
 use Rattle.calculus_laws.specs.SumLaws.{if-so}
 use Rattle.model_antiderivative.specs.Antiderivatives.{key-coefficient}

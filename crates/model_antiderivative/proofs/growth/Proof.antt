@@ -6,7 +6,7 @@ use borrow.Author.Tests.{not-true, not-false, eq-eqb, ne-eqb}
 use native.Mathlib.Omega.{arith}
 use lib.IntN.{natAbs}
 use mir.Facts.{toZ-ofZ}
-use Rattle.fixed.specs.Division.{divided-up}
+use Rattle.numbers.specs.Division.{divided-up}
 use Rattle.calculus_laws.specs.SumLaws.{if-so}
 use Rattle.model_keys.specs.Keys.{key-exponent}
 use Rattle.model_antiderivative.specs.Antiderivatives.{key-rounding, key-growth}

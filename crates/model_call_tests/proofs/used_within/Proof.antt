@@ -10,7 +10,7 @@ use lib.ListN.{length, take, drop, getD}
 use mir.Facts.{toZ-ofZ}
 use mir.Syntax.{w64}
 use mir.Val.{toZ, ofZ}
-use Rattle.fixed.specs.Fixed.{U}
+use Rattle.numbers.specs.Fixed.{U}
 use Rattle.calculus.specs.Key.{key-width}
 use Rattle.calculus.specs.Tests.{all-in-unit}
 use Rattle.model_call_tests.specs.CoordinateLaws.{unit-next, unit-fails, unit-end}

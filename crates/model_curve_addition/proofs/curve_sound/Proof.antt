@@ -8,7 +8,7 @@ use lib.ListN.{length, getD, length-map}
 use mir.Facts.{toZ-ofZ}
 use mir.Syntax.{w64}
 use mir.Val.{toZ, ofZ}
-use Rattle.fixed.specs.Fixed.{capped}
+use Rattle.numbers.specs.Fixed.{capped}
 use Rattle.model_curve_addition.specs.CurveLoopLaws.{Summed, summed-first, summed-turn, summed-end}
 use Rattle.model_curve_addition.proofs.curve_sound.Statement.{statement}
 use Rattle.model_curve_addition.proofs.curve_sound.Tie as tie

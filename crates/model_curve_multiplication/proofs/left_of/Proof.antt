@@ -7,7 +7,7 @@ use lib.IntN.{ℤ, natAbs, pos, _-ℤ_, _*ℤ_}
 use mir.Facts.{toZ-ofZ}
 use mir.Syntax.{w64}
 use mir.Val.{toZ, ofZ}
-use Rattle.fixed.specs.Division.{nearest}
+use Rattle.numbers.specs.Division.{nearest}
 use Rattle.fixed.specs.MachineLaws.{answered}
 use Rattle.model_curve_multiplication.specs.RoundLaws.{back-room, back-product}
 use Rattle.model_curve_multiplication.proofs.left_of.Statement.{statement}

@@ -6,7 +6,7 @@ use native.Mathlib.Omega.{arith}
 use borrow.Author.Needs.{needs}
 use borrow.Author.Tests.{not-true, not-false}
 use lib.Dec.{T}
-use Rattle.fixed.specs.Fixed.{U}
+use Rattle.numbers.specs.Fixed.{U}
 use Rattle.calculus.specs.Refusal.{at-place}
 use Rattle.chebyshev.specs.Coefficients.{size}
 use Rattle.chebyshev.specs.Curve.{sound}

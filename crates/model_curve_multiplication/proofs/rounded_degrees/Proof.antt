@@ -8,7 +8,7 @@ use lib.ListN.{length, getD, set}
 use mir.Facts.{toZ-ofZ}
 use mir.Syntax.{w64}
 use mir.Val.{toZ, ofZ}
-use Rattle.fixed.specs.Division.{nearest}
+use Rattle.numbers.specs.Division.{nearest}
 use Rattle.fixed.specs.MachineLaws.{answered}
 use Rattle.chebyshev.specs.Coefficients.{Row, size}
 use Rattle.chebyshev.specs.CurveOperations.{swept, rounded}

@@ -7,7 +7,7 @@ use borrow.Author.Needs.{needs}
 use lib.IntN.{ℤ, pos}
 use mir.Syntax.{w64}
 use mir.Val.{toZ, ofZ}
-use Rattle.fixed.specs.FixedLaws.{U-within, span-fits}
+use Rattle.numbers.specs.FixedLaws.{U-within, span-fits}
 use Rattle.fixed.specs.MachineLaws.{answered}
 use Rattle.calculus.specs.Terms.{is-nonzero}
 use Rattle.calculus.specs.Model.{most-terms}

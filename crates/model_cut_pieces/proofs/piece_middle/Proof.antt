@@ -6,8 +6,8 @@ use lib.IntN.{ℤ, pos, negℤ, _+ℤ_, natAbs}
 use mir.Syntax.{w64}
 use mir.Val.{toZ, ofZ}
 use Rattle.algebra.specs.Integer.{natAbs-neg}
-use Rattle.fixed.specs.Fixed.{U}
-use Rattle.fixed.specs.FixedLaws.{U-within, span-fits}
+use Rattle.numbers.specs.Fixed.{U}
+use Rattle.numbers.specs.FixedLaws.{U-within, span-fits}
 use Rattle.fixed.specs.MachineLaws.{answered}
 use Rattle.cuts.specs.Cuts.{half-width, piece-middle}
 use Rattle.model_cut_pieces.specs.PieceStructLaws.{few-pieces, odd-room}

@@ -2,7 +2,7 @@
 use mathlib.Core.Path.{_∙_, ap, sym, subst}
 use Prim.Native.Nat.{_<_}
 use borrow.Author.Needs.{needs}
-use Rattle.fixed.specs.Division.{divided-up}
+use Rattle.numbers.specs.Division.{divided-up}
 use Rattle.model_doubles.specs.ScaledPartsLaws.{divisor-pos}
 use Rattle.model_doubles.proofs.rounded_up.Statement.{statement}
 use Rattle.model_doubles.proofs.rounded_up.Tie as tie

@@ -5,7 +5,7 @@ use native.Mathlib.Omega.{arith}
 use borrow.Author.Needs.{needs}
 use mir.Syntax.{w64}
 use mir.Val.{toZ, ofZ}
-use Rattle.fixed.specs.Division.{nearest}
+use Rattle.numbers.specs.Division.{nearest}
 use Rattle.fixed.specs.MachineLaws.{answered}
 use Rattle.calculus.specs.Operations.{one-if-any}
 use Rattle.doubles.specs.Doubles.{signed}

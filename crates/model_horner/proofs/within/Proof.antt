@@ -9,7 +9,7 @@ use lib.ListN.{getD}
 use mir.Facts.{toZ-ofZ}
 use mir.Syntax.{w64}
 use mir.Val.{toZ, ofZ}
-use Rattle.fixed.specs.Fixed.{capped}
+use Rattle.numbers.specs.Fixed.{capped}
 use Rattle.calculus.specs.Model.{most-terms}
 use Rattle.model_limits.specs.LimitLaws.{Summed}
 use Rattle.model_horner.specs.Held.{held, Room}

@@ -9,8 +9,8 @@ use lib.IntN.{ℤ, pos, natAbs, _+ℤ_, _-ℤ_}
 use mir.Syntax.{w64}
 use mir.Val.{toZ, ofZ}
 use Rattle.algebra.specs.Integer.{natAbs-add}
-use Rattle.fixed.specs.Division.{floor, remainder}
-use Rattle.fixed.specs.FixedLaws.{span-fits}
+use Rattle.numbers.specs.Division.{floor, remainder}
+use Rattle.numbers.specs.FixedLaws.{span-fits}
 use Rattle.fixed.specs.MachineLaws.{answered}
 use Rattle.calculus.specs.Terms.{size}
 use Rattle.calculus.specs.Model.{span}

@@ -8,8 +8,8 @@ use mir.Facts.{toZ-ofZ}
 use mir.Syntax.{w64}
 use mir.Val.{toZ, ofZ}
 use Rattle.algebra.specs.Integer.{natAbs-mul}
-use Rattle.fixed.specs.Division.{floor}
-use Rattle.fixed.specs.DivisionLaws.{remainder-is}
+use Rattle.numbers.specs.Division.{floor}
+use Rattle.numbers.specs.DivisionLaws.{remainder-is}
 use Rattle.fixed.specs.MachineLaws.{answered}
 use Rattle.calculus.specs.Operations.{common-denominator}
 use Rattle.model_integral.specs.IntegralParts.{most-parts}

@@ -2,7 +2,7 @@
 use mathlib.Core.Path.{sym, _∙_, ap}
 use borrow.Author.Needs.{needs}
 use mir.Facts.{toZ-ofZ}
-use Rattle.fixed.specs.Division.{floor, ceiling}
+use Rattle.numbers.specs.Division.{floor, ceiling}
 use Rattle.fixed.specs.MachineLaws.{answered}
 use Rattle.model_integral_terms.specs.Rounding.{rule}
 use Rattle.model_integral_terms.proofs.divided.Statement.{statement}

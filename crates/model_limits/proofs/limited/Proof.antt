@@ -9,7 +9,7 @@ use lib.ListN.{length, getD, length-map}
 use mir.Facts.{toZ-ofZ}
 use mir.Syntax.{w64}
 use mir.Val.{toZ, ofZ}
-use Rattle.fixed.specs.Fixed.{capped, span-limit}
+use Rattle.numbers.specs.Fixed.{capped, span-limit}
 use Rattle.calculus.specs.Model.{most-terms, span}
 use Rattle.model_types.specs.ModelStruct.{zero-term, view, cause}
 use Rattle.model_limits.specs.LimitLaws.{Summed, summed-first, summed-turn, summed-end, answer-within}

@@ -1,5 +1,5 @@
 -- `one` is the model of 1: the key of its only term is 0, in any number of variables.
-use Rattle.fixed.specs.Computing.{numbers}
+use Rattle.numbers.specs.Computing.{numbers}
 use Rattle.calculus.specs.Model.{one-model, most-terms}
 use Rattle.model_types.specs.Arrays.{padded}
 use Rattle.model_types.specs.ModelStruct.{pack, pack-term}

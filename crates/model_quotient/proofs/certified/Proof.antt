@@ -3,7 +3,7 @@ use mathlib.Core.Path.{_≡_, sym, _∙_, ap}
 use native.Mathlib.Omega.{arith}
 use borrow.Author.Needs.{needs}
 use lib.IntN.{natAbs}
-use Rattle.fixed.specs.Fixed.{U}
+use Rattle.numbers.specs.Fixed.{U}
 use Rattle.fixed.specs.MachineLaws.{answered}
 use Rattle.model_types.specs.ModelStruct.{cause}
 use Rattle.model_quotient.specs.CertificateLaws.{product-fits, radius-packed, certified-not, certified-answer}

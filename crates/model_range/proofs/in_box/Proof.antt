@@ -7,8 +7,8 @@ use lib.Signed.{leZ}
 use mir.Facts.{toZ-ofZ}
 use mir.Syntax.{w64}
 use mir.Val.{toZ, ofZ}
-use Rattle.fixed.specs.Fixed.{U}
-use Rattle.fixed.specs.FixedLaws.{U-within, span-fits}
+use Rattle.numbers.specs.Fixed.{U}
+use Rattle.numbers.specs.FixedLaws.{U-within, span-fits}
 use Rattle.fixed.specs.MachineLaws.{answered}
 use Rattle.calculus.specs.Operations.{range, range-in-box}
 use Rattle.model_types.specs.ModelStruct.{view, bounds}

@@ -4,7 +4,7 @@ use borrow.Author.Needs.{needs}
 use lib.IntN.{_*ℤ_}
 use mir.Facts.{toZ-ofZ}
 use Rattle.fixed.specs.declared.Rounded.{Rounded}
-use Rattle.fixed.specs.Fixed.{residual}
+use Rattle.numbers.specs.Fixed.{residual}
 use Rattle.fixed.specs.MachineLaws.{answered}
 use Rattle.model_scaling.specs.Scaling.{scaled-residual}
 use Rattle.model_scaling.proofs.scaled_residual.Statement.{statement}

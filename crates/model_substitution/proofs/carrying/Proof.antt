@@ -3,7 +3,7 @@ use mathlib.Core.Path.{_≡_, ap₂}
 use Prim.Native.Nat.{ℕ, _+_, _^_, _<_}
 use native.Mathlib.Nat as NatL
 use native.Mathlib.Omega.{arith}
-use Rattle.fixed.specs.FixedLaws.{U-within, span-square-fits}
+use Rattle.numbers.specs.FixedLaws.{U-within, span-square-fits}
 use Rattle.calculus.specs.Shares.{carrying}
 use Rattle.model_types.specs.declared.Shares.{Shares}
 use Rattle.model_types.specs.SharesStruct.{stored-shares}

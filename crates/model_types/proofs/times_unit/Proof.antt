@@ -3,7 +3,7 @@ use mathlib.Core.Path.{_≡_, _∙_, ap}
 use Prim.Native.Nat.{_*_}
 use borrow.Author.Needs.{needs}
 use lib.IntN.{natAbs}
-use Rattle.fixed.specs.Fixed.{U}
+use Rattle.numbers.specs.Fixed.{U}
 use Rattle.fixed.specs.MachineLaws.{answered}
 use Rattle.model_types.proofs.times_unit.Statement.{statement}
 use Rattle.model_types.proofs.times_unit.Tie as tie

@@ -10,7 +10,7 @@ use lib.ListN.{length, getD, length-map}
 use mir.Facts.{toZ-ofZ}
 use mir.Syntax.{w64}
 use mir.Val.{toZ, ofZ}
-use Rattle.fixed.specs.FixedLaws.{span-fits}
+use Rattle.numbers.specs.FixedLaws.{span-fits}
 use Rattle.calculus.specs.Key.{key-limit}
 use Rattle.calculus_laws.specs.MonomialKeyLaws.{word-key}
 use Rattle.calculus.specs.Model.{most-terms}

@@ -5,7 +5,7 @@ use native.Mathlib.Omega.{arith}
 use borrow.Author.Needs.{needs}
 use borrow.Author.Tests.{not-true, not-false}
 use lib.Dec.{leb}
-use Rattle.fixed.specs.Fixed.{span-limit}
+use Rattle.numbers.specs.Fixed.{span-limit}
 use Rattle.calculus.specs.Terms.{size}
 use Rattle.calculus.specs.Model.{most-terms}
 use Rattle.product_table.specs.Table.{terms}

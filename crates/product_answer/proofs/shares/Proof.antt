@@ -3,8 +3,8 @@ use mathlib.Core.Path.{_≡_, _∙_, ap}
 use Prim.Native.Nat.{ℕ, _+_, _-_, _*_}
 use borrow.Author.Needs.{needs}
 use native.Mathlib.Omega.{arith}
-use Rattle.fixed.specs.Fixed.{U, round-up}
-use Rattle.fixed.specs.FixedLaws.{round-up-ok}
+use Rattle.numbers.specs.Fixed.{U, round-up}
+use Rattle.numbers.specs.FixedLaws.{round-up-ok}
 use Rattle.model_types.specs.declared.Shares.{Shares}
 use Rattle.model_types.specs.SharesStruct.{stored-shares}
 use Rattle.product_answer.specs.ErrorShares.{error-shares}

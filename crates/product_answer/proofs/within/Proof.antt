@@ -9,7 +9,7 @@ use lib.ListN.{length, getD}
 use mir.Facts.{toZ-ofZ}
 use mir.Syntax.{w64}
 use mir.Val.{toZ, ofZ}
-use Rattle.fixed.specs.Fixed.{capped}
+use Rattle.numbers.specs.Fixed.{capped}
 use Rattle.calculus.specs.Terms.{size}
 use Rattle.product_table.specs.Table.{terms}
 use Rattle.product_answer.specs.KeptProductLaws.{spanned-first, spanned-turn, spanned-end}

@@ -11,7 +11,7 @@ use lib.ListN.{length, getD, length-map}
 use mir.Facts.{toZ-ofZ}
 use mir.Syntax.{w64}
 use mir.Val.{toZ, ofZ}
-use Rattle.fixed.specs.Fixed.{capped}
+use Rattle.numbers.specs.Fixed.{capped}
 use Rattle.calculus_laws.specs.MonomialKeyLaws.{word-key}
 use Rattle.calculus.specs.Model.{most-terms, sound}
 use Rattle.calculus.specs.Book.{most-models}

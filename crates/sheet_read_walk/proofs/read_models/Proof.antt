@@ -11,7 +11,7 @@ use lib.ListN.{length}
 use mir.Facts.{toZ-ofZ}
 use mir.Syntax.{w64}
 use mir.Val.{Fits, toZ, ofZ}
-use Rattle.fixed.specs.Fixed.{capped}
+use Rattle.numbers.specs.Fixed.{capped}
 use Rattle.calculus.specs.Key.{key-limit}
 use Rattle.calculus.specs.Model.{most-terms, sound}
 use Rattle.calculus.specs.Book.{most-models}

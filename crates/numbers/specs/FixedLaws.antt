@@ -8,10 +8,11 @@ use borrow.Author.Tests.{le-leb, lt-leb}
 use lib.Dec.{T, leb, lit<, lit≤}
 use lib.IntN.{ℤ, pos, negℤ, natAbs, _-ℤ_, _*ℤ_}
 use Rattle.algebra.specs.Integer.{is, is-eq, is-nat, natAbs-parts}
-use Rattle.fixed.specs.Division.{is-even, nearest}
-use Rattle.fixed.specs.DivisionLaws.{divided-up-ok, divided-up-least}
-use Rattle.fixed.specs.NearestLaws.{nearest-le, nearest-even, nearest-neg, left-neg, left-le-abs, nearest-le-abs}
-use Rattle.fixed.specs.Fixed.{U, span-limit, round, residual, round-up, capped}
+use Rattle.numbers.specs.Division.{is-even, nearest}
+use Rattle.numbers.specs.DivisionLaws.{divided-up-ok, divided-up-least}
+use Rattle.numbers.specs.NearestLaws.{nearest-le, nearest-even, nearest-neg, left-neg, left-le-abs}
+use Rattle.numbers.specs.NearestLaws.{nearest-le-abs}
+use Rattle.numbers.specs.Fixed.{U, span-limit, round, residual, round-up, capped}
 
 -- ---- the unit and the span limit
 pub U-pos : 0 < U

@@ -10,7 +10,7 @@ use Rattle.algebra.specs.Integer.{Is, is+, is-, is, is-mul, is-nat, is-sub-mul,
 use Rattle.algebra.specs.RingSolver.{_⊠_, ⊝_, ring}
 use Rattle.algebra.specs.IntegerRing.{ℤR, ℤO, of-le}
 use Rattle.algebra.specs.OrderedLaws.{neg-mono}
-use Rattle.fixed.specs.Division.{floor, ceiling, remainder, divided-up}
+use Rattle.numbers.specs.Division.{floor, ceiling, remainder, divided-up}
 
 -- the floor times d is at most z,
 low : (z : ℤ) (d : ℕ) → 0 < d → plus (floor z d) * d + minus z ≤ plus z + minus (floor z d) * d

@@ -14,8 +14,8 @@ use Rattle.algebra.specs.Integer.{is, is-eq, is-add, is-neg, is-nat, is-sub-mul
 use Rattle.algebra.specs.Integer.{natAbs-parts, natAbs-apart, natAbs-neg}
 use Rattle.algebra.specs.IntegerRing.{ℤR, of-le, le-of}
 use Rattle.algebra.specs.RingSolver.{_⊟_, _⊠_, ⊝_, ring}
-use Rattle.fixed.specs.Division.{floor, remainder, is-even, even-of-two, nearest}
-use Rattle.fixed.specs.DivisionLaws.{division, remainder-lt}
+use Rattle.numbers.specs.Division.{floor, remainder, is-even, even-of-two, nearest}
+use Rattle.numbers.specs.DivisionLaws.{division, remainder-lt}
 
 -- ---- even and odd
 -- after an odd number comes an even one, and after an even one an odd one

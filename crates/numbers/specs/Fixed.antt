@@ -1,8 +1,7 @@
 -- Fixed point: the unit, the span limit, rounding to the unit and what it leaves, sums that stop above the limit.
 use Prim.Native.Nat.{ℕ, _+_, _^_, min}
 use lib.IntN.{ℤ, pos, _-ℤ_, _*ℤ_, natAbs}
-use Rattle.fixed.specs.declared.Rounded.{Rounded}
-use Rattle.fixed.specs.Division.{nearest, divided-up}
+use Rattle.numbers.specs.Division.{nearest, divided-up}
 
 -- a whole number c stands for c / U
 unfoldable pub U : ℕ
@@ -19,10 +18,6 @@ round z = nearest z U
 -- |z − c U| for c = round z
 unfoldable pub residual : ℤ → ℕ
 residual z = natAbs (z -ℤ round z *ℤ pos U)
-
--- both, as the code answers them
-abbrev pub rounded : ℤ → Rounded
-rounded z = record { coefficient = round z; residual = residual z }
 
 -- E / U rounded up
 unfoldable pub round-up : ℕ → ℕ

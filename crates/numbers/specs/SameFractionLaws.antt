@@ -8,9 +8,9 @@ use lib.IntN.{ℤ, pos, natAbs, _-ℤ_, _*ℤ_}
 use Rattle.algebra.specs.Integer.{natAbs-mul}
 use Rattle.algebra.specs.IntegerRing.{ℤR}
 use Rattle.algebra.specs.RingSolver.{_⊟_, _⊠_, ring}
-use Rattle.fixed.specs.Division.{divided-up, nearest}
-use Rattle.fixed.specs.DivisionLaws.{divided-up-ok, divided-up-least, divided-up-unique}
-use Rattle.fixed.specs.NearestLaws.{Nearest, nearest-is, nearest-unique}
+use Rattle.numbers.specs.Division.{divided-up, nearest}
+use Rattle.numbers.specs.DivisionLaws.{divided-up-ok, divided-up-least, divided-up-unique}
+use Rattle.numbers.specs.NearestLaws.{Nearest, nearest-is, nearest-unique}
 
 -- ---- integers: z / d is y / b
 module _ (z y : ℤ) (d b : ℕ) (hd : 0 < d) (hb : 0 < b) (e : z *ℤ pos b ≡ y *ℤ pos d) where
