@@ -1,6 +1,6 @@
 -- `run` goes on with the full table where the small one did not serve.
 use native.Mathlib.Omega.{arith}
-use Rattle.sheet_turns.specs.RunTurnLaws.{not-both, stopped-on}
+use Rattle.sheet_turn_laws.specs.RunTurnLaws.{not-both, stopped-on}
 use borrow.Author.Needs.{needs}
 use Rattle.sheet_turns.proofs.run.Statement.{statement}
 use Rattle.sheet_turns.proofs.run.Tie as tie
