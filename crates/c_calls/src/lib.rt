@@ -14,6 +14,9 @@ use model::Integral;
 use model::Model;
 use model_types::Key;
 
+// The answer to a call that is not one: a slice is too short, or no call has this code.
+pub const MISUSED: u8 = 255;
+
 // The ends of an answer, and the quotient and the remainder.
 const ENDS: usize = 4;
 

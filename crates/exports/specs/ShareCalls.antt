@@ -6,7 +6,7 @@ use lib.IntN.{ℤ}
 use Rattle.sheet_book.specs.declared.Report.{Report}
 use Rattle.model_slices.specs.HandedModels.{misused}
 use Rattle.c_shares.specs.HandedShares.{stored-rows}
-use Rattle.exports.specs.SheetCalls.{Run, run-state, stored-summary}
+use Rattle.c_runs.specs.SheetCalls.{Run, run-state, stored-summary}
 
 -- the number that a run returns and its slices, and that of the rows
 pub record Reported-run : Type 0 where

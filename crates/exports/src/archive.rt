@@ -5,7 +5,6 @@ ghost use Rattle.model_types.specs.ModelStruct.{view};
 ghost use Rattle.model_slices.specs.HandedModels.{handed, «model-room»};
 ghost use Rattle.c_calls.specs.CallCodes.{«called-state», called};
 ghost use Rattle.c_archive.specs.ArchiveCalls.{«store-fits», «store-state», «called-store», «restored-call»};
-use super::MISUSED;
 use model_types::Key;
 
 // A model is stored in the archive's form, from the buffer's start on: the refusal's number, 0 without one, or MISUSED.
@@ -28,7 +27,7 @@ pub extern "C" fn hechroung_store(
         (now (buffer .entry)) (now (numbers .entry)) ⌝ }
 {
     if !c_archive::store_fits(count, keys.len(), coefficients.len(), numbers.len()) {
-        return MISUSED;
+        return c_calls::MISUSED;
     }
     c_archive::store(n, count, radius, keys, coefficients, buffer, numbers)
 }
@@ -51,7 +50,7 @@ pub extern "C" fn hechroung_restore(
         (now (keys .entry)) (now (coefficients .entry)) (now (numbers .entry)) ⌝ }
 {
     if !model_slices::model_room(keys.len(), coefficients.len(), numbers.len()) {
-        return MISUSED;
+        return c_calls::MISUSED;
     }
     let a = c_archive::restore(bytes, terms);
     c_calls::store_answer(a, keys, coefficients, numbers)

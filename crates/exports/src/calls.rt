@@ -5,7 +5,6 @@ ghost use Rattle.model_types.specs.ModelStruct.{view};
 ghost use Rattle.model_slices.specs.HandedModels.{handed, «model-room»};
 ghost use Rattle.c_calls.specs.CallCodes.{«model-call», «ends-call», «call-fits», «ends-call-fits»};
 ghost use Rattle.c_calls.specs.CallCodes.{«called-state», called, «ends-state», «called-ends», coordinates};
-use super::MISUSED;
 use model_types::Key;
 
 // The code of a product, which is made from the slices.
@@ -56,7 +55,7 @@ pub extern "C" fn hechroung_call(
         coefficients2.len(),
         room,
     ) {
-        return MISUSED;
+        return c_calls::MISUSED;
     }
     if code == MULTIPLY {
         return c_products::multiply(
@@ -113,7 +112,7 @@ pub extern "C" fn hechroung_ends(
         point.len(),
         ends.len(),
     ) {
-        return MISUSED;
+        return c_calls::MISUSED;
     }
     let f = model_slices::taken(n, count, radius, keys, coefficients);
     let xs = c_calls::coordinates(point);

@@ -9,7 +9,6 @@ ghost use Rattle.c_curves.specs.HandedCurves.{«handed-curve», «curve-call»,
 ghost use Rattle.c_curves.specs.HandedCurves.{«curve-state», «called-curve»};
 ghost use Rattle.c_curves.specs.HandedCurves.{«range-fits», «range-state», «called-range»};
 ghost use Rattle.c_curves.specs.HandedCurves.{«to-powers-fits», «from-powers-fits»};
-use super::MISUSED;
 use model_types::Key;
 
 // A call that answers with a curve: the refusal's number, 0 without one, or MISUSED. Sixteen coefficients go into a
@@ -34,7 +33,7 @@ pub extern "C" fn hechroung_curve(
 {
     let room = c_curves::curve_room(coefficients.len(), numbers.len());
     if !c_curves::curve_fits(code, coefficients1.len(), coefficients2.len(), room) {
-        return MISUSED;
+        return c_calls::MISUSED;
     }
     let f = c_curves::handed_curve(coefficients1, radius1);
     let g = c_curves::handed_curve(coefficients2, radius2);
@@ -51,7 +50,7 @@ pub extern "C" fn hechroung_curve_range(coefficients: &[i64], radius: u64, ends:
         (call-range (handed-curve (now (coefficients .entry)) radius)) (now (ends .entry)) ⌝ }
 {
     if !c_curves::range_fits(coefficients.len(), ends.len()) {
-        return MISUSED;
+        return c_calls::MISUSED;
     }
     let f = c_curves::handed_curve(coefficients, radius);
     let b = model_curves::range(f);
@@ -78,7 +77,7 @@ pub extern "C" fn hechroung_to_powers(
 {
     let room = model_slices::model_room(keys.len(), outcoefficients.len(), numbers.len());
     if !c_curves::to_powers_fits(coefficients.len(), room) {
-        return MISUSED;
+        return c_calls::MISUSED;
     }
     let f = c_curves::handed_curve(coefficients, radius);
     let a = model_curves::to_powers(f);
@@ -107,7 +106,7 @@ pub extern "C" fn hechroung_from_powers(
     let room = c_curves::curve_room(outcoefficients.len(), outnumbers.len());
     let long = keys.len();
     if !c_curves::from_powers_fits(count, long, coefficients.len(), room) {
-        return MISUSED;
+        return c_calls::MISUSED;
     }
     let f = model_slices::taken(n, count, radius, keys, coefficients);
     let a = model_curves::from_powers(f);

@@ -2,7 +2,6 @@
 ghost use mathlib.Core.Path.{_≡_};
 ghost use lib.ListN.{length};
 ghost use Rattle.c_cuts.specs.CutCalls.{«handed-cut», «cut-fits», «cut-state», «called-cut»};
-use super::MISUSED;
 use model_types::Key;
 
 // The range of a model, variable i cut into 2^k pieces, with order d: the refusal's number, 0 without one, or MISUSED.
@@ -29,7 +28,7 @@ pub extern "C" fn hechroung_cut_range(
 {
     let long = keys.len();
     if !c_cuts::cut_fits(count, long, coefficients.len(), ends.len(), numbers.len()) {
-        return MISUSED;
+        return c_calls::MISUSED;
     }
     let b = c_cuts::handed_cut(d, i, k, n, count, radius, keys, coefficients);
     c_cuts::store_cut(b, ends, numbers)

@@ -4,7 +4,6 @@ ghost use lib.ListN.{length};
 ghost use Rattle.model_slices.specs.HandedModels.{«model-room»};
 ghost use Rattle.c_calls.specs.CallCodes.{«called-state», called};
 ghost use Rattle.c_doubles.specs.HandedDoubles.{«handed-doubles»};
-use super::MISUSED;
 use model_types::Key;
 
 // The model of c0 + c1 x + c2 x² with its radius: the refusal's number, 0 without one, or MISUSED. The answer's 64 keys
@@ -26,7 +25,7 @@ pub extern "C" fn hechroung_doubles(
         (now (keys .entry)) (now (coefficients .entry)) (now (numbers .entry)) ⌝ }
 {
     if !model_slices::model_room(keys.len(), coefficients.len(), numbers.len()) {
-        return MISUSED;
+        return c_calls::MISUSED;
     }
     let a = c_doubles::handed_doubles(c0, c1, c2, radius);
     c_calls::store_answer(a, keys, coefficients, numbers)

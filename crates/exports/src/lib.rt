@@ -12,6 +12,3 @@ pub mod cuts; // cuts.rt: the range of a cut box
 pub mod doubles; // doubles.rt: curves that are delivered in doubles
 pub mod reading_rows; // reading_rows.rt: rows of readings held against a model
 pub mod archive; // archive.rt: models in the archive
-
-// The answer to a call that is not one: a slice is too short, or no call has this code.
-pub const MISUSED: u8 = 255;

@@ -5,7 +5,6 @@ ghost use Rattle.model_slices.specs.HandedModels.{«model-room»};
 ghost use Rattle.c_books.specs.HandedBooks.{«model-places»};
 ghost use Rattle.c_calls.specs.CallCodes.{«called-state», called};
 ghost use Rattle.c_quotients.specs.HandedQuotients.{«quotient-fits», «handed-quotient»};
-use super::MISUSED;
 use model_types::Key;
 
 // f / g, checked from a proposal h, w: the refusal's number, 0 without one, or MISUSED. The four models are handed over
@@ -42,7 +41,7 @@ pub extern "C" fn hechroung_quotient(
     );
     let room = model_slices::model_room(outkeys.len(), outcoefficients.len(), outnumbers.len());
     if !c_quotients::quotient_fits(models, room) {
-        return MISUSED;
+        return c_calls::MISUSED;
     }
     let a = c_quotients::handed_quotient(d, ns, counts, radii, keys, coefficients);
     c_calls::store_answer(a, outkeys, outcoefficients, outnumbers)

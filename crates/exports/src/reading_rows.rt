@@ -7,7 +7,6 @@ ghost use Rattle.model_types.specs.ModelStruct.{view};
 ghost use Rattle.model_readings.specs.ReadingStruct.{«view-reading»};
 ghost use Rattle.model_slices.specs.HandedModels.{handed};
 ghost use Rattle.c_readings.specs.HandedReadings.{«row-of», «readings-fit», «readings-state», «called-readings»};
-use super::MISUSED;
 use model_types::Key;
 
 // A row of readings held against a model: the refusal's number, 0 without one, or MISUSED. The row has as many readings
@@ -43,7 +42,7 @@ pub extern "C" fn hechroung_readings(
         highs.len(),
         numbers.len(),
     ) {
-        return MISUSED;
+        return c_calls::MISUSED;
     }
     let f = c_readings::handed_readings(n, count, radius, keys, coefficients, points, lows, highs);
     c_readings::store_finding(f, numbers)

@@ -13,12 +13,9 @@ ghost use Rattle.model_slices.specs.HandedModels.{«answer-numbers»};
 ghost use Rattle.c_books.specs.HandedBooks.{«step-places», «handed-steps», «model-places», «handed-models»};
 ghost use Rattle.c_books.specs.HandedBooks.{«handed-book»};
 ghost use Rattle.c_shares.specs.HandedShares.{«report-room»};
-ghost use Rattle.exports.specs.WriteCalls.{«book-fits»};
-ghost use Rattle.exports.specs.SheetCalls.{«run-state»};
+ghost use Rattle.c_writes.specs.WriteCalls.{«book-fits»};
+ghost use Rattle.c_runs.specs.SheetCalls.{«run-state»};
 ghost use Rattle.exports.specs.ShareCalls.{«report-state», «stored-report», «called-report»};
-use super::MISUSED;
-use super::books::book_fits;
-use super::runs::store_summary;
 use model_types::Key;
 use sheet::Report;
 
@@ -41,7 +38,7 @@ fn store_report(
 {
     c_shares::store_rows(r, shares);
     let s = r.summary;
-    store_summary(s, keys, coefficients, numbers, ends)
+    c_runs::store_summary(s, keys, coefficients, numbers, ends)
 }
 
 // A sheet is run as by hechroung_run, and besides where the radius of each of 64 steps came from goes into the fifth
@@ -71,7 +68,7 @@ pub extern "C" fn hechroung_shares(
         ends.len(),
         shares.len(),
     ) {
-        return MISUSED;
+        return c_calls::MISUSED;
     }
     let r = sheet::run_reported(sheet);
     store_report(r, keys, coefficients, numbers, ends, shares)
@@ -125,8 +122,8 @@ pub extern "C" fn hechroung_shares_book(
         bookcoefficients.len(),
     );
     let steps = c_books::step_places(fields.len(), values.len());
-    if !book_fits(modelcount, models, stepcount, steps, numbers.len()) {
-        return MISUSED;
+    if !c_writes::book_fits(modelcount, models, stepcount, steps, numbers.len()) {
+        return c_calls::MISUSED;
     }
     if !c_shares::report_room(
         keys.len(),
@@ -135,7 +132,7 @@ pub extern "C" fn hechroung_shares_book(
         ends.len(),
         shares.len(),
     ) {
-        return MISUSED;
+        return c_calls::MISUSED;
     }
     let b = c_books::handed_book(
         n,

@@ -5,10 +5,8 @@ ghost use lib.ListN.{length};
 ghost use Rattle.format.specs.Lines.{printed};
 ghost use Rattle.sheet.specs.Stepping.{«record-bytes», «start-answer», «kind-at», «bytes-at», «next-at»};
 ghost use Rattle.text.specs.Text.{laid};
-ghost use Rattle.exports.specs.StepCalls.{«kind-number», «open-state», «called-open»};
-ghost use Rattle.exports.specs.StepCalls.{«next-state», «called-next»};
-use super::MISUSED;
-use sheet::Kind;
+ghost use Rattle.c_sheets.specs.StepCalls.{«open-state», «called-open»};
+ghost use Rattle.c_sheets.specs.StepCalls.{«next-state», «called-next»};
 
 // A sheet is run to the program's lines: their length. As much of them as the slice has room for stands at its start.
 #[no_mangle]
@@ -16,20 +14,7 @@ pub extern "C" fn hechroung_print(sheet: &[u8], lines: &mut [u8]) -> usize
     ensures { λ r. ⌜ (r ≡ length (printed (now (sheet .entry))))
         × (now (lines .exit) ≡ laid (printed (now (sheet .entry))) (now (lines .entry))) ⌝ }
 {
-    let length = text::print(sheet, lines);
-    length
-}
-
-// Bytes are copied to the start of a slice, as many as it has room for.
-fn copy(bytes: &[u8], out: &mut [u8])
-    ensures { λ r. ⌜ now (out .exit) ≡ laid (now (bytes .entry)) (now (out .entry)) ⌝ }
-{
-    let places = model_slices::least(bytes.len(), out.len());
-    let mut i = 0;
-    while i < places {
-        out[i] = bytes[i];
-        i += 1;
-    }
+    c_sheets::print_lines(sheet, lines)
 }
 
 // Record i of a sheet, from 0: its length, or 0 where there is none. As much of it as the slice has room for stands at
@@ -39,15 +24,10 @@ pub extern "C" fn hechroung_record(sheet: &[u8], i: usize, bytes: &mut [u8]) -> 
     ensures { λ r. ⌜ (r ≡ length (record-bytes (now (sheet .entry)) i))
         × (now (bytes .exit) ≡ laid (record-bytes (now (sheet .entry)) i) (now (bytes .entry))) ⌝ }
 {
-    let found = sheet::record(sheet, i);
-    copy(found, bytes);
-    found.len()
+    c_sheets::copy_record(sheet, i, bytes)
 }
 
 // ---- stepping
-// The numbers of an opening, and those of a step: two each.
-const STEP_NUMBERS: usize = 2;
-
 // A sheet is opened for stepping: the number of the refusal, 0 without one, or MISUSED. The refusal's place and the
 // place of the first record go into the numbers; beside a refusal that is the sheet's length, where there is no record.
 #[no_mangle]
@@ -56,25 +36,7 @@ pub extern "C" fn hechroung_open(sheet: &[u8], numbers: &mut [u64]) -> u8
         ≡ called-open (leb 2 (length (now (numbers .entry)))) (start-answer (now (sheet .entry)))
         (now (numbers .entry)) ⌝ }
 {
-    if numbers.len() < STEP_NUMBERS {
-        return MISUSED;
-    }
-    let start = sheet::opened_at(sheet);
-    let v = start.verdict;
-    numbers[0] = model_slices::verdict_place(v) as u64;
-    numbers[1] = start.at as u64;
-    model_slices::verdict_number(v)
-}
-
-// What a record is, as a number.
-fn kind_number(kind: Kind) -> u8
-    ensures { λ r. ⌜ r ≡ kind-number kind ⌝ }
-{
-    match kind {
-        Kind::Model => 1,
-        Kind::Step => 2,
-        Kind::End => 0,
-    }
+    c_sheets::open_sheet(sheet, numbers)
 }
 
 // The record at a place of a sheet: 1 for a model, 2 for a step, 0 where there is none, or MISUSED. Its length and the
@@ -91,14 +53,5 @@ pub extern "C" fn hechroung_next(
         (bytes-at (now (sheet .entry)) at) (next-at (now (sheet .entry)) at)
         (now (bytes .entry)) (now (numbers .entry)) ⌝ }
 {
-    if numbers.len() < STEP_NUMBERS {
-        return MISUSED;
-    }
-    let kind = sheet::kind_from(sheet, at);
-    let found = sheet::bytes_from(sheet, at);
-    let next = sheet::place_behind(sheet, at);
-    copy(found, bytes);
-    numbers[0] = found.len() as u64;
-    numbers[1] = next as u64;
-    kind_number(kind)
+    c_sheets::next_record(sheet, at, bytes, numbers)
 }

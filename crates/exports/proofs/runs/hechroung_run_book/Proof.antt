@@ -3,8 +3,8 @@ use mathlib.Core.Path.{sym, _∙_}
 use borrow.Author.Needs.{needs}
 use borrow.Author.Tests.{le-leb, lt-leb, not-true, not-false}
 use Rattle.model_slices.specs.HandedModelsLaws.{room}
-use Rattle.exports.specs.SheetCalls.{called-run}
-use Rattle.exports.specs.RemainderLaws.{held-small}
+use Rattle.c_runs.specs.SheetCalls.{called-run}
+use Rattle.c_runs.specs.RemainderLaws.{held-small}
 use Rattle.exports.proofs.runs.hechroung_run_book.Statement.{statement}
 use Rattle.exports.proofs.runs.hechroung_run_book.Tie as tie
 

@@ -4,7 +4,7 @@ use borrow.Author.Needs.{needs}
 use borrow.Author.Tests.{not-true, not-false}
 use Rattle.sheet_book.specs.ReportStruct.{report}
 use Rattle.c_shares.specs.HandedSharesLaws.{report-fits}
-use Rattle.exports.specs.RemainderLaws.{sheet-small}
+use Rattle.c_runs.specs.RemainderLaws.{sheet-small}
 use Rattle.exports.specs.ShareCalls.{called-report}
 use Rattle.exports.proofs.shares.hechroung_shares.Statement.{statement}
 use Rattle.exports.proofs.shares.hechroung_shares.Tie as tie

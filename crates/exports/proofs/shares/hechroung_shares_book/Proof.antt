@@ -4,7 +4,7 @@ use borrow.Author.Needs.{needs}
 use borrow.Author.Tests.{not-true, not-false}
 use Rattle.sheet_book.specs.ReportStruct.{report}
 use Rattle.c_shares.specs.HandedSharesLaws.{report-fits}
-use Rattle.exports.specs.RemainderLaws.{held-small}
+use Rattle.c_runs.specs.RemainderLaws.{held-small}
 use Rattle.exports.specs.ShareCalls.{called-report}
 use Rattle.exports.proofs.shares.hechroung_shares_book.Statement.{statement}
 use Rattle.exports.proofs.shares.hechroung_shares_book.Tie as tie

@@ -1,0 +1,2 @@
+pub mod StepCalls
+pub mod SheetCallsLaws
