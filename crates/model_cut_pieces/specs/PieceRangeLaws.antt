@@ -24,8 +24,8 @@ use Rattle.model_types.specs.ModelStruct.{view, pack, answer, bounds, refusal, 
 use Rattle.model_types.specs.ModelStructLaws.{sound-vars, cause-refusal}
 use Rattle.model_types.specs.ResultLaws.{Holds, held-view, held-sound, held-vars, Got, got, then-is, sound-order}
 use Rattle.model_types.specs.ResultLaws.{sound-struct}
-use Rattle.product_terms.specs.ProductTerms.{Lent-room}
-use Rattle.product_terms.specs.ProductTermsLaws.{fewer-room}
+use Rattle.product_room.specs.ProductTerms.{Lent-room}
+use Rattle.product_room.specs.ProductTermsLaws.{fewer-room}
 use Rattle.model_substitution.specs.Substitute.{Substitution}
 use Rattle.cuts.specs.Cuts.{piece, piece-range}
 use Rattle.model_cut_pieces.specs.Cutting.{Cutting, piece-products}

@@ -1,7 +1,7 @@
 // The range of a model, narrower by cutting the box: one variable is cut into 2^k equal pieces. The call takes
 // anything, makes the tests in order, and answers two ends or the refusal with its place.
 ghost use mathlib.Core.Path.{_≡_};
-ghost use Rattle.product_terms.specs.ProductTerms.{«Lent-room»};
+ghost use Rattle.product_room.specs.ProductTerms.{«Lent-room»};
 ghost use Rattle.model_types.specs.ModelStruct.{view, bounds};
 ghost use Rattle.model_cut_pieces.specs.Cutting.{Cutting, «piece-products»};
 ghost use Rattle.cuts.specs.Cuts as Cut;

@@ -7,8 +7,8 @@ use Rattle.calculus.specs.Model.{most-terms}
 use Rattle.model_types.specs.declared.Model.{Model}
 use Rattle.model_types.specs.ModelStructLaws.{limits}
 use Rattle.product_collector.specs.CollectorContracts.{Lent-table}
-use Rattle.product_terms.specs.ProductTerms.{Lent-room}
-use Rattle.product_terms.specs.ProductTermsLaws.{lent-room}
+use Rattle.product_room.specs.ProductTerms.{Lent-room}
+use Rattle.product_room.specs.ProductTermsLaws.{lent-room}
 use Rattle.product_answer.specs.ProductFactors.{Factors}
 
 pub factors-room : {d : ℕ} {f g : Model} {slots keys : List ℕ} {sums : List ℤ} → Factors d f g

@@ -8,7 +8,7 @@ ghost use Rattle.calculus.specs.Shares.{«product-shares»};
 ghost use Rattle.model_types.specs.ModelStruct.{view, answer};
 ghost use Rattle.model_types.specs.SharesStruct.{accounted};
 ghost use Rattle.product_collector.specs.CollectorContracts.{«Free-table»};
-ghost use Rattle.product_terms.specs.ProductTerms.{«Lent-room»};
+ghost use Rattle.product_room.specs.ProductTerms.{«Lent-room»};
 ghost use Rattle.product_answer.specs.ProductFactors.{Factors};
 use model_slices::Kept;
 use model_types::Accounted;

@@ -9,8 +9,8 @@ use Rattle.calculus.specs.Model.{most-terms}
 use Rattle.model_types.specs.declared.Model.{Model}
 use Rattle.model_types.specs.ModelStructLaws.{limits}
 use Rattle.product_collector.specs.CollectorContracts.{Lent-table}
-use Rattle.product_terms.specs.ProductTerms.{Lent-room}
-use Rattle.product_terms.specs.ProductTermsLaws.{lent-room, fewer-room}
+use Rattle.product_room.specs.ProductTerms.{Lent-room}
+use Rattle.product_room.specs.ProductTermsLaws.{lent-room, fewer-room}
 use Rattle.model_substitution.specs.Substitute.{Turn, Substitution}
 
 module _ {slots keys : List ℕ} {sums : List ℤ} where

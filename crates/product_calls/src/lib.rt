@@ -6,7 +6,7 @@ ghost use lib.ListN.{length};
 ghost use Rattle.calculus.specs.Calls.{«call-multiply»};
 ghost use Rattle.model_types.specs.ModelStruct.{view, answer};
 ghost use Rattle.model_slices.specs.HandedModels.{handed, lent};
-ghost use Rattle.product_terms.specs.ProductTerms.{«Kept-room»};
+ghost use Rattle.product_room.specs.ProductTerms.{«Kept-room»};
 ghost use Rattle.product_answer.specs.KeptProduct.{«kept-accounted», «Kept-ready»};
 use model_slices::Kept;
 use model_types::Key;

@@ -12,7 +12,7 @@ ghost use Rattle.model_types.specs.SharesStruct.{accounted};
 ghost use Rattle.product_table.specs.Table.{terms};
 ghost use Rattle.model_slices.specs.HandedModels.{handed, over, «stored-keys», «stored-coefficients»};
 ghost use Rattle.product_collector.specs.CollectorContracts.{«Free-table»};
-ghost use Rattle.product_terms.specs.ProductTerms.{«Lent-room», «Kept-room»};
+ghost use Rattle.product_room.specs.ProductTerms.{«Lent-room», «Kept-room»};
 ghost use Rattle.product_packing.specs.Transfer.{Unpacked, «Pack-ready»};
 ghost use Rattle.product_answer.specs.ProductFactors.{Factors};
 ghost use Rattle.product_slices.specs.HandedTerms.{Handed};

@@ -12,7 +12,7 @@ use Rattle.fixed.specs.MachineLaws.{answered}
 use Rattle.model_types.specs.declared.Verdict.the-variants.{Accepted}
 use Rattle.model_types.specs.ModelStruct.{view}
 use Rattle.model_types.specs.ResultLaws.{sound-order}
-use Rattle.product_terms.specs.ProductTermsLaws.{free-room}
+use Rattle.product_room.specs.ProductTermsLaws.{free-room}
 use Rattle.cuts.specs.Cuts.{smaller, larger, most-depth}
 use Rattle.model_cut_pieces.specs.PieceStructLaws.{few-pieces}
 use Rattle.model_cuts.specs.CoveredLaws.{Covered, first-refused, first-accepted, turn-refused, turn-accepted}

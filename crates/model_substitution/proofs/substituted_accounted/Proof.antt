@@ -6,7 +6,7 @@ use borrow.Author.Needs.{needs}
 use borrow.Author.Tests.{not-true, not-false}
 use lib.ListN.{length}
 use Rattle.model_types.specs.ModelStruct.{view, cause}
-use Rattle.product_terms.specs.ProductTermsLaws.{free-room}
+use Rattle.product_room.specs.ProductTermsLaws.{free-room}
 use Rattle.model_powers.specs.Powers.{In-variable}
 use Rattle.model_types.specs.ResultLaws.{sound-order}
 use Rattle.model_substitution.specs.HornerLaws.{Left, outside, left-first, left-turn, turn-refused, turn-accepted}

@@ -1,19 +1,19 @@
 -- `kept_alone` chooses between a grid and a table, each large enough.
 use native.Mathlib.Omega.{arith}
 use borrow.Author.Needs.{needs}
-use Rattle.product_terms.specs.ProductTermsLaws.{products-few}
+use Rattle.product_room.specs.ProductTermsLaws.{products-few}
 use Rattle.product_terms.proofs.kept_alone.Statement.{statement}
 use Rattle.product_terms.proofs.kept_alone.Tie as tie
 use Rattle.product_terms.proofs.kept_alone.Reads as reads
 use Rattle.product_terms.proofs.kept_alone.Lts as lts
-use Rattle.product_terms.proofs.grid_for.Reads as grid-for-reads
-use Rattle.product_terms.proofs.in_grid.Reads as in-grid-reads
-use Rattle.product_terms.proofs.in_half_table.Reads as in-half-table-reads
-use Rattle.product_terms.proofs.in_large_grid.Reads as in-large-grid-reads
-use Rattle.product_terms.proofs.in_large_table.Reads as in-large-table-reads
-use Rattle.product_terms.proofs.in_small_grid.Reads as in-small-grid-reads
-use Rattle.product_terms.proofs.in_small_table.Reads as in-small-table-reads
-use Rattle.product_terms.proofs.in_smallest_table.Reads as in-smallest-table-reads
+use Rattle.product_strategy.proofs.grid_for.Reads as grid-for-reads
+use Rattle.product_strategy.proofs.in_grid.Reads as in-grid-reads
+use Rattle.product_own_room.proofs.in_half_table.Reads as in-half-table-reads
+use Rattle.product_own_room.proofs.in_large_grid.Reads as in-large-grid-reads
+use Rattle.product_own_room.proofs.in_large_table.Reads as in-large-table-reads
+use Rattle.product_own_room.proofs.in_small_grid.Reads as in-small-grid-reads
+use Rattle.product_own_room.proofs.in_small_table.Reads as in-small-table-reads
+use Rattle.product_own_room.proofs.in_smallest_table.Reads as in-smallest-table-reads
 
 mul-products : tie.Need-mul-products
 mul-products c = let p = products-few (c .before .before .before .pre .0) in search needs

@@ -1,15 +1,15 @@
 -- `kept_lent` chooses between a grid and a table.
 use native.Mathlib.Omega.{arith}
 use borrow.Author.Needs.{needs}
-use Rattle.product_terms.specs.ProductTermsLaws.{products-few, grid-ready}
+use Rattle.product_room.specs.ProductTermsLaws.{products-few, grid-ready}
 use Rattle.product_terms.proofs.kept_lent.Statement.{statement}
 use Rattle.product_terms.proofs.kept_lent.Tie as tie
 use Rattle.product_terms.proofs.kept_lent.Reads as reads
 use Rattle.product_terms.proofs.kept_lent.Lts as lts
 use Rattle.product_grid.proofs.gathered.Reads as gathered-reads
-use Rattle.product_terms.proofs.grid_for.Reads as grid-for-reads
-use Rattle.product_terms.proofs.in_grid.Reads as in-grid-reads
-use Rattle.product_terms.proofs.in_lent_table.Reads as in-lent-table-reads
+use Rattle.product_strategy.proofs.grid_for.Reads as grid-for-reads
+use Rattle.product_strategy.proofs.in_grid.Reads as in-grid-reads
+use Rattle.product_in_table.proofs.in_lent_table.Reads as in-lent-table-reads
 
 mul-products : tie.Need-mul-products
 mul-products c = search needs

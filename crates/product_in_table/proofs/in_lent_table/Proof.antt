@@ -4,13 +4,13 @@ use Prim.Native.Nat.{ℕ, _+_, _*_}
 use native.Mathlib.Omega.{arith}
 use borrow.Author.Needs.{needs}
 use lib.ListN.{length, take, length-take}
-use Rattle.product_terms.specs.ProductTermsLaws.{products-few}
-use Rattle.product_terms.proofs.in_lent_table.Statement.{statement}
-use Rattle.product_terms.proofs.in_lent_table.Tie as tie
-use Rattle.product_terms.proofs.in_lent_table.Reads as reads
-use Rattle.product_terms.proofs.in_lent_table.Lts as lts
+use Rattle.product_room.specs.ProductTermsLaws.{products-few}
+use Rattle.product_in_table.proofs.in_lent_table.Statement.{statement}
+use Rattle.product_in_table.proofs.in_lent_table.Tie as tie
+use Rattle.product_in_table.proofs.in_lent_table.Reads as reads
+use Rattle.product_in_table.proofs.in_lent_table.Lts as lts
 use Rattle.product_slots.proofs.clear.Reads as clear-reads
-use Rattle.product_terms.proofs.in_table.Reads as in-table-reads
+use Rattle.product_in_table.proofs.in_table.Reads as in-table-reads
 
 -- how many slots are used
 abbrev used : tie.Start → ℕ

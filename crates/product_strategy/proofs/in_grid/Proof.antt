@@ -5,10 +5,10 @@ use Prim.Native.Nat.{_*_}
 use native.Mathlib.Omega.{arith}
 use borrow.Author.Needs.{needs}
 use lib.Dec.{T, leb→le}
-use Rattle.product_terms.proofs.in_grid.Statement.{statement}
-use Rattle.product_terms.proofs.in_grid.Tie as tie
-use Rattle.product_terms.proofs.in_grid.Reads as reads
-use Rattle.product_terms.proofs.in_grid.Lts as lts
+use Rattle.product_strategy.proofs.in_grid.Statement.{statement}
+use Rattle.product_strategy.proofs.in_grid.Tie as tie
+use Rattle.product_strategy.proofs.in_grid.Reads as reads
+use Rattle.product_strategy.proofs.in_grid.Lts as lts
 
 returns : tie.Need-returns
 returns c = λ e. absurd (subst (λ (b : Bool). T (not b)) e tt)

@@ -2,11 +2,11 @@
 use mathlib.Core.Path.{_∙_, ap₂}
 use borrow.Author.Needs.{needs}
 use Rattle.product_dense.specs.Grid.{sides-for}
-use Rattle.product_terms.specs.ProductTermsLaws.{first-low, second-low}
-use Rattle.product_terms.proofs.grid_for.Statement.{statement}
-use Rattle.product_terms.proofs.grid_for.Tie as tie
-use Rattle.product_terms.proofs.grid_for.Reads as reads
-use Rattle.product_terms.proofs.grid_for.Lts as lts
+use Rattle.product_room.specs.ProductTermsLaws.{first-low, second-low}
+use Rattle.product_strategy.proofs.grid_for.Statement.{statement}
+use Rattle.product_strategy.proofs.grid_for.Tie as tie
+use Rattle.product_strategy.proofs.grid_for.Reads as reads
+use Rattle.product_strategy.proofs.grid_for.Lts as lts
 use Rattle.product_dense.proofs.extents_of.Reads as extents-of-reads
 use Rattle.product_dense.proofs.sides_of.Reads as sides-of-reads
 

@@ -3,11 +3,11 @@ use native.Mathlib.Omega.{arith}
 use borrow.Author.Needs.{needs}
 use Rattle.product_table.specs.Table.{lent-places}
 use Rattle.product_grid.specs.GridReadyLaws.{fresh-zeros}
-use Rattle.product_terms.specs.ProductTermsLaws.{grid-ready}
-use Rattle.product_terms.proofs.in_large_grid.Statement.{statement}
-use Rattle.product_terms.proofs.in_large_grid.Tie as tie
-use Rattle.product_terms.proofs.in_large_grid.Reads as reads
-use Rattle.product_terms.proofs.in_large_grid.Lts as lts
+use Rattle.product_room.specs.ProductTermsLaws.{grid-ready}
+use Rattle.product_own_room.proofs.in_large_grid.Statement.{statement}
+use Rattle.product_own_room.proofs.in_large_grid.Tie as tie
+use Rattle.product_own_room.proofs.in_large_grid.Reads as reads
+use Rattle.product_own_room.proofs.in_large_grid.Lts as lts
 use Rattle.product_grid.proofs.gathered_empty.Reads as gathered-empty-reads
 
 slice-aggregate-gathered-empty : tie.Need-slice-aggregate-gathered-empty

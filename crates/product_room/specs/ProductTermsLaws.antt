@@ -24,7 +24,7 @@ use Rattle.product_dense.specs.GridLaws.{sides-narrow, extents-low, extents-wit
 use Rattle.product_dense.specs.GridPlaceLaws.{place-plus, product-gridded}
 use Rattle.product_dense.specs.GridDigitLaws.{sides-whole, sides-others}
 use Rattle.product_grid.specs.GridContracts.{Grid-ready}
-use Rattle.product_terms.specs.ProductTerms.{Lent-room, Kept-room}
+use Rattle.product_room.specs.ProductTerms.{Lent-room, Kept-room}
 
 -- ---- what is collected in a table is gathered
 pub collected-gathering : {homes most n d : ℕ} {q : Terms} {slots keys : List ℕ} {sums : List ℤ}
