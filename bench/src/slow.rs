@@ -29,7 +29,7 @@ const SLOWEST: usize = 16;
 /// The largest coefficient of most models: no sum of products of two is rounded to anything but 0, so that no product
 /// has too many terms.
 const SMALL: i64 = 60;
-/// What product_slots multiplies by where only variables 1 to 4 occur.
+/// What product_hash_slots multiplies by where only variables 1 to 4 occur.
 const HIGH_FACTOR: u64 = 1_555_934_479;
 
 /// Sheets of n variables with factors in some of them alone.

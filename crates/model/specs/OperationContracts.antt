@@ -6,8 +6,8 @@ pub use Rattle.model_multiplication.specs.Factors.{Factors}
 pub use Rattle.model_substitution.specs.Substitute.{Substitution}
 pub use Rattle.model_proposal.specs.Proposal.{Proposal}
 -- the products that the full table has room for
-pub use Rattle.product_table.specs.Table.{most-entries}
-pub use Rattle.product_collector.specs.CollectorContracts.{Lent-table, Free-table}
+pub use Rattle.product_hash_table.specs.Table.{most-entries}
+pub use Rattle.product_hash_collect.specs.CollectorContracts.{Lent-table, Free-table}
 pub use Rattle.product_calls.specs.SliceContracts.{Lent-room, Kept-room, Kept-ready}
 -- the answer of a product in arrays is one that callers look into
 unfoldable pub use Rattle.product_calls.specs.SliceContracts.{kept-model, kept-accounted}

@@ -73,7 +73,7 @@ fn substituted_few(d: u8, i: u8, f: Model, g: Model) -> Answer
     requires { ⌜ g .count ≤ few-terms ⌝ }
     ensures { λ r. ⌜ r ≡ answer (at-place 0 (Op.substitute d i (view f) (view g))) ⌝ }
 {
-    let mut slots = [0u16; product_table::SLOTS_EACH * FEW_PRODUCTS + 1];
+    let mut slots = [0u16; product_hash_table::SLOTS_EACH * FEW_PRODUCTS + 1];
     let mut keys = [0u64; FEW_PRODUCTS + 1];
     let mut sums = [0i64; FEW_PRODUCTS + 1];
     model_substitution::substituted(d, i, f, g, &mut slots, &mut keys, &mut sums)
@@ -85,7 +85,7 @@ fn substituted_some(d: u8, i: u8, f: Model, g: Model) -> Answer
     requires { ⌜ g .count ≤ some-terms ⌝ }
     ensures { λ r. ⌜ r ≡ answer (at-place 0 (Op.substitute d i (view f) (view g))) ⌝ }
 {
-    let mut slots = [0u16; product_table::SLOTS_EACH * SOME_PRODUCTS + 1];
+    let mut slots = [0u16; product_hash_table::SLOTS_EACH * SOME_PRODUCTS + 1];
     let mut keys = [0u64; SOME_PRODUCTS + 1];
     let mut sums = [0i64; SOME_PRODUCTS + 1];
     model_substitution::substituted(d, i, f, g, &mut slots, &mut keys, &mut sums)
@@ -97,7 +97,7 @@ fn substituted_many(d: u8, i: u8, f: Model, g: Model) -> Answer
     requires { ⌜ g .count ≤ some-terms ⌝ }
     ensures { λ r. ⌜ r ≡ answer (at-place 0 (Op.substitute d i (view f) (view g))) ⌝ }
 {
-    let mut slots = [0u16; product_table::SLOTS_EACH * SOME_PRODUCTS + 1];
+    let mut slots = [0u16; product_hash_table::SLOTS_EACH * SOME_PRODUCTS + 1];
     let mut keys = [0u64; GRID_PLACES];
     let mut sums = [0i64; GRID_PLACES];
     model_substitution::substituted(d, i, f, g, &mut slots, &mut keys, &mut sums)
@@ -108,9 +108,9 @@ fn substituted_any(d: u8, i: u8, f: Model, g: Model) -> Answer
     requires { ⌜ Substitution d i f g ⌝ }
     ensures { λ r. ⌜ r ≡ answer (at-place 0 (Op.substitute d i (view f) (view g))) ⌝ }
 {
-    let mut slots = [0u16; product_table::SLOTS];
-    let mut keys = [0u64; product_table::PLACES];
-    let mut sums = [0i64; product_table::PLACES];
+    let mut slots = [0u16; product_hash_table::SLOTS];
+    let mut keys = [0u64; product_sums::PLACES];
+    let mut sums = [0i64; product_sums::PLACES];
     model_substitution::substituted(d, i, f, g, &mut slots, &mut keys, &mut sums)
 }
 
@@ -250,9 +250,9 @@ pub fn quotient(d: u8, f: Model, g: Model, h: Model, w: Model) -> Answer
     let v = model_call_tests::dividing(d, f, g, h, w);
     match v {
         Verdict::Accepted => {
-            let mut slots = [0u16; product_table::SLOTS];
-            let mut keys = [0u64; product_table::PLACES];
-            let mut sums = [0i64; product_table::PLACES];
+            let mut slots = [0u16; product_hash_table::SLOTS];
+            let mut keys = [0u64; product_sums::PLACES];
+            let mut sums = [0i64; product_sums::PLACES];
             model_quotient::divided(d, f, g, h, w, &mut slots, &mut keys, &mut sums)
         }
         Verdict::Refused(refusal, place) => model_types::refuse(refusal, place),
@@ -310,9 +310,9 @@ pub use model_quotient::divided;
 pub use model_types::all_carried;
 
 // How long a lent table's keys and sums are at the least, and how long its slots.
-pub use product_table::PLACES;
-pub use product_table::SLOTS;
+pub use product_hash_table::SLOTS;
+pub use product_sums::PLACES;
 
 // The products that such a table has room for, and how many slots a smaller one has for each of its own.
-pub use product_table::ENTRIES;
-pub use product_table::SLOTS_EACH;
+pub use product_hash_table::ENTRIES;
+pub use product_hash_table::SLOTS_EACH;

@@ -3,7 +3,7 @@ ghost use mathlib.Core.Path.{_≡_};
 ghost use Prim.Native.Nat.{_*_, _^_, _≤_, _<_};
 ghost use Rattle.calculus.specs.Key.{«key-width»};
 ghost use Rattle.calculus.specs.Refusal.{«at-place»};
-ghost use Rattle.product_collector.specs.CollectorContracts.{«Free-table»};
+ghost use Rattle.product_hash_collect.specs.CollectorContracts.{«Free-table»};
 ghost use Rattle.product_room.specs.ProductTerms.{«Lent-room»};
 ghost use Rattle.model_types.specs.ModelStruct.{view, pack, bounds};
 ghost use Rattle.cuts.specs.Cuts.{«most-depth», «half-width», «piece-middle», piece, «piece-range»};

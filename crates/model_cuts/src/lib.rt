@@ -84,7 +84,7 @@ pub fn range(d: u8, i: u8, k: u8, f: Model) -> Bounds
             if MOST_DEPTH < k {
                 return model_types::refuse_bounds(Refusal::CutTooDeep, 0);
             }
-            let mut slots = [0u16; product_table::SLOTS_EACH * PIECE_PRODUCTS + 1];
+            let mut slots = [0u16; product_hash_table::SLOTS_EACH * PIECE_PRODUCTS + 1];
             let mut keys = [0u64; PIECE_PRODUCTS + 1];
             let mut sums = [0i64; PIECE_PRODUCTS + 1];
             cut(d, i, k, f, &mut slots, &mut keys, &mut sums)

@@ -7,14 +7,14 @@ ghost use Rattle.calculus.specs.Operations.{multiply};
 ghost use Rattle.calculus.specs.Shares.{«product-shares»};
 ghost use Rattle.model_types.specs.ModelStruct.{view, answer};
 ghost use Rattle.model_types.specs.SharesStruct.{accounted};
-ghost use Rattle.product_collector.specs.CollectorContracts.{«Free-table»};
+ghost use Rattle.product_hash_collect.specs.CollectorContracts.{«Free-table»};
 ghost use Rattle.product_room.specs.ProductTerms.{«Lent-room»};
 ghost use Rattle.product_answer.specs.ProductFactors.{Factors};
 use model_slices::Kept;
 use model_types::Accounted;
 use model_types::Answer;
 use model_types::Model;
-use product_gathering::Gathered;
+use product_sums::Gathered;
 
 // ---- in what is lent
 // f times g at order d with the shares of its radius, in a grid where the monomials are few, or else in a table. What

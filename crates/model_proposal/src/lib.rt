@@ -6,7 +6,7 @@ ghost use Rattle.calculus.specs.Model.{«one-model»};
 ghost use Rattle.calculus.specs.Refusal.{«at-place»};
 ghost use Rattle.calculus.specs.Operations.{bare, defect, deviation};
 ghost use Rattle.model_types.specs.ModelStruct.{view, pack, answer};
-ghost use Rattle.product_collector.specs.CollectorContracts.{«Lent-table», «Free-table»};
+ghost use Rattle.product_hash_collect.specs.CollectorContracts.{«Lent-table», «Free-table»};
 ghost use Rattle.model_multiplication.specs.Factors.{Factors};
 ghost use Rattle.model_proposal.specs.Proposal.{Proposal, Gap, gap};
 use model_types::Answer;

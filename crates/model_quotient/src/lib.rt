@@ -7,7 +7,7 @@ ghost use Rattle.calculus.specs.Model.{«most-degree», sound};
 ghost use Rattle.calculus.specs.Refusal.{«at-place»};
 ghost use Rattle.calculus.specs.Operations.{«largest-value», certified, quotient};
 ghost use Rattle.model_types.specs.ModelStruct.{view, pack, answer};
-ghost use Rattle.product_collector.specs.CollectorContracts.{«Lent-table», «Free-table»};
+ghost use Rattle.product_hash_collect.specs.CollectorContracts.{«Lent-table», «Free-table»};
 ghost use Rattle.model_proposal.specs.Proposal.{Proposal};
 ghost use Rattle.model_quotient.specs.Certificate.{«with-radius», judged, Judged};
 use model_types::Answer;

@@ -8,7 +8,7 @@ use lib.IntN.{ℤ}
 use Rattle.calculus.specs.Model.{most-terms}
 use Rattle.model_types.specs.declared.Model.{Model}
 use Rattle.model_types.specs.ModelStructLaws.{limits}
-use Rattle.product_collector.specs.CollectorContracts.{Lent-table}
+use Rattle.product_hash_collect.specs.CollectorContracts.{Lent-table}
 use Rattle.product_room.specs.ProductTerms.{Lent-room}
 use Rattle.product_room.specs.ProductTermsLaws.{lent-room, fewer-room}
 use Rattle.model_substitution.specs.Substitute.{Turn, Substitution}

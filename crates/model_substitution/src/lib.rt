@@ -9,7 +9,7 @@ ghost use Rattle.calculus.specs.Shares as S;
 ghost use Rattle.calculus.specs.Shares.{«product-shares», carrying, «substitute-shares»};
 ghost use Rattle.model_types.specs.ModelStruct.{view, answer};
 ghost use Rattle.model_types.specs.SharesStruct.{«stored-shares», accounted};
-ghost use Rattle.product_collector.specs.CollectorContracts.{«Free-table»};
+ghost use Rattle.product_hash_collect.specs.CollectorContracts.{«Free-table»};
 ghost use Rattle.product_room.specs.ProductTerms.{«Lent-room»};
 ghost use Rattle.model_substitution.specs.Substitute.{«horner-turn», Turn, Substitution};
 use model_types::Accounted;

@@ -7,8 +7,8 @@ use lib.IntN.{ℤ}
 use lib.ListN.{length}
 use Rattle.calculus.specs.Terms.{size}
 use Rattle.calculus.specs.Model.{Model, most-terms, most-degree, sound}
-use Rattle.product_gathering.specs.declared.Gathered.{Gathered}
-use Rattle.product_collector.specs.CollectorContracts.{Answered}
+use Rattle.product_sums.specs.declared.Gathered.{Gathered}
+use Rattle.product_sums.specs.ProductSums.{Answered}
 
 -- two models in n variables that are sound at an order, with the sums of |c| a and b and the radii e1 and e2, and what
 -- the collector answers for their product

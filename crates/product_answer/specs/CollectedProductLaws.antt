@@ -29,12 +29,12 @@ use Rattle.model_types.specs.SharesStruct.{stored-shares, accounted, unless-ref
 use Rattle.model_types.specs.SharesStructLaws.{accounted-by}
 use Rattle.model_limits.specs.Limits.{Packed}
 use Rattle.model_limits.specs.LimitLaws.{limited-many, pack-packed}
-use Rattle.product_table.specs.Table.{terms}
-use Rattle.product_gathering.specs.declared.Gathered.{Gathered}
-use Rattle.product_gathering.specs.Wide.{wide-terms}
-use Rattle.product_gathering.specs.Kept.{counted}
-use Rattle.product_gathering.specs.GatherLaws.{counted-few, counted-many}
-use Rattle.product_collector.specs.Collector.{gathered-product}
+use Rattle.product_sums.specs.TermArrays.{terms}
+use Rattle.product_sums.specs.declared.Gathered.{Gathered}
+use Rattle.product_sums.specs.Wide.{wide-terms}
+use Rattle.product_sums.specs.Kept.{counted}
+use Rattle.product_sums.specs.GatherLaws.{counted-few, counted-many}
+use Rattle.product_sums.specs.ProductSums.{gathered-product}
 use Rattle.product_packing.specs.Transfer.{Pack-ready, packed}
 use Rattle.product_packing.specs.TransferLaws.{packed-wide, pack-ready}
 use Rattle.product_answer.specs.CollectedProduct.{Product}

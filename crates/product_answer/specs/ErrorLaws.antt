@@ -18,7 +18,7 @@ use Rattle.calculus.specs.Operations.{products, within-order, above-order, carr
 use Rattle.calculus.specs.Shares.{product-shares}
 use Rattle.calculus_laws.specs.TermsLaws.{by-insert}
 use Rattle.calculus_laws.specs.SumLaws.{ℕ-addition, sum-split}
-use Rattle.product_collector.specs.ProductsLaws.{size-product}
+use Rattle.product_sums.specs.ProductsLaws.{size-product}
 use Rattle.product_answer.specs.ErrorShares.{error-shares}
 
 -- ---- collecting makes no sum of |c| larger

@@ -7,7 +7,6 @@ use native.Mathlib.Omega.{arith}
 use lib.Dec.{T}
 use lib.IntN.{ℤ}
 use lib.ListN.{length}
-use Rattle.algebra.specs.IntegerRing.{ℤR}
 use Rattle.polynomial.specs.Polynomial.{product}
 use Rattle.numbers.specs.Fixed.{span-limit}
 use Rattle.numbers.specs.FixedLaws.{span-square-fits}
@@ -23,12 +22,12 @@ use Rattle.model_types.specs.declared.Accounted.{Accounted}
 use Rattle.model_types.specs.ModelStruct.{view}
 use Rattle.model_types.specs.SharesStruct.{accounted}
 use Rattle.model_types.specs.ModelStructLaws.{limits}
-use Rattle.product_table.specs.Table.{terms}
-use Rattle.product_gathering.specs.declared.Gathered.{Gathered}
-use Rattle.product_gathering.specs.GatheringContracts.{Gathering}
-use Rattle.product_collector.specs.Collector.{accumulated-all}
-use Rattle.product_collector.specs.CollectorContracts as Contracts
-use Rattle.product_collector.specs.FactorArrayLaws.{sums-answer}
+use Rattle.product_sums.specs.TermArrays.{terms}
+use Rattle.product_sums.specs.declared.Gathered.{Gathered}
+use Rattle.product_sums.specs.ProductSums.{Product-gathered}
+use Rattle.product_sums.specs.ProductSums as Sums
+use Rattle.product_hash_collect.specs.CollectorContracts as Contracts
+use Rattle.product_hash_collect.specs.FactorArrayLaws.{sums-answer}
 use Rattle.product_packing.specs.Transfer.{Unpack-ready, Unpacked}
 use Rattle.product_answer.specs.CollectedProduct.{Product}
 use Rattle.product_answer.specs.ProductFactors.{Factors}
@@ -87,15 +86,15 @@ module _ (d : ℕ) (f g : Model) (h : Factors d f g) where
 
     -- what is gathered of their products
     pub factors-answer : {kept : List ℕ} {coefficients : List ℤ} {r : Gathered}
-        → Gathering d (accumulated-all [] (product ℤR (terms (f .count) ka ca) (terms (g .count) kb cb)))
+        → Product-gathered d (f .count) ka ca (g .count) kb cb
         kept coefficients r
-        → Contracts.Answered d (view f) (view g) kept coefficients r
+        → Sums.Answered d (view f) (view g) kept coefficients r
     unfolding factors
     factors-answer w = sums-answer factors w
 
     -- where the product ends
     module _ {keys : List ℕ} {coefficients : List ℤ} {r : Gathered}
-        (p : Contracts.Answered d (view f) (view g) keys coefficients r)
+        (p : Sums.Answered d (view f) (view g) keys coefficients r)
         (lk : most-terms ≤ length keys) (lc : most-terms ≤ length coefficients) where
       pub end-ready : Product (f .n) a (f .radius) b (g .radius) r keys coefficients
       unfolding view

@@ -12,7 +12,7 @@ use Rattle.model_types.specs.declared.Verdict.the-variants.{Accepted, Refused}
 use Rattle.model_types.specs.declared.Accounted.{Accounted}
 use Rattle.model_types.specs.ModelStruct.{pack}
 use Rattle.model_types.specs.SharesStruct.{stored-shares}
-use Rattle.product_table.specs.Table.{terms}
+use Rattle.product_sums.specs.TermArrays.{terms}
 use Rattle.product_packing.specs.Transfer.{Pack-ready, packed}
 use Rattle.model_slices.specs.declared.Kept.{Kept}
 

@@ -32,9 +32,9 @@ use Rattle.model_types.specs.ModelStruct.{zero-term, view-term, view, pad, pack
 use Rattle.model_types.specs.ModelStructLaws.{refusal-cause}
 use Rattle.model_types.specs.SharesStruct.{stored-shares, accounted, unless-refused}
 use Rattle.model_limits.specs.LimitLaws.{answer-within, answer-over}
-use Rattle.product_table.specs.Table.{at-key, terms}
-use Rattle.product_table.specs.TermArrayLaws.{terms-push}
-use Rattle.product_gathering.specs.declared.Gathered.{Gathered}
+use Rattle.product_sums.specs.TermArrays.{at-key, terms}
+use Rattle.product_sums.specs.TermArrayLaws.{terms-push}
+use Rattle.product_sums.specs.declared.Gathered.{Gathered}
 use Rattle.product_packing.specs.Transfer.{narrowed-term, packed}
 use Rattle.product_answer.specs.CollectedProduct.{Product}
 use Rattle.product_answer.specs.CollectedProductLaws.{too-many, struct-packed, struct-answer}

@@ -10,7 +10,7 @@ ghost use Rattle.calculus.specs.Terms.{size};
 ghost use Rattle.calculus.specs.Operations.{multiply};
 ghost use Rattle.calculus.specs.Shares.{«product-shares»};
 ghost use Rattle.model_types.specs.SharesStruct.{«stored-shares», accounted};
-ghost use Rattle.product_table.specs.Table.{terms};
+ghost use Rattle.product_sums.specs.TermArrays.{terms};
 ghost use Rattle.product_answer.specs.CollectedProduct.{Product};
 ghost use Rattle.product_answer.specs.ErrorShares.{«error-shares»};
 ghost use Rattle.product_answer.specs.KeptProduct.{«kept-accounted», «Kept-ready», «kept-refused»};
@@ -20,7 +20,7 @@ use model_types::Answer;
 use model_types::Refusal;
 use model_types::Shares;
 use model_types::Verdict;
-use product_gathering::Gathered;
+use product_sums::Gathered;
 
 // ---- the error E
 // Its share of the factors' radii e1 and e2, where the sums of |c| are a and b.

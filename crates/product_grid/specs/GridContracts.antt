@@ -6,10 +6,10 @@ use lib.IntN.{ℤ, pos}
 use lib.ListN.{length, getD}
 use Rattle.calculus.specs.Terms.{size}
 use Rattle.calculus.specs.Model.{most-terms}
-use Rattle.product_table.specs.Table.{terms, lent-places}
-use Rattle.product_dense.specs.declared.Sides.{Sides}
-use Rattle.product_dense.specs.Grid.{Narrow, place, Gridded}
-use Rattle.product_dense.specs.DigitLaws.{Digits}
+use Rattle.product_sums.specs.TermArrays.{terms, lent-places}
+use Rattle.product_grid_index.specs.declared.Sides.{Sides}
+use Rattle.product_grid_index.specs.Grid.{Narrow, place, Gridded}
+use Rattle.product_grid_index.specs.DigitLaws.{Digits}
 
 -- a grid with places for the products of na terms with nb others, and places for one more than the most terms
 pub record Grid-ready (s : Sides) (ka : List ℕ) (ca : List ℤ) (na : ℕ) (kb : List ℕ) (cb : List ℤ) (nb : ℕ)

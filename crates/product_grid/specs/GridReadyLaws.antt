@@ -9,18 +9,17 @@ use lib.ListN.{length, getD, replicate, length-replicate, getD-replicate, List·
 use Rattle.algebra.specs.IntegerRing.{ℤR}
 use Rattle.polynomial.specs.Polynomial.{product}
 use Rattle.calculus.specs.Terms.{Terms, size}
-use Rattle.product_table.specs.Table.{terms, lent-places}
-use Rattle.product_gathering.specs.declared.Gathered.{Gathered}
-use Rattle.product_gathering.specs.GatheringContracts.{Gathering}
-use Rattle.product_collector.specs.Collector.{accumulated-all}
-use Rattle.product_collector.specs.ProductsLaws.{size-product}
-use Rattle.product_dense.specs.declared.Sides.{Sides}
-use Rattle.product_dense.specs.Grid.{word}
-use Rattle.product_dense.specs.Degrees.{Top-degree}
-use Rattle.product_dense.specs.DigitLaws.{digits-sum}
-use Rattle.product_dense.specs.DegreeLaws.{degree-most, degree-plus, word-plus}
-use Rattle.product_filling.specs.Filling.{All-fit, Summed-up}
-use Rattle.product_rising.specs.Rising.{Scan-ready, Scanned, grid-terms}
+use Rattle.product_sums.specs.TermArrays.{terms, lent-places}
+use Rattle.product_sums.specs.declared.Gathered.{Gathered}
+use Rattle.product_sums.specs.ProductSums.{Product-gathered}
+use Rattle.product_sums.specs.ProductsLaws.{size-product}
+use Rattle.product_grid_index.specs.declared.Sides.{Sides}
+use Rattle.product_grid_index.specs.Grid.{word}
+use Rattle.product_grid_index.specs.Degrees.{Top-degree}
+use Rattle.product_grid_index.specs.DigitLaws.{digits-sum}
+use Rattle.product_grid_index.specs.DegreeLaws.{degree-most, degree-plus, word-plus}
+use Rattle.product_grid_fill.specs.Filling.{All-fit, Summed-up}
+use Rattle.product_grid_scan.specs.Rising.{Scan-ready, Scanned, grid-terms}
 use Rattle.product_grid.specs.GridContracts.{Grid-ready, Zeros}
 use Rattle.product_grid.specs.SameSumsLaws.{scanned-gathering}
 use Rattle.product_grid.specs.GridWalkLaws.{Keyed}
@@ -137,7 +136,7 @@ module _ {s : Sides} {ka : List ℕ} {ca : List ℤ} {na : ℕ} {kb : List ℕ} 
       pub scanned : (d : ℕ) {kept-after : List ℕ} {coefficients-after : List ℤ} {r : Gathered}
           → Scanned d (grid-terms filled degrees (s .first) (s .second) (s .third) (s .fourth) (a + b))
           kept-after coefficients-after r
-          → Gathering d (accumulated-all [] (product ℤR (terms na ka ca) (terms nb kb cb)))
+          → Product-gathered d na ka ca nb kb cb
           kept-after coefficients-after r
       scanned d w =
           scanned-gathering d _ _ (sums-rising s p filled degrees f (q .whole) (a + b) most-low reached)

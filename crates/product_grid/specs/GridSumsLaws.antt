@@ -19,18 +19,18 @@ use Rattle.calculus_laws.specs.CanonicalLaws.{coefficient-at, Same-coefficients
 use Rattle.calculus_laws.specs.CanonicalLaws.{share, share-here, share-elsewhere, absent-zero, rising-distinct}
 use Rattle.calculus_laws.specs.ProductLaws.{size-same}
 use Rattle.model_keys.specs.Keys.{wide-degree}
-use Rattle.product_table.specs.Table.{at-key, terms}
-use Rattle.product_collector.specs.Collector.{accumulated-all}
-use Rattle.product_collector.specs.AccumulatedAllLaws.{distinct-accumulated-all, coefficient-accumulated-all}
-use Rattle.product_collector.specs.AccumulatedAllLaws.{size-accumulated-all}
-use Rattle.product_collector.specs.ProductsLaws.{size-nil}
-use Rattle.product_dense.specs.declared.Sides.{Sides}
-use Rattle.product_dense.specs.Grid.{place, Gridded}
-use Rattle.product_dense.specs.DigitLaws.{Digits, read-first, read-second, read-third, read-fourth}
-use Rattle.product_dense.specs.GridDigitLaws.{digits-place, digits-gridded}
-use Rattle.product_filling.specs.Filling.{Summed-up}
-use Rattle.product_rising.specs.Rising.{grid-terms}
-use Rattle.product_rising.specs.RisingLaws.{steps-side, steps-left, steps-more}
+use Rattle.product_sums.specs.TermArrays.{at-key, terms}
+use Rattle.product_sums.specs.ProductSums.{accumulated-all}
+use Rattle.product_sums.specs.AccumulatedAllLaws.{distinct-accumulated-all, coefficient-accumulated-all}
+use Rattle.product_sums.specs.AccumulatedAllLaws.{size-accumulated-all}
+use Rattle.product_sums.specs.ProductsLaws.{size-nil}
+use Rattle.product_grid_index.specs.declared.Sides.{Sides}
+use Rattle.product_grid_index.specs.Grid.{place, Gridded}
+use Rattle.product_grid_index.specs.DigitLaws.{Digits, read-first, read-second, read-third, read-fourth}
+use Rattle.product_grid_index.specs.GridDigitLaws.{digits-place, digits-gridded}
+use Rattle.product_grid_fill.specs.Filling.{Summed-up}
+use Rattle.product_grid_scan.specs.Rising.{grid-terms}
+use Rattle.product_grid_scan.specs.RisingLaws.{steps-side, steps-left, steps-more}
 use Rattle.product_grid.specs.GridWalkLaws.{Keyed, none, more, keyed-append, among-absent, Seen, key-of}
 use Rattle.product_grid.specs.GridWalkLaws.{grid-rises, grid-keyed, grid-among}
 

@@ -1,14 +1,10 @@
 // What an order keeps of all products of two lists of terms, summed in a table that is handed over.
-ghost use mathlib.Core.List.{[]};
 ghost use Prim.Native.Nat.{_*_};
-ghost use Rattle.algebra.specs.IntegerRing.{ℤR};
-ghost use Rattle.polynomial.specs.Polynomial.{product};
-ghost use Rattle.product_table.specs.Table.{terms};
-ghost use Rattle.product_gathering.specs.GatheringContracts.{Gathering};
-ghost use Rattle.product_collector.specs.Collector.{«accumulated-all»};
-ghost use Rattle.product_collector.specs.CollectorContracts.{«Held-factors», «Empty-table»};
+ghost use Rattle.product_sums.specs.TermArrays.{terms};
+ghost use Rattle.product_sums.specs.ProductSums.{«Product-gathered»};
+ghost use Rattle.product_hash_collect.specs.CollectorContracts.{«Held-factors», «Empty-table»};
 ghost use Rattle.product_room.specs.ProductTerms.{«Lent-room», «Kept-room»};
-use product_gathering::Gathered;
+use product_sums::Gathered;
 
 // What order d keeps, in a table whose slots are empty, with room for so many products.
 pub fn in_table(
@@ -29,13 +25,12 @@ pub fn in_table(
     requires { ⌜ Held-factors (now ka) (now ca) na (now kb) (now cb) nb ⌝ }
     requires { ⌜ Empty-table (na * nb) room (now slots) (now keys) (now sums) ⌝ }
     requires { ⌜ Kept-room (now kept) (now coefficients) ⌝ }
-    ensures { λ r. ⌜ Gathering d (accumulated-all []
-        (product ℤR (terms na (now (ka .entry)) (now (ca .entry))) (terms nb (now (kb .entry)) (now (cb .entry)))))
-        (now (kept .exit)) (now (coefficients .exit)) r ⌝ }
+    ensures { λ r. ⌜ Product-gathered d na (now (ka .entry)) (now (ca .entry))
+        nb (now (kb .entry)) (now (cb .entry)) (now (kept .exit)) (now (coefficients .exit)) r ⌝ }
 {
-    let homes = product_table::HOMES_EACH * room;
-    let n = product_collector::collect(slots, keys, sums, homes, ka, ca, na, kb, cb, nb);
-    product_gathering::gather(keys, sums, n, d, kept, coefficients)
+    let homes = product_hash_table::HOMES_EACH * room;
+    let n = product_hash_collect::collect(slots, keys, sums, homes, ka, ca, na, kb, cb, nb);
+    product_hash_gather::gather(keys, sums, n, d, kept, coefficients)
 }
 
 // The same in a table that is lent, whatever is in it. Only as many slots as the products ask are emptied.
@@ -56,14 +51,13 @@ pub fn in_lent_table(
     requires { ⌜ Held-factors (now ka) (now ca) na (now kb) (now cb) nb ⌝ }
     requires { ⌜ Lent-room (na * nb) (now slots) (now keys) (now sums) ⌝ }
     requires { ⌜ Kept-room (now kept) (now coefficients) ⌝ }
-    ensures { λ r. ⌜ Gathering d (accumulated-all []
-        (product ℤR (terms na (now (ka .entry)) (now (ca .entry))) (terms nb (now (kb .entry)) (now (cb .entry)))))
-        (now (kept .exit)) (now (coefficients .exit)) r ⌝ }
+    ensures { λ r. ⌜ Product-gathered d na (now (ka .entry)) (now (ca .entry))
+        nb (now (kb .entry)) (now (cb .entry)) (now (kept .exit)) (now (coefficients .exit)) r ⌝ }
 {
     let products = na * nb;
-    let used = product_table::SLOTS_EACH * products + 1;
+    let used = product_hash_table::SLOTS_EACH * products + 1;
     let part = &mut slots[..used];
-    product_slots::clear(part);
+    product_hash_slots::clear(part);
     in_table(
         d,
         ka,

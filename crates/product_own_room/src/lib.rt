@@ -1,23 +1,19 @@
 // What an order keeps of all products of two lists of terms, summed in room of its own: a local array is filled with
 // zeros where it is declared, so each size has a function.
 ghost use mathlib.Core.Path.{_≡_};
-ghost use mathlib.Core.List.{[]};
 ghost use Prim.Native.Nat.{_*_, _≤_};
-ghost use Rattle.algebra.specs.IntegerRing.{ℤR};
-ghost use Rattle.polynomial.specs.Polynomial.{product};
-ghost use Rattle.product_table.specs.Table.{terms, «lent-places»};
-ghost use Rattle.product_gathering.specs.GatheringContracts.{Gathering};
-ghost use Rattle.product_collector.specs.Collector.{«accumulated-all»};
-ghost use Rattle.product_collector.specs.CollectorContracts.{«Held-factors»};
-ghost use Rattle.product_dense.specs.Grid.{extents, «sides-for»};
+ghost use Rattle.product_sums.specs.TermArrays.{terms, «lent-places»};
+ghost use Rattle.product_sums.specs.ProductSums.{«Product-gathered»};
+ghost use Rattle.product_hash_collect.specs.CollectorContracts.{«Held-factors»};
+ghost use Rattle.product_grid_index.specs.Grid.{extents, «sides-for»};
 ghost use Rattle.product_room.specs.ProductTerms.{«half-products», «few-products», «fewest-products»};
 ghost use Rattle.product_room.specs.ProductTerms.{«few-places»};
 ghost use Rattle.product_room.specs.ProductTerms.{«Kept-room»};
-use product_dense::Sides;
-use product_gathering::Gathered;
+use product_grid_index::Sides;
+use product_sums::Gathered;
 
 // For how many products the smaller tables of its own have room, and for how many the smallest.
-pub const HALF_PRODUCTS: usize = product_table::ENTRIES / 2;
+pub const HALF_PRODUCTS: usize = product_hash_table::ENTRIES / 2;
 
 pub const FEW_PRODUCTS: usize = 256;
 
@@ -42,11 +38,10 @@ pub fn in_smallest_table(
     requires { ⌜ Held-factors (now ka) (now ca) na (now kb) (now cb) nb ⌝ }
     requires { ⌜ na * nb ≤ fewest-products ⌝ }
     requires { ⌜ Kept-room (now kept) (now coefficients) ⌝ }
-    ensures { λ r. ⌜ Gathering d (accumulated-all []
-        (product ℤR (terms na (now (ka .entry)) (now (ca .entry))) (terms nb (now (kb .entry)) (now (cb .entry)))))
-        (now (kept .exit)) (now (coefficients .exit)) r ⌝ }
+    ensures { λ r. ⌜ Product-gathered d na (now (ka .entry)) (now (ca .entry))
+        nb (now (kb .entry)) (now (cb .entry)) (now (kept .exit)) (now (coefficients .exit)) r ⌝ }
 {
-    let mut slots = [0u16; product_table::SLOTS_EACH * FEWEST_PRODUCTS + 1];
+    let mut slots = [0u16; product_hash_table::SLOTS_EACH * FEWEST_PRODUCTS + 1];
     let mut keys = [0u64; FEWEST_PRODUCTS + 1];
     let mut sums = [0i64; FEWEST_PRODUCTS + 1];
     product_in_table::in_table(
@@ -81,11 +76,10 @@ pub fn in_small_table(
     requires { ⌜ Held-factors (now ka) (now ca) na (now kb) (now cb) nb ⌝ }
     requires { ⌜ na * nb ≤ few-products ⌝ }
     requires { ⌜ Kept-room (now kept) (now coefficients) ⌝ }
-    ensures { λ r. ⌜ Gathering d (accumulated-all []
-        (product ℤR (terms na (now (ka .entry)) (now (ca .entry))) (terms nb (now (kb .entry)) (now (cb .entry)))))
-        (now (kept .exit)) (now (coefficients .exit)) r ⌝ }
+    ensures { λ r. ⌜ Product-gathered d na (now (ka .entry)) (now (ca .entry))
+        nb (now (kb .entry)) (now (cb .entry)) (now (kept .exit)) (now (coefficients .exit)) r ⌝ }
 {
-    let mut slots = [0u16; product_table::SLOTS_EACH * FEW_PRODUCTS + 1];
+    let mut slots = [0u16; product_hash_table::SLOTS_EACH * FEW_PRODUCTS + 1];
     let mut keys = [0u64; FEW_PRODUCTS + 1];
     let mut sums = [0i64; FEW_PRODUCTS + 1];
     product_in_table::in_table(
@@ -120,11 +114,10 @@ pub fn in_half_table(
     requires { ⌜ Held-factors (now ka) (now ca) na (now kb) (now cb) nb ⌝ }
     requires { ⌜ na * nb ≤ half-products ⌝ }
     requires { ⌜ Kept-room (now kept) (now coefficients) ⌝ }
-    ensures { λ r. ⌜ Gathering d (accumulated-all []
-        (product ℤR (terms na (now (ka .entry)) (now (ca .entry))) (terms nb (now (kb .entry)) (now (cb .entry)))))
-        (now (kept .exit)) (now (coefficients .exit)) r ⌝ }
+    ensures { λ r. ⌜ Product-gathered d na (now (ka .entry)) (now (ca .entry))
+        nb (now (kb .entry)) (now (cb .entry)) (now (kept .exit)) (now (coefficients .exit)) r ⌝ }
 {
-    let mut slots = [0u16; product_table::SLOTS_EACH * HALF_PRODUCTS + 1];
+    let mut slots = [0u16; product_hash_table::SLOTS_EACH * HALF_PRODUCTS + 1];
     let mut keys = [0u64; HALF_PRODUCTS + 1];
     let mut sums = [0i64; HALF_PRODUCTS + 1];
     product_in_table::in_table(
@@ -158,13 +151,12 @@ pub fn in_large_table(
 ) -> Gathered
     requires { ⌜ Held-factors (now ka) (now ca) na (now kb) (now cb) nb ⌝ }
     requires { ⌜ Kept-room (now kept) (now coefficients) ⌝ }
-    ensures { λ r. ⌜ Gathering d (accumulated-all []
-        (product ℤR (terms na (now (ka .entry)) (now (ca .entry))) (terms nb (now (kb .entry)) (now (cb .entry)))))
-        (now (kept .exit)) (now (coefficients .exit)) r ⌝ }
+    ensures { λ r. ⌜ Product-gathered d na (now (ka .entry)) (now (ca .entry))
+        nb (now (kb .entry)) (now (cb .entry)) (now (kept .exit)) (now (coefficients .exit)) r ⌝ }
 {
-    let mut slots = [0u16; product_table::SLOTS];
-    let mut keys = [0u64; product_table::ENTRY_PLACES];
-    let mut sums = [0i64; product_table::ENTRY_PLACES];
+    let mut slots = [0u16; product_hash_table::SLOTS];
+    let mut keys = [0u64; product_hash_table::ENTRY_PLACES];
+    let mut sums = [0i64; product_hash_table::ENTRY_PLACES];
     product_in_table::in_table(
         d,
         ka,
@@ -176,7 +168,7 @@ pub fn in_large_table(
         &mut slots,
         &mut keys,
         &mut sums,
-        product_table::ENTRIES,
+        product_hash_table::ENTRIES,
         kept,
         coefficients,
     )
@@ -199,9 +191,8 @@ pub fn in_small_grid(
     requires { ⌜ s ≡ sides-for (extents na (now ka)) (extents nb (now kb)) ⌝ }
     requires { ⌜ s .size ≤ few-places ⌝ }
     requires { ⌜ Kept-room (now kept) (now coefficients) ⌝ }
-    ensures { λ r. ⌜ Gathering d (accumulated-all []
-        (product ℤR (terms na (now (ka .entry)) (now (ca .entry))) (terms nb (now (kb .entry)) (now (cb .entry)))))
-        (now (kept .exit)) (now (coefficients .exit)) r ⌝ }
+    ensures { λ r. ⌜ Product-gathered d na (now (ka .entry)) (now (ca .entry))
+        nb (now (kb .entry)) (now (cb .entry)) (now (kept .exit)) (now (coefficients .exit)) r ⌝ }
 {
     let mut sums = [0i64; FEW_PLACES];
     product_grid::gathered_empty(s, d, ka, ca, na, kb, cb, nb, &mut sums, kept, coefficients)
@@ -224,10 +215,9 @@ pub fn in_large_grid(
     requires { ⌜ s ≡ sides-for (extents na (now ka)) (extents nb (now kb)) ⌝ }
     requires { ⌜ s .size ≤ lent-places ⌝ }
     requires { ⌜ Kept-room (now kept) (now coefficients) ⌝ }
-    ensures { λ r. ⌜ Gathering d (accumulated-all []
-        (product ℤR (terms na (now (ka .entry)) (now (ca .entry))) (terms nb (now (kb .entry)) (now (cb .entry)))))
-        (now (kept .exit)) (now (coefficients .exit)) r ⌝ }
+    ensures { λ r. ⌜ Product-gathered d na (now (ka .entry)) (now (ca .entry))
+        nb (now (kb .entry)) (now (cb .entry)) (now (kept .exit)) (now (coefficients .exit)) r ⌝ }
 {
-    let mut sums = [0i64; product_table::PLACES];
+    let mut sums = [0i64; product_sums::PLACES];
     product_grid::gathered_empty(s, d, ka, ca, na, kb, cb, nb, &mut sums, kept, coefficients)
 }

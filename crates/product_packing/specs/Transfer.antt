@@ -14,8 +14,8 @@ use Rattle.model_keys.specs.Keys.{wide-exponents, narrowed}
 use Rattle.model_types.specs.declared.Term.{Term}
 use Rattle.model_types.specs.declared.Model.{Model}
 use Rattle.model_types.specs.ModelStruct.{view, pad}
-use Rattle.product_table.specs.Table.{terms}
-use Rattle.product_gathering.specs.Wide.{wide-terms}
+use Rattle.product_sums.specs.TermArrays.{terms}
+use Rattle.product_sums.specs.Wide.{wide-terms}
 
 -- ---- from a struct
 -- a model within the limits, and places for its terms

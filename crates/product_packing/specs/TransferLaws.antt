@@ -20,10 +20,10 @@ use Rattle.model_types.specs.declared.Term.{Term}
 use Rattle.model_types.specs.declared.Model.{Model}
 use Rattle.model_types.specs.ModelStruct.{zero-term, view-term, pack-term, pad, pack}
 use Rattle.model_types.specs.ModelStructLaws.{pad-more, read, view-terms, size-more, map-more}
-use Rattle.product_table.specs.Table.{at-key, none, terms}
-use Rattle.product_table.specs.TermArrayLaws.{terms-length, terms-at, terms-push}
-use Rattle.product_gathering.specs.Wide.{wide, wide-terms}
-use Rattle.product_gathering.specs.WideLaws.{wide-length}
+use Rattle.product_sums.specs.TermArrays.{at-key, none, terms}
+use Rattle.product_sums.specs.TermArrayLaws.{terms-length, terms-at, terms-push}
+use Rattle.product_sums.specs.Wide.{wide, wide-terms}
+use Rattle.product_sums.specs.WideLaws.{wide-length}
 use Rattle.product_packing.specs.Transfer.{Unpacked, narrowed-term, Pack-ready, packed}
 
 -- ---- from a struct

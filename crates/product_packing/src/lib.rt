@@ -1,6 +1,6 @@
 // The terms of a model go into arrays by their wide keys, and come back from there.
 ghost use mathlib.Core.Path.{_≡_};
-ghost use Rattle.product_table.specs.Table.{terms};
+ghost use Rattle.product_sums.specs.TermArrays.{terms};
 ghost use Rattle.product_packing.specs.Transfer.{«Unpack-ready», Unpacked, «Pack-ready», packed};
 use model_types::Model;
 use model_types::Term;

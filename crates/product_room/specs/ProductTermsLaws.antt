@@ -9,20 +9,22 @@ use lib.IntN.{ℤ, pos}
 use lib.ListN.{length, getD, replicate, length-replicate, getD-replicate, List·getD-eq-default}
 use Rattle.calculus.specs.Terms.{Terms}
 use Rattle.calculus.specs.Model.{most-terms, most-degree}
-use Rattle.product_table.specs.Table.{entries, most-entries, lent-places}
-use Rattle.product_gathering.specs.declared.Gathered.{Gathered}
-use Rattle.product_gathering.specs.GatheringContracts.{Gathering}
-use Rattle.product_collector.specs.Collector.{accumulated-all}
-use Rattle.product_collector.specs.CollectorContracts.{Collected, Held-factors, Empty-table, Lent-table, Free-table}
-use Rattle.product_collector.specs.FactorArrayLaws.{monomial-at, first-key, first-monomial, second-key, second-monomial}
-use Rattle.product_collector.specs.FactorArrayLaws.{factors-size}
-use Rattle.product_dense.specs.declared.Extents.{Extents}
-use Rattle.product_dense.specs.declared.Sides.{Sides}
-use Rattle.product_dense.specs.Grid.{Low, extents, sides-for, place, Gridded}
-use Rattle.product_dense.specs.DigitLaws.{Digits, Parts, wide-parts, parts-low, parts-digits}
-use Rattle.product_dense.specs.GridLaws.{sides-narrow, extents-low, extents-within}
-use Rattle.product_dense.specs.GridPlaceLaws.{place-plus, product-gridded}
-use Rattle.product_dense.specs.GridDigitLaws.{sides-whole, sides-others}
+use Rattle.product_hash_table.specs.Table.{entries, most-entries}
+use Rattle.product_sums.specs.TermArrays.{lent-places}
+use Rattle.product_sums.specs.declared.Gathered.{Gathered}
+use Rattle.product_sums.specs.Kept.{Gathering}
+use Rattle.product_sums.specs.ProductSums.{accumulated-all}
+use Rattle.product_hash_collect.specs.CollectorContracts.{Collected, Held-factors, Empty-table, Lent-table, Free-table}
+use Rattle.product_hash_collect.specs.FactorArrayLaws.{monomial-at, first-key, first-monomial, second-key}
+use Rattle.product_hash_collect.specs.FactorArrayLaws.{second-monomial}
+use Rattle.product_hash_collect.specs.FactorArrayLaws.{factors-size}
+use Rattle.product_grid_index.specs.declared.Extents.{Extents}
+use Rattle.product_grid_index.specs.declared.Sides.{Sides}
+use Rattle.product_grid_index.specs.Grid.{Low, extents, sides-for, place, Gridded}
+use Rattle.product_grid_index.specs.DigitLaws.{Digits, Parts, wide-parts, parts-low, parts-digits}
+use Rattle.product_grid_index.specs.GridLaws.{sides-narrow, extents-low, extents-within}
+use Rattle.product_grid_index.specs.GridPlaceLaws.{place-plus, product-gridded}
+use Rattle.product_grid_index.specs.GridDigitLaws.{sides-whole, sides-others}
 use Rattle.product_grid.specs.GridContracts.{Grid-ready}
 use Rattle.product_room.specs.ProductTerms.{Lent-room, Kept-room}
 

@@ -17,8 +17,8 @@ use Rattle.model_types.specs.Arrays.{padded}
 use Rattle.model_types.specs.ModelStruct.{zero-term, pad, pack}
 use Rattle.model_slices.specs.HandedModels.{over, stored-keys, stored-coefficients}
 use Rattle.model_slices.specs.HandedModelsLaws.{over-more}
-use Rattle.product_table.specs.Table.{at-key, terms}
-use Rattle.product_table.specs.TermArrayLaws.{terms-length}
+use Rattle.product_sums.specs.TermArrays.{at-key, terms}
+use Rattle.product_sums.specs.TermArrayLaws.{terms-length}
 use Rattle.product_packing.specs.Transfer.{Pack-ready, narrowed-term, packed}
 use Rattle.model_slices.specs.declared.Kept.{Kept}
 use Rattle.product_answer.specs.KeptProduct.{model-unless, kept-model, kept-count, Kept-ready}

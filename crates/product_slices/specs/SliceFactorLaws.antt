@@ -5,7 +5,6 @@ use Prim.Native.Nat.{ℕ, _≤_}
 use lib.Dec.{T}
 use lib.IntN.{ℤ}
 use lib.ListN.{length}
-use Rattle.algebra.specs.IntegerRing.{ℤR}
 use Rattle.polynomial.specs.Polynomial.{product}
 use Rattle.calculus.specs.Model.{most-terms, sound}
 use Rattle.calculus.specs.Operations.{multiply}
@@ -16,11 +15,10 @@ use Rattle.model_types.specs.ModelStruct.{view}
 use Rattle.model_types.specs.ModelStructLaws.{limits}
 use Rattle.model_types.specs.SharesStruct.{accounted}
 use Rattle.model_slices.specs.HandedModels.{handed}
-use Rattle.product_table.specs.Table.{terms}
-use Rattle.product_gathering.specs.declared.Gathered.{Gathered}
-use Rattle.product_gathering.specs.GatheringContracts.{Gathering}
-use Rattle.product_collector.specs.Collector.{accumulated-all}
-use Rattle.product_collector.specs.CollectorContracts.{Held-factors}
+use Rattle.product_sums.specs.TermArrays.{terms}
+use Rattle.product_sums.specs.declared.Gathered.{Gathered}
+use Rattle.product_sums.specs.ProductSums.{Product-gathered}
+use Rattle.product_hash_collect.specs.CollectorContracts.{Held-factors}
 use Rattle.product_packing.specs.Transfer.{Unpacked}
 use Rattle.product_answer.specs.CollectedProduct.{Product}
 use Rattle.product_answer.specs.ProductFactors.{Factors}
@@ -72,7 +70,7 @@ module _ (d n count1 radius1 : ℕ) (keys1 : List ℕ) (cs1 : List ℤ) (count2 
         slice-factors = factors d f g h uf ug lka lc1 lkb lc2
 
         module _ {kept : List ℕ} {cs : List ℤ} {r : Gathered}
-            (w : Gathering d (accumulated-all [] (product ℤR (terms count1 ka cs1) (terms count2 kb cs2))) kept cs r)
+            (w : Product-gathered d count1 ka cs1 count2 kb cs2 kept cs r)
             (lk : most-terms ≤ length kept) (lc : most-terms ≤ length cs) where
           pub slice-ready : Product n a radius1 b radius2 r kept cs
           unfolding handed

@@ -2,10 +2,11 @@
 ghost use mathlib.Core.Path.{_≡_};
 ghost use mathlib.Core.Bool.{true};
 ghost use Prim.Native.Nat.{_≤_};
-ghost use Rattle.product_table.specs.Table.{«most-entries», «lent-places»};
-ghost use Rattle.product_collector.specs.CollectorContracts.{«Held-factors»};
-ghost use Rattle.product_dense.specs.Grid.{extents, «sides-for»};
-use product_dense::Sides;
+ghost use Rattle.product_hash_table.specs.Table.{«most-entries»};
+ghost use Rattle.product_sums.specs.TermArrays.{«lent-places»};
+ghost use Rattle.product_hash_collect.specs.CollectorContracts.{«Held-factors»};
+ghost use Rattle.product_grid_index.specs.Grid.{extents, «sides-for»};
+use product_grid_index::Sides;
 
 // How many places a grid may have for each product of two terms: a larger one takes longer to empty and to scan than a
 // table to search.
@@ -16,9 +17,9 @@ pub fn grid_for(ka: &[u64], ca: &[i64], na: usize, kb: &[u64], cb: &[i64], nb: u
     requires { ⌜ Held-factors (now ka) (now ca) na (now kb) (now cb) nb ⌝ }
     ensures { λ r. ⌜ r ≡ sides-for (extents na (now (ka .entry))) (extents nb (now (kb .entry))) ⌝ }
 {
-    let e = product_dense::extents_of(ka, na);
-    let h = product_dense::extents_of(kb, nb);
-    product_dense::sides_of(e, h)
+    let e = product_grid_index::extents_of(ka, na);
+    let h = product_grid_index::extents_of(kb, nb);
+    product_grid_index::sides_of(e, h)
 }
 
 // Whether a grid of so many places is to be used for so many products, where there are so many places for sums; for
@@ -30,7 +31,7 @@ pub fn in_grid(size: usize, products: usize, sums: usize) -> bool
     if sums < size {
         return false;
     }
-    if product_table::PLACES < size {
+    if product_sums::PLACES < size {
         return false;
     }
     size <= GRID_EACH * products

@@ -1,16 +1,12 @@
 // What an order keeps of all products of two lists of terms held by wide keys: they are summed in a grid where the
 // monomials are few, else in a table, in what is lent or in room of its own.
-ghost use mathlib.Core.List.{[]};
 ghost use Prim.Native.Nat.{_*_};
-ghost use Rattle.algebra.specs.IntegerRing.{ℤR};
-ghost use Rattle.polynomial.specs.Polynomial.{product};
-ghost use Rattle.product_table.specs.Table.{terms};
-ghost use Rattle.product_gathering.specs.GatheringContracts.{Gathering};
-ghost use Rattle.product_collector.specs.Collector.{«accumulated-all»};
-ghost use Rattle.product_collector.specs.CollectorContracts.{«Held-factors», «Free-table»};
+ghost use Rattle.product_sums.specs.TermArrays.{terms};
+ghost use Rattle.product_sums.specs.ProductSums.{«Product-gathered»};
+ghost use Rattle.product_hash_collect.specs.CollectorContracts.{«Held-factors», «Free-table»};
 ghost use Rattle.product_room.specs.ProductTerms.{«Lent-room», «Kept-room»};
-use product_dense::Sides;
-use product_gathering::Gathered;
+use product_grid_index::Sides;
+use product_sums::Gathered;
 
 // Up to so many products a table is as fast as a grid, whose size has to be found first.
 const GRID_FROM: usize = 256;
@@ -34,9 +30,8 @@ pub fn kept_lent(
     requires { ⌜ Held-factors (now ka) (now ca) na (now kb) (now cb) nb ⌝ }
     requires { ⌜ Lent-room (na * nb) (now slots) (now keys) (now sums) ⌝ }
     requires { ⌜ Kept-room (now kept) (now coefficients) ⌝ }
-    ensures exact { λ r. ⌜ Gathering d (accumulated-all []
-        (product ℤR (terms na (now (ka .entry)) (now (ca .entry))) (terms nb (now (kb .entry)) (now (cb .entry)))))
-        (now (kept .exit)) (now (coefficients .exit)) r ⌝ }
+    ensures exact { λ r. ⌜ Product-gathered d na (now (ka .entry)) (now (ca .entry))
+        nb (now (kb .entry)) (now (cb .entry)) (now (kept .exit)) (now (coefficients .exit)) r ⌝ }
     ensures table { λ r. ⌜ Free-table (now (slots .entry)) (now (keys .entry)) (now (sums .entry))
         (now (slots .exit)) (now (keys .exit)) (now (sums .exit)) ⌝ }
 {
@@ -91,9 +86,8 @@ pub fn kept_alone(
 ) -> Gathered
     requires { ⌜ Held-factors (now ka) (now ca) na (now kb) (now cb) nb ⌝ }
     requires { ⌜ Kept-room (now kept) (now coefficients) ⌝ }
-    ensures { λ r. ⌜ Gathering d (accumulated-all []
-        (product ℤR (terms na (now (ka .entry)) (now (ca .entry))) (terms nb (now (kb .entry)) (now (cb .entry)))))
-        (now (kept .exit)) (now (coefficients .exit)) r ⌝ }
+    ensures { λ r. ⌜ Product-gathered d na (now (ka .entry)) (now (ca .entry))
+        nb (now (kb .entry)) (now (cb .entry)) (now (kept .exit)) (now (coefficients .exit)) r ⌝ }
 {
     let products = na * nb;
     if products <= product_own_room::FEWEST_PRODUCTS {
@@ -103,7 +97,7 @@ pub fn kept_alone(
         return product_own_room::in_small_table(d, ka, ca, na, kb, cb, nb, kept, coefficients);
     }
     let s: Sides = product_strategy::grid_for(ka, ca, na, kb, cb, nb);
-    let places = product_table::PLACES;
+    let places = product_sums::PLACES;
     if product_strategy::in_grid(s.size, products, places) {
         if s.size <= product_own_room::FEW_PLACES {
             return product_own_room::in_small_grid(

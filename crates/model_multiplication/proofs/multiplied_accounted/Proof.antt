@@ -6,7 +6,7 @@ use lib.Dec.{lit≤}
 use lib.ListN.{length}
 use Rattle.calculus.specs.Model.{most-terms}
 use Rattle.model_types.specs.ModelStructLaws.{limits}
-use Rattle.product_collector.specs.CollectorContracts.{Held-factors}
+use Rattle.product_hash_collect.specs.CollectorContracts.{Held-factors}
 use Rattle.product_answer.specs.ProductFactors.{Factors}
 use Rattle.product_answer.specs.FactorLaws.{unpack-ready, factors, factors-answer, end-ready, end-answer}
 use Rattle.model_multiplication.proofs.multiplied_accounted.Statement.{statement}

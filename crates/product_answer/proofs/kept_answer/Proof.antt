@@ -8,7 +8,7 @@ use lib.Dec.{leb}
 use Rattle.numbers.specs.Fixed.{span-limit}
 use Rattle.calculus.specs.Terms.{size}
 use Rattle.calculus.specs.Model.{most-terms}
-use Rattle.product_table.specs.Table.{terms}
+use Rattle.product_sums.specs.TermArrays.{terms}
 use Rattle.product_answer.specs.CollectedProductLaws.{kept-ready, carried-fits, E-fits}
 use Rattle.product_answer.specs.KeptProductLaws.{kept-many, kept-over, kept-within, refused-ready}
 use Rattle.product_answer.proofs.kept_answer.Statement.{statement}

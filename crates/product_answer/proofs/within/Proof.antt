@@ -11,7 +11,7 @@ use mir.Syntax.{w64}
 use mir.Val.{toZ, ofZ}
 use Rattle.numbers.specs.Fixed.{capped}
 use Rattle.calculus.specs.Terms.{size}
-use Rattle.product_table.specs.Table.{terms}
+use Rattle.product_sums.specs.TermArrays.{terms}
 use Rattle.product_answer.specs.KeptProductLaws.{spanned-first, spanned-turn, spanned-end}
 use Rattle.product_answer.proofs.within.Statement.{statement}
 use Rattle.product_answer.proofs.within.Tie as tie

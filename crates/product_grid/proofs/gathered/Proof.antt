@@ -5,7 +5,7 @@ use Rattle.product_grid.proofs.gathered.Statement.{statement}
 use Rattle.product_grid.proofs.gathered.Tie as tie
 use Rattle.product_grid.proofs.gathered.Reads as reads
 use Rattle.product_grid.proofs.gathered.Lts as lts
-use Rattle.product_filling.proofs.empty.Reads as empty-reads
+use Rattle.product_grid_fill.proofs.empty.Reads as empty-reads
 use Rattle.product_grid.proofs.gathered_empty.Reads as gathered-empty-reads
 
 empty-requires : tie.Need-empty-requires

@@ -6,18 +6,18 @@ use lib.ListN.{length, replicate, length-replicate}
 use Rattle.algebra.specs.IntegerRing.{ℤR}
 use Rattle.polynomial.specs.Polynomial.{product}
 use Rattle.calculus.specs.Model.{most-terms}
-use Rattle.product_table.specs.Table.{terms, lent-places}
-use Rattle.product_filling.specs.Filling.{All-fit, Summed-up}
+use Rattle.product_sums.specs.TermArrays.{terms, lent-places}
+use Rattle.product_grid_fill.specs.Filling.{All-fit, Summed-up}
 use Rattle.product_grid.specs.GridReadyLaws.{all-fit, most-low, scan-ready, scanned}
 use borrow.Author.Needs.{needs}
 use Rattle.product_grid.proofs.gathered_empty.Statement.{statement}
 use Rattle.product_grid.proofs.gathered_empty.Tie as tie
 use Rattle.product_grid.proofs.gathered_empty.Reads as reads
 use Rattle.product_grid.proofs.gathered_empty.Lts as lts
-use Rattle.product_dense.proofs.degree_of.Reads as degree-of-reads
-use Rattle.product_dense.proofs.word_all.Reads as word-all-reads
-use Rattle.product_filling.proofs.fill.Reads as fill-reads
-use Rattle.product_rising.proofs.scan.Reads as scan-reads
+use Rattle.product_grid_index.proofs.degree_of.Reads as degree-of-reads
+use Rattle.product_grid_index.proofs.word_all.Reads as word-all-reads
+use Rattle.product_grid_fill.proofs.fill.Reads as fill-reads
+use Rattle.product_grid_scan.proofs.scan.Reads as scan-reads
 
 slice-aggregate-word-all : tie.Need-slice-aggregate-word-all
 slice-aggregate-word-all c = search needs

@@ -9,7 +9,7 @@ use Rattle.product_in_table.proofs.in_lent_table.Statement.{statement}
 use Rattle.product_in_table.proofs.in_lent_table.Tie as tie
 use Rattle.product_in_table.proofs.in_lent_table.Reads as reads
 use Rattle.product_in_table.proofs.in_lent_table.Lts as lts
-use Rattle.product_slots.proofs.clear.Reads as clear-reads
+use Rattle.product_hash_slots.proofs.clear.Reads as clear-reads
 use Rattle.product_in_table.proofs.in_table.Reads as in-table-reads
 
 -- how many slots are used

@@ -1,13 +1,13 @@
 -- `in_table` has the products collected, and then gathered.
 use borrow.Author.Needs.{needs}
-use Rattle.product_collector.specs.FactorArrayLaws.{collect-ready, gather-ready}
+use Rattle.product_hash_collect.specs.FactorArrayLaws.{collect-ready, gather-ready}
 use Rattle.product_room.specs.ProductTermsLaws.{collected-gathering}
 use Rattle.product_in_table.proofs.in_table.Statement.{statement}
 use Rattle.product_in_table.proofs.in_table.Tie as tie
 use Rattle.product_in_table.proofs.in_table.Reads as reads
 use Rattle.product_in_table.proofs.in_table.Lts as lts
-use Rattle.product_collector.proofs.collect.Reads as collect-reads
-use Rattle.product_gathering.proofs.gather.Reads as gather-reads
+use Rattle.product_hash_collect.proofs.collect.Reads as collect-reads
+use Rattle.product_hash_gather.proofs.gather.Reads as gather-reads
 
 mul-homes : tie.Need-mul-homes
 mul-homes c = search needs

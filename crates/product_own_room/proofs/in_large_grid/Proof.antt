@@ -1,7 +1,7 @@
 -- `in_large_grid` makes a grid of zeros.
 use native.Mathlib.Omega.{arith}
 use borrow.Author.Needs.{needs}
-use Rattle.product_table.specs.Table.{lent-places}
+use Rattle.product_sums.specs.TermArrays.{lent-places}
 use Rattle.product_grid.specs.GridReadyLaws.{fresh-zeros}
 use Rattle.product_room.specs.ProductTermsLaws.{grid-ready}
 use Rattle.product_own_room.proofs.in_large_grid.Statement.{statement}

@@ -1,7 +1,7 @@
 -- `in_large_table` makes a table of zeros.
 use borrow.Author.Needs.{needs}
 use lib.Dec.{lit≤}
-use Rattle.product_table.specs.Table.{most-entries}
+use Rattle.product_hash_table.specs.Table.{most-entries}
 use Rattle.product_room.specs.ProductTermsLaws.{zeros-empty, products-few}
 use Rattle.product_own_room.proofs.in_large_table.Statement.{statement}
 use Rattle.product_own_room.proofs.in_large_table.Tie as tie

@@ -12,8 +12,8 @@ use mir.Val.{toZ, ofZ}
 use Rattle.calculus.specs.Model.{most-terms}
 use Rattle.model_types.specs.Arrays.{padded}
 use Rattle.model_types.specs.ModelStruct.{pad}
-use Rattle.product_table.specs.Table.{terms}
-use Rattle.product_table.specs.TermArrayLaws.{terms-length}
+use Rattle.product_sums.specs.TermArrays.{terms}
+use Rattle.product_sums.specs.TermArrayLaws.{terms-length}
 use Rattle.product_packing.specs.Transfer.{narrowed-term, packed}
 use Rattle.product_packing.specs.TransferLaws.{packing-turn}
 use Rattle.product_packing.proofs.pack.Statement.{statement}

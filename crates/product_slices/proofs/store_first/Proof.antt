@@ -9,7 +9,7 @@ use mir.Facts.{toZ-ofZ}
 use mir.Syntax.{w64}
 use mir.Val.{toZ, ofZ}
 use Rattle.model_slices.specs.HandedModels.{over}
-use Rattle.product_table.specs.Table.{terms}
+use Rattle.product_sums.specs.TermArrays.{terms}
 use Rattle.product_slices.specs.KeptPlaces.{narrow-keys, narrow-coefficients}
 use Rattle.product_slices.specs.KeptPlacesLaws.{keys-more, coefficients-more}
 use Rattle.product_slices.proofs.store_first.Statement.{statement}

@@ -1,14 +1,14 @@
 -- `grid_for` finds the extents of both, and the sides for them.
 use mathlib.Core.Path.{_∙_, ap₂}
 use borrow.Author.Needs.{needs}
-use Rattle.product_dense.specs.Grid.{sides-for}
+use Rattle.product_grid_index.specs.Grid.{sides-for}
 use Rattle.product_room.specs.ProductTermsLaws.{first-low, second-low}
 use Rattle.product_strategy.proofs.grid_for.Statement.{statement}
 use Rattle.product_strategy.proofs.grid_for.Tie as tie
 use Rattle.product_strategy.proofs.grid_for.Reads as reads
 use Rattle.product_strategy.proofs.grid_for.Lts as lts
-use Rattle.product_dense.proofs.extents_of.Reads as extents-of-reads
-use Rattle.product_dense.proofs.sides_of.Reads as sides-of-reads
+use Rattle.product_grid_index.proofs.extents_of.Reads as extents-of-reads
+use Rattle.product_grid_index.proofs.sides_of.Reads as sides-of-reads
 
 extents-of-requires : tie.Need-extents-of-requires
 extents-of-requires c κs = search needs

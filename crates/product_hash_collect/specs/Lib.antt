@@ -1,0 +1,2 @@
+pub mod CollectorContracts
+pub mod FactorArrayLaws
