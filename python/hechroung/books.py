@@ -45,10 +45,12 @@ class Step(NamedTuple):
 
     @classmethod
     def negate(cls, a: int) -> Step:
+        """Step a with all signs turned."""
         return cls(3, a)
 
     @classmethod
     def add(cls, a: int, b: int) -> Step:
+        """The sum of steps a and b."""
         return cls(4, a, b)
 
     @classmethod
@@ -58,6 +60,7 @@ class Step(NamedTuple):
 
     @classmethod
     def multiply(cls, a: int, b: int) -> Step:
+        """The product of steps a and b, to the book's order."""
         return cls(6, a, b)
 
     @classmethod

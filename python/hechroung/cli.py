@@ -14,7 +14,7 @@ import sys
 from collections.abc import Callable, Sequence
 from fractions import Fraction
 from pathlib import Path
-from typing import Any, TextIO
+from typing import Any
 
 from . import bench, plot
 from .archive import restore, store
@@ -29,6 +29,9 @@ from .version import VERSION
 
 ACCEPTED, REFUSED, MISUSED = 0, 1, 2
 MOST_SHOWN_DIGITS = 20
+MOST_SHOWN_PROGRESS = 78
+# The start of a terminal's line, with nothing behind it.
+CLEARED = "\r\033[K"
 # The archive holds models of up to four variables.
 MOST_ARCHIVED = 4
 
@@ -54,29 +57,17 @@ class Misuse(Exception):
 # ---- what every command shares
 
 
-class Progress:
-    """On a terminal a line that says how far a row of sheets is."""
-
-    def __init__(self, count: int, stream: TextIO):
-        self.count, self.stream, self.done = count, stream, 0
-        self.shown = count > 1 and stream.isatty()
-
-    def next(self, name: str) -> None:
-        self.done += 1
-        if self.shown:
-            self.write(f"{self.done} of {self.count} sheets: {name}")
-
-    def write(self, words: str) -> None:
-        self.stream.write(f"\r{words[:78]:78}\r")
-        self.stream.flush()
-
-    def end(self) -> None:
-        if self.shown:
-            self.write("")
+def show_progress(words: str) -> None:
+    """On a terminal a line that says how far a row of sheets is; the next one, or what is said, takes its place."""
+    if sys.stderr.isatty():
+        sys.stderr.write(f"{CLEARED}{words[:MOST_SHOWN_PROGRESS]}\r")
+        sys.stderr.flush()
 
 
 def say(source: str, sentence: str) -> None:
     """A sentence about an input, on standard error."""
+    sys.stdout.flush()
+    show_progress("")
     print(f"{source}: {sentence}", file=sys.stderr)
 
 
@@ -84,14 +75,12 @@ def say_notes(loaded: Loaded, arguments: argparse.Namespace) -> None:
     """What the assembler added, on standard error."""
     for note in () if arguments.quiet else loaded.notes:
         say(loaded.source, f"note: {note}")
-    sys.stderr.flush()
 
 
 def faulty(source: str, fault: Exception, loaded: Loaded | None = None) -> int:
     """Says why an input is refused, on standard error."""
-    sys.stdout.flush()
     if isinstance(fault, TextError):
-        print(f"{source}:{fault.line}:{fault.column}: {fault.sentence}\n{fault.pointed()}", file=sys.stderr)
+        say(f"{source}:{fault.line}:{fault.column}", f"{fault.sentence}\n{fault.pointed()}")
     elif isinstance(fault, Refused) and loaded is not None:
         say(source, refused_sentence(loaded, fault))
     else:
@@ -110,9 +99,10 @@ def faulty_as_json(source: str, fault: Exception, loaded: Loaded | None = None) 
 
 def each(paths: Sequence[str], work: Callable[[Loaded], int], refuse: Callable[..., int] = faulty) -> int:
     """Does the work for each sheet, goes on behind one that is refused or not there, and answers the worst status."""
-    progress, worst = Progress(len(paths), sys.stderr), ACCEPTED
-    for path in paths or [STANDARD_INPUT]:
-        progress.next(path)
+    worst = ACCEPTED
+    for number, path in enumerate(paths or [STANDARD_INPUT], 1):
+        if len(paths) > 1:
+            show_progress(f"{number} of {len(paths)} sheets: {path}")
         loaded = None
         try:
             loaded = load(path)
@@ -121,7 +111,7 @@ def each(paths: Sequence[str], work: Callable[[Loaded], int], refuse: Callable[.
         except (TextError, Unfit) as fault:
             status = refuse(shown_source(path), fault)
         worst = max(worst, status if loaded is None else done(loaded, work, refuse))
-    progress.end()
+    show_progress("")
     return worst
 
 
@@ -134,7 +124,7 @@ def done(loaded: Loaded, work: Callable[[Loaded], int], refuse: Callable[..., in
 
 def unreadable(fault: OSError) -> int:
     """Says what file cannot be read or written."""
-    print(f"hechroung: {fault.filename or 'file'}: {fault.strerror}", file=sys.stderr)
+    say("hechroung", f"{fault.filename or 'file'}: {fault.strerror}")
     return MISUSED
 
 
@@ -194,6 +184,8 @@ def do_assemble(arguments: argparse.Namespace) -> int:
         say_notes(loaded, arguments)
         target = arguments.output
         if arguments.directory:
+            if loaded.source not in arguments.files:
+                raise Misuse("a sheet from standard input has no name for a file in a folder; name the file with -o")
             suffix = ".hex" if arguments.hex else ".bin"
             target = str(Path(arguments.directory, Path(loaded.source).with_suffix(suffix).name))
         if arguments.hex:
@@ -245,6 +237,7 @@ def do_run(arguments: argparse.Namespace) -> int:
             print(json.dumps(outcome.data(arguments.digits), ensure_ascii=False))
         else:
             say_notes(loaded, arguments)
+            show_progress("")
             # A blank line parts the reports of several sheets.
             print("\n" * bool(reports) + outcome.text(arguments.digits), end="")
         reports.append(loaded.source)
@@ -579,7 +572,7 @@ def main(words: Sequence[str] | None = None) -> int:
         status: int = arguments.does(arguments)
         return status
     except (Misuse, MissingModule) as fault:
-        print(f"hechroung: {fault}", file=sys.stderr)
+        say("hechroung", str(fault))
         return MISUSED
     except BrokenPipeError:
         # Whoever reads has seen enough; nothing is left to flush into the closed pipe.

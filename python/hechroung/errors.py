@@ -75,10 +75,12 @@ class Refused(Exception):
 
     @property
     def name(self) -> str:
+        """The refusal's name, as the library's documents have it."""
         return REFUSALS[self.number].name
 
     @property
     def sentence(self) -> str:
+        """When the refusal is given, and what to do."""
         refusal = REFUSALS[self.number]
         return f"{refusal.when}; {refusal.advice}"
 

@@ -16,6 +16,7 @@ class Ends(NamedTuple):
 
     @property
     def width(self) -> int:
+        """How far the high end is above the low one, in units."""
         return self.high - self.low
 
     def decimals(self, digits: int = 6) -> tuple[Decimal, Decimal]:
@@ -34,6 +35,7 @@ class Exact(NamedTuple):
 
     @property
     def units(self) -> Fraction:
+        """The exact integral in units."""
         return self.quotient + Fraction(self.remainder, DENOMINATOR)
 
 

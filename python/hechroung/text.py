@@ -70,6 +70,12 @@ _NUMBER, _NAME = re.compile(_TERMINALS["NUMBER"]), re.compile(_TERMINALS["NAME"]
 INPUT, CONSTANT, VARIABLE, NEGATE, ADD, SUBTRACT, MULTIPLY, SUBSTITUTE, SWEEP, DIVIDE, ANTIDERIVATIVE = range(11)
 _OPERATORS = {ADD: "+", SUBTRACT: "-", MULTIPLY: "*"}
 _SUPERSCRIPTS = {"²": 2, "³": 3}
+# Letters that the text form has no use for, and what may be meant by them.
+_MEANT = {
+    "/": "; a quotient is written: divide a by b proposal h, w; and a fraction without blanks: 1/3",
+    "−": "; minus is the sign -", "–": "; minus is the sign -", "·": "; a product has the sign *",
+    "×": "; a product has the sign *",
+}
 # What the parser may have expected, in words.
 _EXPECTED = {
     "NAME": "a name", "NUMBER": "a number", "SIGN": "a sign", "_RADIUS": "± (or +-)", "EXPONENT": "an exponent",
@@ -132,7 +138,8 @@ def _parser() -> Any:
         from lark import Lark
     except ImportError:
         raise needed("lark", "python3-lark") from None
-    return Lark(GRAMMAR, parser="lalr", propagate_positions=True, maybe_placeholders=True)
+    # The basic lexer takes the words of the grammar for words wherever they stand, so that none of them is a name.
+    return Lark(GRAMMAR, parser="lalr", lexer="basic", propagate_positions=True, maybe_placeholders=True)
 
 
 # ---- the assembler
@@ -178,7 +185,6 @@ class _Assembler:
         self.take_variables(variables)
         self.order = self.taken_order(order)
         for statement in statements:
-            self.line = statement.meta.line
             (self.take_model if statement.data == "model" else self.take_step)(statement)
         self.end(statements)
 
@@ -210,28 +216,30 @@ class _Assembler:
         if word[:1].isdigit():
             return (f"'{word}' is no number; numbers are written 0.25, 1e-3, 1/3 or, in whole units, 5u, "
                     "and a blank stands before a name")
-        if word == ",":
-            return "a comma is not expected here; decimals are written with a point"
-        return f"'{word}' has no meaning here"
+        return f"'{word}' has no meaning here{_MEANT.get(word, '')}"
 
     def refuse_token(self, fault: Any) -> NoReturn:
-        token = fault.token
-        words = sorted({_EXPECTED.get(name, f"'{name.lower()}'") for name in fault.accepts or fault.expected})
+        token, accepted = fault.token, fault.accepts or fault.expected
+        words = sorted({_EXPECTED.get(name, f"'{name.lower()}'") for name in accepted})
         expected = ", ".join(words[:-1]) + " or " + words[-1] if len(words) > 1 else words[0]
         if token.type == "$END":
             lines = self.text.rstrip("\n").split("\n")
             self.refuse_at(len(lines), len(lines[-1]) + 1, f"the text ends here; {expected} is expected")
         what = "the line ends here" if token.type == "_NEWLINE" else f"'{token}' is not expected here"
-        self.refuse(token, f"{what}; {expected} is expected{self.hint(token)}")
+        self.refuse(token, f"{what}; {expected} is expected{self.hint(token, accepted)}")
 
-    def hint(self, token: Any) -> str:
+    def hint(self, token: Any, accepted: Any) -> str:
+        """A sentence more, where it can be guessed what was meant."""
+        before = self.text[token.start_pos - 1:token.start_pos]
         if token.type == "EXPONENT":
             return ". Powers are for models; a step multiplies: y * y"
+        if token.type == "_RADIUS":
+            return ". A radius is for models; a step has the one that comes out"
         if token == ",":
-            return ". Decimals are written with a point"
-        if str(token) in KEYWORDS:
+            return ". Decimals are written with a point" if before.isdigit() else ". Names are parted by blanks"
+        if str(token) in KEYWORDS and "NAME" in accepted:
             return f". '{token}' is a word of the text form and names nothing else"
-        if token.type in ("NAME", "NUMBER", "LPAR"):
+        if token.type in ("NAME", "NUMBER", "LPAR") and "SIGN" in accepted and "NAME" not in accepted:
             return ". In a step * stands between factors: 0.05 * t"
         return ""
 
@@ -240,8 +248,6 @@ class _Assembler:
     def named(self, token: Any) -> str:
         """A name that is not taken yet."""
         name = str(token)
-        if name in KEYWORDS:
-            self.refuse(token, f"'{name}' is a word of the text form and names nothing else")
         if name in self.first_lines:
             self.refuse(token, f"'{name}' is named twice; line {self.first_lines[name]} names it first")
         self.first_lines[name] = token.line
@@ -343,7 +349,10 @@ class _Assembler:
 
     def take_step(self, tree: Any) -> None:
         token, expression = tree.children
-        place = self.outcome(expression)
+        try:
+            place = self.outcome(expression)
+        except RecursionError:
+            self.refuse(token, f"the expression of '{token}' is too deep; a sheet has at most {MOST_STEPS} steps")
         name = self.named(token)
         self.named_steps[name] = place
         if self.step_labels[place] not in self.named_steps:

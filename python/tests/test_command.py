@@ -44,7 +44,8 @@ def test_progress_on_a_terminal_only(tmp_path: Path, monkeypatch: pytest.MonkeyP
         monkeypatch.setattr(sys, "stderr", stream())
         assert cli.main(["run", "-q", *map(str, paths)]) == 0
         said[stream] = sys.stderr.getvalue()
-    assert "3 of 3 sheets: " in said[Terminal] and said[Terminal].endswith("\r") and said[io.StringIO] == ""
+    assert "3 of 3 sheets: " in said[Terminal] and said[Terminal].endswith(cli.CLEARED + "\r")
+    assert said[io.StringIO] == ""
 
 
 def test_bytes_are_not_written_to_a_terminal(tmp_path: Path, monkeypatch: pytest.MonkeyPatch) -> None:

@@ -80,8 +80,9 @@ def test_listing_in_own_names() -> None:
     sheet = assemble(SHEET)
     text = listing(sheet, ["f", "t"])
     assert "variables f t\n" in text and "f^2 t" in text and assemble(text) == sheet
-    for names, sentence in ((["f"], "variables is 2, and 1 name"), (["f", "f"], "named twice"), (["f", "s0"], "named twice"),
-                            (["f", "in"], "cannot name"), (["f", "u"], "cannot name"), (["f", "2"], "cannot name")):
+    for names, sentence in (
+            (["f"], "variables is 2, and 1 name"), (["f", "f"], "named twice"), (["f", "s0"], "named twice"),
+            (["f", "in"], "cannot name"), (["f", "u"], "cannot name"), (["f", "2"], "cannot name")):
         with pytest.raises(ValueError, match=sentence):
             listing(sheet, names)
 
@@ -229,7 +230,12 @@ ERRORS = [
     (HEAD + "model m = 0.5 z\n", 3, 15, "'z' is no variable; the variables are x, y"),
     (HEAD + "r = antiderivative x in z\n", 3, 25, "'z' is no variable; the variables are x, y"),
     (HEAD + "x = 1\n", 3, 1, "'x' is named twice; line 1 names it first"),
-    (HEAD + "model in = 1\n", 3, 7, "'in' is a word of the text form and names nothing else"),
+    (HEAD + "model in = 1\n", 3, 7, "'in' is not expected here; a name is expected. 'in' is a word of the text form "
+     "and names nothing else"),
+    (HEAD + "model m = sweep x at 3\n", 3, 11, "'sweep' is not expected here; a name, a number or a sign is expected. "
+     "'sweep' is a word of the text form and names nothing else"),
+    (HEAD + "r = x +- y\n", 3, 7, "'+-' is not expected here; *, a sign or the end of the line is expected. A radius "
+     "is for models; a step has the one that comes out"),
     (HEAD + "model m = x^2 y^2\n", 3, 15, "the degree of this term is at least 4, and the order is 3"),
     (HEAD + "model m = 1000 - 30 x\n", 3, 7, "the sizes of the terms of 'm' and its radius sum to 1030.00, and 1024 is "
      "the most; scale the curve down"),
@@ -249,8 +255,18 @@ ERRORS = [
      "for models; a step multiplies: y * y"),
     (HEAD + "r = x *\n", 3, 8, "the line ends here; (, a name, a number or a sign is expected"),
     (HEAD + "r = x @ y\n", 3, 7, "'@' has no meaning here"),
-    (HEAD + "r = antiderivative x for y\n", 3, 22, "'for' is not expected here; 'in' or a sign is expected. 'for' is "
-     "a word of the text form and names nothing else"),
+    (HEAD + "r = x − y\n", 3, 7, "'−' has no meaning here; minus is the sign -"),
+    (HEAD + "r = x / y\n", 3, 7, "'/' has no meaning here; a quotient is written: divide a by b proposal h, w; and a "
+     "fraction without blanks: 1/3"),
+    (HEAD + "r = x ± 0.1\n", 3, 7, "'±' is not expected here; *, a sign or the end of the line is expected. A radius "
+     "is for models; a step has the one that comes out"),
+    ("variables x, y\norder 1\n", 1, 12, "',' is not expected here; a name or the end of the line is expected. Names "
+     "are parted by blanks"),
+    ("variable x\norder 1\n", 1, 1, "'variable' is not expected here; 'variables' or the end of the line is expected"),
+    (HEAD + "r = (x + 1\n", 3, 11, "the line ends here; ) is expected"),
+    (HEAD + "r = x * sweep x at 1\n", 3, 9, "'sweep' is not expected here; (, a name, a number or a sign is expected. "
+     "'sweep' is a word of the text form and names nothing else"),
+    (HEAD + "r = antiderivative x for y\n", 3, 22, "'for' is not expected here; 'in' or a sign is expected"),
     (HEAD + "".join(f"model m{i} = x\n" for i in range(17)) + "r = m0\n", 19, 7, "'m16' would be model 17, and a sheet "
      "has at most 16 (a number that is no whole number of units counts as one)"),
     (HEAD + "".join(f"s{i} = variable x\n" for i in range(65)), 67, 7, "a sheet has at most 64 steps, and this needs "
@@ -272,6 +288,14 @@ def test_too_many_terms() -> None:
     terms = " + ".join(f"x^{a} y^{b}" for a in range(8) for b in range(8) if a + b <= 15)
     with pytest.raises(TextError, match="'m' has 65 terms, and a model has at most 64"):
         of(f"model m = {terms} + x^8\nr = m\n", order=15)
+
+
+@pytest.mark.parametrize("expression", ["x" + " + x" * 5000, "-" * 5000 + "x", "(" * 5000 + "x" + ")" * 5000])
+def test_deep_expressions(expression: str) -> None:
+    try:
+        assert steps_of(f"r = {expression}\n") == [Step.variable(1)]
+    except TextError as fault:
+        assert (fault.line, fault.column) == (3, 1) and "too deep; a sheet has at most 64 steps" in fault.sentence
 
 
 def test_numbers() -> None:
