@@ -9,6 +9,7 @@ __extension__ typedef __int128 number;
 
 struct sums {
     number exact, low, high; /* exact: in parts of a unit over the denominator */
+    uint64_t accepted, refused, without_exact;
 };
 
 static number of_wide(struct wide wide) {
@@ -29,6 +30,8 @@ static number of_text(const char *text) {
 static void agree(const struct sheet_totals *totals, const struct sums *sums) {
     char text[WIDE_TEXT];
     HOLDS(totals_normal(totals));
+    HOLDS(totals->accepted == sums->accepted && totals->refused == sums->refused);
+    HOLDS(totals->without_exact == sums->without_exact && totals->nulls == 0);
     HOLDS(of_wide(totals->q) * HECHROUNG_DENOMINATOR + (number)totals->r == sums->exact);
     HOLDS(of_wide(totals->integral_low) == sums->low && of_wide(totals->integral_high) == sums->high);
     wide_text(totals->q, text);
@@ -55,6 +58,9 @@ static void change(struct sums *sums, const struct sheet_answer *answer, int sig
     sums->exact += sign * ((number)answer->q * HECHROUNG_DENOMINATOR + answer->r);
     sums->low += sign * (number)answer->integral_low;
     sums->high += sign * (number)answer->integral_high;
+    sums->refused += (uint64_t)(sign * (answer->refusal != 0));
+    sums->accepted += (uint64_t)(sign * (answer->refusal == 0));
+    sums->without_exact += (uint64_t)(sign * (answer->refusal == 0 && !answer->exact));
 }
 
 /* Bytes of any kind: what is taken for a state is stored as the same bytes. */
@@ -73,7 +79,7 @@ static void state(const struct input *input) {
 int LLVMFuzzerTestOneInput(const uint8_t *data, size_t size) {
     struct input input = {data, size};
     struct sheet_totals totals, copy;
-    struct sums sums = {0, 0, 0};
+    struct sums sums = {0, 0, 0, 0, 0, 0};
     uint8_t stored[STATE_LENGTH];
     state(&input);
     memset(&totals, 0, sizeof totals);
@@ -84,6 +90,7 @@ int LLVMFuzzerTestOneInput(const uint8_t *data, size_t size) {
             copy = totals;
             totals_merge(&totals, &copy);
             sums.exact *= 2, sums.low *= 2, sums.high *= 2;
+            sums.accepted *= 2, sums.refused *= 2, sums.without_exact *= 2;
             doubled++;
         } else if (word == 1) {
             totals_remove(&totals, &answer);
