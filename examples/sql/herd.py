@@ -71,8 +71,8 @@ def print_postgresql():
 
 
 def print_python():
-    sys.path.insert(0, str(Path(__file__).resolve().parent.parent / "python"))
-    from hechroung import Refused, shares
+    sys.path.insert(0, str(Path(__file__).resolve().parent.parent.parent / "python"))
+    from hechroung import Refused, run
 
     totals = dict.fromkeys(COLUMNS, 0)
     for _, _, given in rows():
@@ -80,7 +80,7 @@ def print_python():
             totals["nulls"] += 1
             continue
         try:
-            summary = shares(given).summary
+            summary = run(given)
         except Refused:
             totals["refused"] += 1
             continue

@@ -1,4 +1,4 @@
-"""The Python border: every public function of hechroung.py with arguments of any kind, for so many seconds.
+"""The Python border: every public function of the package hechroung with arguments of any kind, for so many seconds.
 
 usage: border.py SECONDS [SEED]
 
@@ -14,7 +14,7 @@ import time
 from pathlib import Path
 
 HERE = Path(__file__).resolve().parent
-sys.path.insert(0, str(HERE.parent.parent / "examples" / "python"))
+sys.path.insert(0, str(HERE.parent.parent / "python"))
 import hechroung  # noqa: E402
 
 ALLOWED = (hechroung.Refused, hechroung.Misused, ValueError, TypeError, AttributeError, ctypes.ArgumentError)
@@ -22,7 +22,7 @@ ALLOWED = (hechroung.Refused, hechroung.Misused, ValueError, TypeError, Attribut
 INPUTS = [path.read_bytes() for path in sorted((HERE / "corpus" / "header").iterdir())]
 SHEETS = [data[1:] for data in INPUTS if data[:1] == b"\0"]
 FUNCTIONS = [function for name, function in sorted(vars(hechroung).items())
-             if inspect.isfunction(function) and function.__module__ == "hechroung" and not name.startswith("_")]
+             if name in hechroung.__all__ and inspect.isfunction(function)]
 
 
 class Any:
@@ -106,7 +106,8 @@ def held(function, arguments, answer):
     if function.__name__ == "restore":
         again = hechroung.restore(hechroung.store(answer), 64)
         assert (again.n, again.radius, again.terms) == (answer.n, answer.radius, answer.terms)
-    if isinstance(answer, hechroung.Model):
+    # `measured` makes a model of any numbers that fit their fields; the next call tests it
+    if isinstance(answer, hechroung.Model) and function.__name__ != "measured":
         turned = hechroung.negate(hechroung.negate(answer))
         assert (turned.n, turned.radius, turned.terms) == (answer.n, answer.radius, answer.terms)
 
@@ -117,7 +118,12 @@ def main(seconds, seed=1):
     calls = answers = 0
     while calls < 2000 or time.monotonic() < until:
         function = values.random.choice(FUNCTIONS)
-        arguments = {name: values.named(function.__name__, name) for name in inspect.signature(function).parameters}
+        try:
+            arguments = {name: values.named(function.__name__, name) for name in inspect.signature(function).parameters}
+        except ALLOWED:
+            # a model, a curve or a reading that takes no such number
+            calls += 1
+            continue
         try:
             answer = called(function, arguments)
             if answer is not None:
