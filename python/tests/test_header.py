@@ -4,6 +4,7 @@ import re
 from pathlib import Path
 
 from hechroung import _library, errors, limits
+from hechroung.version import VERSION
 from hechroung._fields import f64, i64, i64s, octets, size, sizes, u8, u32s, u64, u64s
 
 HEADER = (Path(__file__).resolve().parents[2] / "include" / "hechroung.h").read_text(encoding="utf-8")
@@ -28,7 +29,7 @@ def test_functions():
     exported = [found for found in vars(_library).values() if hasattr(found, "fields")]
     ours = {function.__name__: (function.answer, function.fields) for function in exported}
     assert ours == declared()
-    assert len(ours) == HEADER.count("\nextern ") - HEADER.count('\nextern "C"')
+    assert len(ours) == len(re.findall(r"^extern [^;]*\bhechroung_\w+\(", HEADER, re.MULTILINE))
 
 
 def test_numbers():
@@ -36,4 +37,5 @@ def test_numbers():
     theirs = {name: int(value) for name, value in re.findall(r"^#define HECHROUNG_(\w+) (\d+)$", HEADER, re.MULTILINE)}
     ours = {name: value for name, value in vars(limits).items() if name in theirs}
     ours |= {"ABI": _library.LAYOUT, "MISUSED": errors.MISUSED}
+    ours |= {f"VERSION_{part}": int(n) for part, n in zip(("MAJOR", "MINOR", "PATCH"), VERSION.split("."))}
     assert ours == {name: value for name, value in theirs.items() if name != "LONGEST_TEXT"}

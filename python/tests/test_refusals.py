@@ -94,9 +94,9 @@ def test_every_refusal_is_tried():
     assert {number for number, *_ in CASES} == set(REFUSALS) == set(range(1, 18))
 
 
-def test_names_are_those_of_the_readme():
-    """The table of refusals at the end of README.md."""
-    lines = (hechroung._library._HERE.parents[1] / "README.md").read_text(encoding="utf-8").splitlines()
+def test_names_are_those_of_the_library():
+    """The table of refusals in docs/LIBRARY.md."""
+    lines = (hechroung._library._HERE.parents[1] / "docs/LIBRARY.md").read_text(encoding="utf-8").splitlines()
     rows = [line.split("|") for line in lines if line.startswith("| ")]
     table = {int(row[1]): row[2].strip(" `") for row in rows if row[1].strip().isdigit()}
     assert {number: refusal.name for number, refusal in REFUSALS.items()} == table
