@@ -3,30 +3,11 @@
 
 #include <hechroung.h>
 
-/* By refusal, from 1. */
-static const char *const SENTENCES[] = {
-    "The length is outside its limits: a sheet has 16 to 8,792 bytes.",
-    "The last two bytes are neither mark, hex 4D 4B or 4D 57.",
-    "The number of variables, the order or a count is outside its limits, or the mark does not fit the variables.",
-    "The offset of the first step does not fit the length.",
-    "A model breaks a rule, or does not fit before the first step.",
-    "A step breaks its form, or an argument is wrong.",
-    "The sizes of the coefficients and the radius sum to more than 2^30 units.",
-    "A result has more than 64 terms.",
-    "A substituted model, or a coordinate, leaves the box.",
-    "The models differ in their number of variables.",
-    "The buffer is too short.",
-    "The quotient is not certified: with this proposal it is not shown that the divisor is nowhere zero.",
-    "A model to convert to a curve has another number of variables than one.",
-    "The box is to be cut to a depth above 6.",
-    "The row has more than 256 readings, or a reading's low value is above its high one.",
-    "A value of the curve in doubles is not finite, or its radius is negative.",
-    "A rank in the archive is 3,876 or more, or does not rise.",
-};
-enum { REFUSALS = sizeof SENTENCES / sizeof SENTENCES[0], MOST_VARIABLES_EXACT = 4 };
+enum { MOST_VARIABLES_EXACT = 4 };
 
 const char *sheet_sentence(int refusal) {
-    return refusal >= 1 && refusal <= REFUSALS ? SENTENCES[refusal - 1] : NULL;
+    const int refused = refusal >= HECHROUNG_BAD_LENGTH && refusal <= HECHROUNG_BAD_RANK;
+    return refused ? hechroung_sentence((uint8_t)refusal) : NULL;
 }
 
 void sheet_run(const uint8_t *sheet, size_t length, struct sheet_answer *answer) {
