@@ -197,7 +197,7 @@ struct hechroung_reading {
    not looked at, but the slices of both models are. constant and variable take the n of the first model.
    Read: for each model at least min(count, 64) keys and as many coefficients.
    Written: keys and coefficients, at least 64 each, hold the answer's 64 places; numbers, at least 4, hold the
-   refusal's place, n, the count and the radius. What lies behind stays. */
+   refusal's place, n, the count and the radius. What lies after it stays. */
 extern uint8_t hechroung_call(uint8_t code, uint8_t d, uint8_t i, int64_t value,
                               uint8_t n1, size_t count1, uint64_t radius1,
                               const uint32_t *keys1, size_t keys1_length,
@@ -246,14 +246,14 @@ extern uint8_t hechroung_run(const uint8_t *sheet, size_t sheet_length,
    from. Written: keys, coefficients, numbers and ends as for hechroung_run; shares, at least 4 times
    HECHROUNG_MOST_STEPS, hold four numbers for each of 64 steps: carried, rounding, swept and slack of step i from 4 * i
    on. They are 0 for a refused step and those after it, for steps that the sheet does not have, and for all steps of a
-   sheet refused by 1 to 6. What lies behind stays. */
+   sheet refused by 1 to 6. What lies after it stays. */
 extern uint8_t hechroung_shares(const uint8_t *sheet, size_t sheet_length,
                                 uint32_t *keys, size_t keys_length, int64_t *coefficients, size_t coefficients_length,
                                 uint64_t *numbers, size_t numbers_length, int64_t *ends, size_t ends_length,
                                 uint64_t *shares, size_t shares_length);
 
 /* Runs a sheet to the program's lines and returns their length, at most HECHROUNG_LONGEST_TEXT. As much of them as the
-   slice has room for is put at its start, without a zero at the end; what lies behind stays. */
+   slice has room for is put at its start, without a zero at the end; what lies after it stays. */
 extern size_t hechroung_print(const uint8_t *sheet, size_t sheet_length, uint8_t *lines, size_t lines_length);
 
 /* Reads a sheet and writes what was read: refusals 1 to 6, 11 (the buffer is too short). Written: numbers, at least 2,
@@ -318,7 +318,7 @@ extern uint8_t hechroung_shares_book(uint8_t n, uint8_t d, size_t model_count, s
    length of its slice is tested. Refusals 5 at place 0 or 1 (that curve), 7; the place of 7 is 0.
    Read: of each curve the first 16 coefficients, that of T_0 first; there are at least so many.
    Written: coefficients, at least 16, hold the answer's; numbers, at least 2, hold the refusal's place and the radius.
-   What lies behind stays. */
+   What lies after it stays. */
 extern uint8_t hechroung_curve(uint8_t code,
                                const int64_t *coefficients1, size_t coefficients1_length, uint64_t radius1,
                                const int64_t *coefficients2, size_t coefficients2_length, uint64_t radius2,
@@ -378,7 +378,7 @@ extern uint8_t hechroung_doubles(double c0, double c1, double c2, double radius,
    Read: the model as above; as many readings as lows is long, with 8 coordinates of points each, those of reading i from
    8 * i on, and a high value. points has at least 8 times that many, highs at least as many.
    Written: numbers, at least 3, hold the refusal's place, 1 if a reading contradicts and else 0, and the number of the
-   first that does, from 0; the last two are 0 where none does and beside a refusal. What lies behind stays. */
+   first that does, from 0; the last two are 0 where none does and beside a refusal. What lies after it stays. */
 extern uint8_t hechroung_readings(uint8_t n, size_t count, uint64_t radius,
                                   const uint32_t *keys, size_t keys_length,
                                   const int64_t *coefficients, size_t coefficients_length,

@@ -1,5 +1,5 @@
 //! A search for sheets that run slowly, by their time for each product that they make. Windows of home slots, or of the
-//! numbers behind them that sums keep, and hill climbing look for factors whose products meet in the table's searches;
+//! numbers after them that sums keep, and hill climbing look for factors whose products meet in the table's searches;
 //! substitutions and quotients make many products by one step. The slowest of each kind is printed beside the
 //! benchmark's largest sheet of as many variables.
 

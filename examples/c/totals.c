@@ -4,7 +4,7 @@
 #include <inttypes.h>
 #include <stdio.h>
 
-/* The exact integral stands behind the ends from layout 2 on, and keys have 32 bits from this one on. */
+/* The exact integral stands after the ends from layout 2 on, and keys have 32 bits from this one on. */
 #if HECHROUNG_ABI != 3
 #error "this example is for layout 3 of hechroung.h"
 #endif

@@ -47,13 +47,13 @@ def model_slices(model: Handed) -> tuple[Any, ...]:
 
 
 def models_slices(models: Sequence[Handed]) -> tuple[Any, ...]:
-    """Models one behind the other, at most 16, with 64 places each: n, count and radius, keys and coefficients."""
-    lent = models[:MOST_MODELS]
-    padded = [(*model.terms[:MOST_TERMS], *((0, 0),) * (MOST_TERMS - len(model.terms))) for model in lent]
+    """Models one after the other, at most 16, with 64 places each: n, count and radius, keys and coefficients."""
+    handed = models[:MOST_MODELS]
+    padded = [(*model.terms[:MOST_TERMS], *((0, 0),) * (MOST_TERMS - len(model.terms))) for model in handed]
     terms = [term for places in padded for term in places]
-    return (bytes(array(u8, (model.n for model in lent), "n")), len(lent),
-            array(size, (len(model.terms) for model in lent)), len(lent),
-            array(u64, (model.radius for model in lent), "a radius"), len(lent),
+    return (bytes(array(u8, (model.n for model in handed), "n")), len(handed),
+            array(size, (len(model.terms) for model in handed)), len(handed),
+            array(u64, (model.radius for model in handed), "a radius"), len(handed),
             array(u32, (key for key, _ in terms), "a key"), len(terms),
             array(i64, (coefficient for _, coefficient in terms), "a coefficient"), len(terms))
 

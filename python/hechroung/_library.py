@@ -54,7 +54,7 @@ def _exported(name: str, answer: Any, *fields: Any) -> Callable[..., int]:
 
 # A slice is a pointer and a length.
 _keys, _coefficients, _numbers, _ends, _bytes = (u32s, size), (i64s, size), (u64s, size), (i64s, size), (octets, size)
-# A model that is read, a model that is stored, several models one behind the other, a book, what a run gives, a curve.
+# A model that is read, a model that is stored, several models one after the other, a book, what a run gives, a curve.
 _model = (u8, size, u64, *_keys, *_coefficients)
 _answer = (*_keys, *_coefficients, *_numbers)
 _models = (octets, size, sizes, size, u64s, size, *_keys, *_coefficients)

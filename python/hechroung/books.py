@@ -187,8 +187,8 @@ def reported(call: Callable[..., int], arguments: Sequence[Any], order: int) -> 
 
 def _summed(call: Callable[..., int], arguments: Sequence[Any], order: int, rows: Any) -> Summary:
     answer, ends = Answer(), (i64 * 6)()
-    behind = () if rows is None else (rows, len(rows))
-    number = call(*arguments, *answer.slices, ends, 6, *behind)
+    after = () if rows is None else (rows, len(rows))
+    number = call(*arguments, *answer.slices, ends, 6, *after)
     model = answer.model(number, SHEET, () if rows is None else _shares(rows))
     stated = order if 1 <= order <= MOST_ORDER else None
     return Summary(Model(*model, stated), Ends(*ends[:2]), Ends(*ends[2:4]), Exact(*ends[4:]))

@@ -118,7 +118,7 @@ def _common(f: Model, g: Model) -> int | None:
 
 
 def _ended(code: int, f: Model, point: tuple[int, ...] = ()) -> tuple[int, ...]:
-    """The two ends, and behind them the exact integral, if it is one."""
+    """The two ends, and after them the exact integral, if it is one."""
     coordinates, ends = array(i64, eight(point)), (i64 * 4)()
     check(library.ends(code, *model_slices(tested_model(f)), coordinates, MOST_VARIABLES, ends, 4), 0)
     return tuple(ends)

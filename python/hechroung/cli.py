@@ -30,7 +30,7 @@ from .version import VERSION
 ACCEPTED, REFUSED, MISUSED = 0, 1, 2
 MOST_SHOWN_DIGITS = 20
 MOST_SHOWN_PROGRESS = 78
-# The start of a terminal's line, with nothing behind it.
+# The start of a terminal's line, with nothing after it.
 CLEARED = "\r\033[K"
 # The archive holds models of up to four variables.
 MOST_ARCHIVED = 4
@@ -98,7 +98,7 @@ def faulty_as_json(source: str, fault: Exception, loaded: Loaded | None = None) 
 
 
 def each(paths: Sequence[str], work: Callable[[Loaded], int], refuse: Callable[..., int] = faulty) -> int:
-    """Does the work for each sheet, goes on behind one that is refused or not there, and answers the worst status."""
+    """Does the work for each sheet, goes on after one that is refused or not there, and answers the worst status."""
     worst = ACCEPTED
     for number, path in enumerate(paths or [STANDARD_INPUT], 1):
         if len(paths) > 1:
@@ -463,7 +463,7 @@ def quiet_option(made: argparse.ArgumentParser) -> None:
 
 
 def digits_option(made: argparse.ArgumentParser) -> None:
-    made.add_argument("--digits", type=digits, default=6, metavar="N", help="digits behind the point (6)")
+    made.add_argument("--digits", type=digits, default=6, metavar="N", help="digits after the point (6)")
 
 
 def add_assemble(commands: Any) -> None:

@@ -42,7 +42,7 @@ REFUSALS: dict[int, Refusal] = {
     10: Refusal("VariablesDiffer", "the models of one call differ in their number of variables",
                 "make them all with the same n"),
     11: Refusal("ShortBuffer", "the buffer is too short for what is written",
-                "lend a buffer of 8,792 bytes for a sheet, 390 for an archived model"),
+                "give a buffer of 8,792 bytes for a sheet, 390 for an archived model"),
     12: Refusal("Uncertified", "with this proposal it is not shown that the divisor is nowhere zero",
                 "propose a w nearer to 1 / g; where g may be zero in the box no proposal helps"),
     13: Refusal("NotOneVariable", "a model to convert to a Chebyshev curve has more than one variable",

@@ -90,9 +90,9 @@ def units(value: Number) -> int:
 
 
 def outward(low: int | Fraction, high: int | Fraction, digits: int = 6) -> tuple[Decimal, Decimal]:
-    """A band of units as decimals with so many digits behind the point: the low end rounded down, the high end up."""
+    """A band of units as decimals with so many digits after the point: the low end rounded down, the high end up."""
     if not isinstance(digits, int) or not 0 <= digits <= MOST_DIGITS:
-        raise ValueError(f"digits behind the point are 0 to {MOST_DIGITS}, and not {digits!r}")
+        raise ValueError(f"digits after the point are 0 to {MOST_DIGITS}, and not {digits!r}")
     if not all(isinstance(end, (int, Fraction)) for end in (low, high)):
         raise TypeError(f"the ends of a band are whole units or fractions of them, and not {low!r} and {high!r}")
     scale = Fraction(10 ** digits, UNIT)

@@ -113,7 +113,7 @@ def left_over(loaded: Loaded, refusal: Refused) -> bool:
 def named_place(loaded: Loaded, refusal: Refused) -> str:
     """The model or step that a refusal names, in the words of the text."""
     if left_over(loaded, refusal):
-        return " behind the last model"
+        return " after the last model"
     if refusal.of == "model":
         return f" at model '{loaded.models[refusal.place]}'"
     if refusal.of == "step":

@@ -20,7 +20,7 @@ class Ends(NamedTuple):
         return self.high - self.low
 
     def decimals(self, digits: int = 6) -> tuple[Decimal, Decimal]:
-        """Both ends as decimals with so many digits behind the point, rounded outward."""
+        """Both ends as decimals with so many digits after the point, rounded outward."""
         return outward(self.low, self.high, digits)
 
 

@@ -151,7 +151,7 @@ def assemble(text: str) -> AssembledSheet:
 
 
 def _fit_for_variable(name: str) -> bool:
-    """Whether no number can be mistaken for one with the name behind it, as 1u and 1e3 can."""
+    """Whether no number can be mistaken for one with the name after it, as 1u and 1e3 can."""
     return not _NUMBER.fullmatch("1" + name)
 
 
@@ -546,7 +546,7 @@ def polynomial_pieces(terms: Sequence[tuple[str, int]], number: Any) -> list[str
 
 
 def wrapped(start: str, pieces: Sequence[str], end: str, indent: str) -> Iterator[str]:
-    """Pieces behind a start, in lines that are not long; `end` stands behind each line that another follows."""
+    """Pieces after a start, in lines that are not long; `end` stands after each line that another follows."""
     line = start
     for piece in pieces:
         if len(line) + len(piece) + 1 > LISTED_COLUMNS and line.strip(" #"):

@@ -12,7 +12,7 @@ README = Path(__file__).resolve().parents[1] / "README.md"
 
 
 def test_the_first_lines():
-    """The last line prints what stands behind it."""
+    """The last line prints what stands after it."""
     blocks = re.findall(r"(?:^    .*\n|^\n)+", README.read_text(encoding="utf-8"), re.MULTILINE)
     code = next(block for block in blocks if "import" in block)
     said = io.StringIO()

@@ -55,7 +55,7 @@ impl Reordering {
     }
 
     /// A row of one entry for each variable, such as exponents or coordinates;
-    /// what stands behind the n variables stays.
+    /// what stands after the n variables stays.
     pub fn row<T: Copy>(&self, row: &[T]) -> Vec<T> {
         let mut renamed = row.to_vec();
         for (from, &to) in self.to.iter().enumerate() {
@@ -134,7 +134,7 @@ impl Reordering {
         let mut text = String::new();
         for (place, line) in others.into_iter().enumerate() {
             text += &format!("{line}\n");
-            // The terms stand behind the radius, which comes first.
+            // The terms stand after the radius, which comes first.
             for (exponents, coefficient) in terms.iter().filter(|_| place == 0) {
                 let exponents: String = exponents.iter().map(|k| format!(" {k}")).collect();
                 text += &format!("term{exponents} {coefficient}\n");

@@ -126,7 +126,7 @@ fn lines_by_hand() {
     assert_eq!(cycle().lines(lines), renamed);
     assert_eq!(cycle().inverse().lines(renamed), lines);
     assert_eq!(cycle().lines("refused 7 2\n"), "refused 7 2\n");
-    // By their numbers: 10 comes behind 9.
+    // By their numbers: 10 comes after 9.
     let powers = "radius 0\nterm 9 1\nterm 10 2\nrange 0 0\nintegral 0 0\nexact 0 0\n";
     assert_eq!(Reordering::unchanged(1).lines(powers), powers);
 }

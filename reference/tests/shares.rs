@@ -261,7 +261,7 @@ fn a_sheet_that_is_not_read_has_zeros() {
 fn a_book_has_the_rows_of_its_sheet() {
     let draft = refused_in_the_middle();
     let mut book = read(&draft.bytes()).book;
-    // What stands behind the steps is not looked at.
+    // What stands after the steps is not looked at.
     book.steps[60] = Step::two(MULTIPLY, 200, 200);
     let report = report_book(&book);
     assert_eq!(report.shares, report_sheet(&draft.bytes()).shares);

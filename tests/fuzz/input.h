@@ -1,4 +1,4 @@
-/* The bytes of a fuzzer taken apart into numbers and models; behind the last byte come zeros. */
+/* The bytes of a fuzzer taken apart into numbers and models; after the last byte come zeros. */
 #ifndef FUZZ_INPUT_H
 #define FUZZ_INPUT_H
 

@@ -11,7 +11,7 @@ pub const LONGEST_ARCHIVED: usize = 6 + 6 * MOST_TERMS;
 /// ```
 /// use hechroung::{restore, store, Model, LONGEST_ARCHIVED};
 ///
-/// // 7 + 2y³ + 5x, within 9: by key y³ comes before x, by degree behind it.
+/// // 7 + 2y³ + 5x, within 9: by key y³ comes before x, by degree after it.
 /// let mut curve = Model { n: 2, count: 3, radius: 9, ..Model::ZERO };
 /// curve.keys[..3].copy_from_slice(&[0, 0x0300_0000, 0x1000_0000]);
 /// curve.coefficients[..3].copy_from_slice(&[7, 2, 5]);

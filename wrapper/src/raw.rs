@@ -36,7 +36,7 @@ impl Handed<'_> {
     };
 }
 
-/// Models that are handed over one behind the other: for each an entry of `ns`, `counts` and `radii` and 64 keys and
+/// Models that are handed over one after the other: for each an entry of `ns`, `counts` and `radii` and 64 keys and
 /// coefficients.
 #[derive(Clone, Copy, Debug)]
 pub struct HandedModels<'a> {
@@ -523,7 +523,7 @@ pub fn quotient(
 
 /// A call that answers with two ends. Codes: 1 range, 2 integral, 3 evaluate at the first eight coordinates of `point`,
 /// which the others do not look at. It returns the refusal's number, 0 without one; the low and the high end go into
-/// `ends`, and behind them the quotient and the remainder of the exact integral, or 0 for the other codes and above
+/// `ends`, and after them the quotient and the remainder of the exact integral, or 0 for the other codes and above
 /// four variables.
 #[must_use]
 pub fn ends(code: u8, f: Handed<'_>, point: &[i64], ends: &mut [i64]) -> u8 {

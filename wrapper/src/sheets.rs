@@ -312,13 +312,13 @@ pub fn open(sheet: &[u8]) -> Result<Records<'_>, Refusal> {
 }
 
 impl Records<'_> {
-    /// The place of the record at hand; behind the last one it stays where it is.
+    /// The place of the record at hand; after the last one it stays where it is.
     pub fn place(&self) -> usize {
         self.at
     }
 
     /// The record at hand, and on to the next: what it is and its length. As much of it as there is room for goes into
-    /// the buffer; [`LONGEST_RECORD`](crate::LONGEST_RECORD) bytes are enough. None behind the last, as often as it is
+    /// the buffer; [`LONGEST_RECORD`](crate::LONGEST_RECORD) bytes are enough. None after the last, as often as it is
     /// asked for.
     ///
     /// ```
@@ -349,7 +349,7 @@ impl Records<'_> {
 impl Iterator for Records<'_> {
     type Item = Record;
 
-    /// The record at hand, and on to the next; none behind the last, as often as it is asked for.
+    /// The record at hand, and on to the next; none after the last, as often as it is asked for.
     fn next(&mut self) -> Option<Record> {
         let mut bytes = [0; LONGEST_RECORD];
         let (kind, length) = self.next_into(&mut bytes)?;

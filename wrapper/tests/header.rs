@@ -8,7 +8,7 @@ fn text(path: &str) -> String {
     fs::read_to_string(format!("{}/../{path}", env!("CARGO_MANIFEST_DIR"))).expect(path)
 }
 
-/// The number behind these words, which begin one line.
+/// The number after these words, which begin one line.
 fn number(text: &str, words: &str) -> usize {
     let mut lines = text.lines().filter_map(|line| line.strip_prefix(words));
     let number = lines.next().expect(words).trim_end_matches(';');
@@ -53,7 +53,7 @@ fn the_header_has_the_same_version_and_layout() {
     assert!(header.contains(&layout), "{layout}");
 }
 
-/// The strings of C between `first` and `last`, those that stand behind one another joined, as C does.
+/// The strings of C between `first` and `last`, those that stand after one another joined, as C does.
 fn strings(text: &str, first: &str, last: &str) -> Vec<String> {
     let (_, block) = text.split_once(first).expect(first);
     let (block, _) = block.split_once(last).expect(last);

@@ -262,7 +262,7 @@ fn shares_stand_at_four_places_a_step() {
         }
         let mut room = Room::with_shares(lengths);
         assert_eq!((room.shares_book(book), room.numbers[0]), (number, place));
-        // What lies behind stays.
+        // What lies after it stays.
         assert_eq!(
             (&room.shares[..256], room.shares[256]),
             (&rows[..], MARK.into())
@@ -413,7 +413,7 @@ fn a_call_needs_its_places_and_room() {
     }
 }
 
-/// The exact integral stands behind the ends; with another code, and beside a refusal, it is 0.
+/// The exact integral stands after the ends; with another code, and beside a refusal, it is 0.
 #[test]
 fn an_integral_has_its_quotient_and_its_remainder() {
     let square = Handed {
@@ -593,7 +593,7 @@ fn a_quotient_needs_four_models_and_room() {
         );
         assert_eq!((room.keys, room.coefficients), (vec![0; 64], vec![0; 64]));
     }
-    // More than four models: the others are not looked at, and places behind the answer stay.
+    // More than four models: the others are not looked at, and places after the answer stay.
     let mut room = Room::new([65, 65, 5, 0]);
     let number = room.quotient(HandedModels {
         ns: &[1, 1, 1, 1, 9],
@@ -607,7 +607,7 @@ fn a_quotient_needs_four_models_and_room() {
     );
 }
 
-/// 3 T_1, within 2 units, and more behind it that is not looked at.
+/// 3 T_1, within 2 units, and more after it that is not looked at.
 const CURVE: HandedCurve<'static> = HandedCurve {
     coefficients: &[0, 3, 0, 0, 0, 0, 0, 0, 0, 0, 0, 0, 0, 0, 0, 0, 7, -7],
     radius: 2,
@@ -783,7 +783,7 @@ fn a_cut_range_needs_its_places_2_ends_and_1_number() {
         assert_eq!(called(k, model, 1, 1), MARKED, "depth {k}");
         assert_eq!(called(k, model, 2, 0), MARKED, "depth {k}");
     }
-    // The number; both ends, and the place. What lies behind stays.
+    // The number; both ends, and the place. What lies after it stays.
     let mark = i64::from(MARK);
     for (k, number, low, high, place) in [(0, 0, 2, 1 << 30, 0), (1, 7, 0, 0, 1), (7, 14, 0, 0, 0)]
     {
@@ -853,7 +853,7 @@ fn readings_need_8_coordinates_and_a_high_value_each_and_3_numbers() {
         misused(3)
     );
     assert_eq!(held(model, ROWS, 3), (0, vec![0, 1, 1]));
-    // What lies behind stays.
+    // What lies after it stays.
     assert_eq!(held(model, ROWS, 4), (0, vec![0, 1, 1, MARK.into()]));
 }
 

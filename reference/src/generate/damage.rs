@@ -310,7 +310,7 @@ fn padded_few(random: &mut Random) -> Made {
 
 // Refusal 5.
 
-/// The bytes that make the sheet too long stand behind its models.
+/// The bytes that make the sheet too long stand after its models.
 fn records_too_long(random: &mut Random) -> Made {
     let draft = base_of_few(random);
     let length = length_above_few(random);

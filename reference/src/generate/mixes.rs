@@ -140,7 +140,7 @@ fn before(random: &mut Random, least_n: u8) -> Draft {
     sound::accepted_of(random, n, d, SMALL)
 }
 
-/// The sheet, at times with a sum above the span behind its last step.
+/// The sheet, at times with a sum above the span after its last step.
 fn ended(random: &mut Random, mut draft: Draft) -> Made {
     if !random.one_in(4) {
         return (draft.bytes(), Expected::Accepted);

@@ -84,7 +84,7 @@ pub fn all_keys(n: u8, degree: u8) -> Vec<u32> {
     keys
 }
 
-/// Every choice of exponents of variables v to n, behind those already in the key.
+/// Every choice of exponents of variables v to n, after those already in the key.
 fn push_keys(keys: &mut Vec<u32>, key: u32, v: u8, n: u8, degree: u8) {
     if v > n {
         keys.push(key);

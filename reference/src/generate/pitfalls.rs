@@ -451,8 +451,8 @@ fn faults_not_used(list: &mut Samples) {
     let broken = DraftModel::new(u32::MAX, &[]);
     let draft = one_variable(1, &[broken], &[Step::constant(0)]);
     list.refuse("a broken model that is not used", &draft, (5, 0));
-    // A broken step behind a step that would be refused: 6 is tested first.
+    // A broken step after a step that would be refused: 6 is tested first.
     let mut draft = constants(&[LARGEST, 1], Step::two(ADD, 0, 1));
     draft.push(Step::variable(2));
-    list.refuse("6 behind 7", &draft, (6, 3));
+    list.refuse("6 after 7", &draft, (6, 3));
 }

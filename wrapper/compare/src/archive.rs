@@ -132,7 +132,7 @@ fn restored_again(model: &Model, bytes: &[u8]) -> Result<(), String> {
     Ok(())
 }
 
-/// n, the radius and the terms: what stands behind these says nothing.
+/// n, the radius and the terms: what stands after these says nothing.
 fn described(model: &Model) -> (u8, u64, Vec<(u32, i64)>) {
     (model.n, model.radius, model.terms().collect())
 }

@@ -265,7 +265,7 @@ fn compare_stored(call: &Call, expected: &CallAnswer, shape: &Shape) -> Result<S
     Ok(Seen::of(refusal))
 }
 
-/// A slice of a curve's coefficients, cut off or with more behind, and its radius.
+/// A slice of a curve's coefficients, cut off or with more after it, and its radius.
 struct LentCurve {
     coefficients: Vec<i64>,
     radius: u64,

@@ -199,7 +199,7 @@ fn compare_quotient(
     let [keys_length, coefficients_length, _, _] = shape
         .inputs
         .map(|length| 3 * MOST_TERMS + usize::from(length));
-    // What is behind four models may be anything.
+    // What is after four models may be anything.
     let ns = over(&models.map(|model| model.n), 0xAB, ns_length);
     let counts = over(&models.map(|model| model.count), usize::MAX, counts_length);
     let radii = over(&models.map(|model| model.radius), NUMBER, radii_length);
@@ -277,7 +277,7 @@ fn compare_ends(
     let (keys, coefficients) = slices(&arguments.f, length_keys, length_coefficients);
     let mut stored = vec![COEFFICIENT; length_ends];
     let handed = handed(&arguments.f, &keys, &coefficients);
-    // What is behind eight coordinates may be anything.
+    // What is after eight coordinates may be anything.
     let point = over(&arguments.point, COEFFICIENT, shape.point.into());
     let number = raw::ends(arguments.code, handed, &point, &mut stored);
     let fits = (1..=3).contains(&arguments.code)
@@ -300,7 +300,7 @@ pub fn lent(model: &Model, keys: usize, coefficients: usize) -> bool {
     keys.min(coefficients) >= model.count.min(MOST_TERMS)
 }
 
-/// Slices of these lengths: cut off, or with more behind.
+/// Slices of these lengths: cut off, or with more after it.
 pub fn slices(model: &Model, keys: usize, coefficients: usize) -> (Vec<u32>, Vec<i64>) {
     let longer = |length: usize| length.max(MOST_TERMS);
     let mut lent_keys = over(&model.keys, KEY, longer(keys));

@@ -95,7 +95,7 @@ pub fn parts(report: Result<Report, RefusedRun>) -> (Run, [Shares; MOST_STEPS]) 
     }
 }
 
-/// The exported function has no record behind the last one, and none of a refused sheet.
+/// The exported function has no record after the last one, and none of a refused sheet.
 fn compare_records(bytes: &[u8]) -> Result<(), String> {
     let opening = records::open(bytes);
     let expected: Vec<Vec<u8>> = opening

@@ -23,7 +23,7 @@ pub fn compare(sheet: &[u8], room: usize) -> Result<Seen, String> {
     Ok(Seen::of(refusal))
 }
 
-/// The records lie one behind the other from the sheet's start. Behind the last of them there is none; of a refused
+/// The records lie one after the other from the sheet's start. After the last of them there is none; of a refused
 /// sheet there is none at its end.
 fn expected<'sheet>(
     sheet: &'sheet [u8],

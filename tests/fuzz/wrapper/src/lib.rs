@@ -29,7 +29,7 @@ pub unsafe extern "C" fn LLVMFuzzerTestOneInput(data: *const u8, size: usize) ->
     0
 }
 
-/// Bytes taken apart into numbers; behind the last one come zeros.
+/// Bytes taken apart into numbers; after the last one come zeros.
 struct Input<'data>(&'data [u8]);
 
 impl Input<'_> {
