@@ -1,10 +1,20 @@
-"""Generated sheets that the reader accepts: every kind of step, every count, numbers at the edges of their fields."""
+"""Sheets for tests: the guide's own, and generated ones that the reader accepts, with every kind of step, every count
+and numbers at the edges of their fields."""
 
 from __future__ import annotations
 
 import random
 
 from hechroung import MOST_MODELS, MOST_STEPS, MOST_TERMS, SPAN, UNIT, Book, Model, Step
+
+SHEET = """\
+variables f t
+order 7
+model curve = 0.2503 + 1.0201 f - 0.0312 f^2 t ± 0.0004
+y      = curve + 0.05 * t
+z      = y * y
+litres = antiderivative z in f
+"""
 
 
 def book(seed: int) -> Book:

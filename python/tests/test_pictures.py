@@ -10,19 +10,12 @@ import pytest
 from hypothesis import given, settings
 from hypothesis import strategies as st
 
+from generated import SHEET
 from hechroung import UNIT, Model, range_of
 from hechroung import plot
 from hechroung.inputs import of_text
 from hechroung.report import Outcome
 
-SHEET = """\
-variables f t
-order 7
-model curve = 0.2503 + 1.0201 f - 0.0312 f^2 t ± 0.0004
-y      = curve + 0.05 * t
-z      = y * y
-litres = antiderivative z in f
-"""
 fractions = st.fractions(-1, 1, max_denominator=10 ** 6)
 
 

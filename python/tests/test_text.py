@@ -11,6 +11,7 @@ from hypothesis import given, settings
 from hypothesis import strategies as st
 
 import generated
+from generated import SHEET
 from hechroung import UNIT, Refused, Step, read
 from hechroung import text as text_form
 from hechroung.inputs import hex_bytes
@@ -18,14 +19,6 @@ from hechroung.text import GRAMMAR, KEYWORDS, MissingModule, TextError, assemble
 
 TOP = Path(__file__).resolve().parents[2]
 ROUND_TRIPS = 3000
-SHEET = """\
-variables f t
-order 7
-model curve = 0.2503 + 1.0201 f - 0.0312 f^2 t ± 0.0004
-y      = curve + 0.05 * t
-z      = y * y
-litres = antiderivative z in f
-"""
 
 
 def of(lines: str, variables: str = "x y", order: int = 3) -> text_form.AssembledSheet:
