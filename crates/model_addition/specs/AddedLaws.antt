@@ -18,7 +18,7 @@ use Rattle.calculus_laws.specs.SoundLaws.{Canonical, sound-parts, parts-sound, 
 use Rattle.calculus_laws.specs.TermsLaws.{every-++, every-select, every-collect}
 use Rattle.model_types.specs.declared.Term.{Term}
 use Rattle.model_types.specs.declared.Model.{Model}
-use Rattle.model_types.specs.ModelStruct.{zero-term, view, pack-term, pad, pack, answer}
+use Rattle.model_types.specs.ModelStruct.{zero-term, view, pack-term, pad, pack, answer, listed, of-terms}
 use Rattle.model_types.specs.ModelStructLaws.{read, sound-vars, view-terms, view-is, view-pack, within-span, limits}
 use Rattle.model_limits.specs.Limits.{Packed}
 use Rattle.model_limits.specs.LimitLaws.{pack-packed, answer-many}
@@ -28,14 +28,14 @@ use Rattle.model_addition.specs.MergeLaws.{Rising, Mergeable, whole-sum,
 
 -- all places of the array are there
 abbrev pub Whole : Model → Type 0
-Whole m = length (m .terms) ≡ most-terms
+Whole m = length (listed m) ≡ most-terms
 
 -- ---- one sound model
 module _ (m : Model) (h : T (sound most-degree (view m))) (w : Whole m) where
-  whole : m .count ≤ length (m .terms)
+  whole : m .count ≤ length (listed m)
   whole = omega (arith, limits most-degree m h .few)
 
-  pub coefficient-within : (i : ℕ) → i < m .count → natAbs (getD (m .terms) i zero-term .coefficient) ≤ span-limit
+  pub coefficient-within : (i : ℕ) → i < m .count → natAbs (getD (listed m) i zero-term .coefficient) ≤ span-limit
   coefficient-within i l = omega (arith, within-span m i whole l, limits most-degree m h .small)
 
   pub radius-within : m .radius ≤ span-limit
@@ -43,11 +43,11 @@ module _ (m : Model) (h : T (sound most-degree (view m))) (w : Whole m) where
   radius-within = omega (arith, limits most-degree m h .small)
 
   canonical : Canonical (m .n) most-degree
-      (record { vars = m .n; radius = m .radius; terms = read (m .n) (m .count) (m .terms) })
+      (record { vars = m .n; radius = m .radius; terms = read (m .n) (m .count) (listed m) })
   canonical = sound-parts most-degree _ (subst (λ v. T (sound most-degree v)) (view-is m whole) h) .0
 
   -- its terms, in as many variables
-  pub terms-in : (n : ℕ) → m .n ≡ n → Rising n (m .count) (m .terms)
+  pub terms-in : (n : ℕ) → m .n ≡ n → Rising n (m .count) (listed m)
   terms-in n e = record {
     width = omega (arith, limits most-degree m h .width);
     whole = whole;
@@ -81,7 +81,7 @@ module _ (a b : Model) (s : Operands a b) (v : Whole a) (w : Whole b) where
   unfolding add view
   add-limited = ap₂ (λ l k. limited (record { vars = a .n; radius = a .radius + b .radius; terms = sum-terms l k }))
       (view-terms a (whole a (s .first) v))
-      (view-terms b (whole b (s .second) w) ∙ ap (λ n. read n (b .count) (b .terms)) (sym (s .vars)))
+      (view-terms b (whole b (s .second) w) ∙ ap (λ n. read n (b .count) (listed b)) (sym (s .vars)))
 
   pub answer-too-many : most-terms < length (whole-sum a b)
       → answer (at-place 0 (add (view a) (view b))) ≡ answer (stopped too-many-terms 0)
@@ -96,14 +96,14 @@ module _ (a b : Model) (s : Operands a b) (v : Whole a) (w : Whole b) where
   -- what the loop leaves
   module _ {out : List Term} {count i j : ℕ} (m : Merged a b out count i j) (h : a .count + b .count ≤ i + j) where
     abbrev struct : Model
-    struct = record { n = a .n; count = count; radius = a .radius + b .radius; terms = out }
+    struct = of-terms (a .n) count (a .radius + b .radius) out
 
     all-done : m .done ≡ whole-sum a b
     all-done = all-stored a b mergeable m h
 
     struct-pack : struct ≡ pack sum-model
     unfolding pack
-    struct-pack = ap₂ (λ c l. record { n = a .n; count = c; radius = a .radius + b .radius; terms = l })
+    struct-pack = ap₂ (λ c l. of-terms (a .n) c (a .radius + b .radius) l)
         (sym (m .many) ∙ ap length all-done) (m .stored ∙ ap (λ l. pad (map pack-term l)) all-done)
 
     pub sum-packed : Packed struct

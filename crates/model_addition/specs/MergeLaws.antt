@@ -14,7 +14,7 @@ use Rattle.calculus.specs.Model.{most-degree, most-terms, fits}
 use Rattle.calculus_laws.specs.TermsLaws.{every-head, every-nil, rising-cons}
 use Rattle.model_types.specs.declared.Term.{Term}
 use Rattle.model_types.specs.declared.Model.{Model}
-use Rattle.model_types.specs.ModelStruct.{zero-term, view-term, pack-term, pad}
+use Rattle.model_types.specs.ModelStruct.{zero-term, view-term, pack-term, pad, listed}
 use Rattle.model_types.specs.ModelStructLaws.{read, rest-more, rest-end, packed-more, pack-view-term}
 use Rattle.calculus_laws.specs.MonomialKeyLaws.{fits-key, fits-below, less-monomials}
 use Rattle.model_addition.specs.declared.Next.{Next}
@@ -76,15 +76,15 @@ module _ {n c : ℕ} {ts : List Term} (s : Rising n c ts) (i : ℕ) where
 
 -- ---- two lists: those of two models in the same variables
 pub record Mergeable (a b : Model) : Type 0 where
-  pub first : Rising (a .n) (a .count) (a .terms)
-  pub second : Rising (a .n) (b .count) (b .terms)
+  pub first : Rising (a .n) (a .count) (listed a)
+  pub second : Rising (a .n) (b .count) (listed b)
 
 module _ (a b : Model) where
   abbrev p : Terms
-  p = read (a .n) (a .count) (a .terms)
+  p = read (a .n) (a .count) (listed a)
 
   abbrev q : Terms
-  q = read (a .n) (b .count) (b .terms)
+  q = read (a .n) (b .count) (listed b)
 
   -- the terms of the sum
   abbrev pub whole-sum : Terms
@@ -123,14 +123,14 @@ module _ (a b : Model) where
 
   module _ (o : Mergeable a b) {out : List Term} {count i j : ℕ} (m : Merged out count i j) where
     -- x and y stand at the two places
-    pub turn : (x y : Term) → (i < a .count → getD (a .terms) i zero-term ≡ x)
-        → (j < b .count → getD (b .terms) j zero-term ≡ y)
+    pub turn : (x y : Term) → (i < a .count → getD (listed a) i zero-term ≡ x)
+        → (j < b .count → getD (listed b) j zero-term ≡ y)
         → (r : Next) → Takes i (a .count) x j (b .count) y r → Turn i j r
     unfolding view-term
     turn x y e f r t = go r t (λ h. head (o .first) i x (e h) h) (λ h. head (o .second) j y (f h) h)
       where
-        go : (r : Next) → Takes i (a .count) x j (b .count) y r → (i < a .count → Head (a .n) (a .count) (a .terms) i x)
-            → (j < b .count → Head (a .n) (b .count) (b .terms) j y) → Turn i j r
+        go : (r : Next) → Takes i (a .count) x j (b .count) y r → (i < a .count → Head (a .n) (a .count) (listed a) i x)
+            → (j < b .count → Head (a .n) (b .count) (listed b) j y) → Turn i j r
         go _ (from-first h k) u v = record {
           next = ap (λ l. sum-terms l (drop j q)) (u h .next)
               ∙ first-term (view-term (a .n) x) (drop (i + 1) p) (drop j q) (u h .above)
@@ -208,6 +208,6 @@ module _ (a b : Model) where
     pub all-stored : a .count + b .count ≤ i + j → m .done ≡ whole-sum
     unfolding drop-zeros collect select
     all-stored h = sym (append-nil (m .done)) ∙ rw (
-      rest-end (a .n) (a .count) (a .terms) (o .first .whole) i (omega (arith, m .right)),
-      rest-end (a .n) (b .count) (b .terms) (o .second .whole) j (omega (arith, m .left)),
+      rest-end (a .n) (a .count) (listed a) (o .first .whole) i (omega (arith, m .right)),
+      rest-end (a .n) (b .count) (listed b) (o .second .whole) j (omega (arith, m .left)),
     ) at (m .sum)

@@ -8,6 +8,7 @@ ghost use Rattle.model_types.specs.ModelStruct.{view, answer};
 ghost use Rattle.model_addition.specs.Merge.{Ready, Takes};
 ghost use Rattle.model_addition.specs.Addition.{Operands};
 use model_types::Answer;
+use model_types::Key;
 use model_types::MOST_TERMS;
 use model_types::Model;
 use model_types::Refusal;
@@ -85,22 +86,37 @@ pub fn added(a: Model, b: Model) -> Answer
 {
     let c = a.count;
     let d = b.count;
-    let mut terms = [Term::ZERO; MOST_TERMS];
+    let mut keys: [Key; MOST_TERMS] = [0; MOST_TERMS];
+    let mut coefficients = [0i64; MOST_TERMS];
     let mut count = 0;
     let mut i = 0;
     let mut j = 0;
     while i + j < c + d {
-        let x = a.terms[place(i)];
-        let y = b.terms[place(j)];
+        let p = place(i);
+        let q = place(j);
+        let key1 = a.keys[p];
+        let c1 = a.coefficients[p];
+        let key2 = b.keys[q];
+        let c2 = b.coefficients[q];
+        let x = Term {
+            key: key1,
+            coefficient: c1,
+        };
+        let y = Term {
+            key: key2,
+            coefficient: c2,
+        };
         let next = take_next(i, c, x, j, d, y);
         let t = next.term;
+        let z = t.coefficient;
         i = next.i;
         j = next.j;
-        if t.coefficient != 0 {
+        if z != 0 {
             if MOST_TERMS <= count {
                 return model_types::refuse(Refusal::TooManyTerms, 0);
             }
-            terms[count] = t;
+            keys[count] = t.key;
+            coefficients[count] = z;
             count += 1;
         }
     }
@@ -109,7 +125,8 @@ pub fn added(a: Model, b: Model) -> Answer
         n: a.n,
         count: count,
         radius: radius,
-        terms: terms,
+        keys: keys,
+        coefficients: coefficients,
     })
 }
 

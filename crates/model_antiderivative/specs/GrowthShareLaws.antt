@@ -12,7 +12,7 @@ use Rattle.calculus.specs.Operations.{growth-rounding, growth-swept, antideriva
 use Rattle.calculus.specs.Shares.{grown, antiderivative-shares}
 use Rattle.calculus_laws.specs.GrowthLaws.{rounding-of, growth-of-le, rounding-sum, growth-le}
 use Rattle.model_types.specs.declared.Model.{Model}
-use Rattle.model_types.specs.ModelStruct.{view, pack}
+use Rattle.model_types.specs.ModelStruct.{view, pack, listed}
 use Rattle.model_types.specs.ModelStructLaws.{view-terms, sum-more, read-within-span, limits}
 use Rattle.model_antiderivative.specs.Antiderivatives.{key-rounding, Integrand}
 use Rattle.model_antiderivative.specs.PassLaws.{before, at, rounding-at}
@@ -22,7 +22,7 @@ pub record Rounded (d i : ℕ) (f : Model) (sum j : ℕ) : Type 0 where
   pub within : j ≤ f .count
   pub summed : sum ≡ sum-ℕ (rounding-of d i) (before f j)
 
-module _ {d i : ℕ} {f : Model} (s : Integrand d i f) (w : f .count ≤ length (f .terms)) where
+module _ {d i : ℕ} {f : Model} (s : Integrand d i f) (w : f .count ≤ length (listed f)) where
   pub rounded-first : Rounded d i f 0 0
   unfolding sum-over
   rounded-first = record { within = omega arith; summed = omega arith }
@@ -34,7 +34,7 @@ module _ {d i : ℕ} {f : Model} (s : Integrand d i f) (w : f .count ≤ length 
         arith,
         g .summed,
         rounding-at s w j h,
-        sum-more (f .n) j (f .terms) (omega arith) ℕ-addition (rounding-of d i),
+        sum-more (f .n) j (listed f) (omega arith) ℕ-addition (rounding-of d i),
       )
 
       -- it stays within the span

@@ -25,7 +25,7 @@ use Rattle.calculus_laws.specs.GrowthLaws.{up, new-exponent, stays, rounding-of
 use Rattle.calculus_laws.specs.GrowthLaws.{new-coefficient, new-term, antiderivative-terms}
 use Rattle.model_types.specs.declared.Term.{Term}
 use Rattle.model_types.specs.declared.Model.{Model}
-use Rattle.model_types.specs.ModelStruct.{zero-term, view-term, view, pack-term, pad, pack}
+use Rattle.model_types.specs.ModelStruct.{zero-term, view-term, view, pack-term, pad, pack, listed, of-terms}
 use Rattle.model_types.specs.ModelStructLaws.{read, term-at, length-read, view-terms, map-more, sum-more}
 use Rattle.model_types.specs.ModelStructLaws.{select-in, select-out, packed-more, read-within-span}
 use Rattle.model_types.specs.ModelStructLaws.{Limits, limits, key-fits-at}
@@ -64,13 +64,13 @@ growth-stays d i z c e = rw e (omega arith)
 module _ (f : Model) where
   -- the terms before j, and the term at j
   abbrev pub before : ℕ → Terms
-  before j = read (f .n) j (f .terms)
+  before j = read (f .n) j (listed f)
 
   abbrev pub at : ℕ → Term
-  at j = getD (f .terms) j zero-term
+  at j = getD (listed f) j zero-term
 
   abbrev next : ℕ → P.Term ℤ
-  next j = term-at (f .n) j (f .terms)
+  next j = term-at (f .n) j (listed f)
 
 module _ (d i : ℕ) (f : Model) where
   -- what becomes of the terms before j
@@ -85,7 +85,7 @@ module _ (d i : ℕ) (f : Model) where
     pub grown : radius ≡ f .radius + sum-ℕ (growth-of d i) (before f j)
 
 -- ---- one term, by its key
-module _ {d i : ℕ} {f : Model} (s : Integrand d i f) (w : f .count ≤ length (f .terms)) where
+module _ {d i : ℕ} {f : Model} (s : Integrand d i f) (w : f .count ≤ length (listed f)) where
   pub known : Limits f
   known = limits d f (s .model)
 
@@ -180,13 +180,13 @@ module _ {d i : ℕ} {f : Model} (s : Integrand d i f) (w : f .count ≤ length 
       g .counted,
       length-select (λ k c. is-nonzero c) (turned d i f j),
       length-map (before f j) (new-term d i),
-      length-read (f .n) j (f .terms) (omega (arith, g .within)),
+      length-read (f .n) j (listed f) (omega (arith, g .within)),
     )
 
     pub gathered-end : f .count ≤ j
-        → record { n = f .n; count = count; radius = radius; terms = out } ≡ pack (antiderivative d i (view f))
+        → of-terms (f .n) count radius out ≡ pack (antiderivative d i (view f))
     gathered-end l =
-        ap₂ (λ (c : ℕ) (o : List Term). record { n = f .n; count = c; radius = radius; terms = o })
+        ap₂ (λ (c : ℕ) (o : List Term). of-terms (f .n) c radius o)
         (g .counted ∙ ap length (sym same)) (g .stored ∙ ap (λ p. pad (map pack-term p)) (sym same))
         ∙ packed radius-is
       where
@@ -209,12 +209,8 @@ module _ {d i : ℕ} {f : Model} (s : Integrand d i f) (w : f .count ≤ length 
 
         -- the antiderivative, with the radius r
         whole : ℕ → Model
-        whole r = record {
-          n = f .n;
-          count = length (antiderivative d i (view f) .terms);
-          radius = r;
-          terms = pad (map pack-term (antiderivative d i (view f) .terms));
-        }
+        whole r = of-terms (f .n) (length (antiderivative d i (view f) .terms)) r
+            (pad (map pack-term (antiderivative d i (view f) .terms)))
 
         packed : {r : ℕ} → r ≡ antiderivative d i (view f) .radius → whole r ≡ pack (antiderivative d i (view f))
         packed q = ap whole q ∙ (unfold pack antiderivative view in refl)
@@ -227,7 +223,7 @@ module _ {d i : ℕ} {f : Model} (s : Integrand d i f) (w : f .count ≤ length 
         arith,
         g .grown,
         growth-at j h,
-        sum-more (f .n) j (f .terms) (omega arith) ℕ-addition (growth-of d i),
+        sum-more (f .n) j (listed f) (omega arith) ℕ-addition (growth-of d i),
         sum-mono (growth-of d i) (λ k c. natAbs c) (growth-of-le d i) (before f (j + 1)),
         read-within-span f (j + 1) w (omega arith),
       )
@@ -239,11 +235,11 @@ module _ {d i : ℕ} {f : Model} (s : Integrand d i f) (w : f .count ≤ length 
         e,
         g .grown,
         growth-at j h,
-        sum-more (f .n) j (f .terms) (omega arith) ℕ-addition (growth-of d i),
+        sum-more (f .n) j (listed f) (omega arith) ℕ-addition (growth-of d i),
       )
 
       more-turned : turned d i f (j + 1) ≡ turned d i f j ++ (new-term d i (next f j) ∷ [])
-      more-turned = map-more (f .n) j (f .terms) (omega arith) (new-term d i)
+      more-turned = map-more (f .n) j (listed f) (omega arith) (new-term d i)
 
       -- a coefficient that is not 0 is kept
       pub gathered-keep : {r : ℕ} → r ≡ radius + key-growth d i (at f j .key) (at f j .coefficient)

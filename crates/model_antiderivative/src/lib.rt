@@ -14,7 +14,6 @@ use model_keys::Key;
 use model_types::Accounted;
 use model_types::Answer;
 use model_types::Model;
-use model_types::Term;
 use model_types::Verdict;
 
 // k, by which a term is divided: the exponent of variable i after it has risen.
@@ -80,8 +79,9 @@ fn rounded(d: u8, i: u8, f: Model) -> u64
     let mut sum = 0;
     let mut j = 0;
     while j < total {
-        let t = f.terms[j];
-        sum += growth_by_rounding(d, i, t.key, t.coefficient);
+        let key = f.keys[j];
+        let c = f.coefficients[j];
+        sum += growth_by_rounding(d, i, key, c);
         j += 1;
     }
     sum
@@ -93,20 +93,20 @@ pub fn integrated(d: u8, i: u8, f: Model) -> Model
     ensures { λ r. ⌜ r ≡ pack (antiderivative d i (view f)) ⌝ }
 {
     let total = f.count;
-    let mut out = [Term::ZERO; model_types::MOST_TERMS];
+    let mut keys: [Key; model_types::MOST_TERMS] = [0; model_types::MOST_TERMS];
+    let mut coefficients = [0i64; model_types::MOST_TERMS];
     let mut count = 0;
     let mut radius = f.radius;
     let mut j = 0;
     while j < total {
-        let t = f.terms[j];
-        let new = divided(d, i, t.key, t.coefficient);
-        radius += growth(d, i, t.key, t.coefficient);
+        let key = f.keys[j];
+        let c = f.coefficients[j];
+        let new = divided(d, i, key, c);
+        radius += growth(d, i, key, c);
         j += 1;
         if new != 0 {
-            out[count] = Term {
-                key: model_keys::raised(t.key, i),
-                coefficient: new,
-            };
+            keys[count] = model_keys::raised(key, i);
+            coefficients[count] = new;
             count += 1;
         }
     }
@@ -114,7 +114,8 @@ pub fn integrated(d: u8, i: u8, f: Model) -> Model
         n: f.n,
         count: count,
         radius: radius,
-        terms: out,
+        keys: keys,
+        coefficients: coefficients,
     }
 }
 

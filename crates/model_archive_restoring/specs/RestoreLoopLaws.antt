@@ -8,21 +8,15 @@ use lib.Dec.{T, leb, ltb}
 use lib.IntN.{ℤ, pos, negsuc}
 use lib.Signed.{mag}
 use borrow.Author.Tests.{lt-ltb, le-ltb, le-leb, lt-leb}
-use native.Mathlib.Numerals.{add-one}
-use lib.ListN.{drop, set}
+use lib.ListN.{drop}
 use lib.Seq.{drop-drop}
 use Rattle.calculus.specs.Key.{key-width, key-fits}
 use Rattle.calculus.specs.Model as C
-use Rattle.calculus.specs.Model.{most-terms}
 use Rattle.calculus.specs.Refusal.{Result, stopped, bad-length, bad-rank, require-at}
 use Rattle.format.specs.Bytes.{signed}
-use Rattle.model_types.specs.ModelStruct.{pad}
-use Rattle.model_types.specs.ModelStructLaws.{pad-more}
 use Rattle.archive.specs.Ranks.{rank-count, key-at}
 use Rattle.archive.specs.Archive.{Ranked, read-ranked, read-all, require-ranks}
 use Rattle.model_archive_restoring.specs.Restoring.{ranks-ok, keys-fit}
-use Rattle.model_archive_restoring.specs.Runs.{term-at, held}
-use Rattle.model_archive_restoring.specs.RunsLaws.{held-more, held-length}
 
 -- ---- the terms that are left to read
 pub read-more : (s : List ℕ) (many i at : ℕ) → i < many
@@ -79,12 +73,6 @@ pub fit-more : (n : ℕ) (t : Ranked) (l : List Ranked) (b : Bool) → key-fits 
     → keys-fit n (t ∷ l) ≡ (b && keys-fit n l)
 unfolding keys-fit
 fit-more n t l b e = ap (λ c. c && keys-fit n l) e
-
--- ---- the struct of the terms in two arrays
-pub made-more : (K : List ℕ) (Z : List ℤ) (i : ℕ) → i < most-terms
-    → set (pad (held K Z 0 i)) i (term-at K Z i) ≡ pad (held K Z 0 (i + 1))
-made-more K Z i h = pad-more (held K Z 0 i) i (term-at K Z i) (held-length K Z 0 i) h
-    ∙ ap pad (sym (held-more K Z 0 i i (omega arith)) ∙ ap (held K Z 0) (sym (add-one i)))
 
 -- ---- a coefficient of 32 bits fits 64
 pub signed-fits : (u : ℕ) → u < 2 ^ 32 → mag (signed u) < 2 ^ 63

@@ -26,7 +26,7 @@ use Rattle.chebyshev.specs.CurveOperations.{row-of, rounded, residuals, swept, 
 use Rattle.chebyshev.specs.CurveCalls.{call-from-powers}
 use Rattle.model_types.specs.Arrays.{padded}
 use Rattle.model_types.specs.declared.Model.{Model}
-use Rattle.model_types.specs.ModelStruct.{view, view-term, zero-term}
+use Rattle.model_types.specs.ModelStruct.{view, view-term, zero-term, listed}
 use Rattle.model_types.specs.ModelStructLaws.{Limits, limits, read, rest-more, rest-end, view-terms, within-span}
 use Rattle.model_types.specs.ModelStructLaws.{read-within-span}
 use Rattle.model_types.specs.CurveStruct.{curve-answer}
@@ -53,10 +53,10 @@ terms-drop (suc i) (t ∷ p) = omega (arith, terms-drop i p)
 -- ---- the loop
 pub record Rowed (m : Model) (out : Row) (i : ℕ) : Type 0 where
   pub within : i ≤ m .count
-  pub made : out ≡ row-of (drop i (read (m .n) (m .count) (m .terms)))
+  pub made : out ≡ row-of (drop i (read (m .n) (m .count) (listed m)))
   pub long : length out ≡ 16
 
-module _ (m : Model) (s : T (M.sound most-degree (view m))) (w : m .count ≤ length (m .terms)) where
+module _ (m : Model) (s : T (M.sound most-degree (view m))) (w : m .count ≤ length (listed m)) where
   known : Limits m
   known = limits most-degree m s
 
@@ -64,15 +64,15 @@ module _ (m : Model) (s : T (M.sound most-degree (view m))) (w : m .count ≤ le
   unfolding row-of zeros places
   rowed-first = record {
     within = omega arith;
-    made = ap row-of (sym (rest-end (m .n) (m .count) (m .terms) w (m .count) (omega arith)));
+    made = ap row-of (sym (rest-end (m .n) (m .count) (listed m) w (m .count) (omega arith)));
     long = refl;
   }
 
-  rows-small-here : (i : ℕ) → size (row-of (drop i (read (m .n) (m .count) (m .terms)))) < 2 ^ 31
+  rows-small-here : (i : ℕ) → size (row-of (drop i (read (m .n) (m .count) (listed m)))) < 2 ^ 31
   rows-small-here i = omega (
     arith,
-    row-size (drop i (read (m .n) (m .count) (m .terms))),
-    terms-drop i (read (m .n) (m .count) (m .terms)),
+    row-size (drop i (read (m .n) (m .count) (listed m))),
+    terms-drop i (read (m .n) (m .count) (listed m)),
     read-within-span m (m .count) w (omega arith),
     known .small,
     span-four-bytes,
@@ -80,10 +80,10 @@ module _ (m : Model) (s : T (M.sound most-degree (view m))) (w : m .count ≤ le
 
   module _ (out : Row) (i : ℕ) (h : Rowed m out i) (p : 0 < i) where
     abbrev c : ℤ
-    c = getD (m .terms) (i - 1) zero-term .coefficient
+    c = getD (listed m) (i - 1) zero-term .coefficient
 
     abbrev z : ℕ
-    z = getD (m .terms) (i - 1) zero-term .key
+    z = getD (listed m) (i - 1) zero-term .key
 
     pub rowed-room : (j : ℕ) → natAbs c + natAbs (getD out j (pos 0)) < 2 ^ 63
     rowed-room j = omega (
@@ -105,17 +105,17 @@ module _ (m : Model) (s : T (M.sound most-degree (view m))) (w : m .count ≤ le
         record {
           within = omega (arith, h .within);
           made = ap (λ x. set out k x) e ∙ add-at-set k c out (omega (arith, h .long))
-              ∙ ap (λ r. add-at k c r) (h .made ∙ ap (λ n. row-of (drop n (read (m .n) (m .count) (m .terms)))) (sym q))
-              ∙ ap (λ n. add-at n c (row-of (drop (i - 1 + 1) (read (m .n) (m .count) (m .terms)))))
+              ∙ ap (λ r. add-at k c r) (h .made ∙ ap (λ n. row-of (drop n (read (m .n) (m .count) (listed m)))) (sym q))
+              ∙ ap (λ n. add-at n c (row-of (drop (i - 1 + 1) (read (m .n) (m .count) (listed m)))))
               (sym (g (m .n) (known .some)))
-              ∙ ap row-of (sym (rest-more (m .n) (m .count) (m .terms) w (i - 1) (omega (arith, h .within))));
+              ∙ ap row-of (sym (rest-more (m .n) (m .count) (listed m) w (i - 1) (omega (arith, h .within))));
           long = length-set out k x ∙ h .long;
         }
 
   pub rowed-end : (out : Row) (i : ℕ) → Rowed m out i → i ≤ 0 → out ≡ row-of (view m .terms)
   rowed-end out i h l =
       let z : i ≡ 0 = omega arith in
-      h .made ∙ ap (λ n. row-of (drop n (read (m .n) (m .count) (m .terms)))) z ∙ ap row-of (sym (view-terms m w))
+      h .made ∙ ap (λ n. row-of (drop n (read (m .n) (m .count) (listed m)))) z ∙ ap row-of (sym (view-terms m w))
 
 -- ---- rounding does not see zeros above degree 15
 take-front : (l r : Row) → take (length l) (l ++ r) ≡ take (length l) l

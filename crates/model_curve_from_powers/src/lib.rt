@@ -154,9 +154,9 @@ fn row_from(m: Model) -> Curve
     let mut i = m.count;
     while 0 < i {
         i -= 1;
-        let t = m.terms[i];
-        let k = model_keys::first_exponent(t.key);
-        let c = t.coefficient;
+        let key = m.keys[i];
+        let k = model_keys::first_exponent(key);
+        let c = m.coefficients[i];
         let x = fixed::sum(c, out[k]);
         out[k] = x;
     }

@@ -30,7 +30,7 @@ use Rattle.chebyshev.specs.CurveOperations.{terms-from, in-powers, to-powers}
 use Rattle.chebyshev.specs.CurveCalls.{call-to-powers}
 use Rattle.model_types.specs.declared.Curve.{Curve}
 use Rattle.model_types.specs.declared.Verdict.the-variants.{Accepted}
-use Rattle.model_types.specs.ModelStruct.{pack, answer}
+use Rattle.model_types.specs.ModelStruct.{pack, answer, of-terms}
 use Rattle.model_types.specs.CurveStruct.{view-curve}
 use borrow.Author.Tests.{ne-eqb}
 use Rattle.algebra.specs.Integer.{natAbs-add, natAbs-mul}
@@ -167,14 +167,14 @@ module _ (c : Curve) (s : c .radius < 2 ^ 31) (out : List S.Term) (count span i 
   unfolding M.span in-powers
   span-is = h .summed ∙ ap (λ p. P.size p + c .radius) all
 
-  model-is : record { n = 1; count = count; radius = c .radius; terms = out } ≡ pack (in-powers (view-curve c))
+  model-is : of-terms 1 count (c .radius) out ≡ pack (in-powers (view-curve c))
   unfolding pack in-powers
-  model-is = ap₂ (λ n o. record { n = 1; count = n; radius = c .radius; terms = o })
+  model-is = ap₂ (λ n o. of-terms 1 n (c .radius) o)
       (h .counted ∙ ap length all)
       (h .made ∙ ap (λ p. pad (map pack-term p)) all)
 
   pub powers-within : leb span span-limit ≡ true
-      → record { model = record { n = 1; count = count; radius = c .radius; terms = out }; verdict = Accepted }
+      → record { model = of-terms 1 count (c .radius) out; verdict = Accepted }
       ≡ answer (at-place 0 (to-powers (view-curve c)))
   unfolding to-powers require at-place answer
   powers-within t = rw (ap (λ n. leb n span-limit) (sym span-is) ∙ t)

@@ -14,10 +14,10 @@ ghost use Rattle.model_types.specs.ModelStruct.{answer};
 ghost use Rattle.model_types.specs.CurveStruct.{«view-curve»};
 use model_types::Answer;
 use model_types::Curve;
+use model_types::Key;
 use model_types::MOST_TERMS;
 use model_types::Model;
 use model_types::Refusal;
-use model_types::Term;
 use model_types::Verdict;
 
 // Coefficients of powers 0 to 15.
@@ -148,7 +148,8 @@ fn in_powers(c: Curve) -> Answer
 {
     let radius = c.radius;
     let row = in_rows(c);
-    let mut out = [Term::ZERO; MOST_TERMS];
+    let mut keys: [Key; MOST_TERMS] = [0; MOST_TERMS];
+    let mut coefficients = [0i64; MOST_TERMS];
     let mut count = 0;
     let mut span = radius;
     let mut i = 0;
@@ -161,10 +162,8 @@ fn in_powers(c: Curve) -> Answer
             continue;
         }
         span += size;
-        out[count] = Term {
-            key: key,
-            coefficient: z,
-        };
+        keys[count] = key;
+        coefficients[count] = z;
         count += 1;
     }
     if fixed::within_span(span) {
@@ -172,7 +171,8 @@ fn in_powers(c: Curve) -> Answer
             n: 1,
             count: count,
             radius: radius,
-            terms: out,
+            keys: keys,
+            coefficients: coefficients,
         };
         return Answer {
             model: m,

@@ -26,7 +26,7 @@ use Rattle.calculus_laws.specs.SoundLaws.{Sound}
 use Rattle.model_keys.specs.Keys.{key-raised}
 use Rattle.model_types.specs.declared.Term.{Term}
 use Rattle.model_types.specs.declared.Model.{Model}
-use Rattle.model_types.specs.ModelStruct.{pack, pack-term, pad}
+use Rattle.model_types.specs.ModelStruct.{pack, pack-term, pad, of-terms}
 use Rattle.model_types.specs.ModelStructLaws.{pack-key}
 use Rattle.cuts.specs.Cuts.{most-depth, half-width, piece-middle, piece}
 use Rattle.cuts.specs.PieceLaws.{width-pos, middle-le, piece-size, last-inside}
@@ -168,13 +168,13 @@ module _ (n i k j : ℕ) (hi : 1 ≤ i) (li : i ≤ n) (hk : k ≤ most-depth) (
 
   -- the struct of terms, and those with one and two terms
   abbrev packed-terms : Terms → Model
-  packed-terms p = record { n = n; count = length p; radius = 0; terms = pad (map pack-term p) }
+  packed-terms p = of-terms n (length p) 0 (pad (map pack-term p))
 
   abbrev pub one-packed : Term → Model
-  one-packed t = record { n = n; count = 1; radius = 0; terms = pad (t ∷ []) }
+  one-packed t = of-terms n 1 0 (pad (t ∷ []))
 
   abbrev pub two-packed : Term → Term → Model
-  two-packed s t = record { n = n; count = 2; radius = 0; terms = pad (s ∷ t ∷ []) }
+  two-packed s t = of-terms n 2 0 (pad (s ∷ t ∷ []))
 
   pub packed-line : n ≤ key-width → is-nonzero (piece-middle k j) ≡ false
       → pack (piece n i k j) ≡ one-packed line-term

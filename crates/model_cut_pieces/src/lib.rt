@@ -9,8 +9,8 @@ ghost use Rattle.model_types.specs.ModelStruct.{view, pack, bounds};
 ghost use Rattle.cuts.specs.Cuts.{«most-depth», «half-width», «piece-middle», piece, «piece-range»};
 ghost use Rattle.model_cut_pieces.specs.Cutting.{Cutting, «piece-products»};
 use model_types::Bounds;
+use model_types::Key;
 use model_types::Model;
-use model_types::Term;
 use model_types::Verdict;
 
 // The products of a model and a piece, which has two terms at the most.
@@ -59,30 +59,28 @@ fn piece(n: u8, i: u8, k: u8, j: u64) -> Model
     let middle = piece_middle(k, j);
     let width = fixed::signed(half_width(k));
     let key = model_keys::raised(0, i);
-    let line = Term {
-        key: key,
-        coefficient: width,
-    };
-    let mut terms = [Term::ZERO; model_types::MOST_TERMS];
+    let mut keys: [Key; model_types::MOST_TERMS] = [0; model_types::MOST_TERMS];
+    let mut coefficients = [0i64; model_types::MOST_TERMS];
     if middle == 0 {
-        terms[0] = line;
+        keys[0] = key;
+        coefficients[0] = width;
         return Model {
             n: n,
             count: 1,
             radius: 0,
-            terms: terms,
+            keys: keys,
+            coefficients: coefficients,
         };
     }
-    terms[0] = Term {
-        key: 0,
-        coefficient: middle,
-    };
-    terms[1] = line;
+    coefficients[0] = middle;
+    keys[1] = key;
+    coefficients[1] = width;
     Model {
         n: n,
         count: 2,
         radius: 0,
-        terms: terms,
+        keys: keys,
+        coefficients: coefficients,
     }
 }
 

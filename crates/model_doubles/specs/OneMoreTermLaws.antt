@@ -11,9 +11,11 @@ use Rattle.calculus.specs.Key.{key-width, key-limit, monomial-of}
 use Rattle.calculus.specs.Terms.{term, is-nonzero, drop-zeros, select}
 use Rattle.calculus.specs.Model as C
 use Rattle.calculus.specs.Model.{most-terms}
+use Rattle.model_types.specs.declared.Term.{Term}
 use Rattle.model_types.specs.declared.Model.{Model}
-use Rattle.model_types.specs.ModelStruct.{pack, pack-term, pad}
+use Rattle.model_types.specs.ModelStruct.{pack, pack-term, pad, keys-of, coefficients-of, of-terms}
 use Rattle.model_types.specs.ModelStructLaws.{select-in, select-out, packed-more, pack-key}
+use Rattle.model_types.specs.PairedLaws.{Listed, listed-set, listed-struct}
 use Rattle.model_doubles.specs.DoublesStruct.{with-term}
 
 dropped : (c : ℤ) (k : List ℕ) → is-nonzero c ≡ false → drop-zeros (term c k ∷ []) ≡ []
@@ -38,35 +40,33 @@ pub with-one : (m : Model) (o : C.Model) (z : ℕ) (c : ℤ) → is-nonzero c �
       n = m .n;
       count = m .count + 1;
       radius = m .radius;
-      terms = set (m .terms) (m .count) (record { key = z; coefficient = c });
+      keys = set (m .keys) (m .count) z;
+      coefficients = set (m .coefficients) (m .count) c;
     } ≡ pack (with-term z c o)
 unfolding with-term pack most-terms key-width
 with-one m o z c e n l k h =
     let vars : o .vars ≡ 1 = sym (ap (λ m. m .n) h) ∙ n in
     let room : length (o .terms) < 64 = subst (λ i. i < 64) (ap (λ m. m .count) h) l in
+    let own : Listed (keys-of held) (coefficients-of held) held = record { keys-are = refl; coefficients-are = refl } in
     ap stored h
-    ∙ ap (λ t. record {
-      n = o .vars;
-      count = length (o .terms) + 1;
-      radius = o .radius;
-      terms = set (pad (map pack-term (o .terms))) (length (o .terms)) t;
-    })
+    ∙ listed-struct (listed-set own (length (o .terms)) z c) (o .vars) (length (o .terms) + 1) (o .radius)
+    ∙ ap (λ t. of-terms (o .vars) (length (o .terms) + 1) (o .radius) (set held (length (o .terms)) t))
     (sym (pack-key (o .vars) z c (omega arith) k))
-    ∙ ap (λ l. record { n = o .vars; count = length (o .terms) + 1; radius = o .radius; terms = l })
+    ∙ ap (λ l. of-terms (o .vars) (length (o .terms) + 1) (o .radius) l)
     (packed-more (o .terms) (length (o .terms)) (term c (monomial-of (o .vars) z)) refl room)
-    ∙ ap (λ i. record {
-      n = o .vars;
-      count = i;
-      radius = o .radius;
-      terms = pad (map pack-term (o .terms ++ (term c (monomial-of (o .vars) z) ∷ [])));
-    })
+    ∙ ap (λ i. of-terms (o .vars) i (o .radius)
+    (pad (map pack-term (o .terms ++ (term c (monomial-of (o .vars) z) ∷ [])))))
     (sym (length-append (o .terms) (term c (monomial-of (o .vars) z) ∷ [])))
     ∙ ap (λ p. pack (record { vars = o .vars; radius = o .radius; terms = o .terms ++ p })) (sym (kept c _ e))
   where
+    held : List Term
+    held = pad (map pack-term (o .terms))
+
     stored : Model → Model
     stored m = record {
       n = m .n;
       count = m .count + 1;
       radius = m .radius;
-      terms = set (m .terms) (m .count) (record { key = z; coefficient = c });
+      keys = set (m .keys) (m .count) z;
+      coefficients = set (m .coefficients) (m .count) c;
     }

@@ -24,10 +24,15 @@ use Rattle.model_doubles.specs.DoublesStruct.{with-term}
 abbrev pub empty : ℕ → C.Model
 empty e = record { vars = 1; radius = e; terms = [] }
 
+-- with a radius
+abbrev with-radius : ℕ → Model → Model
+with-radius e m =
+    record { n = m .n; count = m .count; radius = e; keys = m .keys; coefficients = m .coefficients }
+
 pub packed-empty : (m : Model) (e : ℕ) → m ≡ pack (zero-model 1)
-    → record { n = m .n; count = m .count; radius = e; terms = m .terms } ≡ pack (empty e)
+    → with-radius e m ≡ pack (empty e)
 unfolding pack zero-model
-packed-empty m e h = ap (λ (m : Model). record { n = m .n; count = m .count; radius = e; terms = m .terms }) h
+packed-empty m e h = ap (with-radius e) h
 
 -- room for one more
 pub room : (m : Model) (o : C.Model) → m ≡ pack o → o .vars ≡ 1 → length (o .terms) < 64 → (m .n ≡ 1) × (m .count < 64)

@@ -17,7 +17,6 @@ use model_types::Doubles;
 use model_types::Key;
 use model_types::Model;
 use model_types::Refusal;
-use model_types::Term;
 
 // ---- the parts of a double
 
@@ -177,16 +176,16 @@ fn with_term(m: Model, key: Key, coefficient: i64) -> Model
         return m;
     }
     let count = m.count;
-    let mut terms = m.terms;
-    terms[count] = Term {
-        key: key,
-        coefficient: coefficient,
-    };
+    let mut keys = m.keys;
+    let mut coefficients = m.coefficients;
+    keys[count] = key;
+    coefficients[count] = coefficient;
     Model {
         n: m.n,
         count: count + 1,
         radius: m.radius,
-        terms: terms,
+        keys: keys,
+        coefficients: coefficients,
     }
 }
 

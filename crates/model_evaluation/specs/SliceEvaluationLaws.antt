@@ -1,11 +1,11 @@
--- Evaluation over a model that lies in slices: where it comes from, one turn with each way out, and the end.
-use mathlib.Core.Path.{_≡_, refl, sym, _∙_, ap, ap₂, subst}
-use mathlib.Core.List.{List, [], _∷_, _++_, map, append-nil}
-use Prim.Native.Nat.{ℕ, zero, suc, _+_, _-_, _≤_, _<_, min}
+-- Evaluation over a model that lies in slices: the arrays of a struct, one turn with each way out, and the end.
+use mathlib.Core.Path.{_≡_, refl, sym, _∙_, ap, subst}
+use mathlib.Core.List.{List, [], _∷_, map}
+use Prim.Native.Nat.{ℕ, zero, suc, _+_, _-_, _≤_, _<_}
 use native.Mathlib.Omega.{arith}
 use lib.Dec.{T}
 use lib.IntN.{ℤ, pos}
-use lib.ListN.{length, take, drop, getD, length-map, drop-of-length-le}
+use lib.ListN.{length, take, getD}
 use lib.Seq.{length-take-le}
 use Rattle.calculus.specs.Model as C
 use Rattle.calculus.specs.Model.{most-degree, most-terms, sound}
@@ -18,71 +18,59 @@ use Rattle.model_types.specs.declared.Verdict.{Verdict}
 use Rattle.model_types.specs.declared.Verdict.the-variants.{Accepted, Refused}
 use Rattle.model_types.specs.declared.Bounds.{Bounds}
 use Rattle.model_types.specs.ArrayLaws.{take-padded}
-use Rattle.model_types.specs.ModelStruct.{zero-term, view-term, view, answer, bounds}
+use Rattle.model_types.specs.ModelStruct.{zero-term, paired, listed, view-term, view, answer, bounds}
 use Rattle.model_types.specs.ModelStructLaws.{view-is, limits}
-use Rattle.model_slices.specs.HandedModels.{terms-of, handed, over, stored-keys, stored-coefficients}
-use Rattle.model_slices.specs.HandedModelsLaws.{taken-view}
+use Rattle.model_types.specs.PairedLaws.{length-paired}
+use Rattle.model_slices.specs.HandedModels.{terms-of}
 use Rattle.model_horner.specs.declared.Left.{Left}
 use Rattle.model_horner.specs.Held.{held, Room, Left-in}
-use Rattle.model_horner.specs.HeldLaws.{held-whole}
+use Rattle.model_horner.specs.HeldLaws.{held-listed, held-whole}
 use Rattle.model_evaluation.specs.Evaluate.{Evaluation, Putting, Put-of}
 use Rattle.model_evaluation.specs.EvaluationLaws as E
 use Rattle.model_evaluation.specs.EvaluationLaws.{Remaining}
 
--- ---- the terms of a struct in two slices
-over-all : {A : Type 0} (new old : List A) → length old ≤ length new → over new old ≡ new
-unfolding over
-over-all new old h = ap (λ l. new ++ l) (drop-of-length-le old {i = length new} h) ∙ append-nil new
+-- ---- the terms of a struct, those that its count names
+terms-named : (c : ℕ) (ks : List ℕ) (cs : List ℤ) → terms-of c ks cs ≡ take c (paired ks cs)
+unfolding terms-of paired
+terms-named zero ks cs = refl
+terms-named (suc c) [] cs = refl
+terms-named (suc c) (k ∷ ks) [] = refl
+terms-named (suc c) (k ∷ ks) (z ∷ cs) =
+    ap (λ (l : List Term). record { key = k; coefficient = z } ∷ l) (terms-named c ks cs)
 
-terms-again : (c : ℕ) (ts : List Term)
-    → terms-of c (map (λ t. t .key) ts) (map (λ t. t .coefficient) ts) ≡ take c ts
-unfolding terms-of
-terms-again zero ts = refl
-terms-again (suc c) [] = refl
-terms-again (suc c) (t ∷ ts) = ap (λ (l : List Term). t ∷ l) (terms-again c ts)
-
-module _ {m : Model} {xs : List ℤ} (s : Evaluation m xs) (long : length (m .terms) ≡ 64) (few : m .count ≤ 64)
-    {ks₀ : List ℕ} {cs₀ : List ℤ} (r : Room ks₀ cs₀) {ks : List ℕ} {cs : List ℤ} (a : ks ≡ stored-keys m ks₀)
-    (b : cs ≡ stored-coefficients m cs₀) where
-  keys-are : ks ≡ map (λ t. t .key) (m .terms)
-  unfolding stored-keys
-  keys-are = a ∙ over-all _ ks₀ (omega (arith, r .keys, long, length-map (m .terms) (λ t. t .key)))
-
-  coefficients-are : cs ≡ map (λ t. t .coefficient) (m .terms)
-  unfolding stored-coefficients
-  coefficients-are =
-      b ∙ over-all _ cs₀ (omega (arith, r .coefficients, long, length-map (m .terms) (λ t. t .coefficient)))
-
-  pub unpacked-room : Room ks cs
-  unpacked-room = record {
-    keys = ap length keys-are ∙ length-map (m .terms) (λ t. t .key) ∙ long;
-    coefficients = ap length coefficients-are ∙ length-map (m .terms) (λ t. t .coefficient) ∙ long;
-  }
-
+module _ (m : Model) (r : Room (m .keys) (m .coefficients)) (few : m .count ≤ 64) where
   abbrev held-model : Model
-  held-model = held (m .n) (m .count) (m .radius) ks cs
+  held-model = held (m .n) (m .count) (m .radius) (m .keys) (m .coefficients)
 
-  pub unpacked-view : view held-model ≡ view m
+  long : length (listed m) ≡ 64
+  long = length-paired (m .keys) (m .coefficients) (r .keys ∙ sym (r .coefficients)) ∙ r .keys
+
+  -- the first places of its two arrays padded, or taken as they are
+  named : take (m .count) (listed held-model) ≡ take (m .count) (listed m)
+  unfolding most-terms
+  named =
+      let same = terms-named (m .count) (m .keys) (m .coefficients) in
+      ap (take (m .count)) (held-listed (m .n) (m .count) (m .radius) (m .keys) (m .coefficients) r few)
+      ∙ take-padded zero-term most-terms (terms-of (m .count) (m .keys) (m .coefficients)) (m .count)
+      (ap length same ∙ length-take-le (m .count) (listed m) (omega (arith, long))) ∙ same
+
+  pub held-view : view held-model ≡ view m
   unfolding held most-terms
-  unpacked-view = view-is held-model (held-whole (m .n) (m .count) (m .radius) ks cs unpacked-room few)
-      ∙ ap (λ l. record { vars = m .n; radius = m .radius; terms = map (view-term (m .n)) l })
-      (take-padded zero-term most-terms (terms-of (m .count) ks cs) (m .count) (ap length terms-are
-      ∙ length-take-le (m .count) (m .terms) (omega (arith, long))) ∙ terms-are)
+  held-view = view-is held-model (held-whole (m .n) (m .count) (m .radius) (m .keys) (m .coefficients) r few)
+      ∙ ap (λ l. record { vars = m .n; radius = m .radius; terms = map (view-term (m .n)) l }) named
       ∙ sym (view-is m (omega (arith, long)))
-    where
-      terms-are : terms-of (m .count) ks cs ≡ take (m .count) (m .terms)
-      terms-are = ap₂ (terms-of (m .count)) keys-are coefficients-are ∙ terms-again (m .count) (m .terms)
 
-  pub unpacked-evaluation : Evaluation held-model xs
+  pub held-evaluation : {xs : List ℤ} → Evaluation m xs → Evaluation held-model xs
   unfolding held
-  unpacked-evaluation = record {
-    model = subst (λ v. T (sound most-degree v)) (sym unpacked-view) (s .model);
+  held-evaluation s = record {
+    model = subst (λ v. T (sound most-degree v)) (sym held-view) (s .model);
     coordinates = s .coordinates;
   }
 
-  pub unpacked-end : {e : Bounds} → e ≡ bounds (at-place 0 (evaluate (take (m .n) xs) (view held-model)))
+  pub held-end : (xs : List ℤ) {e : Bounds}
+      → e ≡ bounds (at-place 0 (evaluate (take (m .n) xs) (view held-model)))
       → e ≡ bounds (at-place 0 (evaluate (take (m .n) xs) (view m)))
-  unpacked-end q = q ∙ ap (λ v. bounds (at-place 0 (evaluate (take (m .n) xs) v))) unpacked-view
+  held-end xs q = q ∙ ap (λ v. bounds (at-place 0 (evaluate (take (m .n) xs) v))) held-view
 
 -- ---- a turn
 module _ (n count₀ radius₀ : ℕ) (ks₀ : List ℕ) (cs₀ : List ℤ) {xs : List ℤ}
@@ -130,16 +118,17 @@ module _ (n count₀ radius₀ : ℕ) (ks₀ : List ℕ) (cs₀ : List ℤ) {xs 
             (E.put-accepted s inside r z refl (sym (q .verdict) ∙ v))
 
     -- ---- the end
-    module _ (room : Room ks cs) (h : Model) (e : view h ≡ view (handed n count radius ks cs)) where
-      same-view : view h ≡ view (held n count radius ks cs)
-      unfolding held most-terms
-      same-view = e ∙ sym (taken-view n count radius count ks cs
-          (omega (arith, left-few, room .keys, room .coefficients)))
+    module _ (room : Room ks cs) where
+      abbrev left : Model
+      left = record { n = n; count = count; radius = radius; keys = ks; coefficients = cs }
 
-      pub end-sound : T (sound most-degree (view h))
+      same-view : view left ≡ view (held n count radius ks cs)
+      same-view = sym (held-view left room left-few)
+
+      pub end-sound : T (sound most-degree (view left))
       end-sound = subst (λ v. T (sound most-degree v)) (sym same-view) (r .model)
 
-      pub range-end : n < i → {b : Bounds} → b ≡ bounds (done (range (view h)))
+      pub range-end : n < i → {b : Bounds} → b ≡ bounds (done (range (view left)))
           → b ≡ bounds (at-place 0 (evaluate (take n xs) (view m₀)))
       unfolding held
       range-end z q = E.remaining-end s inside r z (q ∙ ap (λ v. bounds (done (range v))) same-view)

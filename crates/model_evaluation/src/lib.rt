@@ -111,15 +111,14 @@ fn evaluated(m: Model, xs: [i64; model_types::MOST_VARS as usize]) -> Bounds
     let n = m.n;
     let mut count = m.count;
     let mut radius = m.radius;
-    let mut keys = [0u32; model_types::MOST_TERMS];
-    let mut coefficients = [0i64; model_types::MOST_TERMS];
+    let mut keys = m.keys;
+    let mut coefficients = m.coefficients;
     let mut stored = [0u32; model_types::MOST_TERMS];
     let mut out = [0i64; model_types::MOST_TERMS];
     let mut others = [0u32; model_types::MOST_TERMS];
     let mut added = [0i64; model_types::MOST_TERMS];
     let mut spare = [0u32; model_types::MOST_TERMS];
     let mut products = [0i64; model_types::MOST_TERMS];
-    model_slices::store_terms(m, &mut keys, &mut coefficients);
     let mut i = 1;
     while i <= n {
         let x = xs[(i - 1) as usize];
@@ -150,7 +149,13 @@ fn evaluated(m: Model, xs: [i64; model_types::MOST_VARS as usize]) -> Bounds
         model_horner::copied(count, &stored, &out, &mut keys, &mut coefficients);
         i += 1;
     }
-    model_range::range_of(model_slices::taken(n, count, radius, &keys, &coefficients))
+    model_range::range_of(Model {
+        n: n,
+        count: count,
+        radius: radius,
+        keys: keys,
+        coefficients: coefficients,
+    })
 }
 
 // Two ends around the value at the point X_1/U, .., X_n/U: for every function within the model its value there, times

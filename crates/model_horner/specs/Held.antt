@@ -9,7 +9,7 @@ use Rattle.calculus.specs.Operations.{limited, add}
 use Rattle.model_types.specs.declared.Model.{Model}
 use Rattle.model_types.specs.declared.Answer.{Answer}
 use Rattle.model_types.specs.declared.Verdict.the-variants.{Accepted}
-use Rattle.model_types.specs.ModelStruct.{view, pad, answer}
+use Rattle.model_types.specs.ModelStruct.{view, pad, answer, of-terms}
 use Rattle.model_slices.specs.HandedModels.{terms-of}
 use Rattle.model_limits.specs.Limits.{Packed}
 use Rattle.model_addition.specs.Addition.{Operands}
@@ -19,7 +19,7 @@ use Rattle.model_horner.specs.declared.Left.{Left}
 
 -- the struct of a model that lies in slices: the terms that its count names, and zeros behind them
 unfoldable pub held : (n count radius : ℕ) → List ℕ → List ℤ → Model
-held n count radius ks cs = record { n = n; count = count; radius = radius; terms = pad (terms-of count ks cs) }
+held n count radius ks cs = of-terms n count radius (pad (terms-of count ks cs))
 
 -- 64 places in each slice
 pub record Room (ks : List ℕ) (cs : List ℤ) : Type 0 where

@@ -11,7 +11,8 @@ use Rattle.calculus.specs.Model.{most-terms}
 use Rattle.model_types.specs.declared.Term.{Term}
 use Rattle.model_types.specs.Arrays.{padded}
 use Rattle.model_types.specs.ArrayLaws.{length-padded}
-use Rattle.model_types.specs.ModelStruct.{zero-term, pad}
+use Rattle.model_types.specs.ModelStruct.{zero-term, pad, listed, of-terms}
+use Rattle.model_types.specs.PairedLaws.{paired-of}
 use Rattle.model_slices.specs.HandedModels.{terms-of}
 use Rattle.model_slices.specs.HandedModelsLaws.{handed-more}
 use Rattle.model_horner.specs.Held.{held, Room}
@@ -58,21 +59,27 @@ terms-before (suc n) (x ∷ ks) (z ∷ cs) k c =
 
 -- ---- the struct
 module _ (n count radius : ℕ) (ks : List ℕ) (cs : List ℤ) (room : Room ks cs) (few : count ≤ most-terms) where
-  pub held-long : length (held n count radius ks cs .terms) ≡ most-terms
-  unfolding held most-terms
+  -- its places
+  pub held-listed : listed (held n count radius ks cs) ≡ pad (terms-of count ks cs)
+  unfolding held
+  held-listed = paired-of (pad (terms-of count ks cs))
+
+  pub held-long : length (listed (held n count radius ks cs)) ≡ most-terms
+  unfolding most-terms
   held-long =
       let l = length-terms count ks cs (omega (arith, room .keys)) (omega (arith, room .coefficients)) in
-      length-padded zero-term most-terms (terms-of count ks cs) (omega (arith, l))
+      ap length held-listed ∙ length-padded zero-term most-terms (terms-of count ks cs) (omega (arith, l))
 
-  pub held-whole : count ≤ length (held n count radius ks cs .terms)
+  pub held-whole : count ≤ length (listed (held n count radius ks cs))
   held-whole = omega (arith, held-long)
 
   pub held-at : (i : ℕ) → i < count
-      → getD (held n count radius ks cs .terms) i zero-term ≡ pair (getD ks i 0) (getD cs i (pos 0))
-  unfolding held padded most-terms
+      → getD (listed (held n count radius ks cs)) i zero-term ≡ pair (getD ks i 0) (getD cs i (pos 0))
+  unfolding padded most-terms
   held-at i h =
       let l = length-terms count ks cs (omega (arith, room .keys)) (omega (arith, room .coefficients)) in
-      List·getD-append (terms-of count ks cs) _ zero-term i (omega (arith, l))
+      ap (λ (p : List Term). getD p i zero-term) held-listed
+      ∙ List·getD-append (terms-of count ks cs) _ zero-term i (omega (arith, l))
       ∙ pair-at count i ks cs h (omega (arith, room .keys)) (omega (arith, room .coefficients))
 
 -- one more
@@ -115,4 +122,4 @@ pub held-same : (n count radius : ℕ) (ks ks₂ : List ℕ) (cs cs₂ : List �
     → held n count radius ks₂ cs₂ ≡ held n count radius ks cs
 unfolding held
 held-same n count radius ks ks₂ cs cs₂ e =
-    ap (λ (l : List Term). record { n = n; count = count; radius = radius; terms = pad l }) e
+    ap (λ (l : List Term). of-terms n count radius (pad l)) e

@@ -14,7 +14,7 @@ use Rattle.calculus.specs.Operations.{largest-exponent, part}
 use Rattle.model_keys.specs.Keys.{key-exponent, key-without, Slot}
 use Rattle.model_types.specs.declared.Term.{Term}
 use Rattle.model_types.specs.declared.Model.{Model}
-use Rattle.model_types.specs.ModelStruct.{zero-term, view, pad, pack}
+use Rattle.model_types.specs.ModelStruct.{zero-term, view, pad, pack, listed}
 use Rattle.model_types.specs.ModelStructLaws.{limits}
 use Rattle.model_slices.specs.HandedModels.{terms-of}
 use Rattle.model_limits.specs.LimitLaws as L
@@ -33,7 +33,7 @@ module _ {i count : ℕ} {ks : List ℕ} (w : Keys-of i count ks) where
   unfolding held
   keys-few = limits most-degree keyed (w .variable .model) .few
 
-  keys-whole : count ≤ length (keyed .terms)
+  keys-whole : count ≤ length (listed keyed)
   keys-whole = held-whole (w .vars) count (w .radius) ks (w .coefficients) (w .room) keys-few
 
   pub keys-slot : Slot i
@@ -64,7 +64,7 @@ module _ {i total : ℕ} {ks : List ℕ} {cs : List ℤ} (w : Part-of i total ks
   unfolding held
   part-few = limits most-degree parted (w .variable .model) .few
 
-  part-whole : total ≤ length (parted .terms)
+  part-whole : total ≤ length (listed parted)
   part-whole = held-whole (w .vars) total (w .radius) ks cs (w .room) part-few
 
   pub part-slot : Slot i
@@ -81,7 +81,7 @@ module _ {i total : ℕ} {ks : List ℕ} {cs : List ℤ} (w : Part-of i total ks
     part-room h = P.taken-room (w .variable) part-whole l h
 
     module _ (h : j < total) where
-      at : getD (parted .terms) j zero-term ≡ pair (getD ks j 0) (getD cs j (pos 0))
+      at : getD (listed parted) j zero-term ≡ pair (getD ks j 0) (getD cs j (pos 0))
       at = held-at (w .vars) total (w .radius) ks cs (w .room) part-few j h
 
       pub part-in : Room ks₂ cs₂ → key-exponent i (getD ks j 0) ≡ k → {x : ℕ} {z : ℤ}
@@ -112,7 +112,7 @@ module _ {X : ℤ} {total radius : ℕ} {ks : List ℕ} {cs : List ℤ} (w : Sca
   unfolding held
   scale-few = limits most-degree multiplied (w .scalable .model) .few
 
-  scale-whole : total ≤ length (multiplied .terms)
+  scale-whole : total ≤ length (listed multiplied)
   scale-whole = held-whole (w .vars) total radius ks cs (w .room) scale-few
 
   pub carried-small : natAbs X * radius < 2 ^ 61
@@ -131,7 +131,7 @@ module _ {X : ℤ} {total radius : ℕ} {ks : List ℕ} {cs : List ℤ} (w : Sca
     scale-room = S.gathered-room (w .scalable) scale-whole g
 
     module _ (h : j < total) where
-      at-place : getD (multiplied .terms) j zero-term ≡ pair (getD ks j 0) (getD cs j (pos 0))
+      at-place : getD (listed multiplied) j zero-term ≡ pair (getD ks j 0) (getD cs j (pos 0))
       at-place = held-at (w .vars) total radius ks cs (w .room) scale-few j h
 
       pub scale-fits : natAbs (getD cs j (pos 0)) * natAbs X < 2 ^ 63
@@ -145,7 +145,7 @@ module _ {X : ℤ} {total radius : ℕ} {ks : List ℕ} {cs : List ℤ} (w : Sca
           (S.gathered-within (w .scalable) scale-whole g h)
 
       module _ {r : ℕ} (e : r ≡ error + scaled-residual X (getD cs j (pos 0))) where
-        grows : r ≡ error + scaled-residual X (getD (multiplied .terms) j zero-term .coefficient)
+        grows : r ≡ error + scaled-residual X (getD (listed multiplied) j zero-term .coefficient)
         grows = e ∙ ap (λ (t : Term). error + scaled-residual X (t .coefficient)) (sym at-place)
 
         pub scale-keep : Room ks₂ cs₂ → T (is-nonzero (scaled-coefficient X (getD cs j (pos 0)))) → {z : ℤ}

@@ -11,7 +11,7 @@ use Rattle.calculus.specs.Model.{most-degree, most-terms}
 use Rattle.calculus.specs.Terms.{is-nonzero}
 use Rattle.model_types.specs.declared.Term.{Term}
 use Rattle.model_types.specs.declared.Model.{Model}
-use Rattle.model_types.specs.ModelStruct.{zero-term, pad}
+use Rattle.model_types.specs.ModelStruct.{zero-term, pad, listed}
 use Rattle.model_types.specs.ModelStructLaws.{limits}
 use Rattle.model_slices.specs.HandedModels.{terms-of}
 use Rattle.model_addition.specs.declared.Next.{Next}
@@ -52,14 +52,14 @@ module _ {c d : ℕ} {ks ks₂ : List ℕ} {cs cs₂ : List ℤ} (w : Sum-of c k
 
   -- ---- the terms that are read
   module _ (i p : ℕ) (e : p ≡ min i (most-terms - 1)) (h : i < c) where
-    pub first-here : getD (a .terms) i zero-term ≡ pair (getD ks p 0) (getD cs p (pos 0))
+    pub first-here : getD (listed a) i zero-term ≡ pair (getD ks p 0) (getD cs p (pos 0))
     first-here =
         let q : i ≡ p = omega (arith, e, first-few) in
         held-at (w .vars) c (w .radius1) ks cs (w .first-room) first-few i h
         ∙ ap (λ k. pair (getD ks k 0) (getD cs k (pos 0))) q
 
   module _ (j q : ℕ) (e : q ≡ min j (most-terms - 1)) (h : j < d) where
-    pub second-here : getD (b .terms) j zero-term ≡ pair (getD ks₂ q 0) (getD cs₂ q (pos 0))
+    pub second-here : getD (listed b) j zero-term ≡ pair (getD ks₂ q 0) (getD cs₂ q (pos 0))
     second-here =
         let r : j ≡ q = omega (arith, e, second-few) in
         held-at (w .vars) d (w .radius2) ks₂ cs₂ (w .second-room) second-few j h

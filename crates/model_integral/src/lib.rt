@@ -38,10 +38,11 @@ fn integral_parts(m: model_types::Model) -> i64
     let mut total: i64 = 0;
     let mut i = 0;
     while i < count {
-        let t = m.terms[i];
+        let key = m.keys[i];
+        let c = m.coefficients[i];
         i += 1;
-        if model_keys::all_even(t.key) {
-            total = fixed::sum(total, parts(scale, t.key, t.coefficient));
+        if model_keys::all_even(key) {
+            total = fixed::sum(total, parts(scale, key, c));
         }
     }
     total

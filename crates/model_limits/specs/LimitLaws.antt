@@ -18,7 +18,7 @@ use Rattle.calculus.specs.Refusal.{accepted, refused, over-span, too-many-terms
 use Rattle.calculus.specs.Operations.{limited}
 use Rattle.model_types.specs.declared.Model.{Model}
 use Rattle.model_types.specs.declared.Verdict.the-variants.{Accepted}
-use Rattle.model_types.specs.ModelStruct.{zero-term, view, pack, answer}
+use Rattle.model_types.specs.ModelStruct.{zero-term, view, pack, answer, listed}
 use Rattle.model_types.specs.ModelStructLaws.{read, size-more, length-view, view-is, view-pack}
 use Rattle.model_limits.specs.Limits.{Packed}
 
@@ -51,19 +51,19 @@ limited-capped n e p = go (decLe e span-limit)
 -- ---- the span as it is summed: known as far as the cap
 pub record Summed (m : Model) (total i : ℕ) : Type 0 where
   pub within : i ≤ m .count
-  pub sum : capped total ≡ capped (size (read (m .n) i (m .terms)) + m .radius)
+  pub sum : capped total ≡ capped (size (read (m .n) i (listed m)) + m .radius)
 
-module _ (m : Model) (w : m .count ≤ length (m .terms)) where
+module _ (m : Model) (w : m .count ≤ length (listed m)) where
   pub summed-first : Summed m (m .radius) 0
   unfolding size sum-over
   summed-first = record { within = omega arith; sum = ap capped (omega arith) }
 
   pub summed-turn : (total i next : ℕ) → Summed m total i → i < m .count
-      → next ≡ capped (total + natAbs (getD (m .terms) i zero-term .coefficient)) → Summed m next (i + 1)
+      → next ≡ capped (total + natAbs (getD (listed m) i zero-term .coefficient)) → Summed m next (i + 1)
   summed-turn total i next h l e = record {
     within = omega arith;
     sum = ap capped e ∙ capped-more total _ _ (h .sum)
-        ∙ ap capped (omega (arith, size-more (m .n) i (m .terms) (omega arith)));
+        ∙ ap capped (omega (arith, size-more (m .n) i (listed m) (omega arith)));
   }
 
   pub summed-end : (total i : ℕ) → Summed m total i → m .count ≤ i
@@ -72,7 +72,7 @@ module _ (m : Model) (w : m .count ≤ length (m .terms)) where
   summed-end total i h l =
       let e : i ≡ m .count = omega (arith, h .within) in
       sym (capped-within total) ∙ ap (λ s. leb s span-limit) (h .sum) ∙ capped-within _
-      ∙ ap (λ j. leb (size (read (m .n) j (m .terms)) + m .radius) span-limit) e
+      ∙ ap (λ j. leb (size (read (m .n) j (listed m)) + m .radius) span-limit) e
       ∙ ap (λ v. leb (span v) span-limit) (sym (view-is m w))
 
 -- ---- the answers
@@ -88,11 +88,18 @@ pack-packed d m s l f h = record { few = unfold pack in h; packed = ap pack (vie
 
 -- with another radius
 pub packed-radius : (m : Model) (e : ℕ) → Packed m
-    → Packed (record { n = m .n; count = m .count; radius = e; terms = m .terms })
+    → Packed (record { n = m .n; count = m .count; radius = e; keys = m .keys; coefficients = m .coefficients })
 unfolding view pack
 packed-radius m e p = record {
   few = p .few;
-  packed = ap (λ (k : Model). record { n = k .n; count = k .count; radius = e; terms = k .terms }) (p .packed);
+  packed = ap (λ (k : Model). record {
+    n = k .n;
+    count = k .count;
+    radius = e;
+    keys = k .keys;
+    coefficients = k .coefficients;
+  })
+      (p .packed);
 }
 
 module _ (m : Model) (p : Packed m) where

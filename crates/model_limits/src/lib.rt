@@ -19,8 +19,8 @@ pub fn limited(m: Model) -> Answer
     let mut span = m.radius;
     let mut i = 0;
     while i < count {
-        let t = m.terms[i];
-        span = fixed::capped_sum(span, fixed::magnitude(t.coefficient));
+        let c = m.coefficients[i];
+        span = fixed::capped_sum(span, fixed::magnitude(c));
         i += 1;
     }
     if fixed::within_span(span) {
@@ -38,11 +38,13 @@ pub fn widened(m: Model, e: u64) -> Answer
     requires { ⌜ Packed m ⌝ }
     ensures { λ r. ⌜ r ≡ answer (at-place 0 (widen e (view m))) ⌝ }
 {
-    let terms = m.terms;
+    let keys = m.keys;
+    let coefficients = m.coefficients;
     limited(Model {
         n: m.n,
         count: m.count,
         radius: fixed::capped_sum(m.radius, e),
-        terms: terms,
+        keys: keys,
+        coefficients: coefficients,
     })
 }

@@ -20,7 +20,7 @@ use Rattle.calculus.specs.Operations.{largest-exponent, part-terms, part}
 use Rattle.calculus_laws.specs.SoundLaws.{Sound, part-canonical}
 use Rattle.model_types.specs.declared.Term.{Term}
 use Rattle.model_types.specs.declared.Model.{Model}
-use Rattle.model_types.specs.ModelStruct.{zero-term, places, view-term, view, pack-term, pad, pack}
+use Rattle.model_types.specs.ModelStruct.{zero-term, places, view-term, view, pack-term, pad, pack, listed, of-terms}
 use Rattle.model_types.specs.ModelStructLaws.{read, term-at, length-read, view-terms, read-more}
 use Rattle.model_types.specs.ModelStructLaws.{select-more, select-same}
 use Rattle.model_types.specs.ModelStructLaws.{sum-select-le, packed-more, limits, key-fits-at}
@@ -80,11 +80,11 @@ module _ (i k : ℕ) where
 module _ (i : ℕ) (f : Model) where
   -- its first j terms
   abbrev before : ℕ → Terms
-  before j = read (f .n) j (f .terms)
+  before j = read (f .n) j (listed f)
 
   -- its next term
   abbrev next : ℕ → P.Term ℤ
-  next j = term-at (f .n) j (f .terms)
+  next j = term-at (f .n) j (listed f)
 
   -- those of the k-th power among the first j, without the variable
   abbrev parted : ℕ → ℕ → Terms
@@ -104,14 +104,14 @@ module _ (i : ℕ) (f : Model) where
 pub slot : {i : ℕ} {f : Model} → In-variable i f → Slot i
 slot {f = f} s = record { first = s .first; last = omega (arith, s .last, limits most-degree f (s .model) .width) }
 
-module _ {i : ℕ} {f : Model} (s : In-variable i f) (w : f .count ≤ length (f .terms)) where
+module _ {i : ℕ} {f : Model} (s : In-variable i f) (w : f .count ≤ length (listed f)) where
   width : f .n ≤ key-width
   width = limits most-degree f (s .model) .width
 
   -- the key of the next term
   module _ (j : ℕ) (h : j < f .count) where
     abbrev key-at : ℕ
-    key-at = getD (f .terms) j zero-term .key
+    key-at = getD (listed f) j zero-term .key
 
     fits-at : T (key-fits key-width (f .n) key-at)
     fits-at = key-fits-at most-degree f j (omega arith) (s .model) w h
@@ -120,7 +120,7 @@ module _ {i : ℕ} {f : Model} (s : In-variable i f) (w : f .count ≤ length (f
     unfolding view-term
     exponent-at = monomial-exponent (f .n) i key-at width (s .first) (s .last) fits-at
 
-    without-at : (t : Term) → t .key ≡ key-without i key-at → t .coefficient ≡ getD (f .terms) j zero-term .coefficient
+    without-at : (t : Term) → t .key ≡ key-without i key-at → t .coefficient ≡ getD (listed f) j zero-term .coefficient
         → t ≡ pack-term (freed i (key-exponent i key-at) (next i f j))
     unfolding view-term pack-term
     without-at t a b = ap₂ (λ (z : ℕ) (c : ℤ). record { key = z; coefficient = c })
@@ -137,7 +137,7 @@ module _ {i : ℕ} {f : Model} (s : In-variable i f) (w : f .count ≤ length (f
     largest-turn h e = record {
       within = omega arith;
       found = e ∙ ap₂ max (l .found) (sym (exponent-at j h)) ∙ sym (largest-snoc i (before i f j) (next i f j))
-          ∙ ap (largest-exponent i) (sym (read-more (f .n) j (f .terms) (omega arith)));
+          ∙ ap (largest-exponent i) (sym (read-more (f .n) j (listed f) (omega arith)));
     }
 
     pub largest-end : f .count ≤ j → largest ≡ largest-exponent i (view f .terms)
@@ -157,12 +157,12 @@ module _ {i : ℕ} {f : Model} (s : In-variable i f) (w : f .count ≤ length (f
         arith,
         l .many,
         length-part i k (before i f j),
-        length-read (f .n) j (f .terms) (omega arith),
+        length-read (f .n) j (listed f) (omega arith),
         limits most-degree f (s .model) .few,
       )
 
       pub taken-in : (h : j < f .count) → key-exponent i (key-at j h) ≡ k
-          → {t : Term} → t .key ≡ key-without i (key-at j h) → t .coefficient ≡ getD (f .terms) j zero-term .coefficient
+          → {t : Term} → t .key ≡ key-without i (key-at j h) → t .coefficient ≡ getD (listed f) j zero-term .coefficient
           → Taken i f k (set out count t) (count + 1) (j + 1)
       taken-in h e {t = t} a b = record {
         within = omega arith;
@@ -173,7 +173,7 @@ module _ {i : ℕ} {f : Model} (s : In-variable i f) (w : f .count ≤ length (f
       }
         where
           more : parted i f k (j + 1) ≡ parted i f k j ++ (freed i k (next i f j) ∷ [])
-          more = part-more i k (f .n) j (f .terms) (omega arith) (exponent-at j h ∙ e)
+          more = part-more i k (f .n) j (listed f) (omega arith) (exponent-at j h ∙ e)
 
       pub taken-out : (h : j < f .count) → (key-exponent i (key-at j h) ≡ k → ⊥) → Taken i f k out count (j + 1)
       taken-out h e = record {
@@ -183,14 +183,14 @@ module _ {i : ℕ} {f : Model} (s : In-variable i f) (w : f .count ≤ length (f
       }
         where
           same : parted i f k (j + 1) ≡ parted i f k j
-          same = part-same i k (f .n) j (f .terms) (omega arith) (λ q. e (sym (exponent-at j h) ∙ q))
+          same = part-same i k (f .n) j (listed f) (omega arith) (λ q. e (sym (exponent-at j h) ∙ q))
 
       pub taken-end : f .count ≤ j
-          → record { n = f .n; count = count; radius = 0; terms = out } ≡ pack (part i k (view f))
+          → of-terms (f .n) count 0 out ≡ pack (part i k (view f))
       unfolding part pack view
-      taken-end h = ap₂ (λ (c : ℕ) (l : List Term). record { n = f .n; count = c; radius = 0; terms = l })
+      taken-end h = ap₂ (λ (c : ℕ) (l : List Term). of-terms (f .n) c 0 l)
           (sym (l .many) ∙ ap (λ p. length (part-terms i k p)) all)
           (l .stored ∙ ap (λ p. pad (map pack-term (part-terms i k p))) all)
         where
-          all : before i f j ≡ map (view-term (f .n)) (places (f .count) (f .terms))
+          all : before i f j ≡ map (view-term (f .n)) (places (f .count) (listed f))
           all = let e : j ≡ f .count = omega (arith, l .within) in rw e (sym (view-terms f w))

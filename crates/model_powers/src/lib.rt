@@ -4,8 +4,8 @@ ghost use Prim.Native.Nat.{max};
 ghost use Rattle.calculus.specs.Operations.{«largest-exponent», part};
 ghost use Rattle.model_types.specs.ModelStruct.{view, pack};
 ghost use Rattle.model_powers.specs.Powers.{«In-variable»};
+use model_types::Key;
 use model_types::Model;
-use model_types::Term;
 
 // The larger of two.
 fn larger(a: u32, b: u32) -> u32
@@ -23,8 +23,8 @@ pub fn largest_exponent(f: Model, i: u8) -> u32
     let mut largest = 0;
     let mut j = 0;
     while j < count {
-        let t = f.terms[j];
-        largest = larger(largest, model_keys::exponent_of(t.key, i));
+        let key = f.keys[j];
+        largest = larger(largest, model_keys::exponent_of(key, i));
         j += 1;
     }
     largest
@@ -36,17 +36,17 @@ pub fn part(f: Model, i: u8, k: u32) -> Model
     ensures { λ r. ⌜ r ≡ pack (part i k (view f)) ⌝ }
 {
     let total = f.count;
-    let mut out = [Term::ZERO; model_types::MOST_TERMS];
+    let mut keys: [Key; model_types::MOST_TERMS] = [0; model_types::MOST_TERMS];
+    let mut coefficients = [0i64; model_types::MOST_TERMS];
     let mut count = 0;
     let mut j = 0;
     while j < total {
-        let t = f.terms[j];
+        let key = f.keys[j];
+        let c = f.coefficients[j];
         j += 1;
-        if model_keys::exponent_of(t.key, i) == k {
-            out[count] = Term {
-                key: model_keys::without(t.key, i),
-                coefficient: t.coefficient,
-            };
+        if model_keys::exponent_of(key, i) == k {
+            keys[count] = model_keys::without(key, i);
+            coefficients[count] = c;
             count += 1;
         }
     }
@@ -54,6 +54,7 @@ pub fn part(f: Model, i: u8, k: u32) -> Model
         n: f.n,
         count: count,
         radius: 0,
-        terms: out,
+        keys: keys,
+        coefficients: coefficients,
     }
 }

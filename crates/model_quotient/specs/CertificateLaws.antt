@@ -27,7 +27,7 @@ use Rattle.model_types.specs.declared.Refusal.{Refusal}
 use Rattle.model_types.specs.declared.Verdict.the-variants.{Accepted, Refused}
 use Rattle.model_types.specs.declared.Answer.{Answer}
 use Rattle.model_types.specs.Arrays.{padded}
-use Rattle.model_types.specs.ModelStruct.{zero-term, view, pad, pack, answer}
+use Rattle.model_types.specs.ModelStruct.{zero-term, view, pad, pack, answer, listed, of-terms}
 use Rattle.model_types.specs.ModelStructLaws.{limits, vars-range, sound-vars, view-pack, pack-view, pad-more, take-more}
 use Rattle.model_types.specs.ResultLaws.{sound-order, taken-sound, taken-then, refused-then}
 use Rattle.model_limits.specs.Limits.{Packed}
@@ -124,13 +124,19 @@ module _ (l : List Term) (w : length l ≡ most-terms) where
       let e : i ≡ i - 1 + 1 = omega arith in
       ap (λ p. set p (i - 1) zero-term) (o ∙ ap (λ j. pad (take j l)) e) ∙ zeroed-at (i - 1) (omega arith)
 
-module _ (m : Model) (s : T (sound most-degree (view m))) (w : m .count ≤ length (m .terms)) where
-  pub zeroed-end : (e i : ℕ) (out : List Term) → i ≡ m .count → out ≡ pad (take i (m .terms))
-      → record { n = m .n; count = m .count; radius = e; terms = out } ≡ pack (with-radius e (view m))
+module _ (m : Model) (s : T (sound most-degree (view m))) (w : m .count ≤ length (listed m)) where
+  pub zeroed-end : (e i : ℕ) (out : List Term) → i ≡ m .count → out ≡ pad (take i (listed m))
+      → of-terms (m .n) (m .count) e out ≡ pack (with-radius e (view m))
   unfolding pack with-radius
-  zeroed-end e i out h o = ap (λ l. record { n = m .n; count = m .count; radius = e; terms = l })
-      (o ∙ ap (λ i. pad (take i (m .terms))) h)
-      ∙ sym (ap (λ (r : Model). record { n = r .n; count = r .count; radius = e; terms = r .terms })
+  zeroed-end e i out h o = ap (λ l. of-terms (m .n) (m .count) e l)
+      (o ∙ ap (λ i. pad (take i (listed m))) h)
+      ∙ sym (ap (λ (r : Model). record {
+        n = r .n;
+        count = r .count;
+        radius = e;
+        keys = r .keys;
+        coefficients = r .coefficients;
+      })
       (pack-view most-degree m (omega arith) s w))
 
 -- ---- the second form

@@ -14,7 +14,6 @@ use model_types::Answer;
 use model_types::MOST_TERMS;
 use model_types::Model;
 use model_types::Refusal;
-use model_types::Term;
 use model_types::Verdict;
 
 // The largest size of the ends of a model's range: a form's beta or mu.
@@ -34,17 +33,20 @@ fn with_radius(m: Model, e: u64) -> Model
     ensures { λ r. ⌜ r ≡ pack (with-radius e (view m)) ⌝ }
 {
     let count = m.count;
-    let mut terms = m.terms;
+    let mut keys = m.keys;
+    let mut coefficients = m.coefficients;
     let mut i = MOST_TERMS;
     while count < i {
         i -= 1;
-        terms[i] = Term::ZERO;
+        keys[i] = 0;
+        coefficients[i] = 0;
     }
     Model {
         n: m.n,
         count: count,
         radius: e,
-        terms: terms,
+        keys: keys,
+        coefficients: coefficients,
     }
 }
 

@@ -18,7 +18,7 @@ use Rattle.model_keys.specs.Keys.{key-even}
 use Rattle.model_keys.specs.KeyIntegralLaws.{even-exponents}
 use Rattle.model_types.specs.declared.Model.{Model}
 use Rattle.model_types.specs.declared.Term.{Term}
-use Rattle.model_types.specs.ModelStruct.{zero-term, view, view-term}
+use Rattle.model_types.specs.ModelStruct.{zero-term, view, view-term, listed}
 use Rattle.model_types.specs.ModelStructLaws.{read, limits, key-fits-at, Summed, summed-first, summed-end}
 use Rattle.model_types.specs.ModelStructLaws.{summed-turn, sum-room, sum-select-le, read-within-span}
 use Rattle.model_range.specs.KeyRange.{key-steady, key-fall, key-rise}
@@ -35,7 +35,7 @@ unfolding if-so
 part-size true c = omega arith
 part-size false c = omega arith
 
-module _ (m : Model) (h : T (sound most-degree (view m))) (w : m .count ≤ length (m .terms)) where
+module _ (m : Model) (h : T (sound most-degree (view m))) (w : m .count ≤ length (listed m)) where
   pub counted-first : Counted m (pos 0) 0 0 0
   counted-first = record {
     in-middle = summed-first ℤ-addition _ _ m w;
@@ -50,7 +50,7 @@ module _ (m : Model) (h : T (sound most-degree (view m))) (w : m .count ≤ leng
   sizes-small f total i s = omega (
     arith,
     s .sum,
-    sum-select-le (λ k c. natAbs c) f (read (m .n) i (m .terms)),
+    sum-select-le (λ k c. natAbs c) f (read (m .n) i (listed m)),
     read-within-span m i w (s .within),
   )
 
@@ -69,7 +69,7 @@ module _ (m : Model) (h : T (sound most-degree (view m))) (w : m .count ≤ leng
 
     module _ (l : i < m .count) where
       abbrev at : Term
-      at = getD (m .terms) i zero-term
+      at = getD (listed m) i zero-term
 
       fits : T (key-fits key-width (m .n) (at .key))
       fits = key-fits-at most-degree m i (omega arith) h w l
@@ -89,7 +89,7 @@ module _ (m : Model) (h : T (sound most-degree (view m))) (w : m .count ≤ leng
         arith,
         ap natAbs (s .in-middle .sum),
         part-size (eqb (at .key) 0) (at .coefficient),
-        sum-room (λ k c. is-constant k) (λ k c. c) (m .n) i (m .count) (m .terms) l (omega arith),
+        sum-room (λ k c. is-constant k) (λ k c. c) (m .n) i (m .count) (listed m) l (omega arith),
         read-within-span m (m .count) w (omega arith),
       )
 

@@ -77,11 +77,12 @@ pub fn range_of(m: model_types::Model) -> model_types::Bounds
     let mut above: u64 = 0;
     let mut i = 0;
     while i < count {
-        let t = m.terms[i];
+        let key = m.keys[i];
+        let c = m.coefficients[i];
         i += 1;
-        middle = fixed::sum(middle, steady(t.key, t.coefficient));
-        below += fall(t.key, t.coefficient);
-        above += rise(t.key, t.coefficient);
+        middle = fixed::sum(middle, steady(key, c));
+        below += fall(key, c);
+        above += rise(key, c);
     }
     let down = fixed::signed(below + m.radius);
     let up = fixed::signed(above + m.radius);

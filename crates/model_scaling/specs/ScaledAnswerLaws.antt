@@ -53,7 +53,7 @@ module _ {X : ℤ} {f : Model} (s : Scalable X f) where
 
   module _ {m : Model} (e : m ≡ pack pass) {r : ℕ} (q : r ≡ round-up (m .radius)) where
     abbrev struct : Model
-    struct = record { n = m .n; count = m .count; radius = r; terms = m .terms }
+    struct = record { n = m .n; count = m .count; radius = r; keys = m .keys; coefficients = m .coefficients }
 
     pub scaled-packed : Packed struct
     unfolding most-degree key-width

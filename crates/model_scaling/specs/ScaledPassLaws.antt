@@ -20,7 +20,7 @@ use Rattle.calculus.specs.Model.{most-degree, most-terms, span}
 use Rattle.calculus_laws.specs.MonomialKeyLaws.{fits-below}
 use Rattle.model_types.specs.declared.Term.{Term}
 use Rattle.model_types.specs.declared.Model.{Model}
-use Rattle.model_types.specs.ModelStruct.{zero-term, view-term, view, pack-term, pad, pack}
+use Rattle.model_types.specs.ModelStruct.{zero-term, view-term, view, pack-term, pad, pack, listed, of-terms}
 use Rattle.model_types.specs.ModelStructLaws.{read, term-at, length-read, view-terms, map-more, sum-more}
 use Rattle.model_types.specs.ModelStructLaws.{select-in, select-out, packed-more, within-span, pack-view-term}
 use Rattle.model_types.specs.ModelStructLaws.{Limits, limits, key-fits-at}
@@ -44,13 +44,13 @@ pass-error X f = refl
 module _ (f : Model) where
   -- the terms before j, and the term at j
   abbrev before : ℕ → Terms
-  before j = read (f .n) j (f .terms)
+  before j = read (f .n) j (listed f)
 
   abbrev at : ℕ → Term
-  at j = getD (f .terms) j zero-term
+  at j = getD (listed f) j zero-term
 
   abbrev next : ℕ → P.Term ℤ
-  next j = term-at (f .n) j (f .terms)
+  next j = term-at (f .n) j (listed f)
 
 module _ (X : ℤ) (f : Model) where
   -- what becomes of the terms before j
@@ -71,7 +71,7 @@ product-small a b h k =
     let p : a * b ≤ span-limit * span-limit = mul-le-mul h k in
     omega (arith, span-square-fits)
 
-module _ {X : ℤ} {f : Model} (s : Scalable X f) (w : f .count ≤ length (f .terms)) where
+module _ {X : ℤ} {f : Model} (s : Scalable X f) (w : f .count ≤ length (listed f)) where
   pub known : Limits f
   known = limits most-degree f (s .model)
 
@@ -128,13 +128,13 @@ module _ {X : ℤ} {f : Model} (s : Scalable X f) (w : f .count ≤ length (f .t
       g .counted,
       length-select (λ k c. is-nonzero c) (turned X f j),
       length-map (before f j) (new-term X),
-      length-read (f .n) j (f .terms) (omega (arith, g .within)),
+      length-read (f .n) j (listed f) (omega (arith, g .within)),
     )
 
     pub gathered-end : f .count ≤ j
-        → record { n = f .n; count = count; radius = error; terms = out } ≡ pack (scaled-pass X (view f))
+        → of-terms (f .n) count error out ≡ pack (scaled-pass X (view f))
     gathered-end l =
-        ap₂ (λ (c : ℕ) (o : List Term). record { n = f .n; count = c; radius = error; terms = o })
+        ap₂ (λ (c : ℕ) (o : List Term). of-terms (f .n) c error o)
         (g .counted ∙ ap length (sym same)) (g .stored ∙ ap (λ p. pad (map pack-term p)) (sym same))
         ∙ packed error-is
       where
@@ -153,12 +153,9 @@ module _ {X : ℤ} {f : Model} (s : Scalable X f) (w : f .count ≤ length (f .t
 
         -- the pass, with r in the place of E
         whole : ℕ → Model
-        whole r = record {
-          n = f .n;
-          count = length (scaled-pass X (view f) .terms);
-          radius = r;
-          terms = pad (map pack-term (scaled-pass X (view f) .terms));
-        }
+        whole r =
+            of-terms (f .n) (length (scaled-pass X (view f) .terms)) r
+            (pad (map pack-term (scaled-pass X (view f) .terms)))
 
         packed : {r : ℕ} → r ≡ scaled-pass X (view f) .radius → whole r ≡ pack (scaled-pass X (view f))
         packed q = ap whole q ∙ (unfold pack scaled-pass view in refl)
@@ -176,7 +173,7 @@ module _ {X : ℤ} {f : Model} (s : Scalable X f) (w : f .count ≤ length (f .t
         arith,
         e,
         g .grown,
-        sum-more (f .n) j (f .terms) (omega arith) ℕ-addition (λ k c. scaled-residual X c),
+        sum-more (f .n) j (listed f) (omega arith) ℕ-addition (λ k c. scaled-residual X c),
       )
 
       more-bounded : {r : ℕ} → r ≡ error + scaled-residual X (at f j .coefficient)
@@ -184,7 +181,7 @@ module _ {X : ℤ} {f : Model} (s : Scalable X f) (w : f .count ≤ length (f .t
       more-bounded e = omega (arith, e, g .bounded, residual-small j h)
 
       more-turned : turned X f (j + 1) ≡ turned X f j ++ (new-term X (next f j) ∷ [])
-      more-turned = map-more (f .n) j (f .terms) (omega arith) (new-term X)
+      more-turned = map-more (f .n) j (listed f) (omega arith) (new-term X)
 
       -- a coefficient that is not 0 is kept
       pub gathered-keep : {r : ℕ} → r ≡ error + scaled-residual X (at f j .coefficient)

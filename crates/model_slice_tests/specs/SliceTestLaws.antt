@@ -1,5 +1,5 @@
 -- One pass over two slices decides the rules on the model that lies in them.
-use mathlib.Core.Path.{_≡_, refl, sym, subst}
+use mathlib.Core.Path.{_≡_, refl, sym, _∙_, ap, subst}
 use mathlib.Core.Bool.{Bool, true, false}
 use mathlib.Core.List.{List, [], _∷_, _++_}
 use Prim.Native.Nat.{ℕ, zero, suc, _+_, _≤_, _<_, min}
@@ -16,8 +16,9 @@ use Rattle.calculus_laws.specs.TestLaws.{and-left, and-right}
 use Rattle.model_types.specs.declared.Term.{Term}
 use Rattle.model_types.specs.declared.Model.{Model}
 use Rattle.model_types.specs.Arrays.{padded}
-use Rattle.model_types.specs.ModelStruct.{zero-term, pad, view, term-sound}
+use Rattle.model_types.specs.ModelStruct.{zero-term, pad, view, listed, term-sound}
 use Rattle.model_slices.specs.HandedModels.{terms-of, handed, lent}
+use Rattle.model_slices.specs.HandedModelsLaws.{listed-handed}
 use Rattle.model_soundness.specs.SoundPassLaws.{Passed, vars-not, many-not, passed-first, passed-end, passed-turn}
 use Rattle.model_soundness.specs.SoundPassLaws.{passed-not}
 
@@ -68,8 +69,8 @@ module _ (d n count radius : ℕ) (ks : List ℕ) (cs : List ℤ) where
       few false e = absurd (subst T (slices-many-not (leb-false count most-terms e)) t)
 
   module _ (v : vars-sound n ≡ true) (f : count ≤ most-terms) where
-    long : count ≤ length (pad (terms-of most-terms ks cs))
-    long = omega (arith, all-places (terms-of most-terms ks cs))
+    long : count ≤ length (listed held)
+    long = rw (listed-handed n count radius ks cs) (omega (arith, all-places (terms-of most-terms ks cs)))
 
     pub slices-first : Passed d held radius 0 0
     unfolding handed
@@ -81,12 +82,12 @@ module _ (d n count radius : ℕ) (ks : List ℕ) (cs : List ℤ) where
       slices-end l = passed-end d held v f long total least i h l
 
       module _ (l : i < count) (k : count ≤ length ks) (z : count ≤ length cs) (small : getD ks i 0 < key-limit) where
-        here : getD (pad (terms-of most-terms ks cs)) i zero-term
-            ≡ record { key = getD ks i 0; coefficient = getD cs i (pos 0) }
+        here : getD (listed held) i zero-term ≡ record { key = getD ks i 0; coefficient = getD cs i (pos 0) }
         unfolding padded
-        here = at-place most-terms i ks cs _ (omega arith) (omega arith) (omega arith)
+        here = ap (λ (r : List Term). getD r i zero-term) (listed-handed n count radius ks cs)
+            ∙ at-place most-terms i ks cs _ (omega arith) (omega arith) (omega arith)
 
-        small-here : getD (pad (terms-of most-terms ks cs)) i zero-term .key < key-limit
+        small-here : getD (listed held) i zero-term .key < key-limit
         small-here = subst (λ (t : Term). t .key < key-limit) (sym here) small
 
         pub slices-turn : term-sound n d least (getD ks i 0) (getD cs i (pos 0)) ≡ true

@@ -1,6 +1,6 @@
 -- Models as numbers and slices: what is handed over, and what the slices hold once a model is stored.
 use mathlib.Core.Bool.{Bool, _&&_}
-use mathlib.Core.List.{List, [], _∷_, _++_, map}
+use mathlib.Core.List.{List, [], _∷_, _++_}
 use Prim.Native.Nat.{ℕ, zero, suc, min}
 use lib.Dec.{leb}
 use lib.IntN.{ℤ}
@@ -8,7 +8,7 @@ use lib.ListN.{length, drop}
 use Rattle.calculus.specs.Model.{most-terms}
 use Rattle.model_types.specs.declared.Term.{Term}
 use Rattle.model_types.specs.declared.Model.{Model}
-use Rattle.model_types.specs.ModelStruct.{pad}
+use Rattle.model_types.specs.ModelStruct.{pad, of-terms}
 
 -- ---- what is handed over
 -- the first n terms of two slices, as far as both go
@@ -20,8 +20,7 @@ terms-of (suc n) (k ∷ ks) (c ∷ cs) = record { key = k; coefficient = c } ∷
 
 -- the struct of a model: its places are the first 64 of the slices, and zeros where these end before
 unfoldable pub handed : (n count radius : ℕ) → List ℕ → List ℤ → Model
-handed n count radius ks cs =
-    record { n = n; count = count; radius = radius; terms = pad (terms-of most-terms ks cs) }
+handed n count radius ks cs = of-terms n count radius (pad (terms-of most-terms ks cs))
 
 -- whether slices of these lengths have every place that a count names
 unfoldable pub lent : (count keys coefficients : ℕ) → Bool
@@ -38,11 +37,11 @@ over new old = new ++ drop (length new) old
 
 -- the keys of all places
 unfoldable pub stored-keys : Model → List ℕ → List ℕ
-stored-keys m = over (map (λ t. t .key) (m .terms))
+stored-keys m = over (m .keys)
 
 -- the coefficients of all places
 unfoldable pub stored-coefficients : Model → List ℤ → List ℤ
-stored-coefficients m = over (map (λ t. t .coefficient) (m .terms))
+stored-coefficients m = over (m .coefficients)
 
 -- how many numbers go with a model that is answered
 abbrev pub answer-numbers : ℕ

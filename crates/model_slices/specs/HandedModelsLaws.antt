@@ -1,20 +1,21 @@
 -- One more term of two slices, and one more place of a slice overwritten.
 use mathlib.Core.Path.{_≡_, refl, sym, _∙_, ap, subst}
 use mathlib.Core.Bool.{true, _&&_}
-use mathlib.Core.List.{List, [], _∷_, _++_, map, append-assoc, map-append}
+use mathlib.Core.List.{List, [], _∷_, _++_, map, append-assoc}
 use Prim.Native.Nat.{ℕ, zero, suc, _+_, _-_, _≤_, _<_, min}
 use native.Mathlib.Numerals.{add-one}
 use native.Mathlib.Omega.{arith}
 use lib.Dec.{T, leb, leb→le}
 use lib.IntN.{ℤ, pos}
-use lib.ListN.{length, take, drop, getD, set, replicate, length-append, length-map}
+use lib.ListN.{length, take, drop, getD, set, replicate, length-append}
 use lib.Seq.{set-at, drop-cons, length-take-le}
 use Rattle.calculus.specs.Model.{most-terms}
 use Rattle.calculus_laws.specs.TestLaws.{and-left, and-right}
 use Rattle.model_types.specs.declared.Term.{Term}
 use Rattle.model_types.specs.Arrays.{first-places, padded}
-use Rattle.model_types.specs.ModelStruct.{zero-term, places, pad, view-term, view}
+use Rattle.model_types.specs.ModelStruct.{zero-term, places, pad, view-term, view, listed, of-terms}
 use Rattle.model_types.specs.ModelStructLaws.{pad-more, take-more}
+use Rattle.model_types.specs.PairedLaws.{paired-of}
 use Rattle.model_slices.specs.HandedModels.{terms-of, handed, over, answer-numbers, model-room}
 
 -- ---- terms of two slices
@@ -88,16 +89,23 @@ first-terms (suc c) zero (suc n) (k ∷ ks) (x ∷ cs) e = absurd (omega arith)
 first-terms (suc c) (suc i) (suc n) (k ∷ ks) (x ∷ cs) e =
     ap (λ (r : List Term). record { key = k; coefficient = x } ∷ r) (first-terms c i n ks cs (omega arith))
 
+-- the terms of all places of the struct
+pub listed-handed : (n c e : ℕ) (ks : List ℕ) (cs : List ℤ)
+    → listed (handed n c e ks cs) ≡ pad (terms-of most-terms ks cs)
+unfolding handed
+listed-handed n c e ks cs = paired-of (pad (terms-of most-terms ks cs))
+
 -- the model that is taken is the one that is handed over
 pub taken-view : (n c e i : ℕ) (ks : List ℕ) (cs : List ℤ) → i ≡ min (min c most-terms) (min (length ks) (length cs))
-    → view (record { n = n; count = c; radius = e; terms = pad (terms-of i ks cs) }) ≡ view (handed n c e ks cs)
+    → view (of-terms n c e (pad (terms-of i ks cs))) ≡ view (handed n c e ks cs)
 unfolding view handed
 taken-view n c e i ks cs h =
     ap
     (λ (r : List Term). record { vars = n; radius = e; terms = map (view-term n) r })
-    (first-pad c (terms-of i ks cs)
+    (ap (places c) (paired-of (pad (terms-of i ks cs)))
+    ∙ first-pad c (terms-of i ks cs)
     ∙ first-terms c i most-terms ks cs h
-    ∙ sym (first-pad c (terms-of most-terms ks cs)))
+    ∙ sym (ap (places c) (listed-handed n c e ks cs) ∙ first-pad c (terms-of most-terms ks cs)))
 
 -- ---- a slice overwritten
 module _ {A : Type 0} (d : A) where
@@ -109,12 +117,12 @@ module _ {A : Type 0} (d : A) where
       let n : length (l ++ (x ∷ [])) ≡ suc i = length-append l (x ∷ []) ∙ omega arith in
       rw (e, n, drop-cons k i d h, set-at l (getD k i d) (drop (suc i) k) x i e, append-assoc)
 
-  -- a turn of the loop that stores terms
-  pub stored-more : (f : Term → A) (ts : List Term) (k : List A) (i : ℕ) → i < length ts → i < length k
-      → set (over (map f (take i ts)) k) i (f (getD ts i zero-term)) ≡ over (map f (take (i + 1) ts)) k
-  stored-more f ts k i h l =
-      over-more (map f (take i ts)) k i _ (length-map (take i ts) f ∙ length-take-le i ts (omega arith)) l
-      ∙ ap (λ r. over r k) (sym (ap (map f) (take-more ts i zero-term h) ∙ map-append f (take i ts) _))
+  -- a turn of the loop that stores an array
+  pub stored-more : (l k : List A) (i : ℕ) → i < length l → i < length k
+      → set (over (take i l) k) i (getD l i d) ≡ over (take (i + 1) l) k
+  stored-more l k i h w =
+      over-more (take i l) k i _ (length-take-le i l (omega arith)) w
+      ∙ ap (λ r. over r k) (sym (take-more l i d h))
 
 -- two stores
 pub over-two : {A : Type 0} (l : List A) (a b : A) → 2 ≤ length l → set (set l 0 a) 1 b ≡ over (a ∷ b ∷ []) l

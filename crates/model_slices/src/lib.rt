@@ -10,7 +10,6 @@ ghost use Rattle.model_slices.specs.HandedModels.{«stored-keys», «sto
 use model_types::Key;
 use model_types::Model;
 use model_types::Shares;
-use model_types::Term;
 use model_types::Verdict;
 
 // The answer of a product. Its terms, unless it is refused, are the first `count` of two arrays, by wide keys.
@@ -51,22 +50,22 @@ pub fn handed(n: u8, count: usize, radius: u64, keys: &[Key], coefficients: &[i6
 {
     let both = least(keys.len(), coefficients.len());
     let places = least(model_types::MOST_TERMS, both);
-    let mut out = [Term::ZERO; model_types::MOST_TERMS];
+    let mut out_keys: [Key; model_types::MOST_TERMS] = [0; model_types::MOST_TERMS];
+    let mut out = [0i64; model_types::MOST_TERMS];
     let mut i = 0;
     while i < places {
         let k = keys[i];
         let c = coefficients[i];
-        out[i] = Term {
-            key: k,
-            coefficient: c,
-        };
+        out_keys[i] = k;
+        out[i] = c;
         i += 1;
     }
     Model {
         n: n,
         count: count,
         radius: radius,
-        terms: out,
+        keys: out_keys,
+        coefficients: out,
     }
 }
 
@@ -77,22 +76,22 @@ pub fn taken(n: u8, count: usize, radius: u64, keys: &[Key], coefficients: &[i64
     let both = least(keys.len(), coefficients.len());
     let named = least(count, model_types::MOST_TERMS);
     let places = least(named, both);
-    let mut out = [Term::ZERO; model_types::MOST_TERMS];
+    let mut out_keys: [Key; model_types::MOST_TERMS] = [0; model_types::MOST_TERMS];
+    let mut out = [0i64; model_types::MOST_TERMS];
     let mut i = 0;
     while i < places {
         let k = keys[i];
         let c = coefficients[i];
-        out[i] = Term {
-            key: k,
-            coefficient: c,
-        };
+        out_keys[i] = k;
+        out[i] = c;
         i += 1;
     }
     Model {
         n: n,
         count: count,
         radius: radius,
-        terms: out,
+        keys: out_keys,
+        coefficients: out,
     }
 }
 
@@ -124,9 +123,9 @@ pub fn store_terms(m: Model, keys: &mut [Key], coefficients: &mut [i64])
 {
     let mut i = 0;
     while i < model_types::MOST_TERMS {
-        let t = m.terms[i];
-        let c = t.coefficient;
-        keys[i] = t.key;
+        let k = m.keys[i];
+        let c = m.coefficients[i];
+        keys[i] = k;
         coefficients[i] = c;
         i += 1;
     }

@@ -20,7 +20,7 @@ use Rattle.calculus.specs.Tests.{vars-sound}
 use Rattle.calculus_laws.specs.TestLaws.{and-left, and-right}
 use Rattle.model_types.specs.declared.Term.{Term}
 use Rattle.model_types.specs.declared.Model.{Model}
-use Rattle.model_types.specs.ModelStruct.{zero-term, view-term, view, term-sound}
+use Rattle.model_types.specs.ModelStruct.{zero-term, view-term, view, term-sound, listed}
 use Rattle.calculus.specs.Key.{key-degree}
 use Rattle.calculus_laws.specs.MonomialKeyLaws.{fits-monomial, less-monomials, above-empty}
 use Rattle.model_types.specs.ModelStructLaws.{vars-range, read, size-more, length-read, length-view, view-is, rest-more}
@@ -95,15 +95,15 @@ module _ (d : ℕ) (m : Model) where
       both-not true = refl
       both-not false = refl
 
-  pub by-terms : vars-sound (m .n) ≡ true → m .count ≤ most-terms → m .count ≤ length (m .terms)
+  pub by-terms : vars-sound (m .n) ≡ true → m .count ≤ most-terms → m .count ≤ length (listed m)
       → sound d (view m)
-      ≡ rest-sound (m .n) d [] (read (m .n) (m .count) (m .terms))
-      && leb (size (read (m .n) (m .count) (m .terms)) + m .radius) span-limit
+      ≡ rest-sound (m .n) d [] (read (m .n) (m .count) (listed m))
+      && leb (size (read (m .n) (m .count) (listed m)) + m .radius) span-limit
   by-terms v f w = ap (sound d) (view-is m w)
-      ∙ passing (m .n) (m .radius) (read (m .n) (m .count) (m .terms)) v
-      (omega (arith, length-read (m .n) (m .count) (m .terms) w))
-      ∙ ap (λ b. b && leb (size (read (m .n) (m .count) (m .terms)) + m .radius) span-limit)
-      (all-sound (m .n) d (m .count) (m .terms) (vars-range (m .n) v .0))
+      ∙ passing (m .n) (m .radius) (read (m .n) (m .count) (listed m)) v
+      (omega (arith, length-read (m .n) (m .count) (listed m) w))
+      ∙ ap (λ b. b && leb (size (read (m .n) (m .count) (listed m)) + m .radius) span-limit)
+      (all-sound (m .n) d (m .count) (listed m) (vars-range (m .n) v .0))
     where
       passing : (n e : ℕ) (p : Terms) → vars-sound n ≡ true → length p ≤ most-terms
           → sound d (record { vars = n; radius = e; terms = p })
@@ -112,7 +112,7 @@ module _ (d : ℕ) (m : Model) where
 
   -- ---- the terms one after the other
   abbrev terms : Terms
-  terms = read (m .n) (m .count) (m .terms)
+  terms = read (m .n) (m .count) (listed m)
 
   -- before place i: what is left decides for all, monomials are above the last one read where their keys are at least
   -- `least`, and the span is known as far as the cap
@@ -121,9 +121,9 @@ module _ (d : ℕ) (m : Model) where
     pub last : List ℕ
     pub rest : rest-sound (m .n) d [] terms ≡ rest-sound (m .n) d last (drop i terms)
     pub above : (z : ℕ) → T (key-fits key-width (m .n) z) → less last (monomial-of (m .n) z) ≡ leb least z
-    pub sum : capped total ≡ capped (size (read (m .n) i (m .terms)) + m .radius)
+    pub sum : capped total ≡ capped (size (read (m .n) i (listed m)) + m .radius)
 
-  module _ (v : vars-sound (m .n) ≡ true) (f : m .count ≤ most-terms) (w : m .count ≤ length (m .terms)) where
+  module _ (v : vars-sound (m .n) ≡ true) (f : m .count ≤ most-terms) (w : m .count ≤ length (listed m)) where
     pub passed-first : Passed (m .radius) 0 0
     unfolding size sum-over
     passed-first = record {
@@ -140,20 +140,20 @@ module _ (d : ℕ) (m : Model) where
       passed-end l =
           let e : i ≡ m .count = omega (arith, h .within) in
           sym (capped-within total) ∙ ap (λ s. leb s span-limit) (h .sum) ∙ capped-within _
-          ∙ ap (λ j. leb (size (read (m .n) j (m .terms)) + m .radius) span-limit) e
+          ∙ ap (λ j. leb (size (read (m .n) j (listed m)) + m .radius) span-limit) e
           ∙ ap (λ b. b && leb (size terms + m .radius) span-limit) (sym (all-pass l)) ∙ sym (by-terms v f w)
         where
           all-pass : m .count ≤ i → rest-sound (m .n) d [] terms ≡ true
-          all-pass l = h .rest ∙ ap (rest-sound (m .n) d (h .last)) (rest-end (m .n) (m .count) (m .terms) w i l)
+          all-pass l = h .rest ∙ ap (rest-sound (m .n) d (h .last)) (rest-end (m .n) (m .count) (listed m) w i l)
               ∙ rest-nil (m .n) d (h .last)
 
       -- a turn, for a key of 32 bits
-      module _ (l : i < m .count) (small : getD (m .terms) i zero-term .key < key-limit) where
+      module _ (l : i < m .count) (small : getD (listed m) i zero-term .key < key-limit) where
         abbrev key-at : ℕ
-        key-at = getD (m .terms) i zero-term .key
+        key-at = getD (listed m) i zero-term .key
 
         abbrev coefficient-at : ℤ
-        coefficient-at = getD (m .terms) i zero-term .coefficient
+        coefficient-at = getD (listed m) i zero-term .coefficient
 
         abbrev behind : Bool
         behind = rest-sound (m .n) d (monomial-of (m .n) key-at) (drop (i + 1) terms)
@@ -161,7 +161,7 @@ module _ (d : ℕ) (m : Model) where
         -- its test, and the rest behind it
         passed-rest : rest-sound (m .n) d [] terms ≡ term-sound (m .n) d least key-at coefficient-at && behind
         unfolding view-term term-sound
-        passed-rest = h .rest ∙ ap (rest-sound (m .n) d (h .last)) (rest-more (m .n) (m .count) (m .terms) w i l)
+        passed-rest = h .rest ∙ ap (rest-sound (m .n) d (h .last)) (rest-more (m .n) (m .count) (listed m) w i l)
             ∙ rest-cons (m .n) d (h .last) _ _
             ∙ ap (λ b. b && behind)
             (ap (λ b. b && is-nonzero coefficient-at && less (h .last) (monomial-of (m .n) key-at))
@@ -185,7 +185,7 @@ module _ (d : ℕ) (m : Model) where
           above = λ z g. less-monomials (m .n) key-at z (vars-range (m .n) v .1) (fits-at t) g
               ∙ ap (λ j. leb j z) (sym (add-one key-at));
           sum = ap capped e ∙ capped-more total _ (natAbs coefficient-at) (h .sum)
-              ∙ ap capped (omega (arith, size-more (m .n) i (m .terms) (omega arith)));
+              ∙ ap capped (omega (arith, size-more (m .n) i (listed m) (omega arith)));
         }
 
         pub passed-not : term-sound (m .n) d least key-at coefficient-at ≡ false → sound d (view m) ≡ false

@@ -42,12 +42,13 @@ pub fn sound(m: Model, d: u8) -> bool
     let mut least: u64 = 0;
     let mut i = 0;
     while i < count {
-        let t = m.terms[i];
-        if !term_sound(n, d, least, t.key, t.coefficient) {
+        let key = m.keys[i];
+        let c = m.coefficients[i];
+        if !term_sound(n, d, least, key, c) {
             return false;
         }
-        span = fixed::capped_sum(span, fixed::magnitude(t.coefficient));
-        least = t.key as u64 + 1;
+        span = fixed::capped_sum(span, fixed::magnitude(c));
+        least = key as u64 + 1;
         i += 1;
     }
     fixed::within_span(span)

@@ -1,6 +1,7 @@
 pub mod Arrays
 pub mod ArrayLaws
 pub mod ModelStruct
+pub mod PairedLaws
 pub mod ModelStructLaws
 pub mod CurveStruct
 pub mod SharesStruct

@@ -34,9 +34,32 @@ use Rattle.model_types.specs.declared.Integral.{Integral}
 abbrev pub zero-term : Term
 zero-term = record { key = 0; coefficient = pos 0 }
 
--- the first c places of an array of terms
+-- the first c places of a list of terms
 abbrev pub places : (c : ℕ) → List Term → List Term
 places = first-places zero-term
+
+-- the terms that an array of keys and one of coefficients hold, as far as both go
+unfoldable pub paired : List ℕ → List ℤ → List Term
+paired [] cs = []
+paired (k ∷ ks) [] = []
+paired (k ∷ ks) (c ∷ cs) = record { key = k; coefficient = c } ∷ paired ks cs
+
+-- those of all places of a struct
+abbrev pub listed : Model → List Term
+listed m = paired (m .keys) (m .coefficients)
+
+-- the array of their keys
+abbrev pub keys-of : List Term → List ℕ
+keys-of = map (λ t. t .key)
+
+-- and that of their coefficients
+abbrev pub coefficients-of : List Term → List ℤ
+coefficients-of = map (λ t. t .coefficient)
+
+-- the struct whose places hold a list of terms
+abbrev pub of-terms : (n count radius : ℕ) → List Term → Model
+of-terms n count radius l =
+    record { n = n; count = count; radius = radius; keys = keys-of l; coefficients = coefficients-of l }
 
 -- ---- the model that a struct holds
 -- a term of n variables
@@ -45,7 +68,7 @@ view-term n t = record { coefficient = t .coefficient; exponents = monomial-of n
 
 -- places beyond the count are not looked at
 unfoldable pub view : Model → C.Model
-view m = record { vars = m .n; radius = m .radius; terms = map (view-term (m .n)) (places (m .count) (m .terms)) }
+view m = record { vars = m .n; radius = m .radius; terms = map (view-term (m .n)) (places (m .count) (listed m)) }
 
 -- a term's own rules, by its key, which is at least one above the key before
 unfoldable pub term-sound : (n d least : ℕ) (key : ℕ) → ℤ → Bool
@@ -62,12 +85,7 @@ pad = padded zero-term most-terms
 
 -- the struct of a model
 unfoldable pub pack : C.Model → Model
-pack m = record {
-  n = m .vars;
-  count = length (m .terms);
-  radius = m .radius;
-  terms = pad (map pack-term (m .terms));
-}
+pack m = of-terms (m .vars) (length (m .terms)) (m .radius) (pad (map pack-term (m .terms)))
 
 -- the model of one term
 unfoldable pub one-term : (n z : ℕ) → ℤ → C.Model

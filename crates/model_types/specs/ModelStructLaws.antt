@@ -42,7 +42,8 @@ use Rattle.model_types.specs.declared.Refusal.the-variants.{VariablesDif
 use Rattle.model_types.specs.declared.Refusal.the-variants.{NotOneVariable, CutTooDeep, BadReading}
 use Rattle.model_types.specs.declared.Refusal.the-variants.{BadDouble, BadRank}
 use Rattle.model_types.specs.ModelStruct.{refusal, cause, one-term, zero-term, places, view-term, view}
-use Rattle.model_types.specs.ModelStruct.{pack-term, pad, pack}
+use Rattle.model_types.specs.ModelStruct.{pack-term, pad, pack, listed, of-terms}
+use Rattle.model_types.specs.PairedLaws.{paired-of}
 use Rattle.calculus_laws.specs.MonomialKeyLaws.{key-monomial, monomial-key, fits-key, fits-below}
 use Rattle.calculus_laws.specs.MonomialKeyLaws.{monomial-zero, monomial-variable}
 use Rattle.model_keys.specs.Keys.{key-raised}
@@ -92,10 +93,16 @@ view-pack-terms n d (t ∷ p) l s h = ap₂ _∷_ (head (every-head (λ k c. fit
     head f = view-pack-term n t l (fits-length n d (t .exponents) f)
         (below-degree 16 (t .exponents) (omega (arith, fits-degree n d (t .exponents) f)))
 
-pub length-packed : (m : C.Model) → length (m .terms) ≤ length (pack m .terms)
+pub length-packed : (m : C.Model) → length (m .terms) ≤ length (listed (pack m))
 unfolding pack
 length-packed m =
-    omega (arith, length-padded-least zero-term most-terms (map pack-term (m .terms)), length-map (m .terms) pack-term)
+    rw (paired-of (pad (map pack-term (m .terms))))
+    (omega (arith, length-padded-least zero-term most-terms (map pack-term (m .terms)), length-map (m .terms) pack-term))
+
+-- the terms of all its places
+pub listed-pack : (m : C.Model) → listed (pack m) ≡ pad (map pack-term (m .terms))
+unfolding pack
+listed-pack m = paired-of (pad (map pack-term (m .terms)))
 
 -- what was packed is viewed
 pub view-pack : (d : ℕ) (m : C.Model) → d < 16 → m .vars ≤ key-width → T (every (λ k c. fits (m .vars) d k) (m .terms))
@@ -103,7 +110,8 @@ pub view-pack : (d : ℕ) (m : C.Model) → d < 16 → m .vars ≤ key-width →
 unfolding view pack
 view-pack d m s l h = ap (λ p. record { vars = m .vars; radius = m .radius; terms = p })
     (ap (map (view-term (m .vars)))
-    (first-take zero-term (length (m .terms)) (pack m .terms) (length-packed m)
+    (first-take zero-term (length (m .terms)) (listed (pack m)) (length-packed m)
+    ∙ ap (take (length (m .terms))) (paired-of (pad (map pack-term (m .terms))))
     ∙ take-padded zero-term most-terms (map pack-term (m .terms)) (length (m .terms)) (length-map (m .terms) pack-term))
     ∙ view-pack-terms (m .vars) d (m .terms) l s h)
 
@@ -143,12 +151,12 @@ length-read n i ts h = length-map (take i ts) (view-term n) ∙ length-take-le i
 
 pub length-view : (m : Model) → length (view m .terms) ≡ m .count
 unfolding view
-length-view m = length-map (places (m .count) (m .terms)) (view-term (m .n))
-    ∙ length-first zero-term (m .count) (m .terms)
+length-view m = length-map (places (m .count) (listed m)) (view-term (m .n))
+    ∙ length-first zero-term (m .count) (listed m)
 
-pub view-terms : (m : Model) → m .count ≤ length (m .terms) → view m .terms ≡ read (m .n) (m .count) (m .terms)
+pub view-terms : (m : Model) → m .count ≤ length (listed m) → view m .terms ≡ read (m .n) (m .count) (listed m)
 unfolding view
-view-terms m h = ap (map (view-term (m .n))) (first-take zero-term (m .count) (m .terms) h)
+view-terms m h = ap (map (view-term (m .n))) (first-take zero-term (m .count) (listed m) h)
 
 pack-view-terms : (n d : ℕ) (l : List Term) → n ≤ key-width → d < 16
     → T (every (λ k c. fits n d k) (map (view-term n) l))
@@ -162,20 +170,20 @@ pack-view-terms n d (t ∷ l) w s h = ap₂ _∷_
     head : T (fits n d (view-term n t .exponents)) → T (fits n d (monomial-of n (t .key)))
     head f = unfold view-term in f
 
-pub view-is : (m : Model) → m .count ≤ length (m .terms)
-    → view m ≡ record { vars = m .n; radius = m .radius; terms = read (m .n) (m .count) (m .terms) }
+pub view-is : (m : Model) → m .count ≤ length (listed m)
+    → view m ≡ record { vars = m .n; radius = m .radius; terms = read (m .n) (m .count) (listed m) }
 unfolding view
 view-is m h = ap (λ p. record { vars = m .n; radius = m .radius; terms = p }) (view-terms m h)
 
 -- a sound view, packed, is the struct with zeros beyond the count
-pub pack-view : (d : ℕ) (m : Model) → d ≤ most-degree → T (sound d (view m)) → m .count ≤ length (m .terms)
+pub pack-view : (d : ℕ) (m : Model) → d ≤ most-degree → T (sound d (view m)) → m .count ≤ length (listed m)
     → pack (view m)
-    ≡ record { n = m .n; count = m .count; radius = m .radius; terms = pad (take (m .count) (m .terms)) }
+    ≡ of-terms (m .n) (m .count) (m .radius) (pad (take (m .count) (listed m)))
 unfolding view pack most-degree
 pack-view d m s h w = ap₂
-    (λ (c : ℕ) (l : List Term). record { n = m .n; count = c; radius = m .radius; terms = pad l }) (length-view m)
+    (λ (c : ℕ) (l : List Term). of-terms (m .n) c (m .radius) (pad l)) (length-view m)
     (ap (map pack-term) (view-terms m w)
-    ∙ pack-view-terms (m .n) d (take (m .count) (m .terms)) (vars-range (m .n) (sound-vars d (view m) h) .1)
+    ∙ pack-view-terms (m .n) d (take (m .count) (listed m)) (vars-range (m .n) (sound-vars d (view m) h) .1)
     (omega arith)
     (subst (λ p. T (every (λ k c. fits (m .n) d k) p)) (view-terms m w) (sound-parts d (view m) h .0 .fitting)))
 
@@ -253,10 +261,10 @@ select-turn f n i j ts out h k t c o = ap (λ l. set l j (pack-term (term-at n i
 pub record Summed {A : Type 0} (N : Addition A) (g : List ℕ → ℤ → A) (f : List ℕ → ℤ → Bool) (m : Model) (total : A)
     (i : ℕ) : Type 0 where
   pub within : i ≤ m .count
-  pub sum : total ≡ sum-over (N .plus) (N .nothing) g (select f (read (m .n) i (m .terms)))
+  pub sum : total ≡ sum-over (N .plus) (N .nothing) g (select f (read (m .n) i (listed m)))
 
 module _ {A : Type 0} (N : Addition A) (g : List ℕ → ℤ → A) (f : List ℕ → ℤ → Bool) (m : Model)
-    (w : m .count ≤ length (m .terms)) where
+    (w : m .count ≤ length (listed m)) where
   pub summed-first : Summed N g f m (N .nothing) 0
   unfolding select sum-over
   summed-first = record { within = omega arith; sum = refl }
@@ -265,26 +273,26 @@ module _ {A : Type 0} (N : Addition A) (g : List ℕ → ℤ → A) (f : List �
     pub summed-end : m .count ≤ i → total ≡ sum-over (N .plus) (N .nothing) g (select f (view m .terms))
     summed-end l =
         let e : i ≡ m .count = omega (arith, h .within) in
-        h .sum ∙ ap (λ j. sum-over (N .plus) (N .nothing) g (select f (read (m .n) j (m .terms)))) e
+        h .sum ∙ ap (λ j. sum-over (N .plus) (N .nothing) g (select f (read (m .n) j (listed m)))) e
         ∙ ap (λ p. sum-over (N .plus) (N .nothing) g (select f p)) (sym (view-terms m w))
 
     module _ (l : i < m .count) where
       abbrev summand : P.Term ℤ
-      summand = term-at (m .n) i (m .terms)
+      summand = term-at (m .n) i (listed m)
 
       pub summed-more : f (summand .exponents) (summand .coefficient) ≡ true → (next : A)
           → next ≡ N .plus total (g (summand .exponents) (summand .coefficient)) → Summed N g f m next (i + 1)
       summed-more t next e = record {
         within = omega arith;
         sum = e ∙ ap (λ x. N .plus x (g (summand .exponents) (summand .coefficient))) (h .sum)
-            ∙ sym (sum-select-more (m .n) i (m .terms) (omega arith) N g f (subst T (sym t) tt));
+            ∙ sym (sum-select-more (m .n) i (listed m) (omega arith) N g f (subst T (sym t) tt));
       }
 
       pub summed-same : f (summand .exponents) (summand .coefficient) ≡ false → Summed N g f m total (i + 1)
       summed-same t = record {
         within = omega arith;
         sum = h .sum ∙ ap (sum-over (N .plus) (N .nothing) g)
-            (sym (select-same (m .n) i (m .terms) (omega arith) f (subst (λ b. T (not b)) (sym t) tt)));
+            (sym (select-same (m .n) i (listed m) (omega arith) f (subst (λ b. T (not b)) (sym t) tt)));
       }
 
       -- either, told by what is added: the summand, or nothing where it does not pass
@@ -346,20 +354,20 @@ sum-room f h n i j ts l w = omega (
 )
 
 -- each coefficient is within the span
-pub within-span : (m : Model) (i : ℕ) → m .count ≤ length (m .terms) → i < m .count
-    → natAbs (getD (m .terms) i zero-term .coefficient) ≤ span (view m)
+pub within-span : (m : Model) (i : ℕ) → m .count ≤ length (listed m) → i < m .count
+    → natAbs (getD (listed m) i zero-term .coefficient) ≤ span (view m)
 unfolding span size view-term
 within-span m i w h = rw (view-terms m w)
-    (omega (arith, at-most-sum (λ k c. natAbs c) (m .n) i (m .count) (m .terms) h (omega arith)))
+    (omega (arith, at-most-sum (λ k c. natAbs c) (m .n) i (m .count) (listed m) h (omega arith)))
 
 -- so are the terms read so far
-pub read-within-span : (m : Model) (i : ℕ) → m .count ≤ length (m .terms) → i ≤ m .count
-    → size (read (m .n) i (m .terms)) + m .radius ≤ span (view m)
+pub read-within-span : (m : Model) (i : ℕ) → m .count ≤ length (listed m) → i ≤ m .count
+    → size (read (m .n) i (listed m)) + m .radius ≤ span (view m)
 unfolding span size view
 read-within-span m i w h = omega (
   arith,
   ap size (view-terms m w),
-  sum-prefix (λ k c. natAbs c) (m .n) i (m .count) (m .terms) h,
+  sum-prefix (λ k c. natAbs c) (m .n) i (m .count) (listed m) h,
 )
 
 -- ---- what soundness says of a struct
@@ -387,11 +395,11 @@ every-read f n zero (suc j) (s ∷ ts) h l t = every-head f (view-term n s) (rea
 every-read f n (suc i) (suc j) (s ∷ ts) h l t =
     every-read f n i j ts (omega arith) (omega arith) (every-tail f (view-term n s) (read n j ts) t)
 
-pub key-fits-at : (d : ℕ) (m : Model) (i : ℕ) → d ≤ most-degree → T (sound d (view m)) → m .count ≤ length (m .terms)
-    → i < m .count → T (key-fits key-width (m .n) (getD (m .terms) i zero-term .key))
+pub key-fits-at : (d : ℕ) (m : Model) (i : ℕ) → d ≤ most-degree → T (sound d (view m)) → m .count ≤ length (listed m)
+    → i < m .count → T (key-fits key-width (m .n) (getD (listed m) i zero-term .key))
 unfolding view view-term most-degree
-key-fits-at d m i s h w l = fits-key (m .n) d (getD (m .terms) i zero-term .key) (limits d m h .width) (omega arith)
-    (every-read (λ k c. fits (m .n) d k) (m .n) i (m .count) (m .terms) l (omega arith)
+key-fits-at d m i s h w l = fits-key (m .n) d (getD (listed m) i zero-term .key) (limits d m h .width) (omega arith)
+    (every-read (λ k c. fits (m .n) d k) (m .n) i (m .count) (listed m) l (omega arith)
     (subst (λ p. T (every (λ k c. fits (m .n) d k) p)) (view-terms m w) (sound-parts d (view m) h .0 .fitting)))
 
 -- ---- models of at most one term

@@ -35,12 +35,15 @@ pub struct Term {
     pub coefficient: i64,
 }
 
-// A model: the first `count` of its terms, with keys strictly rising, and a radius in units of 1/U.
+// A model: the keys, strictly rising, and the coefficients of its first `count` terms, and a radius in units of 1/U. A
+// term's key and its coefficient stand at the same place, so that a function on slices of both reads a struct, the
+// results of a run and a caller's memory alike.
 pub struct Model {
     pub n: u8,
     pub count: usize,
     pub radius: u64,
-    pub terms: [Term; MOST_TERMS],
+    pub keys: [Key; MOST_TERMS],
+    pub coefficients: [i64; MOST_TERMS],
 }
 
 // Why a call is refused: one case for each number of the documents' table.
@@ -160,80 +163,78 @@ impl Model {
         n: 1,
         count: 0,
         radius: 0,
-        terms: [Term::ZERO; MOST_TERMS],
+        keys: [0; MOST_TERMS],
+        coefficients: [0; MOST_TERMS],
     };
 
     // One term of key 0, coefficient U. A constant's array is a list of all places or one value repeated.
     pub const ONE: Model = Model {
         count: 1,
-        terms: [
-            Term {
-                key: 0,
-                coefficient: fixed::UNIT as i64,
-            },
-            Term::ZERO,
-            Term::ZERO,
-            Term::ZERO,
-            Term::ZERO,
-            Term::ZERO,
-            Term::ZERO,
-            Term::ZERO,
-            Term::ZERO,
-            Term::ZERO,
-            Term::ZERO,
-            Term::ZERO,
-            Term::ZERO,
-            Term::ZERO,
-            Term::ZERO,
-            Term::ZERO,
-            Term::ZERO,
-            Term::ZERO,
-            Term::ZERO,
-            Term::ZERO,
-            Term::ZERO,
-            Term::ZERO,
-            Term::ZERO,
-            Term::ZERO,
-            Term::ZERO,
-            Term::ZERO,
-            Term::ZERO,
-            Term::ZERO,
-            Term::ZERO,
-            Term::ZERO,
-            Term::ZERO,
-            Term::ZERO,
-            Term::ZERO,
-            Term::ZERO,
-            Term::ZERO,
-            Term::ZERO,
-            Term::ZERO,
-            Term::ZERO,
-            Term::ZERO,
-            Term::ZERO,
-            Term::ZERO,
-            Term::ZERO,
-            Term::ZERO,
-            Term::ZERO,
-            Term::ZERO,
-            Term::ZERO,
-            Term::ZERO,
-            Term::ZERO,
-            Term::ZERO,
-            Term::ZERO,
-            Term::ZERO,
-            Term::ZERO,
-            Term::ZERO,
-            Term::ZERO,
-            Term::ZERO,
-            Term::ZERO,
-            Term::ZERO,
-            Term::ZERO,
-            Term::ZERO,
-            Term::ZERO,
-            Term::ZERO,
-            Term::ZERO,
-            Term::ZERO,
-            Term::ZERO,
+        coefficients: [
+            fixed::UNIT as i64,
+            0,
+            0,
+            0,
+            0,
+            0,
+            0,
+            0,
+            0,
+            0,
+            0,
+            0,
+            0,
+            0,
+            0,
+            0,
+            0,
+            0,
+            0,
+            0,
+            0,
+            0,
+            0,
+            0,
+            0,
+            0,
+            0,
+            0,
+            0,
+            0,
+            0,
+            0,
+            0,
+            0,
+            0,
+            0,
+            0,
+            0,
+            0,
+            0,
+            0,
+            0,
+            0,
+            0,
+            0,
+            0,
+            0,
+            0,
+            0,
+            0,
+            0,
+            0,
+            0,
+            0,
+            0,
+            0,
+            0,
+            0,
+            0,
+            0,
+            0,
+            0,
+            0,
+            0,
         ],
         ..Model::ZERO
     };
@@ -282,7 +283,7 @@ pub fn refuse(refusal: Refusal, place: usize) -> Answer
 {
     let at = place % MOST_TERMS;
     let mut zero = Model::ZERO;
-    zero.terms[at] = Term::ZERO;
+    zero.coefficients[at] = 0;
     Answer {
         model: zero,
         verdict: Verdict::Refused(refusal, place),
@@ -384,16 +385,16 @@ fn of_one_term(n: u8, key: Key, coefficient: i64) -> Model
     requires { ⌜ n ≤ key-width ⌝ }
     ensures { λ r. ⌜ r ≡ pack (one-term n key coefficient) ⌝ }
 {
-    let mut out = [Term::ZERO; MOST_TERMS];
-    out[0] = Term {
-        key: key,
-        coefficient: coefficient,
-    };
+    let mut keys: [Key; MOST_TERMS] = [0; MOST_TERMS];
+    let mut coefficients = [0i64; MOST_TERMS];
+    keys[0] = key;
+    coefficients[0] = coefficient;
     Model {
         n: n,
         count: 1,
         radius: 0,
-        terms: out,
+        keys: keys,
+        coefficients: coefficients,
     }
 }
 

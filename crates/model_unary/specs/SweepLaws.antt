@@ -20,6 +20,7 @@ use Rattle.model_types.specs.ModelStruct.{zero-term, view-term, view, pack-term
 use Rattle.calculus_laws.specs.MonomialKeyLaws.{constant-monomial}
 use Rattle.model_types.specs.ModelStructLaws.{pack-view-term, read, length-read, term-at, view-is, read-within-span}
 use Rattle.model_types.specs.ModelStructLaws.{select-more, select-same, select-turn, sum-select-le, size-more}
+use Rattle.model_types.specs.ModelStruct.{listed, of-terms}
 
 -- the test by key and size
 small-test : (t n z : ℕ) (c : ℤ) → n ≤ key-width → z < key-limit
@@ -37,7 +38,7 @@ module _ (t : ℕ) (m : Model) where
   large k c = not (is-small t k c)
 
   abbrev before : (i : ℕ) → Terms
-  before i = read (m .n) i (m .terms)
+  before i = read (m .n) i (listed m)
 
   pub record Swept (out : List Term) (count radius i : ℕ) : Type 0 where
     pub within : i ≤ m .count
@@ -49,7 +50,7 @@ module _ (t : ℕ) (m : Model) where
   unfolding select size sum-over
   swept-first = record { within = omega arith; stored = refl; counted = refl; sum = omega arith }
 
-  module _ (w : m .count ≤ length (m .terms)) (out : List Term) (count radius i : ℕ) (h : Swept out count radius i)
+  module _ (w : m .count ≤ length (listed m)) (out : List Term) (count radius i : ℕ) (h : Swept out count radius i)
     where
       -- there is room
       pub swept-room : count ≤ i
@@ -57,19 +58,19 @@ module _ (t : ℕ) (m : Model) where
         arith,
         h .counted,
         length-select large (before i),
-        length-read (m .n) i (m .terms) (omega (arith, h .within)),
+        length-read (m .n) i (listed m) (omega (arith, h .within)),
       )
 
       pub swept-end : m .count ≤ i
-          → record { n = m .n; count = count; radius = radius; terms = out } ≡ pack (sweep t (view m))
+          → of-terms (m .n) count radius out ≡ pack (sweep t (view m))
       unfolding pack sweep
       swept-end l =
           let e : i ≡ m .count = omega (arith, h .within) in rw (view-is m w, h .stored, h .counted, h .sum, e)
 
       module _ (l : i < m .count) (width : m .n ≤ key-width)
-          (small : getD (m .terms) i zero-term .key < key-limit) where
+          (small : getD (listed m) i zero-term .key < key-limit) where
         abbrev at : Term
-        at = getD (m .terms) i zero-term
+        at = getD (listed m) i zero-term
 
         pub swept-within : radius + natAbs (at .coefficient) ≤ span (view m)
         unfolding size
@@ -77,11 +78,11 @@ module _ (t : ℕ) (m : Model) where
           arith,
           h .sum,
           sum-select-le (λ k c. natAbs c) (is-small t) (before i),
-          size-more (m .n) i (m .terms) (omega arith),
+          size-more (m .n) i (listed m) (omega arith),
           read-within-span m (i + 1) w (omega arith),
         )
 
-        test : is-small t (term-at (m .n) i (m .terms) .exponents) (term-at (m .n) i (m .terms) .coefficient)
+        test : is-small t (term-at (m .n) i (listed m) .exponents) (term-at (m .n) i (listed m) .coefficient)
             ≡ not (eqb (at .key) 0) && leb (natAbs (at .coefficient)) t
         unfolding view-term
         test = small-test t (m .n) (at .key) (at .coefficient) width small
@@ -94,18 +95,18 @@ module _ (t : ℕ) (m : Model) where
           stored = h .stored ∙ ap (λ p. pad (map pack-term p)) (sym unchanged);
           counted = h .counted ∙ ap length (sym unchanged);
           sum = ap (λ r. r + natAbs (at .coefficient)) (h .sum)
-              ∙ omega (arith, ap size more, size-snoc (select (is-small t) (before i)) (term-at (m .n) i (m .terms)));
+              ∙ omega (arith, ap size more, size-snoc (select (is-small t) (before i)) (term-at (m .n) i (listed m)));
         }
           where
-            drops : T (is-small t (term-at (m .n) i (m .terms) .exponents) (term-at (m .n) i (m .terms) .coefficient))
+            drops : T (is-small t (term-at (m .n) i (listed m) .exponents) (term-at (m .n) i (listed m) .coefficient))
             drops = subst T (sym (test ∙ s)) tt
 
             more : select (is-small t) (before (i + 1))
-                ≡ select (is-small t) (before i) ++ (term-at (m .n) i (m .terms) ∷ [])
-            more = select-more (m .n) i (m .terms) (omega arith) (is-small t) drops
+                ≡ select (is-small t) (before i) ++ (term-at (m .n) i (listed m) ∷ [])
+            more = select-more (m .n) i (listed m) (omega arith) (is-small t) drops
 
             unchanged : select large (before (i + 1)) ≡ select large (before i)
-            unchanged = select-same (m .n) i (m .terms) (omega arith) large
+            unchanged = select-same (m .n) i (listed m) (omega arith) large
                 (subst (λ b. T (not (not b))) (sym (test ∙ s)) tt)
 
         pub swept-keep : not (eqb (at .key) 0) && leb (natAbs (at .coefficient)) t ≡ false → i < most-terms
@@ -113,22 +114,22 @@ module _ (t : ℕ) (m : Model) where
         swept-keep s k = record {
           within = omega arith;
           stored = ap (set out count) (sym (pack-view-term (m .n) at width small))
-              ∙ select-turn large (m .n) i count (m .terms) out (omega arith) (omega (arith, swept-room)) stays
+              ∙ select-turn large (m .n) i count (listed m) out (omega arith) (omega (arith, swept-room)) stays
               (h .counted) (h .stored);
           counted = omega (
             arith,
             h .counted,
             ap length more,
-            length-append (select large (before i)) (term-at (m .n) i (m .terms) ∷ []),
+            length-append (select large (before i)) (term-at (m .n) i (listed m) ∷ []),
           );
           sum = h .sum ∙ ap (λ p. m .radius + size p) (sym unchanged);
         }
           where
-            stays : T (large (term-at (m .n) i (m .terms) .exponents) (term-at (m .n) i (m .terms) .coefficient))
+            stays : T (large (term-at (m .n) i (listed m) .exponents) (term-at (m .n) i (listed m) .coefficient))
             stays = subst (λ b. T (not b)) (sym (test ∙ s)) tt
 
-            more : select large (before (i + 1)) ≡ select large (before i) ++ (term-at (m .n) i (m .terms) ∷ [])
-            more = select-more (m .n) i (m .terms) (omega arith) large stays
+            more : select large (before (i + 1)) ≡ select large (before i) ++ (term-at (m .n) i (listed m) ∷ [])
+            more = select-more (m .n) i (listed m) (omega arith) large stays
 
             unchanged : select (is-small t) (before (i + 1)) ≡ select (is-small t) (before i)
-            unchanged = select-same (m .n) i (m .terms) (omega arith) (is-small t) stays
+            unchanged = select-same (m .n) i (listed m) (omega arith) (is-small t) stays

@@ -13,7 +13,6 @@ use model_types::Answer;
 use model_types::Key;
 use model_types::MOST_TERMS;
 use model_types::Model;
-use model_types::Term;
 use model_types::Verdict;
 
 // Whether a term is swept: not the constant one, and not above the threshold.
@@ -32,23 +31,22 @@ pub fn negated(m: Model) -> Model
     ensures { λ r. ⌜ r ≡ pack (negate (view m)) ⌝ }
 {
     let count = m.count;
-    let mut turned = [Term::ZERO; MOST_TERMS];
+    let mut keys: [Key; MOST_TERMS] = [0; MOST_TERMS];
+    let mut turned = [0i64; MOST_TERMS];
     let mut i = 0;
     while i < count {
-        let t = m.terms[i];
-        let old = t.coefficient;
-        let new = fixed::negated(old);
-        turned[i] = Term {
-            key: t.key,
-            coefficient: new,
-        };
+        let key = m.keys[i];
+        let old = m.coefficients[i];
+        keys[i] = key;
+        turned[i] = fixed::negated(old);
         i += 1;
     }
     Model {
         n: m.n,
         count: count,
         radius: m.radius,
-        terms: turned,
+        keys: keys,
+        coefficients: turned,
     }
 }
 
@@ -58,18 +56,21 @@ pub fn swept(m: Model, threshold: u64) -> Model
     ensures { λ r. ⌜ r ≡ pack (sweep threshold (view m)) ⌝ }
 {
     let total = m.count;
-    let mut out = [Term::ZERO; MOST_TERMS];
+    let mut keys: [Key; MOST_TERMS] = [0; MOST_TERMS];
+    let mut coefficients = [0i64; MOST_TERMS];
     let mut count = 0;
     let mut radius = m.radius;
     let mut i = 0;
     while i < total {
-        let t = m.terms[i];
-        let size = fixed::magnitude(t.coefficient);
+        let key = m.keys[i];
+        let c = m.coefficients[i];
+        let size = fixed::magnitude(c);
         i += 1;
-        if is_small(threshold, t.key, size) {
+        if is_small(threshold, key, size) {
             radius += size;
         } else {
-            out[count] = t;
+            keys[count] = key;
+            coefficients[count] = c;
             count += 1;
         }
     }
@@ -77,7 +78,8 @@ pub fn swept(m: Model, threshold: u64) -> Model
         n: m.n,
         count: count,
         radius: radius,
-        terms: out,
+        keys: keys,
+        coefficients: coefficients,
     }
 }
 

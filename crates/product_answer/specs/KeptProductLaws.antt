@@ -30,6 +30,7 @@ use Rattle.model_types.specs.declared.Shares.{Shares}
 use Rattle.model_types.specs.ArrayLaws.{first-padded}
 use Rattle.model_types.specs.ModelStruct.{zero-term, view-term, view, pad, pack, places, answer, cause}
 use Rattle.model_types.specs.ModelStructLaws.{refusal-cause}
+use Rattle.model_types.specs.PairedLaws.{paired-of}
 use Rattle.model_types.specs.SharesStruct.{stored-shares, accounted, unless-refused}
 use Rattle.model_limits.specs.LimitLaws.{answer-within, answer-over}
 use Rattle.product_sums.specs.TermArrays.{at-key, terms}
@@ -85,7 +86,8 @@ span-packed : (n e : ℕ) (p : Terms) → span (view (packed n e p)) ≡ size p 
 unfolding span view packed
 span-packed n e p =
     ap (λ q. size (map (view-term n) q) + e)
-    (ap (λ c. places c (pad (map narrowed-term p))) (sym (length-map p narrowed-term))
+    (ap (places (length p)) (paired-of (pad (map narrowed-term p)))
+    ∙ ap (λ c. places c (pad (map narrowed-term p))) (sym (length-map p narrowed-term))
     ∙ first-padded zero-term most-terms (map narrowed-term p))
     ∙ ap (λ s. s + e) (size-narrowed n p)
 

@@ -13,7 +13,7 @@ use Rattle.calculus.specs.Model.{most-terms, span}
 use Rattle.model_keys.specs.Keys.{wide-exponents, narrowed}
 use Rattle.model_types.specs.declared.Term.{Term}
 use Rattle.model_types.specs.declared.Model.{Model}
-use Rattle.model_types.specs.ModelStruct.{view, pad}
+use Rattle.model_types.specs.ModelStruct.{view, pad, of-terms}
 use Rattle.product_sums.specs.TermArrays.{terms}
 use Rattle.product_sums.specs.Wide.{wide-terms}
 
@@ -45,4 +45,4 @@ pub record Pack-ready (count : ℕ) (keys : List ℕ) (coefficients : List ℤ) 
 
 -- the struct that holds them
 unfoldable pub packed : (n radius : ℕ) → Terms → Model
-packed n radius p = record { n = n; count = length p; radius = radius; terms = pad (map narrowed-term p) }
+packed n radius p = of-terms n (length p) radius (pad (map narrowed-term p))

@@ -18,7 +18,7 @@ use Rattle.model_keys.specs.Keys.{widened, wide-exponents, narrowed}
 use Rattle.model_keys.specs.WideKeyLaws.{widened-monomial, narrowed-key, exponents-below}
 use Rattle.model_types.specs.declared.Term.{Term}
 use Rattle.model_types.specs.declared.Model.{Model}
-use Rattle.model_types.specs.ModelStruct.{zero-term, view-term, pack-term, pad, pack}
+use Rattle.model_types.specs.ModelStruct.{zero-term, view-term, pack-term, pad, pack, listed, of-terms}
 use Rattle.model_types.specs.ModelStructLaws.{pad-more, read, view-terms, size-more, map-more}
 use Rattle.product_sums.specs.TermArrays.{at-key, none, terms}
 use Rattle.product_sums.specs.TermArrayLaws.{terms-length, terms-at, terms-push}
@@ -33,10 +33,10 @@ pub record Unpacking (m : Model) (keys₀ : List ℕ) (coefficients₀ : List �
   pub within : i ≤ m .count
   pub keys-long : length keys ≡ length keys₀
   pub coefficients-long : length coefficients ≡ length coefficients₀
-  pub held : terms i keys coefficients ≡ wide-terms (read (m .n) i (m .terms))
-  pub sum : total ≡ size (read (m .n) i (m .terms))
+  pub held : terms i keys coefficients ≡ wide-terms (read (m .n) i (listed m))
+  pub sum : total ≡ size (read (m .n) i (listed m))
 
-module _ (m : Model) (w : m .count ≤ length (m .terms)) (keys₀ : List ℕ) (coefficients₀ : List ℤ) where
+module _ (m : Model) (w : m .count ≤ length (listed m)) (keys₀ : List ℕ) (coefficients₀ : List ℤ) where
   pub unpacking-first : Unpacking m keys₀ coefficients₀ keys₀ coefficients₀ 0 0
   unfolding terms wide-terms map-monomials size sum-over
   unpacking-first = record { within = omega arith; keys-long = refl; coefficients-long = refl; held = refl; sum = refl }
@@ -44,12 +44,12 @@ module _ (m : Model) (w : m .count ≤ length (m .terms)) (keys₀ : List ℕ) (
   module _ {keys : List ℕ} {coefficients : List ℤ} {total i : ℕ}
       (h : Unpacking m keys₀ coefficients₀ keys coefficients total i) where
     pub unpacking-turn : i < m .count → i < length keys → i < length coefficients → m .n ≤ key-width
-        → let t = getD (m .terms) i zero-term in t .key < key-limit
+        → let t = getD (listed m) i zero-term in t .key < key-limit
         → Unpacking m keys₀ coefficients₀ (set keys i (widened (t .key))) (set coefficients i (t .coefficient))
         (total + natAbs (t .coefficient)) (i + 1)
     unfolding wide-terms map-monomials wide view-term
     unpacking-turn l lk lc width small =
-        let t = getD (m .terms) i zero-term in
+        let t = getD (listed m) i zero-term in
         record {
           within = omega arith;
           keys-long = length-set keys i (widened (t .key)) ∙ h .keys-long;
@@ -58,8 +58,8 @@ module _ (m : Model) (w : m .count ≤ length (m .terms)) (keys₀ : List ℕ) (
               ∙ terms-push i keys coefficients (widened (t .key)) (t .coefficient) lk lc
               ∙ ap₂ (λ p z. p ++ (at-key z (t .coefficient) ∷ [])) (h .held)
               (widened-monomial (m .n) (t .key) width small)
-              ∙ sym (map-more (m .n) i (m .terms) (omega arith) (λ s. term (s .coefficient) (wide (s .exponents))));
-          sum = omega (arith, h .sum, size-more (m .n) i (m .terms) (omega arith));
+              ∙ sym (map-more (m .n) i (listed m) (omega arith) (λ s. term (s .coefficient) (wide (s .exponents))));
+          sum = omega (arith, h .sum, size-more (m .n) i (listed m) (omega arith));
         }
 
     pub unpacking-end : m .count ≤ i → Unpacked m keys coefficients total
@@ -68,9 +68,9 @@ module _ (m : Model) (w : m .count ≤ length (m .terms)) (keys₀ : List ℕ) (
         let v = sym (view-terms m w) in
         record {
           held = ap (λ j. terms j keys coefficients) (sym e) ∙ h .held
-              ∙ ap (λ j. wide-terms (read (m .n) j (m .terms))) e
+              ∙ ap (λ j. wide-terms (read (m .n) j (listed m))) e
               ∙ ap wide-terms v;
-          sum = h .sum ∙ ap (λ j. size (read (m .n) j (m .terms))) e ∙ ap size v;
+          sum = h .sum ∙ ap (λ j. size (read (m .n) j (listed m))) e ∙ ap size v;
         }
 
 -- ---- to a struct
@@ -123,7 +123,7 @@ module _ (n d : ℕ) (width : n ≤ key-width) (low : d ≤ most-degree) where
   pub packed-wide : (e : ℕ) (p : Terms) → T (every (λ k c. fits n d k) p)
       → packed n e (wide-terms p) ≡ pack (record { vars = n; radius = e; terms = p })
   unfolding packed pack
-  packed-wide e p h = ap₂ (λ (c : ℕ) (l : List Term). record { n = n; count = c; radius = e; terms = pad l })
+  packed-wide e p h = ap₂ (λ (c : ℕ) (l : List Term). of-terms n c e (pad l))
       (wide-length p) (narrowed-wide p h)
 
   exponents-at : (p : Terms) (i : ℕ) → T (every (λ k c. fits n d k) p) → i < length p

@@ -14,9 +14,10 @@ use Rattle.model_types.specs.declared.Term.{Term}
 use Rattle.model_types.specs.declared.Model.{Model}
 use Rattle.model_types.specs.Arrays.{padded}
 use Rattle.model_types.specs.ArrayLaws.{length-padded}
-use Rattle.model_types.specs.ModelStruct.{zero-term}
+use Rattle.model_types.specs.ModelStruct.{zero-term, listed}
 use Rattle.model_types.specs.ModelStructLaws.{read-within-span, size-more}
 use Rattle.model_slices.specs.HandedModels.{terms-of, handed}
+use Rattle.model_slices.specs.HandedModelsLaws.{listed-handed}
 use Rattle.product_packing.specs.Transfer.{Unpacked}
 use Rattle.product_packing.specs.TransferLaws.{Unpacking, unpacking-first, unpacking-turn, unpacking-end}
 use Rattle.product_slices.specs.HandedTerms.{Handed}
@@ -54,17 +55,18 @@ pair-at (suc n) (suc i) (k ∷ ks) (c ∷ cs) h l m = pair-at n i ks cs (omega a
 
 -- ---- the struct that they stand for
 module _ (n count radius : ℕ) (ks : List ℕ) (cs : List ℤ) where
-  pub handed-long : count ≤ most-terms → count ≤ length (handed n count radius ks cs .terms)
-  unfolding handed
+  pub handed-long : count ≤ most-terms → count ≤ length (listed (handed n count radius ks cs))
   handed-long h =
       let l = terms-of most-terms ks cs in
-      omega (arith, length-padded zero-term most-terms l (length-most most-terms ks cs))
+      rw (listed-handed n count radius ks cs)
+      (omega (arith, length-padded zero-term most-terms l (length-most most-terms ks cs)))
 
   pub handed-at : (i : ℕ) → i < most-terms → i < length ks → i < length cs
-      → getD (handed n count radius ks cs .terms) i zero-term ≡ pair (getD ks i 0) (getD cs i (pos 0))
-  unfolding handed padded
+      → getD (listed (handed n count radius ks cs)) i zero-term ≡ pair (getD ks i 0) (getD cs i (pos 0))
+  unfolding padded
   handed-at i h l m =
-      List·getD-append (terms-of most-terms ks cs) _ zero-term i (reaches most-terms i ks cs h l m)
+      ap (λ (r : List Term). getD r i zero-term) (listed-handed n count radius ks cs)
+      ∙ List·getD-append (terms-of most-terms ks cs) _ zero-term i (reaches most-terms i ks cs h l m)
       ∙ pair-at most-terms i ks cs h l m
 
 -- ---- the loop that unpacks them: the coefficients stay where they are
@@ -72,7 +74,7 @@ module _ {count : ℕ} {ks : List ℕ} {cs : List ℤ} (w : Handed count ks cs) 
   abbrev model : Model
   model = handed (w .vars) count (w .radius) ks cs
 
-  whole : model .count ≤ length (model .terms)
+  whole : model .count ≤ length (listed model)
   unfolding handed
   whole = handed-long (w .vars) count (w .radius) ks cs (w .few)
 
@@ -81,7 +83,7 @@ module _ {count : ℕ} {ks : List ℕ} {cs : List ℤ} (w : Handed count ks cs) 
 
   module _ {wide : List ℕ} {total i : ℕ} (h : Unpacking model wide₀ cs wide cs total i) where
     module _ (l : i < count) where
-      at : getD (model .terms) i zero-term ≡ pair (getD ks i 0) (getD cs i (pos 0))
+      at : getD (listed model) i zero-term ≡ pair (getD ks i 0) (getD cs i (pos 0))
       at = handed-at (w .vars) count (w .radius) ks cs i (omega (arith, w .few)) (omega (arith, w .keys-long))
           (omega (arith, w .coefficients-long))
 
@@ -104,7 +106,7 @@ module _ {count : ℕ} {ks : List ℕ} {cs : List ℤ} (w : Handed count ks cs) 
         arith,
         h .sum,
         ap (λ (t : Term). natAbs (t .coefficient)) at,
-        size-more (w .vars) i (model .terms) (omega (arith, whole)),
+        size-more (w .vars) i (listed model) (omega (arith, whole)),
         read-within-span model (i + 1) whole (omega arith),
         w .small,
         span-fits,

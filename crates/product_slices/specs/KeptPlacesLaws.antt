@@ -15,6 +15,7 @@ use Rattle.model_types.specs.declared.Verdict.{Verdict}
 use Rattle.model_types.specs.declared.Verdict.the-variants.{Accepted, Refused}
 use Rattle.model_types.specs.Arrays.{padded}
 use Rattle.model_types.specs.ModelStruct.{zero-term, pad, pack}
+use Rattle.model_types.specs.PairedLaws.{Listed}
 use Rattle.model_slices.specs.HandedModels.{over, stored-keys, stored-coefficients}
 use Rattle.model_slices.specs.HandedModelsLaws.{over-more}
 use Rattle.product_sums.specs.TermArrays.{at-key, terms}
@@ -113,11 +114,11 @@ map-padded f n l =
     (map-zeros f (n - length l) ∙ ap (λ c. replicate (n - c) (f zero-term)) (sym (length-map l f)))
 
 places-are : (v : Verdict) (n e count : ℕ) (kept : List ℕ) (cs : List ℤ)
-    → model-unless v (packed n e (terms count kept cs)) .terms
-    ≡ pad (map narrowed-term (terms (kept-count v count) kept cs))
+    → let m = model-unless v (packed n e (terms count kept cs)) in
+    Listed (m .keys) (m .coefficients) (pad (map narrowed-term (terms (kept-count v count) kept cs)))
 unfolding model-unless kept-count packed pack zero-model terms
-places-are Accepted n e count kept cs = refl
-places-are (Refused r i) n e count kept cs = refl
+places-are Accepted n e count kept cs = record { keys-are = refl; coefficients-are = refl }
+places-are (Refused r i) n e count kept cs = record { keys-are = refl; coefficients-are = refl }
 
 module _ (k : Kept) (kept : List ℕ) (cs : List ℤ) (w : Kept-ready k kept cs) where
   -- how many terms are stored
@@ -137,25 +138,25 @@ module _ (k : Kept) (kept : List ℕ) (cs : List ℤ) (w : Kept-ready k kept cs)
         small = λ i l. absurd (omega arith);
       }
 
-  module _ {A : Type 0} (f : Term → A) (n : ℕ) (to : List A) where
+  module _ {A : Type 0} (f : Term → A) (to : List A) where
     all-stored : zeroed (f zero-term) stored most-terms (over (images kept cs f stored) to)
-        ≡ over (map f (kept-model n k kept cs .terms)) to
-    unfolding kept-model images
+        ≡ over (map f (pad (map narrowed-term (terms stored kept cs)))) to
+    unfolding images
     all-stored =
         zeroed-behind (f zero-term) stored most-terms (images kept cs f stored) to
         (long kept cs f stored (stored-ready .keys-long) (stored-ready .coefficients-long)) (stored-ready .few)
-        ∙ ap (λ l. over l to)
-        (sym (ap (map f) (places-are (k .verdict) n (k .radius) (k .count) kept cs)
-        ∙ map-padded f most-terms (map narrowed-term (terms stored kept cs))))
+        ∙ ap (λ l. over l to) (sym (map-padded f most-terms (map narrowed-term (terms stored kept cs))))
 
   pub keys-stored : (n : ℕ) (to : List ℕ)
       → zeroed 0 stored most-terms (over (narrow-keys (terms stored kept cs)) to)
       ≡ stored-keys (kept-model n k kept cs) to
-  unfolding narrow-keys images stored-keys
-  keys-stored n to = all-stored (λ t. t .key) n to
+  unfolding narrow-keys images stored-keys kept-model
+  keys-stored n to = all-stored (λ t. t .key) to
+      ∙ ap (λ l. over l to) (sym (places-are (k .verdict) n (k .radius) (k .count) kept cs .keys-are))
 
   pub coefficients-stored : (n : ℕ) (to : List ℤ)
       → zeroed (pos 0) stored most-terms (over (narrow-coefficients (terms stored kept cs)) to)
       ≡ stored-coefficients (kept-model n k kept cs) to
-  unfolding narrow-coefficients images stored-coefficients
-  coefficients-stored n to = all-stored (λ t. t .coefficient) n to
+  unfolding narrow-coefficients images stored-coefficients kept-model
+  coefficients-stored n to = all-stored (λ t. t .coefficient) to
+      ∙ ap (λ l. over l to) (sym (places-are (k .verdict) n (k .radius) (k .count) kept cs .coefficients-are))

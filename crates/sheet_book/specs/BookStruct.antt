@@ -13,7 +13,7 @@ use Rattle.model_types.specs.declared.Verdict.the-variants.{Accepted, Refused}
 use Rattle.model_types.specs.Arrays.{first-places, padded}
 -- the verdict of a result
 unfoldable pub use Rattle.model_types.specs.ModelStruct.{verdict}
-use Rattle.model_types.specs.ModelStruct.{zero-term, places, pad, refusal}
+use Rattle.model_types.specs.ModelStruct.{zero-term, places, listed, of-terms, pad, refusal}
 use Rattle.format.specs.HeldBook.{Held-term, Held-model, Held-step, Held-book, zero-book, held-tested}
 use Rattle.sheet_book.specs.declared.Step.{Step}
 use Rattle.sheet_book.specs.declared.Book.{Book}
@@ -22,7 +22,7 @@ use Rattle.sheet_book.specs.declared.Written.{Written}
 
 -- what stands in a model's place that is not used
 abbrev pub no-model : Model
-no-model = record { n = 0; count = 0; radius = 0; terms = replicate most-terms zero-term }
+no-model = of-terms 0 0 0 (replicate most-terms zero-term)
 
 -- and in a step's
 abbrev pub no-step : Step
@@ -35,7 +35,7 @@ held-term t = record { key = t .key; coefficient = t .coefficient }
 
 -- a model: places beyond the count are not looked at
 unfoldable pub held-model : Model → Held-model
-held-model m = record { n = m .n; radius = m .radius; terms = map held-term (places (m .count) (m .terms)) }
+held-model m = record { n = m .n; radius = m .radius; terms = map held-term (places (m .count) (listed m)) }
 
 -- a step
 unfoldable pub held-step : Step → Held-step
@@ -57,8 +57,7 @@ stored-term t = record { key = t .key; coefficient = t .coefficient }
 
 -- a model: places beyond the count hold zeros
 unfoldable pub stored-model : Held-model → Model
-stored-model m =
-    record { n = m .n; count = length (m .terms); radius = m .radius; terms = pad (map stored-term (m .terms)) }
+stored-model m = of-terms (m .n) (length (m .terms)) (m .radius) (pad (map stored-term (m .terms)))
 
 -- a step
 unfoldable pub stored-step : Held-step → Step

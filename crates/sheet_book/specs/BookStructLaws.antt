@@ -9,7 +9,8 @@ use Rattle.model_types.specs.declared.Model.{Model}
 use Rattle.model_types.specs.Arrays.{first-places, padded}
 use Rattle.model_types.specs.ArrayLaws.{first-padded}
 use Rattle.model_types.specs.ModelStruct as H
-use Rattle.model_types.specs.ModelStruct.{zero-term, places, view}
+use Rattle.model_types.specs.ModelStruct.{zero-term, places, listed, pad, view}
+use Rattle.model_types.specs.PairedLaws.{paired-of}
 use Rattle.format.specs.HeldBook.{Held-model, Held-step, Held-book, view-held-term, view-model}
 use Rattle.sheet_book.specs.BookStruct.{no-model, no-step, held-term, held-model, held-step, held-book}
 use Rattle.sheet_book.specs.BookStruct.{stored-term, stored-model, stored-step, stored-book}
@@ -36,7 +37,8 @@ stored-back zeros size f g e l =
 pub held-stored-model : (m : Held-model) → held-model (stored-model m) ≡ m
 unfolding held-model stored-model held-term stored-term
 held-stored-model m = ap (λ l. record { n = m .n; radius = m .radius; terms = l })
-    (stored-back zero-term most-terms stored-term held-term (λ t. refl) (m .terms))
+    (ap (λ l. map held-term (places (length (m .terms)) l)) (paired-of (pad (map stored-term (m .terms))))
+    ∙ stored-back zero-term most-terms stored-term held-term (λ t. refl) (m .terms))
 
 pub held-stored-step : (s : Held-step) → held-step (stored-step s) ≡ s
 unfolding held-step stored-step
@@ -52,4 +54,4 @@ held-stored h = ap₂ (λ l k. record { n = h .n; d = h .d; models = l; steps = 
 pub view-held-model : (m : Model) → view-model (held-model m) ≡ view m
 unfolding view-model held-model held-term view H.view-term view-held-term
 view-held-model m = ap (λ l. record { vars = m .n; radius = m .radius; terms = l })
-    (map-∘ held-term (view-held-term (m .n)) (H.view-term (m .n)) (λ t. refl) (places (m .count) (m .terms)))
+    (map-∘ held-term (view-held-term (m .n)) (H.view-term (m .n)) (λ t. refl) (places (m .count) (listed m)))

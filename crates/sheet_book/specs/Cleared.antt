@@ -7,7 +7,7 @@ use Rattle.calculus.specs.Model.{most-terms}
 use Rattle.calculus.specs.Book.{most-models, most-steps}
 use Rattle.model_types.specs.declared.Model.{Model}
 use Rattle.model_types.specs.Arrays.{padded}
-use Rattle.model_types.specs.ModelStruct.{pad}
+use Rattle.model_types.specs.ModelStruct.{listed, of-terms, pad}
 use Rattle.sheet_book.specs.declared.Book.{Book}
 use Rattle.sheet_book.specs.BookStruct.{no-model, no-step}
 
@@ -15,12 +15,12 @@ use Rattle.sheet_book.specs.BookStruct.{no-model, no-step}
 pub record Whole (b : Book) : Type 0 where
   pub models : length (b .models) ≡ most-models
   pub steps : length (b .steps) ≡ most-steps
-  pub terms : (i : ℕ) → i < most-models → length (getD (b .models) i no-model .terms) ≡ most-terms
+  pub keys : (i : ℕ) → i < most-models → length (getD (b .models) i no-model .keys) ≡ most-terms
+  pub coefficients : (i : ℕ) → i < most-models → length (getD (b .models) i no-model .coefficients) ≡ most-terms
 
 -- a model: no more than the first `count` terms
 unfoldable pub cleared-model : Model → Model
-cleared-model m =
-    record { n = m .n; count = m .count; radius = m .radius; terms = pad (take (m .count) (m .terms)) }
+cleared-model m = of-terms (m .n) (m .count) (m .radius) (pad (take (m .count) (listed m)))
 
 -- a book: no more than the first models and steps, by their counts
 unfoldable pub cleared : Book → Book

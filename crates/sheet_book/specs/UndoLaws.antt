@@ -1,5 +1,5 @@
 -- Reading and writing undo each other, as theorems on the structs that the calls take and hand back.
-use mathlib.Core.Path.{_≡_, refl, _∙_, ap, ap₂, subst}
+use mathlib.Core.Path.{_≡_, refl, sym, _∙_, ap, ap₂, subst}
 use mathlib.Core.List.{List, [], _∷_, map}
 use Prim.Native.Nat.{ℕ, suc, _≤_, _<_}
 use native.Mathlib.Omega.{arith}
@@ -14,7 +14,8 @@ use Rattle.model_types.specs.declared.Model.{Model}
 use Rattle.model_types.specs.declared.Verdict.the-variants.{Accepted}
 use Rattle.model_types.specs.Arrays.{first-places, padded}
 use Rattle.model_types.specs.ArrayLaws.{first-take}
-use Rattle.model_types.specs.ModelStruct.{zero-term, places, pad}
+use Rattle.model_types.specs.ModelStruct.{zero-term, places, listed, of-terms, pad}
+use Rattle.model_types.specs.PairedLaws.{length-paired}
 use Rattle.format.specs.Bytes.{All-bytes}
 use Rattle.format.specs.HeldBook.{Held-book, outline-of, held-model-sound, Held-passes}
 use Rattle.format.specs.Format.{read, write, sheet-bytes}
@@ -68,12 +69,12 @@ map-same f g d [] e = refl
 map-same f g d (x ∷ l) e = ap₂ _∷_ (e 0 (omega arith)) (map-same f g d l (λ i h. e (suc i) (omega arith)))
 
 -- a model
-stored-held-model : (m : Model) → m .count ≤ length (m .terms) → stored-model (held-model m) ≡ cleared-model m
+stored-held-model : (m : Model) → m .count ≤ length (listed m) → stored-model (held-model m) ≡ cleared-model m
 unfolding stored-model held-model cleared-model stored-term held-term
-stored-held-model m h = ap₂ (λ c l. record { n = m .n; count = c; radius = m .radius; terms = pad l })
-    (length-held zero-term held-term (m .count) (m .terms))
-    (map-id held-term stored-term (λ t. refl) (places (m .count) (m .terms))
-    ∙ first-take zero-term (m .count) (m .terms) h)
+stored-held-model m h = ap₂ (λ c l. of-terms (m .n) c (m .radius) (pad l))
+    (length-held zero-term held-term (m .count) (listed m))
+    (map-id held-term stored-term (λ t. refl) (places (m .count) (listed m))
+    ∙ first-take zero-term (m .count) (listed m) h)
 
 module _ (b : Book) (whole : Whole b) (p : Held-passes (held-book b)) where
   in-range : In-limits (b .n) (b .d) (b .«model_count») (b .«step_count»)
@@ -88,7 +89,7 @@ module _ (b : Book) (whole : Whole b) (p : Held-passes (held-book b)) where
   few-steps = omega (arith, in-range .steps-high, whole .steps)
 
   few-terms : (i : ℕ) → i < b .«model_count»
-      → getD (b .models) i no-model .count ≤ length (getD (b .models) i no-model .terms)
+      → getD (b .models) i no-model .count ≤ length (listed (getD (b .models) i no-model))
   unfolding most-models most-terms held-book held-model
   few-terms i h =
       let m : Model = getD (b .models) i no-model in
@@ -97,8 +98,10 @@ module _ (b : Book) (whole : Whole b) (p : Held-passes (held-book b)) where
       let few = model-facts (outline-of (held-book b)) (held-model m)
       (subst (λ k. T (held-model-sound (outline-of (held-book b)) k))
       (held-at no-model held-model (b .«model_count») (b .models) few-models i no-model h) tested) .count in
-      let count = length-held zero-term held-term (m .count) (m .terms) in
-      omega (arith, few, count, whole .terms i (omega (arith, in-range .models)))
+      let count = length-held zero-term held-term (m .count) (listed m) in
+      let keys = whole .keys i (omega (arith, in-range .models)) in
+      let even = keys ∙ sym (whole .coefficients i (omega (arith, in-range .models))) in
+      omega (arith, few, count, keys, length-paired (m .keys) (m .coefficients) even)
 
   same-models : map stored-model (held-book b .models) ≡ map cleared-model (take (b .«model_count») (b .models))
   unfolding held-book

@@ -9,11 +9,11 @@ use Rattle.model_types.specs.ModelStruct.{pack}
 use Rattle.format.specs.HeldBook.{Held-book, zero-book}
 use Rattle.sheet_book.specs.BookStruct.{no-model, held-book, stored-book, read-answer}
 use Rattle.sheet_book.specs.BookStructLaws.{held-stored}
-use Rattle.sheet_book.specs.Zeros.{array-total, term-total, model-total, step-total, book-total}
+use Rattle.sheet_book.specs.Zeros.{array-total, model-total, step-total, book-total}
 
 -- THEOREM: every number of the book beside a refusal is 0, by computation
 pub refused-zeros : (q : Refusal) (i : ℕ) → book-total (read-answer (stopped q i) .book) ≡ 0
-unfolding read-answer stored-book zero-book padded most-terms most-models most-steps array-total term-total model-total
+unfolding read-answer stored-book zero-book padded most-terms most-models most-steps array-total model-total
     step-total book-total
 refused-zeros q i = refl
 

@@ -2,7 +2,6 @@
 use mathlib.Core.List.{List, [], _∷_}
 use Prim.Native.Nat.{ℕ, _+_}
 use lib.IntN.{natAbs}
-use Rattle.model_types.specs.declared.Term.{Term}
 use Rattle.model_types.specs.declared.Model.{Model}
 use Rattle.sheet_book.specs.declared.Step.{Step}
 use Rattle.sheet_book.specs.declared.Book.{Book}
@@ -12,13 +11,10 @@ unfoldable pub array-total : {A : Type 0} → (A → ℕ) → List A → ℕ
 array-total f [] = 0
 array-total f (x ∷ l) = f x + array-total f l
 
--- of a term
-unfoldable pub term-total : Term → ℕ
-term-total t = t .key + natAbs (t .coefficient)
-
--- of a model, all its places of terms
+-- of a model, all places of both its arrays
 unfoldable pub model-total : Model → ℕ
-model-total m = m .n + m .count + m .radius + array-total term-total (m .terms)
+model-total m =
+    m .n + m .count + m .radius + array-total (λ k. k) (m .keys) + array-total natAbs (m .coefficients)
 
 -- of a step
 unfoldable pub step-total : Step → ℕ

@@ -1,3 +1,4 @@
 pub mod Unsound
+pub mod WholeModel
 pub mod WalkLaws
 pub mod VerdictLaws

@@ -3,21 +3,22 @@ ghost use mathlib.Core.Path.{_≡_};
 ghost use mathlib.Core.Bool.{_&&_};
 ghost use Prim.Native.Nat.{_≤_};
 ghost use lib.Dec.{leb, eqb};
-ghost use lib.ListN.{length};
 ghost use Rattle.calculus.specs.Key.{«key-width»};
 ghost use Rattle.calculus.specs.Model.{«most-terms»};
 ghost use Rattle.calculus.specs.Book.{«most-models», «most-steps»};
 ghost use Rattle.sheet_book.specs.BookStruct.{«book-verdict»};
 ghost use Rattle.sheet_book_tests.specs.Unsound.{«first-unsound-model», «first-unsound-step»};
+ghost use Rattle.sheet_book_tests.specs.WholeModel.{Whole-model};
 use model_types::Model;
 use model_types::Refusal;
 use model_types::Verdict;
 use sheet_book::Book;
 
-// Whether a model has the book's n, and no more than 64 terms. `whole` tells the caller that its array has all places.
+// Whether a model has the book's n, and no more than 64 terms. `whole` tells the caller that its arrays have all
+// places, and that the keys are words.
 fn head_sound(n: u8, m: Model) -> bool
     ensures { λ r. ⌜ r ≡ (eqb (m .n) n && leb (m .count) most-terms) ⌝ }
-    ensures whole { λ r. ⌜ length (m .terms) ≡ most-terms ⌝ }
+    ensures whole { λ r. ⌜ Whole-model m ⌝ }
 {
     if m.n != n {
         return false;
@@ -48,12 +49,13 @@ fn first_unsound_model(b: Book) -> usize
             if total <= i {
                 break 'terms;
             }
-            let t = m.terms[i];
-            if !model::term_sound(n, d, least, t.key, t.coefficient) {
+            let key = m.keys[i];
+            let c = m.coefficients[i];
+            if !model::term_sound(n, d, least, key, c) {
                 break 'models;
             }
-            span = fixed::capped_sum(span, fixed::magnitude(t.coefficient));
-            least = t.key as u64 + 1;
+            span = fixed::capped_sum(span, fixed::magnitude(c));
+            least = key as u64 + 1;
             i += 1;
         }
         if !fixed::within_span(span) {

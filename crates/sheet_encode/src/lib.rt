@@ -102,8 +102,9 @@ fn put_model(buffer: &mut [u8], at: usize, m: Model)
     let mut place = at + format::MODEL_BYTES;
     let mut i = 0;
     while i < count {
-        let t = m.terms[i];
-        put_term(buffer, place, n, t.key, t.coefficient);
+        let key = m.keys[i];
+        let c = m.coefficients[i];
+        put_term(buffer, place, n, key, c);
         place += size;
         i += 1;
     }

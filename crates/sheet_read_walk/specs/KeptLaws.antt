@@ -3,6 +3,7 @@ use mathlib.Core.Path.{_≡_, refl, sym, _∙_, ap, ap₂}
 use mathlib.Core.List.{List, [], _∷_, _++_, map, map-append}
 use Prim.Native.Nat.{ℕ, _+_, _*_, _-_, _≤_, _<_}
 use native.Mathlib.Omega.{arith}
+use lib.IntN.{ℤ, pos}
 use lib.ListN.{length, getD, set, take, drop, replicate, length-map}
 use lib.Seq.{length-take-le, take-length}
 use Rattle.calculus.specs.Key.{key-width}
@@ -11,8 +12,9 @@ use Rattle.calculus.specs.Book.{most-models, most-steps}
 use Rattle.model_types.specs.declared.Term.{Term}
 use Rattle.model_types.specs.declared.Model.{Model}
 use Rattle.model_types.specs.Arrays.{padded}
-use Rattle.model_types.specs.ModelStruct.{zero-term, pad, pack}
+use Rattle.model_types.specs.ModelStruct.{zero-term, of-terms, pad, pack}
 use Rattle.model_types.specs.ArrayLaws.{take-more, padded-more}
+use Rattle.model_types.specs.PairedLaws.{Listed, listed-next, listed-same, listed-struct}
 use Rattle.format.specs.Bytes.{byte, u32}
 use Rattle.format.specs.HeldBook.{Held-term, Held-model, Held-step}
 use Rattle.format.specs.Format.{read-term, read-model, read-step, read-steps}
@@ -31,44 +33,46 @@ use Rattle.sheet_read_walk.specs.declared.StepsRead.{StepsRead}
 use Rattle.sheet_read_walk.specs.KeptRecords.{models-read, steps-read}
 
 -- ---- terms: before term i of the record at a place
-abbrev pub Terms-kept : List ℕ → (n at : ℕ) (terms : List Term) (i : ℕ) → Type 0
-Terms-kept s n at terms i = terms ≡ pad (map stored-term (take i (terms-at n at s)))
+abbrev pub Terms-kept : List ℕ → (n at : ℕ) (keys : List ℕ) (coefficients : List ℤ) (i : ℕ) → Type 0
+Terms-kept s n at keys coefficients i = Listed keys coefficients (pad (map stored-term (take i (terms-at n at s))))
 
-pub terms-none : (s : List ℕ) (n at : ℕ) → Terms-kept s n at (replicate most-terms zero-term) 0
+pub terms-none : (s : List ℕ) (n at : ℕ)
+    → Terms-kept s n at (replicate most-terms 0) (replicate most-terms (pos 0)) 0
 unfolding padded most-terms
-terms-none s n at = refl
+terms-none s n at = record { keys-are = refl; coefficients-are = refl }
 
 module _ (s : List ℕ) (n d at : ℕ) (low : 1 ≤ n) (high : n ≤ key-width) (few : byte (at + 4) s ≤ 64)
-    (span least place i : ℕ) (h : Terms-so-far s n d at span least place i) (terms : List Term)
-    (kept : Terms-kept s n at terms i) where
+    (span least place i : ℕ) (h : Terms-so-far s n d at span least place i) (keys : List ℕ) (coefficients : List ℤ)
+    (kept : Terms-kept s n at keys coefficients i) where
   abbrev ts : List Held-term
   ts = terms-at n at s
 
   pub terms-more : i < byte (at + 4) s → (t : Term) → t ≡ stored-term (read-term n (drop place s))
-      → Terms-kept s n at (set terms i t) (i + 1)
+      → (z : ℤ) → z ≡ t .coefficient → Terms-kept s n at (set keys i (t .key)) (set coefficients i z) (i + 1)
   unfolding most-terms
-  terms-more l t e =
+  terms-more l t e z c =
       let within : i < length ts = inside s n d at low high few span least place i h l t e in
-      ap (λ x. set x i t) kept
+      listed-next kept i (t .key) z
+      (ap (λ x. set (pad (map stored-term (take i ts))) i (record { key = t .key; coefficient = x })) c
       ∙ padded-more zero-term 64 (map stored-term (take i ts)) i t
       (length-map (take i ts) stored-term ∙ length-take-le i ts (omega (arith, within))) (omega arith)
       ∙ ap pad (ap (λ x. map stored-term (take i ts) ++ (x ∷ []))
       (in-terms s n d at low high few span least place i h l t e)
       ∙ sym (map-append stored-term (take i ts) (getD ts i some-term ∷ []))
       ∙ ap (map stored-term)
-      (sym (take-more ts i some-term within)))
+      (sym (take-more ts i some-term within))))
 
   -- the struct that the code makes of them
   pub terms-stored : byte (at + 4) s ≤ i → (count radius : ℕ) → count ≡ byte (at + 4) s → radius ≡ u32 (drop at s)
-      → record { n = n; count = count; radius = radius; terms = terms } ≡ model-at n at s
+      → record { n = n; count = count; radius = radius; keys = keys; coefficients = coefficients } ≡ model-at n at s
   unfolding stored-model read-model
   terms-stored l count radius e r =
       let c = length-read-terms n (byte 4 (drop at s)) (drop 5 (drop at s)) in
       let f : i ≡ length ts = omega (arith, h .passed .within, count-is s n d at, byte-at at 4 s) in
       let g : count ≡ length ts = e ∙ sym (count-is s n d at) in
-      let k : terms ≡ pad (map stored-term ts) = kept
-      ∙ ap (λ x. pad (map stored-term x)) (ap (λ j. take j ts) f ∙ take-length ts) in
-      rw (g, r, k)
+      listed-struct (listed-same kept (ap (λ x. pad (map stored-term x)) (ap (λ j. take j ts) f ∙ take-length ts)))
+      n count radius
+      ∙ ap₂ (λ (x y : ℕ). of-terms n x y (pad (map stored-term ts))) g r
 
 -- ---- models: before model k
 pub record Models-kept (s : List ℕ) (n d count : ℕ) (models : List Model) (at k : ℕ) : Type 0 where

@@ -6,8 +6,8 @@ ghost use Rattle.calculus.specs.Key.{«key-width»};
 ghost use Rattle.calculus.specs.Book.{«most-models», «most-steps»};
 ghost use Rattle.format.specs.Format.{«step-length»};
 ghost use Rattle.sheet_read_walk.specs.KeptRecords.{«models-read», «steps-read»};
+use model_types::Key;
 use model_types::Model;
-use model_types::Term;
 use sheet_book::Step;
 
 // How far the records of models go: the number of the first faulty one or that of all, the place behind the others, and
@@ -47,7 +47,8 @@ pub fn read_models(s: &[u8], n: u8, d: u8, count: usize) -> ModelsRead
             break 'models;
         }
         let radius = sheet_decode::u32_at(s, at) as u64;
-        let mut terms = [Term::ZERO; model_types::MOST_TERMS];
+        let mut keys: [Key; model_types::MOST_TERMS] = [0; model_types::MOST_TERMS];
+        let mut coefficients = [0i64; model_types::MOST_TERMS];
         let mut span = radius;
         let mut least: u64 = 0;
         let mut place = at + format::MODEL_BYTES;
@@ -60,8 +61,10 @@ pub fn read_models(s: &[u8], n: u8, d: u8, count: usize) -> ModelsRead
             if !model::term_sound(n, d, least, t.key, t.coefficient) {
                 break 'models;
             }
-            terms[i] = t;
-            span = fixed::capped_sum(span, fixed::magnitude(t.coefficient));
+            let c = t.coefficient;
+            keys[i] = t.key;
+            coefficients[i] = c;
+            span = fixed::capped_sum(span, fixed::magnitude(c));
             least = t.key as u64 + 1;
             place += size;
             i += 1;
@@ -73,7 +76,8 @@ pub fn read_models(s: &[u8], n: u8, d: u8, count: usize) -> ModelsRead
             n: n,
             count: total,
             radius: radius,
-            terms: terms,
+            keys: keys,
+            coefficients: coefficients,
         };
         at = place;
         k += 1;

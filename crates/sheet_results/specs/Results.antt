@@ -1,7 +1,7 @@
 -- The results of a book's steps and their rows, in flat slices: what stands at a place, and what the slices hold once a
 -- result is put there.
 use mathlib.Core.Path.{_≡_}
-use mathlib.Core.List.{List, [], _∷_, _++_, map}
+use mathlib.Core.List.{List, [], _∷_, _++_}
 use Prim.Native.Nat.{ℕ, zero, suc, _+_, _*_, _≤_}
 use lib.IntN.{ℤ}
 use lib.ListN.{length, take, drop, getD, set}
@@ -44,8 +44,8 @@ spliced at new old = take at old ++ over new (drop at old)
 -- with a struct put at place i: only the terms that its count names
 unfoldable pub with-result : Model → (i : ℕ) → Results → Results
 with-result k i m = record {
-  keys = spliced (64 * i) (map (λ t. t .key) (take (k .count) (k .terms))) (m .keys);
-  coefficients = spliced (64 * i) (map (λ t. t .coefficient) (take (k .count) (k .terms))) (m .coefficients);
+  keys = spliced (64 * i) (take (k .count) (k .keys)) (m .keys);
+  coefficients = spliced (64 * i) (take (k .count) (k .coefficients)) (m .coefficients);
   counts = set (m .counts) i (k .count);
   radii = set (m .radii) i (k .radius);
 }

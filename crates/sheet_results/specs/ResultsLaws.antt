@@ -1,21 +1,22 @@
 -- Laws of results in flat slices: a struct that is put at a place stands there, those before it stay, and the slices
 -- keep their room.
-use mathlib.Core.Path.{_≡_, refl, sym, _∙_, ap, ap₂, subst}
+use mathlib.Core.Path.{_≡_, refl, sym, _∙_, ap, ap₂}
 use mathlib.Core.List.{List, [], _∷_, _++_, map, append-nil}
 use mathlib.Core.Logic.{_≢_}
 use Prim.Native.Nat.{ℕ, zero, suc, _+_, _*_, _-_, _≤_, _<_, min}
 use native.Mathlib.Decide.{decLt, ℕ-discrete}
 use native.Mathlib.Omega.{arith}
 use lib.IntN.{ℤ, pos}
-use lib.ListN.{length, take, drop, getD, set, length-append, length-map, length-set, length-drop, length-take}
+use lib.ListN.{length, take, drop, getD, set, length-append, length-set, length-drop}
 use lib.Seq.{take-all, drop-length, length-take-le, drop-at, drop-append-le, take-append-le, getD-drop}
 use lib.Seq.{getD-set-same, getD-set-other}
 use Rattle.calculus.specs.Model.{most-terms, zero-model}
 use Rattle.model_types.specs.declared.Term.{Term}
 use Rattle.model_types.specs.declared.Model.{Model}
-use Rattle.model_types.specs.Arrays.{first-places, padded}
+use Rattle.model_types.specs.Arrays.{first-places}
 use Rattle.model_types.specs.ArrayLaws.{first-take, first-padded}
-use Rattle.model_types.specs.ModelStruct.{zero-term, view-term, pad, view, pack}
+use Rattle.model_types.specs.ModelStruct.{zero-term, paired, listed, of-terms, view-term, pad, view, pack}
+use Rattle.model_types.specs.PairedLaws.{paired-of}
 use Rattle.model_slices.specs.HandedModels.{terms-of, handed, over}
 use Rattle.model_slices.specs.HandedModelsLaws.{handed-more, taken-view}
 use Rattle.model_types.specs.declared.Refusal.{Refusal}
@@ -88,71 +89,97 @@ terms-taken (suc n) (k ∷ ks) [] = refl
 terms-taken (suc n) (k ∷ ks) (c ∷ cs) =
     ap (λ (r : List Term). record { key = k; coefficient = c } ∷ r) (terms-taken n ks cs)
 
--- those that were put
-terms-put : (ts : List Term) (ks : List ℕ) (cs : List ℤ)
-    → terms-of (length ts) (map (λ t. t .key) ts ++ ks) (map (λ t. t .coefficient) ts ++ cs) ≡ ts
-unfolding terms-of
-terms-put [] ks cs = refl
-terms-put (t ∷ ts) ks cs = ap (λ (r : List Term). t ∷ r) (terms-put ts ks cs)
+-- those of two arrays that were put
+terms-put : (n : ℕ) (ks kt : List ℕ) (cs ct : List ℤ) → n ≤ length (paired ks cs)
+    → terms-of n (take n ks ++ kt) (take n cs ++ ct) ≡ take n (paired ks cs)
+unfolding terms-of paired
+terms-put zero ks kt cs ct h = refl
+terms-put (suc n) [] kt cs ct h = absurd (omega arith)
+terms-put (suc n) (k ∷ ks) kt [] ct h = absurd (omega arith)
+terms-put (suc n) (k ∷ ks) kt (c ∷ cs) ct h =
+    ap (λ (r : List Term). record { key = k; coefficient = c } ∷ r) (terms-put n ks kt cs ct (omega arith))
+
+-- two arrays have as many as both hold
+keys-long-as : (ks : List ℕ) (cs : List ℤ) → length (paired ks cs) ≤ length ks
+unfolding paired
+keys-long-as [] cs = omega arith
+keys-long-as (k ∷ ks) [] = omega arith
+keys-long-as (k ∷ ks) (c ∷ cs) = omega (arith, keys-long-as ks cs)
+
+coefficients-long-as : (ks : List ℕ) (cs : List ℤ) → length (paired ks cs) ≤ length cs
+unfolding paired
+coefficients-long-as [] cs = omega arith
+coefficients-long-as (k ∷ ks) [] = omega arith
+coefficients-long-as (k ∷ ks) (c ∷ cs) = omega (arith, coefficients-long-as ks cs)
 
 -- ---- a struct put at a place
 module _ (n : ℕ) (k : Model) (i : ℕ) {m : Results} (r : Roomy m) (l : i < 64) where
   -- the terms that its count names
   abbrev named : List Term
-  named = take (k .count) (k .terms)
+  named = take (k .count) (listed k)
+
+  -- their keys
+  abbrev named-keys : List ℕ
+  named-keys = take (k .count) (k .keys)
+
+  -- and their coefficients
+  abbrev named-coefficients : List ℤ
+  named-coefficients = take (k .count) (k .coefficients)
 
   -- as long as there are so many
-  module _ (w : k .count ≤ length (k .terms)) where
+  module _ (w : k .count ≤ length (listed k)) where
     named-long : length named ≡ k .count
-    named-long = length-take-le (k .count) (k .terms) w
+    named-long = length-take-le (k .count) (listed k) w
+
+    keys-long : length named-keys ≡ k .count
+    keys-long = length-take-le (k .count) (k .keys) (omega (arith, keys-long-as (k .keys) (k .coefficients)))
+
+    coefficients-long : length named-coefficients ≡ k .count
+    coefficients-long = length-take-le (k .count) (k .coefficients)
+        (omega (arith, coefficients-long-as (k .keys) (k .coefficients)))
 
     -- it is seen by them alone
-    named-view : view (record { n = k .n; count = k .count; radius = k .radius; terms = pad named }) ≡ view k
+    named-view : view (of-terms (k .n) (k .count) (k .radius) (pad named)) ≡ view k
     unfolding view
     named-view = ap (λ (l : List Term). record { vars = k .n; radius = k .radius; terms = map (view-term (k .n)) l })
-        (ap (λ c. first-places zero-term c (pad named)) (sym named-long) ∙ first-padded zero-term most-terms named
-        ∙ sym (first-take zero-term (k .count) (k .terms) w))
+        (ap (first-places zero-term (k .count)) (paired-of (pad named))
+        ∙ ap (λ c. first-places zero-term c (pad named)) (sym named-long) ∙ first-padded zero-term most-terms named
+        ∙ sym (first-take zero-term (k .count) (listed k) w))
 
     terms-here : terms-of (k .count)
-        (drop (64 * i) (spliced (64 * i) (map (λ t. t .key) named) (m .keys)))
-        (drop (64 * i) (spliced (64 * i) (map (λ t. t .coefficient) named) (m .coefficients))) ≡ named
+        (drop (64 * i) (spliced (64 * i) named-keys (m .keys)))
+        (drop (64 * i) (spliced (64 * i) named-coefficients (m .coefficients))) ≡ named
     unfolding over
     terms-here =
         ap₂ (terms-of (k .count))
-        (spliced-from (64 * i) (map (λ t. t .key) named) (m .keys) (omega (arith, r .keys-long)))
-        (spliced-from (64 * i) (map (λ t. t .coefficient) named) (m .coefficients) (omega (
-          arith,
-          r
-              .coefficients-long,
-        )))
-        ∙ ap (λ n. terms-of n (over (map (λ t. t .key) named) (drop (64 * i) (m .keys)))
-        (over (map (λ t. t .coefficient) named) (drop (64 * i) (m .coefficients)))) (sym named-long)
-        ∙ terms-put named _ _
+        (spliced-from (64 * i) named-keys (m .keys) (omega (arith, r .keys-long)))
+        (spliced-from (64 * i) named-coefficients (m .coefficients) (omega (arith, r .coefficients-long)))
+        ∙ terms-put (k .count) (k .keys) _ (k .coefficients) _ w
 
     -- it stands there
     pub result-here : k .n ≡ n → k .count ≤ 64 → view (result n (with-result k i m) i) ≡ view k
     unfolding result with-result most-terms
     result-here e f =
         ap₂ (λ (c e : ℕ). view (handed n c e
-        (drop (64 * i) (spliced (64 * i) (map (λ t. t .key) named) (m .keys)))
-        (drop (64 * i) (spliced (64 * i) (map (λ t. t .coefficient) named) (m .coefficients)))))
+        (drop (64 * i) (spliced (64 * i) named-keys (m .keys)))
+        (drop (64 * i) (spliced (64 * i) named-coefficients (m .coefficients)))))
         (getD-set-same (m .counts) i (k .count) 0 (omega (arith, r .counts-long)))
         (getD-set-same (m .radii) i (k .radius) 0 (omega (arith, r .radii-long)))
         ∙ sym (taken-view n (k .count) (k .radius) (k .count) _ _ short)
-        ∙ ap₂ (λ (n : ℕ) (t : List Term). view (record { n = n; count = k .count; radius = k .radius; terms = pad t }))
+        ∙ ap₂ (λ (n : ℕ) (t : List Term). view (of-terms n (k .count) (k .radius) (pad t)))
         (sym e) terms-here
         ∙ named-view
       where
         short : k .count ≡ min (min (k .count) 64)
-            (min (length (drop (64 * i) (spliced (64 * i) (map (λ t. t .key) named) (m .keys))))
-            (length (drop (64 * i) (spliced (64 * i) (map (λ t. t .coefficient) named) (m .coefficients)))))
+            (min (length (drop (64 * i) (spliced (64 * i) named-keys (m .keys))))
+            (length (drop (64 * i) (spliced (64 * i) named-coefficients (m .coefficients)))))
         short =
-            let x = length-drop (64 * i) (spliced (64 * i) (map (λ t. t .key) named) (m .keys)) in
-            let y = length-drop (64 * i) (spliced (64 * i) (map (λ t. t .coefficient) named) (m .coefficients)) in
-            let p = length-spliced (64 * i) (map (λ t. t .key) named) (m .keys)
-            (omega (arith, r .keys-long, length-map named (λ t. t .key), named-long)) in
-            let q = length-spliced (64 * i) (map (λ t. t .coefficient) named) (m .coefficients)
-            (omega (arith, r .coefficients-long, length-map named (λ t. t .coefficient), named-long)) in
+            let x = length-drop (64 * i) (spliced (64 * i) named-keys (m .keys)) in
+            let y = length-drop (64 * i) (spliced (64 * i) named-coefficients (m .coefficients)) in
+            let p = length-spliced (64 * i) named-keys (m .keys)
+            (omega (arith, r .keys-long, keys-long)) in
+            let q = length-spliced (64 * i) named-coefficients (m .coefficients)
+            (omega (arith, r .coefficients-long, coefficients-long)) in
             omega (arith, x, y, p, q, r .keys-long, r .coefficients-long, f, l)
 
   -- those before it stay
@@ -160,27 +187,15 @@ module _ (n : ℕ) (k : Model) (i : ℕ) {m : Results} (r : Roomy m) (l : i < 64
   unfolding result with-result handed most-terms
   result-before j h =
       let o : j ≢ i = λ e. omega (arith, e) in
-      ap₂ (λ (c e : ℕ). record {
-        n = n;
-        count = c;
-        radius = e;
-        terms = pad (terms-of 64
-            (drop (64 * j) (spliced (64 * i) (map (λ t. t .key) named) (m .keys)))
-            (drop (64 * j) (spliced (64 * i) (map (λ t. t .coefficient) named) (m .coefficients))));
-      })
+      ap₂ (λ (c e : ℕ). of-terms n c e (pad (terms-of 64 (drop (64 * j) (spliced (64 * i) named-keys (m .keys)))
+      (drop (64 * j) (spliced (64 * i) named-coefficients (m .coefficients))))))
       (getD-set-other (m .counts) i j (k .count) 0 o) (getD-set-other (m .radii) i j (k .radius) 0 o)
-      ∙ ap (λ (t : List Term). record {
-        n = n;
-        count = getD (m .counts) j 0;
-        radius = getD (m .radii) j 0;
-        terms =
-            pad t;
-      })
+      ∙ ap (λ (t : List Term). of-terms n (getD (m .counts) j 0) (getD (m .radii) j 0) (pad t))
       (terms-taken 64 _ _
       ∙ ap₂ (terms-of 64)
-      (spliced-before (64 * i) (64 * j) 64 (map (λ t. t .key) named) (m .keys) (omega arith)
+      (spliced-before (64 * i) (64 * j) 64 named-keys (m .keys) (omega arith)
       (omega (arith, r .keys-long)))
-      (spliced-before (64 * i) (64 * j) 64 (map (λ t. t .coefficient) named) (m .coefficients) (omega arith)
+      (spliced-before (64 * i) (64 * j) 64 named-coefficients (m .coefficients) (omega arith)
       (omega (arith, r .coefficients-long)))
       ∙ sym (terms-taken 64 _ _))
 
@@ -196,13 +211,13 @@ module _ (n : ℕ) (k : Model) (i : ℕ) {m : Results} (r : Roomy m) (l : i < 64
   ]
 
   -- and the slices keep their room
-  pub roomy-still : k .count ≤ 64 → k .count ≤ length (k .terms) → Roomy (with-result k i m)
+  pub roomy-still : k .count ≤ 64 → k .count ≤ length (listed k) → Roomy (with-result k i m)
   unfolding with-result
   roomy-still f w = record {
-    keys-long = length-spliced (64 * i) (map (λ t. t .key) named) (m .keys)
-        (omega (arith, r .keys-long, length-map named (λ t. t .key), named-long w)) ∙ r .keys-long;
-    coefficients-long = length-spliced (64 * i) (map (λ t. t .coefficient) named) (m .coefficients)
-        (omega (arith, r .coefficients-long, length-map named (λ t. t .coefficient), named-long w)) ∙ r
+    keys-long = length-spliced (64 * i) named-keys (m .keys)
+        (omega (arith, r .keys-long, keys-long w)) ∙ r .keys-long;
+    coefficients-long = length-spliced (64 * i) named-coefficients (m .coefficients)
+        (omega (arith, r .coefficients-long, coefficients-long w)) ∙ r
         .coefficients-long;
     counts-long = length-set (m .counts) i (k .count) ∙ r .counts-long;
     radii-long = length-set (m .radii) i (k .radius) ∙ r .radii-long;
@@ -226,12 +241,8 @@ module _ {m : Results} (r : Roomy m) {j : ℕ} (l : j < 64) where
 
   -- its end
   pub taken-end : (n i : ℕ) → i ≡ getD (m .counts) j 0
-      → view (record {
-        n = n;
-        count = getD (m .counts) j 0;
-        radius = getD (m .radii) j 0;
-        terms = pad (terms-of i (drop (64 * j) (m .keys)) (drop (64 * j) (m .coefficients)));
-      })
+      → view (of-terms n (getD (m .counts) j 0) (getD (m .radii) j 0)
+      (pad (terms-of i (drop (64 * j) (m .keys)) (drop (64 * j) (m .coefficients)))))
       ≡ view (result n m j)
   unfolding result most-terms
   taken-end n i e = taken-view n _ _ i _ _

@@ -2,7 +2,6 @@
 // their rows, four numbers for each. A step reads what it names out of them, so that nothing else is copied.
 ghost use mathlib.Core.Path.{_≡_};
 ghost use mathlib.Core.Bool.{cond};
-ghost use mathlib.Core.List.{map};
 ghost use Prim.Native.Nat.{_≤_, _<_};
 ghost use lib.ListN.{length, take, set};
 ghost use Rattle.calculus.specs.Model.{«zero-model»};
@@ -14,7 +13,6 @@ use model_types::Accounted;
 use model_types::Key;
 use model_types::Model;
 use model_types::Shares;
-use model_types::Term;
 use model_types::Verdict;
 
 // The places of a book's steps.
@@ -40,23 +38,23 @@ pub fn result(
     let from = model_types::MOST_TERMS * j;
     let count = counts[j];
     let radius = radii[j];
-    let mut out = [Term::ZERO; model_types::MOST_TERMS];
+    let mut out_keys: [Key; model_types::MOST_TERMS] = [0; model_types::MOST_TERMS];
+    let mut out = [0i64; model_types::MOST_TERMS];
     let mut i = 0;
     while i < count {
         let at = from + i;
         let k = keys[at];
         let c = coefficients[at];
-        out[i] = Term {
-            key: k,
-            coefficient: c,
-        };
+        out_keys[i] = k;
+        out[i] = c;
         i += 1;
     }
     Model {
         n: n,
         count: count,
         radius: radius,
-        terms: out,
+        keys: out_keys,
+        coefficients: out,
     }
 }
 
@@ -110,16 +108,15 @@ pub fn put_numbers(
 // The terms that a model's count names go into two slices.
 fn store_named(m: Model, keys: &mut [Key], coefficients: &mut [i64])
     requires { ⌜ (64 ≤ length (now keys)) × (64 ≤ length (now coefficients)) ⌝ }
-    ensures { λ r. ⌜ (now (keys .exit) ≡ over (map (λ t. t .key) (take (m .count) (m .terms))) (now (keys .entry)))
-        × (now (coefficients .exit)
-        ≡ over (map (λ t. t .coefficient) (take (m .count) (m .terms))) (now (coefficients .entry))) ⌝ }
+    ensures { λ r. ⌜ (now (keys .exit) ≡ over (take (m .count) (m .keys)) (now (keys .entry)))
+        × (now (coefficients .exit) ≡ over (take (m .count) (m .coefficients)) (now (coefficients .entry))) ⌝ }
 {
     let count = model_slices::least(m.count, model_types::MOST_TERMS);
     let mut i = 0;
     while i < count {
-        let t = m.terms[i];
-        let c = t.coefficient;
-        keys[i] = t.key;
+        let k = m.keys[i];
+        let c = m.coefficients[i];
+        keys[i] = k;
         coefficients[i] = c;
         i += 1;
     }

@@ -6,8 +6,8 @@ ghost use Rattle.calculus.specs.Model.{«most-degree», sound};
 ghost use Rattle.model_types.specs.ModelStruct.{view, pack};
 ghost use Rattle.sheet_step_answers.specs.Answers.{«accepted-answer»};
 use model_types::Answer;
+use model_types::Key;
 use model_types::Model;
-use model_types::Term;
 use model_types::Verdict;
 
 // A model that is not refused.
@@ -26,17 +26,21 @@ pub fn cleared(m: Model) -> Model
     ensures { λ r. ⌜ r ≡ pack (view m) ⌝ }
 {
     let count = m.count;
-    let mut terms = [Term::ZERO; model_types::MOST_TERMS];
+    let mut keys: [Key; model_types::MOST_TERMS] = [0; model_types::MOST_TERMS];
+    let mut coefficients = [0i64; model_types::MOST_TERMS];
     let mut i = 0;
     while i < count {
-        let t = m.terms[i];
-        terms[i] = t;
+        let k = m.keys[i];
+        let c = m.coefficients[i];
+        keys[i] = k;
+        coefficients[i] = c;
         i += 1;
     }
     Model {
         n: m.n,
         count: count,
         radius: m.radius,
-        terms: terms,
+        keys: keys,
+        coefficients: coefficients,
     }
 }

@@ -42,10 +42,10 @@ use Rattle.model_types.specs.declared.Verdict.the-variants.{Accepted, Refused}
 use Rattle.model_types.specs.declared.Answer.{Answer}
 use Rattle.model_types.specs.declared.Shares.{Shares}
 use Rattle.model_types.specs.declared.Accounted.{Accounted}
-use Rattle.model_types.specs.ModelStruct.{zero-term, pack-term, view, pack, refusal, cause, answer}
+use Rattle.model_types.specs.ModelStruct.{zero-term, listed, pack-term, view, pack, refusal, cause, answer}
 use Rattle.model_types.specs.SharesStruct.{stored-shares, accounted}
 use Rattle.model_types.specs.ResultLaws.{sound-in}
-use Rattle.model_types.specs.ModelStructLaws.{cause-refusal, vars-within}
+use Rattle.model_types.specs.ModelStructLaws.{cause-refusal, vars-within, listed-pack}
 use Rattle.model_slices.specs.HandedModels.{handed}
 use Rattle.model.specs.OperationContracts.{Factors, Proposal}
 use Rattle.model.specs.OperationLaws.{sound-order, Holds, held-vars, held-view, held-sound, Got, got}
@@ -166,9 +166,10 @@ row-more {rows} {flat} {i} k {s} r e l q = record {
 
 -- ---- structs of sound models
 -- all places of a packed model
-packed-long : {n d : ℕ} {k : C.Model} → Sound n d k → length (pack k .terms) ≡ 64
-unfolding pack most-terms
-packed-long {k = k} s = length-padded zero-term 64 (map pack-term (k .terms))
+packed-long : {n d : ℕ} {k : C.Model} → Sound n d k → length (listed (pack k)) ≡ 64
+unfolding most-terms
+packed-long {k = k} s = ap length (listed-pack k)
+    ∙ length-padded zero-term 64 (map pack-term (k .terms))
     (omega (arith, length-map (k .terms) pack-term, s .1 .count))
 
 packed-few : {n d : ℕ} {k : C.Model} → Sound n d k → pack k .count ≤ 64
@@ -573,10 +574,10 @@ module _ {h : Held-book} (p : Held-passes h) where
             k : Model
             k = r .answer .model
 
-            long : r .answer .model .count ≤ length (r .answer .model .terms)
+            long : r .answer .model .count ≤ length (listed (r .answer .model))
             long =
                 let e = ap (λ (k : Model). k .count) (q .holds .packed) in
-                let w = ap (λ (k : Model). length (k .terms)) (q .holds .packed) in
+                let w = ap (λ (k : Model). length (listed k)) (q .holds .packed) in
                 omega (arith, e, w, packed-few (q .holds .sound), packed-long (q .holds .sound))
 
             few : r .answer .model .count ≤ 64

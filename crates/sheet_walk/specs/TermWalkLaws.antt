@@ -16,9 +16,10 @@ use Rattle.calculus.specs.Tests.{vars-sound}
 use Rattle.model_types.specs.declared.Term.{Term}
 use Rattle.model_types.specs.declared.Model.{Model}
 use Rattle.model_types.specs.Arrays.{padded}
-use Rattle.model_types.specs.ModelStruct.{zero-term, view, term-sound}
+use Rattle.model_types.specs.ModelStruct.{zero-term, listed, pad, view, term-sound}
 use Rattle.model_types.specs.ArrayLaws.{length-padded-least}
 use Rattle.model_types.specs.ModelStructLaws.{vars-within}
+use Rattle.model_types.specs.PairedLaws.{paired-of}
 use Rattle.model.specs.OperationLaws.{Passed, passed-first, passed-turn, passed-not, passed-end, many-not}
 use Rattle.format.specs.Bytes.{byte, u32}
 use Rattle.format.specs.HeldBook.{Held-term, Held-model, view-model}
@@ -69,6 +70,11 @@ module _ (s : List ℕ) (n d at : ℕ) where
   unfolding stored-model read-model
   count-is = length-read-terms n (byte 4 (drop at s)) (drop 5 (drop at s)) ∙ byte-at at 4 s
 
+  -- what its struct holds in all places
+  places-are : listed m ≡ pad (map stored-term ts)
+  unfolding stored-model read-model
+  places-are = paired-of (pad (map stored-term ts))
+
   pub many-terms : 64 < byte (at + 4) s → sound d (view m) ≡ false
   unfolding most-terms
   many-terms h = many-not d m (omega (arith, count-is))
@@ -82,12 +88,13 @@ module _ (s : List ℕ) (n d at : ℕ) where
     unfolding most-terms
     few-terms = omega (arith, count-is)
 
-    whole : m .count ≤ length (m .terms)
+    whole : m .count ≤ length (listed m)
     unfolding stored-model read-model
     whole = omega (
       arith,
       length-padded-least zero-term most-terms (map stored-term ts),
       length-map ts stored-term,
+      ap length places-are,
     )
 
     pub terms-first : (radius : ℕ) → radius ≡ u32 (drop at s)
@@ -112,13 +119,14 @@ module _ (s : List ℕ) (n d at : ℕ) where
         in-terms = e ∙ ap stored-term (sym (read-term-at n (byte 4 (drop at s)) i (drop 5 (drop at s)) some-term
             (omega (arith, byte-at at 4 s)) ∙ ap (read-term n) at-place))
 
-        here : getD (m .terms) i zero-term ≡ t
-        unfolding stored-model read-model stored-term padded
-        here = List·getD-append (map stored-term ts) _ zero-term i (omega (arith, length-map ts stored-term, inside))
+        here : getD (listed m) i zero-term ≡ t
+        unfolding padded stored-term
+        here = ap (λ l. getD l i zero-term) places-are
+            ∙ List·getD-append (map stored-term ts) _ zero-term i (omega (arith, length-map ts stored-term, inside))
             ∙ List·getD-map stored-term ts i some-term ∙ sym in-terms
 
         abbrev found : Term
-        found = getD (m .terms) i zero-term
+        found = getD (listed m) i zero-term
 
         counted : i < m .count
         counted = omega (arith, count-is)

@@ -17,7 +17,7 @@ use Rattle.calculus.specs.Refusal.{Refusal, number, done, stopped}
 use Rattle.calculus.specs.Operations.{Ends, has-exact, Mixed}
 use Rattle.calculus.specs.Book.{Summary}
 use Rattle.model_types.specs.declared.Model.{Model}
-use Rattle.model_types.specs.ModelStruct.{zero-term, view-term, view}
+use Rattle.model_types.specs.ModelStruct.{zero-term, listed, view-term, view}
 use Rattle.model_types.specs.ModelStructLaws.{term-at, view-terms}
 use Rattle.format.specs.BytesLaws.{join-++}
 use Rattle.format.specs.Bytes.{join}
@@ -102,11 +102,11 @@ pub ends-back : {low high : ℤ} → mag low < 2 ^ hbits w64 → mag high < 2 ^ 
 ends-back h k = ap₂ ends (toZ-ofZ (record { sfits = h })) (toZ-ofZ (record { sfits = k }))
 
 -- ---- the terms of a struct
-pub term-of : (m : Model) (i : ℕ) → m .count ≤ length (m .terms) → i < m .count
-    → getD (view m .terms) i (term-at (m .n) 0 []) ≡ term-at (m .n) i (m .terms)
+pub term-of : (m : Model) (i : ℕ) → m .count ≤ length (listed m) → i < m .count
+    → getD (view m .terms) i (term-at (m .n) 0 []) ≡ term-at (m .n) i (listed m)
 term-of m i w h = ap (λ p. getD p i (term-at (m .n) 0 [])) (view-terms m w)
-    ∙ List·getD-map (view-term (m .n)) (take (m .count) (m .terms)) i zero-term
-    ∙ ap (view-term (m .n)) (getD-take (m .count) (m .terms) i zero-term h)
+    ∙ List·getD-map (view-term (m .n)) (take (m .count) (listed m)) i zero-term
+    ∙ ap (view-term (m .n)) (getD-take (m .count) (listed m) i zero-term h)
 
 -- ---- a loop that puts a piece for each element
 module _ {A : Type 0} (f : A → List ℕ) (l : List A) where

@@ -56,8 +56,9 @@ pub fn put_terms(out: &mut [u8], at: usize, m: Model) -> usize
     let mut next = at;
     let mut i = 0;
     while i < count {
-        let t = m.terms[i];
-        next = put_term(out, next, n, t.key, t.coefficient);
+        let key = m.keys[i];
+        let c = m.coefficients[i];
+        next = put_term(out, next, n, key, c);
         i += 1;
     }
     next

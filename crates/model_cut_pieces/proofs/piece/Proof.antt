@@ -14,7 +14,7 @@ use Rattle.calculus.specs.Model.{most-terms}
 use Rattle.model_keys.specs.Keys.{key-raised}
 use Rattle.model_keys.specs.KeyExponentLaws.{zero-raisable}
 use Rattle.model_types.specs.Arrays.{padded}
-use Rattle.model_types.specs.ModelStruct.{pad}
+use Rattle.model_types.specs.ModelStruct.{pad, of-terms}
 use Rattle.model_types.specs.ZeroTestLaws.{zero-bits, nonzero-bits}
 use Rattle.cuts.specs.Cuts.{half-width, piece-middle}
 use Rattle.model_cut_pieces.specs.PieceStructLaws.{width-room, packed-line, packed-both}
@@ -51,8 +51,11 @@ raised-requires c κs =
     let s = c .before .before .before in
     zero-raisable (s .args .i) (record { first = s .pre .0 .0; last = omega (arith, s .pre .0 .1, s .pre .0 .2) })
 
-array-set-from-terms : tie.Need-array-set-from-terms
-array-set-from-terms c = search needs
+array-write-keys : tie.Need-array-write-keys
+array-write-keys c = search needs
+
+array-set-from-coefficients : tie.Need-array-set-from-coefficients
+array-set-from-coefficients c = search needs
 
 returns : tie.Need-returns
 unfolding padded most-terms
@@ -61,20 +64,19 @@ returns c =
     let s = start r in
     let m = r .before .before .before .piece-middle in
     let none = sym (ap is-nonzero (m .ensures)) ∙ zero-bits (record { sfits = m .ok }) (c .if1 .taken) in
-    ap₂ (λ z y. record {
-      n = s .args .n;
-      count = 1;
-      radius = 0;
-      terms = pad (record { key = z; coefficient = y } ∷ []);
-    }) (r .raised .ensures) (width-is r)
+    ap₂ (λ z y. of-terms (s .args .n) 1 0 (pad (record { key = z; coefficient = y } ∷ [])))
+    (r .raised .ensures) (width-is r)
     ∙ sym (packed-line (s .args .n) (s .args .i) (s .args .k) (s .args .j)
     (s .pre .0 .0) (s .pre .0 .1) (s .pre .1 .0) (s .pre .1 .1) (s .pre .0 .2) none)
 
-array-set-from-terms-2 : tie.Need-array-set-from-terms-2
-array-set-from-terms-2 c = search needs
+array-set-from-coefficients-2 : tie.Need-array-set-from-coefficients-2
+array-set-from-coefficients-2 c = search needs
 
-array-set-from-terms-3 : tie.Need-array-set-from-terms-3
-array-set-from-terms-3 c = search needs
+array-write-keys-2 : tie.Need-array-write-keys-2
+array-write-keys-2 c = search needs
+
+array-set-from-coefficients-3 : tie.Need-array-set-from-coefficients-3
+array-set-from-coefficients-3 c = search needs
 
 returns-2 : tie.Need-returns-2
 unfolding padded most-terms
@@ -82,20 +84,13 @@ returns-2 c =
     let r = c .before in
     let s = start r in
     let some = sym (ap is-nonzero (r .before .before .before .piece-middle .ensures)) ∙ nonzero-bits _ (c .if1 .left) in
-    ap (λ x. record {
-      n = s .args .n;
-      count = 2;
-      radius = 0;
-      terms = pad (record { key = 0; coefficient = x }
-          ∷ record { key = r .raised .result; coefficient = toZ w64 (ofZ w64 (r .before .signed .result)) } ∷ []);
-    }) (middle-is r)
-    ∙ ap₂ (λ z y. record {
-      n = s .args .n;
-      count = 2;
-      radius = 0;
-      terms = pad (record { key = 0; coefficient = piece-middle (s .args .k) (s .args .j) }
-          ∷ record { key = z; coefficient = y } ∷ []);
-    }) (r .raised .ensures) (width-is r)
+    ap (λ x. of-terms (s .args .n) 2 0 (pad (record { key = 0; coefficient = x }
+    ∷ record { key = r .raised .result; coefficient = toZ w64 (ofZ w64 (r .before .signed .result)) } ∷ [])))
+    (middle-is r)
+    ∙ ap₂ (λ z y. of-terms (s .args .n) 2 0
+    (pad (record { key = 0; coefficient = piece-middle (s .args .k) (s .args .j) }
+    ∷ record { key = z; coefficient = y } ∷ [])))
+    (r .raised .ensures) (width-is r)
     ∙ sym (packed-both (s .args .n) (s .args .i) (s .args .k) (s .args .j)
     (s .pre .0 .0) (s .pre .0 .1) (s .pre .1 .0) (s .pre .1 .1) (s .pre .0 .2) some)
 
@@ -107,8 +102,10 @@ piece-spec =
     half-width-requires
     signed-requires
     raised-requires
-    array-set-from-terms
+    array-write-keys
+    array-set-from-coefficients
     returns
-    array-set-from-terms-2
-    array-set-from-terms-3
+    array-set-from-coefficients-2
+    array-write-keys-2
+    array-set-from-coefficients-3
     returns-2)

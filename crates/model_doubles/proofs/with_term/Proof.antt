@@ -14,27 +14,36 @@ use Rattle.model_doubles.proofs.with_term.Tie as tie
 returns : tie.Need-returns
 returns c o h = with-none _ o _ _ (zero-bits (c .before .fits .coefficient) (c .if1 .taken)) h
 
-mul-terms : tie.Need-mul-terms
-mul-terms c = search needs
+mul-keys : tie.Need-mul-keys
+mul-keys c = search needs
 
-array-set-from-terms : tie.Need-array-set-from-terms
-array-set-from-terms c = search needs
+array-write-keys : tie.Need-array-write-keys
+array-write-keys c = search needs
+
+mul-coefficients : tie.Need-mul-coefficients
+mul-coefficients c = search needs
+
+array-set-from-coefficients : tie.Need-array-set-from-coefficients
+array-set-from-coefficients c = search needs
 
 add-t8 : tie.Need-add-t8
 add-t8 c = search needs
 
 returns-2 : tie.Need-returns-2
 returns-2 c o h =
-    let s = c .before .before in
+    let s = c .before .before .before in
     ap (λ z. record {
       n = s .args .m .n;
       count = s .args .m .count + 1;
       radius = s .args .m .radius;
-      terms = set (s .args .m .terms) (s .args .m .count) (record { key = s .args .key; coefficient = z });
+      keys = set (s .args .m .keys) (s .args .m .count) (s .args .key);
+      coefficients = set (s .args .m .coefficients) (s .args .m .count) z;
     })
     (toZ-ofZ (s .fits .coefficient))
-    ∙ with-one (s .args .m) o (s .args .key) (s .args .coefficient) (nonzero-bits _ (c .before .if1 .left)) (s .pre .0)
-    (s .pre .1) (word-key _ (omega arith)) h
+    ∙ with-one (s .args .m) o (s .args .key) (s .args .coefficient) (nonzero-bits _ (c .before .before .if1 .left))
+    (s .pre .0) (s .pre .1) (word-key _ (omega arith)) h
 
 pub with-term-spec : {M : Type 1} → statement M
-with-term-spec = tie.close (tie.spec returns mul-terms array-set-from-terms add-t8 returns-2)
+with-term-spec =
+    tie.close
+    (tie.spec returns mul-keys array-write-keys mul-coefficients array-set-from-coefficients add-t8 returns-2)

@@ -5,7 +5,7 @@ use Prim.Native.Nat.{ℕ, _+_, _-_, _≤_}
 use native.Mathlib.Omega.{arith}
 use borrow.Author.Needs.{needs}
 use lib.IntN.{ℤ, pos}
-use lib.ListN.{length, getD, length-map, replicate}
+use lib.ListN.{length, getD, replicate}
 use mir.Facts.{toZ-ofZ}
 use mir.Syntax.{w64}
 use mir.Val.{toZ, ofZ}
@@ -19,7 +19,7 @@ use Rattle.model_types.specs.ModelStructLaws.{limits}
 use Rattle.model_horner.specs.Held.{held, Room, Left-in}
 use Rattle.model_evaluation.specs.Evaluate.{Evaluation, Put-of, Put-in}
 use Rattle.model_evaluation.specs.EvaluationLaws.{Remaining}
-use Rattle.model_evaluation.specs.SliceEvaluationLaws.{unpacked-room, unpacked-evaluation, unpacked-end}
+use Rattle.model_evaluation.specs.SliceEvaluationLaws.{held-evaluation, held-end}
 use Rattle.model_evaluation.specs.SliceEvaluationLaws.{remaining-start, left-few, put-of, turn-refused}
 use Rattle.model_evaluation.specs.SliceEvaluationLaws.{turn-accepted}
 use Rattle.model_evaluation.specs.SliceEvaluationLaws.{end-sound, range-end}
@@ -50,59 +50,25 @@ module _ (s : tie.Start Inv-loop μ-loop) where
       let e : length (s .args .t2) ≡ key-width = search needs in
       omega (arith, width)
 
-  whole : length (s .args .m .terms) ≡ 64
-  whole = simp length-map at (s .good .0 .1 .1 .1 .1 .1 .0 .1 .0 .1)
+  first-room : Room (s .args .m .keys) (s .args .m .coefficients)
+  first-room = record { keys = search needs; coefficients = search needs }
 
-slice-aggregate-store-terms : tie.Need-slice-aggregate-store-terms Inv-loop μ-loop
-slice-aggregate-store-terms c = search needs
+  evaluation : Evaluation
+      (held (s .args .m .n) (s .args .m .count) (s .args .m .radius) (s .args .m .keys) (s .args .m .coefficients))
+      (s .args .t2)
+  evaluation = held-evaluation (s .args .m) first-room few (s .pre)
 
-slice-aggregate-store-terms-2 : tie.Need-slice-aggregate-store-terms-2 Inv-loop μ-loop
-slice-aggregate-store-terms-2 c = search needs
-
-store-terms-requires : tie.Need-store-terms-requires Inv-loop μ-loop
-unfolding most-terms
-store-terms-requires c κs = (omega arith, omega arith)
-
--- ---- the terms in slices
 abbrev zeros-room : Room (replicate 64 0) (replicate 64 (pos 0))
 zeros-room = record { keys = refl; coefficients = refl }
 
-module _ (c : tie.After-store-terms Inv-loop μ-loop) where
-  abbrev begin : tie.Start Inv-loop μ-loop
-  begin = c .before .before .before
-
-  abbrev first-keys : List ℕ
-  first-keys = c .store-terms .last .1 .0
-
-  abbrev firsts : List ℤ
-  firsts = c .store-terms .last .1 .1 .0
-
-  first-room : Room first-keys firsts
-  first-room = unpacked-room (begin .pre) (whole begin) (few begin) zeros-room (c .store-terms .ensures .0)
-      (c .store-terms .ensures .1)
-
-  evaluation : Evaluation (held (begin .args .m .n) (begin .args .m .count) (begin .args .m .radius) first-keys firsts)
-      (begin .args .t2)
-  evaluation = unpacked-evaluation (begin .pre) (whole begin) (few begin) zeros-room (c .store-terms .ensures .0)
-      (c .store-terms .ensures .1)
-
 loop-holds : tie.Need-loop-holds Inv-loop μ-loop
 loop-holds c =
-    let t = c .before .before in (
-      remaining-start _ _ _ _ _ (evaluation t) (long (begin t)),
-      first-room t,
-      zeros-room,
-      zeros-room,
-      zeros-room,
-    )
+    let s = c .before .before in
+    (remaining-start _ _ _ _ _ (evaluation s) (long s), first-room s, zeros-room, zeros-room, zeros-room)
 
 -- ---- a turn
-module _ (l : tie.At-loop Inv-loop μ-loop) where
-  abbrev stored-first : tie.After-store-terms Inv-loop μ-loop
-  stored-first = l .before .before .before
-
-  abbrev start : tie.Start Inv-loop μ-loop
-  start = begin stored-first
+abbrev start : tie.At-loop Inv-loop μ-loop → tie.Start Inv-loop μ-loop
+start l = l .before .before .before
 
 small : (c : tie.In-loop Inv-loop μ-loop) → c .before .loop .i ≤ 8
 unfolding key-width
@@ -136,7 +102,7 @@ module _ (c : tie.After-x Inv-loop μ-loop) where
 
   abbrev given : Put-of (turn .loop .i) X (turn .loop .count) (turn .loop .radius) (turn .loop .keys)
       (turn .loop .coefficients)
-  given = put-of _ _ _ _ _ (evaluation (stored-first turn)) (long (start turn)) _ _ _ _ (turn .loop .inv .0) inside
+  given = put-of _ _ _ _ _ (evaluation (start turn)) (long (start turn)) _ _ _ _ (turn .loop .inv .0) inside
       (turn .loop .inv .1)
 
 slice-aggregate-put-constant : tie.Need-slice-aggregate-put-constant Inv-loop μ-loop
@@ -213,11 +179,11 @@ module _ (c : tie.After-put-constant Inv-loop μ-loop) where
 
   goes-on : c .put-constant .result .verdict ≡ Accepted
       → Remaining (held (start (turn at) .args .m .n) (start (turn at) .args .m .count)
-      (start (turn at) .args .m .radius) (first-keys (stored-first (turn at))) (firsts (stored-first (turn at))))
+      (start (turn at) .args .m .radius) (start (turn at) .args .m .keys) (start (turn at) .args .m .coefficients))
       (start (turn at) .args .t2)
       (turn at .loop .i + 1) (held (start (turn at) .args .m .n) (c .put-constant .result .count)
       (c .put-constant .result .radius) left-keys lefts)
-  goes-on v = turn-accepted _ _ _ _ _ (evaluation (stored-first (turn at))) (long (start (turn at))) _ _ _ _
+  goes-on v = turn-accepted _ _ _ _ _ (evaluation (start (turn at))) (long (start (turn at))) _ _ _ _
       (turn at .loop .inv .0) (inside at) _ _ put-is v
 
 enum-told : tie.Need-enum-told Inv-loop μ-loop
@@ -230,10 +196,9 @@ returns : tie.Need-returns Inv-loop μ-loop
 returns c =
     let p = c .before .before .before .before .before .before .before .before in
     let x = at p in
-    let t = stored-first (turn x) in
-    let s = begin t in
-    unpacked-end (s .pre) (whole s) (few s) zeros-room (t .store-terms .ensures .0) (t .store-terms .ensures .1)
-    (turn-refused _ _ _ _ _ (evaluation t) (long s) _ _ _ _ (turn x .loop .inv .0) (inside x) _ _ (put-is p)
+    let s = start (turn x) in
+    held-end (s .args .m) (first-room s) (few s) (s .args .t2)
+    (turn-refused _ _ _ _ _ (evaluation s) (long s) _ _ _ _ (turn x .loop .inv .0) (inside x) _ _ (put-is p)
     (c .enum-told2 .given .1))
 
 slice-aggregate-copied : tie.Need-slice-aggregate-copied Inv-loop μ-loop
@@ -252,8 +217,8 @@ copied-requires : tie.Need-copied-requires Inv-loop μ-loop
 copied-requires c κs =
     let v = c .before .before .before .before in
     let p = v .before .before .before .before .before .before .before .before in
-    let t = stored-first (turn (at p)) in (
-      (left-few _ _ _ _ _ (evaluation t) (long (begin t)) _ _ _ _ (goes-on p (v .enum-told .given .1)), left-room p),
+    let s = start (turn (at p)) in (
+      (left-few _ _ _ _ _ (evaluation s) (long s) _ _ _ _ (goes-on p (v .enum-told .given .1)), left-room p),
       turn (at p) .loop .inv .1,
     )
 
@@ -287,40 +252,28 @@ loop-again c =
     let p = v .before .before .before .before .before .before .before .before in
     let x = at p in
     let s = start (turn x) in
-    let t = stored-first (turn x) in (
-      subst (Remaining (held (s .args .m .n) (s .args .m .count) (s .args .m .radius) (first-keys t) (firsts t))
-          (s .args .t2) (turn x .loop .i + 1)) (sym (d .copied .ensures _ _)) (goes-on p (v .enum-told .given .1)),
+    let m = s .args .m in (
+      subst (Remaining (held (m .n) (m .count) (m .radius) (m .keys) (m .coefficients)) (s .args .t2)
+          (turn x .loop .i + 1)) (sym (d .copied .ensures _ _)) (goes-on p (v .enum-told .given .1)),
       copied-room d,
       left-room p,
       others-room p,
       spare-room p,
     )
 
-slice-aggregate-taken : tie.Need-slice-aggregate-taken Inv-loop μ-loop
-slice-aggregate-taken c = search needs
-
-slice-aggregate-taken-2 : tie.Need-slice-aggregate-taken-2 Inv-loop μ-loop
-slice-aggregate-taken-2 c = search needs
-
-taken-requires : tie.Need-taken-requires Inv-loop μ-loop
-taken-requires c κs = search needs
-
 range-of-requires : tie.Need-range-of-requires Inv-loop μ-loop
 range-of-requires c κs =
-    let l = c .before .before .before .before in
-    let t = stored-first l in
-    end-sound _ _ _ _ _ (evaluation t) (long (begin t)) _ _ _ _ (l .loop .inv .0) (l .loop .inv .1) _
-    (c .taken .ensures)
+    let l = c .before in
+    let s = start l in
+    end-sound _ _ _ _ _ (evaluation s) (long s) _ _ _ _ (l .loop .inv .0) (l .loop .inv .1)
 
 returns-2 : tie.Need-returns-2 Inv-loop μ-loop
 returns-2 c =
-    let k = c .before in
-    let l = k .before .before .before .before in
-    let t = stored-first l in
-    let s = begin t in
-    unpacked-end (s .pre) (whole s) (few s) zeros-room (t .store-terms .ensures .0) (t .store-terms .ensures .1)
-    (range-end _ _ _ _ _ (evaluation t) (long s) _ _ _ _ (l .loop .inv .0) (l .loop .inv .1) _ (k .taken .ensures)
-    (omega (arith, k .before .before .before .loop-test .left)) (c .range-of .ensures))
+    let l = c .before .before in
+    let s = start l in
+    held-end (s .args .m) (first-room s) (few s) (s .args .t2)
+    (range-end _ _ _ _ _ (evaluation s) (long s) _ _ _ _ (l .loop .inv .0) (l .loop .inv .1)
+    (omega (arith, c .before .loop-test .left)) (c .range-of .ensures))
 
 pub evaluated-spec : {M : Type 1} → statement M
 evaluated-spec =
@@ -328,9 +281,6 @@ evaluated-spec =
     (tie.spec
     Inv-loop
     μ-loop
-    slice-aggregate-store-terms
-    slice-aggregate-store-terms-2
-    store-terms-requires
     loop-holds
     sub-x
     cast-x
@@ -356,8 +306,5 @@ evaluated-spec =
     add-i
     loop-less
     loop-again
-    slice-aggregate-taken
-    slice-aggregate-taken-2
-    taken-requires
     range-of-requires
     returns-2)

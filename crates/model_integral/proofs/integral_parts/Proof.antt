@@ -6,7 +6,7 @@ use native.Mathlib.Omega.{arith}
 use borrow.Author.Needs.{needs}
 use lib.Dec.{T}
 use lib.IntN.{pos, _+ℤ_, _*ℤ_}
-use lib.ListN.{length, getD, length-map}
+use lib.ListN.{length, getD}
 use mir.Facts.{toZ-ofZ}
 use mir.Syntax.{w64}
 use mir.Val.{toZ, ofZ}
@@ -18,11 +18,13 @@ use Rattle.calculus_laws.specs.SumLaws.{ℤ-addition}
 use Rattle.calculus.specs.Model.{most-terms, most-degree}
 use Rattle.calculus.specs.Operations.{integral-parts, common-denominator}
 use Rattle.model_types.specs.declared.Term.{Term}
-use Rattle.model_types.specs.ModelStruct.{zero-term, view, view-term}
+use Rattle.model_types.specs.ModelStruct.{zero-term, view, view-term, listed}
 use Rattle.model_types.specs.ModelStructLaws.{read, term-at, Limits, limits, key-fits-at, Summed, summed-first}
 use Rattle.model_types.specs.ModelStructLaws.{summed-end}
 use Rattle.model_types.specs.ModelStructLaws.{summed-more, summed-same}
 use Rattle.model_types.specs.ModelStructLaws.{sum-room, within-span, read-within-span}
+use Rattle.model_types.specs.PairedLaws.{length-paired, key-at, coefficient-at}
+use Rattle.model_keys.specs.Keys.{key-even, key-divisor}
 use Rattle.model_keys.specs.KeyIntegralLaws.{even-monomial, divisor-monomial}
 use Rattle.model_integral.specs.IntegralParts.{most-parts}
 use Rattle.model_integral.specs.IntegralPartsLaws.{parts-fit, volume-le, term-parts, terms-within, scaled-within}
@@ -37,8 +39,17 @@ abbrev μ-loop : tie.MeasureT-loop
 μ-loop m count scale total₀ i₀ total i = count - i
 
 module _ (c : tie.Start Inv-loop μ-loop) where
-  whole : length (c .args .t1 .terms) ≡ 64
-  whole = simp length-map at (c .good .0 .1 .1 .1 .1 .1 .0 .1 .0 .1)
+  keys-whole : length (c .args .t1 .keys) ≡ 64
+  keys-whole = search needs
+
+  coefficients-whole : length (c .args .t1 .coefficients) ≡ 64
+  coefficients-whole = search needs
+
+  even : length (c .args .t1 .keys) ≡ length (c .args .t1 .coefficients)
+  even = keys-whole ∙ sym coefficients-whole
+
+  whole : length (listed (c .args .t1)) ≡ 64
+  whole = length-paired _ _ even ∙ keys-whole
 
   known : Limits (c .args .t1)
   known = limits _ _ (c .pre .0)
@@ -47,7 +58,7 @@ module _ (c : tie.Start Inv-loop μ-loop) where
   unfolding most-terms
   few = known .few
 
-  long : c .args .t1 .count ≤ length (c .args .t1 .terms)
+  long : c .args .t1 .count ≤ length (listed (c .args .t1))
   long = omega (arith, few, whole)
 
 volume-requires : tie.Need-volume-requires Inv-loop μ-loop
@@ -56,42 +67,52 @@ volume-requires c κs = (known c .some, known c .width)
 loop-holds : tie.Need-loop-holds Inv-loop μ-loop
 loop-holds c = summed-first ℤ-addition _ _ _ (long (c .before))
 
-mul-t : tie.Need-mul-t Inv-loop μ-loop
-mul-t c = omega (arith, few (c .before .before .before))
+mul-key : tie.Need-mul-key Inv-loop μ-loop
+mul-key c = omega (arith, few (c .before .before .before))
 
-element-copy-out-t : tie.Need-element-copy-out-t Inv-loop μ-loop
-element-copy-out-t c = omega (arith, few (c .before .before .before))
+element-copy-out-key : tie.Need-element-copy-out-key Inv-loop μ-loop
+element-copy-out-key c = omega (arith, few (c .before .before .before))
+
+mul-c : tie.Need-mul-c Inv-loop μ-loop
+mul-c c = omega (arith, few (c .before .before .before .before))
+
+element-copy-out-c : tie.Need-element-copy-out-c Inv-loop μ-loop
+element-copy-out-c c = omega (arith, few (c .before .before .before .before))
 
 -- the term at hand
-module _ (c : tie.After-t Inv-loop μ-loop) where
+module _ (c : tie.After-c Inv-loop μ-loop) where
   abbrev place : tie.At-loop Inv-loop μ-loop
-  place = c .before .before
+  place = c .before .before .before
 
   abbrev start : tie.Start Inv-loop μ-loop
   start = place .before .before
 
   abbrev at : Term
-  at = getD (start .args .t1 .terms) (place .loop .i) zero-term
+  at = getD (listed (start .args .t1)) (place .loop .i) zero-term
 
   fits-at : T (key-fits key-width (start .args .t1 .n) (at .key))
-  fits-at = key-fits-at most-degree _ _ (omega arith) (start .pre .0) (long start) (c .before .loop-test .taken)
+  fits-at = key-fits-at most-degree _ _ (omega arith) (start .pre .0) (long start) (c .before .before .loop-test .taken)
+
+  key-is : getD (start .args .t1 .keys) (place .loop .i) 0 ≡ at .key
+  key-is = sym (key-at _ _ (place .loop .i) (even start))
+
+  read-back : toZ w64 (ofZ w64 (getD (start .args .t1 .coefficients) (place .loop .i) (pos 0))) ≡ at .coefficient
+  read-back = toZ-ofZ (record { sfits = c .c .given }) ∙ sym (coefficient-at _ _ (place .loop .i) (even start))
 
 tested : (c : tie.After-all-even Inv-loop μ-loop)
     → all-even (start (c .before) .args .t1 .n)
     (term-at (start (c .before) .args .t1 .n) (place (c .before) .loop .i)
-    (start (c .before) .args .t1 .terms) .exponents)
+    (listed (start (c .before) .args .t1)) .exponents)
     ≡ c .all-even .result
 unfolding view-term
 tested c =
     let t = c .before in
-    even-monomial (start t .args .t1 .n) (at t .key) (known (start t) .width) (fits-at t) ∙ sym (c .all-even .ensures)
+    even-monomial (start t .args .t1 .n) (at t .key) (known (start t) .width) (fits-at t)
+    ∙ sym (c .all-even .ensures ∙ ap key-even (key-is t))
 
-module _ (c : tie.After-struct-told Inv-loop μ-loop) where
-  abbrev read-place : tie.After-t Inv-loop μ-loop
-  read-place = c .before .before .before
-
-  read-back : toZ w64 (ofZ w64 (at read-place .coefficient)) ≡ at read-place .coefficient
-  read-back = toZ-ofZ (record { sfits = c .struct-told .given .1 .0 .1 })
+module _ (c : tie.Then1 Inv-loop μ-loop) where
+  abbrev read-place : tie.After-c Inv-loop μ-loop
+  read-place = c .before .before
 
 add-i : tie.Need-add-i Inv-loop μ-loop
 add-i c = omega (arith, few (start c))
@@ -109,12 +130,13 @@ parts-requires c κs =
     let t = read-place c in
     let s = start t in (
       omega (arith, scaled (place t .before), volume-le _ (s .pre .1)),
-      rw (read-back c)
+      rw (read-back t)
           (omega (
             arith,
             parts-fit,
             NatL.mul-le-mul-right (16 * common-denominator)
-                (NatL.le-trans (within-span (s .args .t1) (place t .loop .i) (long s) (t .before .loop-test .taken))
+                (NatL.le-trans
+                (within-span (s .args .t1) (place t .loop .i) (long s) (t .before .before .loop-test .taken))
                 (known s .small)),
           )),
     )
@@ -123,16 +145,17 @@ shared : (c : tie.After-parts Inv-loop μ-loop)
     → toZ w64 (ofZ w64 (c .parts .result))
     ≡ term-parts (start (read-place (c .before)) .args .t1 .n)
     (term-at (start (read-place (c .before)) .args .t1 .n) (place (read-place (c .before)) .loop .i)
-    (start (read-place (c .before)) .args .t1 .terms) .exponents)
+    (listed (start (read-place (c .before)) .args .t1)) .exponents)
     (at (read-place (c .before)) .coefficient)
 unfolding view-term
 shared c =
     let t = read-place (c .before) in
     answered (c .parts .ok)
     (c .parts .ensures
-    ∙ ap₂ (λ z w. z *ℤ pos w) (read-back (c .before))
+    ∙ ap₂ (λ z w. z *ℤ pos w) (read-back t)
     (ap₂ (λ s v. s * (common-denominator / v)) (scaled (place t .before))
-    (sym (divisor-monomial (start t .args .t1 .n) (at t .key) (known (start t) .width) (fits-at t)))))
+    (ap key-divisor (key-is t)
+    ∙ sym (divisor-monomial (start t .args .t1 .n) (at t .key) (known (start t) .width) (fits-at t)))))
 
 sum-requires : tie.Need-sum-requires Inv-loop μ-loop
 unfolding view-term
@@ -144,10 +167,10 @@ sum-requires c κs =
     (omega (
       arith,
       parts-fit,
-      sum-room (λ k c. all-even (m .n) k) (term-parts (m .n)) (m .n) (place t .loop .i) (m .count) (m .terms)
-          (t .before .loop-test .taken) (omega (arith, long s)),
-      terms-within (m .n) (read (m .n) (m .count) (m .terms)),
-      scaled-within (m .n) (size (read (m .n) (m .count) (m .terms))) (s .pre .1)
+      sum-room (λ k c. all-even (m .n) k) (term-parts (m .n)) (m .n) (place t .loop .i) (m .count) (listed m)
+          (t .before .before .loop-test .taken) (omega (arith, long s)),
+      terms-within (m .n) (read (m .n) (m .count) (listed m)),
+      scaled-within (m .n) (size (read (m .n) (m .count) (listed m))) (s .pre .1)
           (omega (arith, known s .small, read-within-span m (m .count) (long s) (omega arith))),
     ))
 
@@ -158,8 +181,8 @@ loop-again : tie.Need-loop-again Inv-loop μ-loop
 unfolding view-term
 loop-again c =
     let t = read-place (c .before .before) in
-    summed-more ℤ-addition _ _ _ (long (start t)) _ _ (place t .loop .inv) (t .before .loop-test .taken)
-    (tested (c .before .before .before .before) ∙ c .before .before .before .if1 .taken) _
+    summed-more ℤ-addition _ _ _ (long (start t)) _ _ (place t .loop .inv) (t .before .before .loop-test .taken)
+    (tested (c .before .before .before) ∙ c .before .before .if1 .taken) _
     (answered (c .sum .ok) (c .sum .ensures ∙ ap (λ z. toZ w64 (place t .loop .total) +ℤ z) (shared (c .before))))
 
 loop-less-2 : tie.Need-loop-less-2 Inv-loop μ-loop
@@ -168,7 +191,7 @@ loop-less-2 c = omega arith
 loop-again-2 : tie.Need-loop-again-2 Inv-loop μ-loop
 loop-again-2 c =
     let t = c .before .before in
-    summed-same ℤ-addition _ _ _ (long (start t)) _ _ (place t .loop .inv) (t .before .loop-test .taken)
+    summed-same ℤ-addition _ _ _ (long (start t)) _ _ (place t .loop .inv) (t .before .before .loop-test .taken)
     (tested (c .before) ∙ c .if1 .left)
 
 returns : tie.Need-returns Inv-loop μ-loop
@@ -185,8 +208,10 @@ integral-parts-spec =
     μ-loop
     volume-requires
     loop-holds
-    mul-t
-    element-copy-out-t
+    mul-key
+    element-copy-out-key
+    mul-c
+    element-copy-out-c
     add-i
     all-even-requires
     parts-requires

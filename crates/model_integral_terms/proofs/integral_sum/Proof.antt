@@ -5,7 +5,7 @@ use native.Mathlib.Omega.{arith}
 use borrow.Author.Needs.{needs}
 use lib.Dec.{T}
 use lib.IntN.{pos, _+ℤ_, _*ℤ_}
-use lib.ListN.{length, getD, length-map}
+use lib.ListN.{length, getD}
 use mir.Facts.{toZ-ofZ}
 use mir.Syntax.{w64}
 use mir.Val.{toZ, ofZ}
@@ -17,12 +17,14 @@ use Rattle.calculus_laws.specs.SumLaws.{ℤ-addition}
 use Rattle.calculus.specs.Model.{most-terms, most-degree}
 use Rattle.calculus.specs.Operations.{integral-sum}
 use Rattle.model_types.specs.declared.Term.{Term}
-use Rattle.model_types.specs.ModelStruct.{zero-term, view, view-term}
+use Rattle.model_types.specs.ModelStruct.{zero-term, view, view-term, listed}
 use Rattle.model_types.specs.ModelStructLaws.{read, term-at, Limits, limits, key-fits-at, Summed, summed-first}
 use Rattle.model_types.specs.ModelStructLaws.{summed-end}
 use Rattle.model_types.specs.ModelStructLaws.{summed-more, summed-same}
 use Rattle.model_types.specs.ModelStructLaws.{sum-room, within-span, read-within-span}
+use Rattle.model_types.specs.PairedLaws.{length-paired, key-at, coefficient-at}
 use Rattle.model_integral_terms.specs.Rounding.{rule}
+use Rattle.model_keys.specs.Keys.{key-even, key-divisor}
 use Rattle.model_keys.specs.KeyIntegralLaws.{even-monomial, divisor-monomial}
 use Rattle.model_integral_terms.specs.IntegralSizeLaws.{share, shares-within}
 use Rattle.model_integral_terms.specs.IntegralSizeLaws.{volume-le, scaled-fits}
@@ -37,8 +39,17 @@ abbrev μ-loop : tie.MeasureT-loop
 μ-loop up m count scale total₀ i₀ total i = count - i
 
 module _ (c : tie.Start Inv-loop μ-loop) where
-  whole : length (c .args .t2 .terms) ≡ 64
-  whole = simp length-map at (c .good .1 .0 .1 .1 .1 .1 .1 .0 .1 .0 .1)
+  keys-whole : length (c .args .t2 .keys) ≡ 64
+  keys-whole = search needs
+
+  coefficients-whole : length (c .args .t2 .coefficients) ≡ 64
+  coefficients-whole = search needs
+
+  even : length (c .args .t2 .keys) ≡ length (c .args .t2 .coefficients)
+  even = keys-whole ∙ sym coefficients-whole
+
+  whole : length (listed (c .args .t2)) ≡ 64
+  whole = length-paired _ _ even ∙ keys-whole
 
   known : Limits (c .args .t2)
   known = limits _ _ (c .pre)
@@ -47,7 +58,7 @@ module _ (c : tie.Start Inv-loop μ-loop) where
   unfolding most-terms
   few = known .few
 
-  long : c .args .t2 .count ≤ length (c .args .t2 .terms)
+  long : c .args .t2 .count ≤ length (listed (c .args .t2))
   long = omega (arith, few, whole)
 
 -- the volume of the box
@@ -64,42 +75,52 @@ signed-requires c κs = omega (arith, c .volume .ensures, volume-le _ (known (c 
 loop-holds : tie.Need-loop-holds Inv-loop μ-loop
 loop-holds c = summed-first ℤ-addition _ _ _ (long (c .before .before))
 
-mul-t : tie.Need-mul-t Inv-loop μ-loop
-mul-t c = omega (arith, few (c .before .before .before .before))
+mul-key : tie.Need-mul-key Inv-loop μ-loop
+mul-key c = omega (arith, few (c .before .before .before .before))
 
-element-copy-out-t : tie.Need-element-copy-out-t Inv-loop μ-loop
-element-copy-out-t c = omega (arith, few (c .before .before .before .before))
+element-copy-out-key : tie.Need-element-copy-out-key Inv-loop μ-loop
+element-copy-out-key c = omega (arith, few (c .before .before .before .before))
+
+mul-c : tie.Need-mul-c Inv-loop μ-loop
+mul-c c = omega (arith, few (c .before .before .before .before .before))
+
+element-copy-out-c : tie.Need-element-copy-out-c Inv-loop μ-loop
+element-copy-out-c c = omega (arith, few (c .before .before .before .before .before))
 
 -- the term at hand
-module _ (c : tie.After-t Inv-loop μ-loop) where
+module _ (c : tie.After-c Inv-loop μ-loop) where
   abbrev place : tie.At-loop Inv-loop μ-loop
-  place = c .before .before
+  place = c .before .before .before
 
   abbrev start : tie.Start Inv-loop μ-loop
   start = place .before .before .before
 
   abbrev at : Term
-  at = getD (start .args .t2 .terms) (place .loop .i) zero-term
+  at = getD (listed (start .args .t2)) (place .loop .i) zero-term
 
   fits-at : T (key-fits key-width (start .args .t2 .n) (at .key))
-  fits-at = key-fits-at most-degree _ _ (omega arith) (start .pre) (long start) (c .before .loop-test .taken)
+  fits-at = key-fits-at most-degree _ _ (omega arith) (start .pre) (long start) (c .before .before .loop-test .taken)
+
+  key-is : getD (start .args .t2 .keys) (place .loop .i) 0 ≡ at .key
+  key-is = sym (key-at _ _ (place .loop .i) (even start))
+
+  read-back : toZ w64 (ofZ w64 (getD (start .args .t2 .coefficients) (place .loop .i) (pos 0))) ≡ at .coefficient
+  read-back = toZ-ofZ (record { sfits = c .c .given }) ∙ sym (coefficient-at _ _ (place .loop .i) (even start))
 
 tested : (c : tie.After-all-even Inv-loop μ-loop)
     → all-even (start (c .before) .args .t2 .n)
     (term-at (start (c .before) .args .t2 .n) (place (c .before) .loop .i)
-    (start (c .before) .args .t2 .terms) .exponents)
+    (listed (start (c .before) .args .t2)) .exponents)
     ≡ c .all-even .result
 unfolding view-term
 tested c =
     let t = c .before in
-    even-monomial (start t .args .t2 .n) (at t .key) (known (start t) .width) (fits-at t) ∙ sym (c .all-even .ensures)
+    even-monomial (start t .args .t2 .n) (at t .key) (known (start t) .width) (fits-at t)
+    ∙ sym (c .all-even .ensures ∙ ap key-even (key-is t))
 
-module _ (c : tie.After-struct-told Inv-loop μ-loop) where
-  abbrev read-place : tie.After-t Inv-loop μ-loop
-  read-place = c .before .before .before
-
-  read-back : toZ w64 (ofZ w64 (at read-place .coefficient)) ≡ at read-place .coefficient
-  read-back = toZ-ofZ (record { sfits = c .struct-told .given .1 .0 .1 })
+module _ (c : tie.Then1 Inv-loop μ-loop) where
+  abbrev read-place : tie.After-c Inv-loop μ-loop
+  read-place = c .before .before
 
 add-i : tie.Need-add-i Inv-loop μ-loop
 add-i c = omega (arith, few (start c))
@@ -111,28 +132,29 @@ share-requires : tie.Need-share-requires Inv-loop μ-loop
 share-requires c κs =
     let t = read-place c in
     let s = start t in
-    rw (read-back c, scaled (place t .before))
+    rw (read-back t, scaled (place t .before))
     (scaled-fits _ _ (known s .width)
     (omega (
       arith,
       known s .small,
       within-span (s .args .t2) (place t .loop .i) (long s)
-          (t .before .loop-test .taken),
+          (t .before .before .loop-test .taken),
     )))
 
 shared : (c : tie.After-share Inv-loop μ-loop)
     → toZ w64 (ofZ w64 (c .share .result))
     ≡ share (start (read-place (c .before)) .args .up) (start (read-place (c .before)) .args .t2 .n)
     (term-at (start (read-place (c .before)) .args .t2 .n) (place (read-place (c .before)) .loop .i)
-    (start (read-place (c .before)) .args .t2 .terms) .exponents)
+    (listed (start (read-place (c .before)) .args .t2)) .exponents)
     (at (read-place (c .before)) .coefficient)
 unfolding view-term
 shared c =
     let t = read-place (c .before) in
     answered (c .share .ok)
     (c .share .ensures
-    ∙ ap₂ (rule (start t .args .up)) (ap₂ _*ℤ_ (read-back (c .before)) (scaled (place t .before)))
-    (sym (divisor-monomial (start t .args .t2 .n) (at t .key) (known (start t) .width) (fits-at t))))
+    ∙ ap₂ (rule (start t .args .up)) (ap₂ _*ℤ_ (read-back t) (scaled (place t .before)))
+    (ap key-divisor (key-is t)
+    ∙ sym (divisor-monomial (start t .args .t2 .n) (at t .key) (known (start t) .width) (fits-at t))))
 
 sum-requires : tie.Need-sum-requires Inv-loop μ-loop
 unfolding view-term
@@ -144,10 +166,10 @@ sum-requires c κs =
     (omega (
       arith,
       known s .small,
-      sum-room (λ k c. all-even (m .n) k) (share (s .args .up) (m .n)) (m .n) (place t .loop .i) (m .count) (m .terms)
-          (t .before .loop-test .taken) (omega (arith, long s)),
-      shares-within (s .args .up) (m .n) (read (m .n) (m .count) (m .terms)),
-      scaled-fits (m .n) (size (read (m .n) (m .count) (m .terms))) (known s .width)
+      sum-room (λ k c. all-even (m .n) k) (share (s .args .up) (m .n)) (m .n) (place t .loop .i) (m .count) (listed m)
+          (t .before .before .loop-test .taken) (omega (arith, long s)),
+      shares-within (s .args .up) (m .n) (read (m .n) (m .count) (listed m)),
+      scaled-fits (m .n) (size (read (m .n) (m .count) (listed m))) (known s .width)
           (omega (arith, known s .small, read-within-span m (m .count) (long s) (omega arith))),
     ))
 
@@ -158,8 +180,8 @@ loop-again : tie.Need-loop-again Inv-loop μ-loop
 unfolding view-term
 loop-again c =
     let t = read-place (c .before .before) in
-    summed-more ℤ-addition _ _ _ (long (start t)) _ _ (place t .loop .inv) (t .before .loop-test .taken)
-    (tested (c .before .before .before .before) ∙ c .before .before .before .if1 .taken) _
+    summed-more ℤ-addition _ _ _ (long (start t)) _ _ (place t .loop .inv) (t .before .before .loop-test .taken)
+    (tested (c .before .before .before) ∙ c .before .before .if1 .taken) _
     (answered (c .sum .ok) (c .sum .ensures ∙ ap (λ z. toZ w64 (place t .loop .total) +ℤ z) (shared (c .before))))
 
 loop-less-2 : tie.Need-loop-less-2 Inv-loop μ-loop
@@ -168,7 +190,7 @@ loop-less-2 c = omega arith
 loop-again-2 : tie.Need-loop-again-2 Inv-loop μ-loop
 loop-again-2 c =
     let t = c .before .before in
-    summed-same ℤ-addition _ _ _ (long (start t)) _ _ (place t .loop .inv) (t .before .loop-test .taken)
+    summed-same ℤ-addition _ _ _ (long (start t)) _ _ (place t .loop .inv) (t .before .before .loop-test .taken)
     (tested (c .before) ∙ c .if1 .left)
 
 returns : tie.Need-returns Inv-loop μ-loop
@@ -186,8 +208,10 @@ integral-sum-spec =
     volume-requires
     signed-requires
     loop-holds
-    mul-t
-    element-copy-out-t
+    mul-key
+    element-copy-out-key
+    mul-c
+    element-copy-out-c
     add-i
     all-even-requires
     share-requires

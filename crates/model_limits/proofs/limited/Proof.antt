@@ -4,14 +4,15 @@ use Prim.Native.Nat.{_+_, _-_, _≤_}
 use native.Mathlib.Omega.{arith}
 use borrow.Author.Needs.{needs}
 use lib.Dec.{leb}
-use lib.IntN.{natAbs}
-use lib.ListN.{length, getD, length-map}
+use lib.IntN.{pos, natAbs}
+use lib.ListN.{length, getD}
 use mir.Facts.{toZ-ofZ}
 use mir.Syntax.{w64}
 use mir.Val.{toZ, ofZ}
 use Rattle.numbers.specs.Fixed.{capped, span-limit}
 use Rattle.calculus.specs.Model.{most-terms, span}
-use Rattle.model_types.specs.ModelStruct.{zero-term, view, cause}
+use Rattle.model_types.specs.ModelStruct.{zero-term, view, cause, listed}
+use Rattle.model_types.specs.PairedLaws.{length-paired, coefficient-at}
 use Rattle.model_limits.specs.LimitLaws.{Summed, summed-first, summed-turn, summed-end, answer-within}
 use Rattle.model_limits.specs.LimitLaws.{answer-over}
 use Rattle.model_limits.proofs.limited.Statement.{statement}
@@ -23,15 +24,32 @@ Inv-loop m count span₀ i₀ span i = Summed m span i
 abbrev μ-loop : tie.MeasureT-loop
 μ-loop m count span₀ i₀ span i = count - i
 
-whole : (c : tie.Start Inv-loop μ-loop) → c .args .t1 .count ≤ length (c .args .t1 .terms)
-unfolding most-terms
-whole c = omega (arith, c .pre .few, simp length-map at (c .good .0 .1 .1 .1 .1 .1 .0 .1 .0 .1))
+module _ (c : tie.Start Inv-loop μ-loop) where
+  keys-whole : length (c .args .t1 .keys) ≡ 64
+  keys-whole = search needs
+
+  coefficients-whole : length (c .args .t1 .coefficients) ≡ 64
+  coefficients-whole = search needs
+
+  even : length (c .args .t1 .keys) ≡ length (c .args .t1 .coefficients)
+  even = keys-whole ∙ sym coefficients-whole
+
+  long : length (listed (c .args .t1)) ≡ 64
+  long = length-paired _ _ even ∙ keys-whole
+
+  whole : c .args .t1 .count ≤ length (listed (c .args .t1))
+  unfolding most-terms
+  whole = omega (arith, c .pre .few, long)
 
 -- the coefficient at hand
-read-back : (c : tie.After-struct-told Inv-loop μ-loop)
-    → let l = c .before .before .before in
-    let z = getD (l .before .args .t1 .terms) (l .loop .i) zero-term .coefficient in toZ w64 (ofZ w64 z) ≡ z
-read-back c = toZ-ofZ (record { sfits = c .struct-told .given .1 .0 .1 })
+read-back : (c : tie.After-c Inv-loop μ-loop)
+    → let l = c .before .before in
+    let m = l .before .args .t1 in
+    toZ w64 (ofZ w64 (getD (m .coefficients) (l .loop .i) (pos 0)))
+    ≡ getD (listed m) (l .loop .i) zero-term .coefficient
+read-back c =
+    let l = c .before .before in
+    toZ-ofZ (record { sfits = c .c .given }) ∙ sym (coefficient-at _ _ (l .loop .i) (even (l .before)))
 
 -- the span's test
 tested : (c : tie.After-within-span Inv-loop μ-loop)
@@ -43,13 +61,13 @@ tested c =
 loop-holds : tie.Need-loop-holds Inv-loop μ-loop
 loop-holds c = summed-first _ (whole c)
 
-mul-t : tie.Need-mul-t Inv-loop μ-loop
+mul-c : tie.Need-mul-c Inv-loop μ-loop
 unfolding most-terms
-mul-t c = omega arith
+mul-c c = omega arith
 
-element-copy-out-t : tie.Need-element-copy-out-t Inv-loop μ-loop
+element-copy-out-c : tie.Need-element-copy-out-c Inv-loop μ-loop
 unfolding most-terms
-element-copy-out-t c = omega arith
+element-copy-out-c c = omega arith
 
 magnitude-requires : tie.Need-magnitude-requires Inv-loop μ-loop
 magnitude-requires c κs = search needs
@@ -66,8 +84,8 @@ loop-less c = omega arith
 loop-again : tie.Need-loop-again Inv-loop μ-loop
 loop-again c =
     let t = c .before .before in
-    let l = t .before .before .before in
-    summed-turn _ (whole (l .before)) _ _ _ (l .loop .inv) (t .before .before .loop-test .taken)
+    let l = t .before .before in
+    summed-turn _ (whole (l .before)) _ _ _ (l .loop .inv) (t .before .loop-test .taken)
     (c .capped-sum .ensures
     ∙ ap (λ x. capped (l .loop .span + x)) (c .before .magnitude .ensures ∙ ap natAbs (read-back t)))
 
@@ -94,8 +112,8 @@ limited-spec =
     Inv-loop
     μ-loop
     loop-holds
-    mul-t
-    element-copy-out-t
+    mul-c
+    element-copy-out-c
     magnitude-requires
     capped-sum-requires
     add-i

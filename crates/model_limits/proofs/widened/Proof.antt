@@ -13,12 +13,12 @@ capped-sum-requires : tie.Need-capped-sum-requires
 capped-sum-requires c κs = search needs
 
 limited-requires : tie.Need-limited-requires
-limited-requires c κs = packed-radius _ _ (c .before .before .pre)
+limited-requires c κs = packed-radius _ _ (c .before .before .before .pre)
 
 returns : tie.Need-returns
 unfolding widen view
 returns c =
-    let s = c .before .before .before in
+    let s = c .before .before .before .before in
     let m = view (s .args .m) in
     c .limited .ensures
     ∙ ap (λ r. answer (at-place 0 r))

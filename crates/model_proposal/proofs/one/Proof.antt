@@ -9,7 +9,7 @@ use Rattle.model_proposal.proofs.one.Tie as tie
 
 returns : tie.Need-returns
 unfolding numbers one-model most-terms pack pack-term padded
-returns c = rw (zeros-key (c .args .n) (c .pre))
+returns c = rw (zeros-key (c .before .args .n) (c .before .pre))
 
 pub one-spec : {M : Type 1} → statement M
 one-spec = tie.close (tie.spec returns)

@@ -1,10 +1,10 @@
 -- `range_of` counts the terms in one walk; all its sums are within the span.
-use mathlib.Core.Path.{_≡_, _∙_, ap, ap₂}
+use mathlib.Core.Path.{_≡_, sym, _∙_, ap, ap₂}
 use Prim.Native.Nat.{_+_, _-_, _^_, _≤_, _<_}
 use native.Mathlib.Omega.{arith}
 use borrow.Author.Needs.{needs}
 use lib.IntN.{pos, natAbs, _+ℤ_, _-ℤ_}
-use lib.ListN.{length, getD, length-map}
+use lib.ListN.{length, getD}
 use mir.Facts.{toZ-ofZ}
 use mir.Syntax.{w64}
 use mir.Val.{toZ, ofZ}
@@ -13,8 +13,9 @@ use Rattle.fixed.specs.MachineLaws.{answered}
 use Rattle.calculus.specs.Model.{Model, most-terms}
 use Rattle.calculus.specs.Operations.{constant-part, below, above, range}
 use Rattle.model_types.specs.declared.Term.{Term}
-use Rattle.model_types.specs.ModelStruct.{zero-term, view, bounds}
+use Rattle.model_types.specs.ModelStruct.{zero-term, view, bounds, listed}
 use Rattle.model_types.specs.ModelStructLaws.{Limits, limits}
+use Rattle.model_types.specs.PairedLaws.{length-paired, key-at, coefficient-at}
 use Rattle.model_range.specs.KeyRange.{key-steady, key-fall, key-rise}
 use Rattle.model_range.specs.RangeSizeLaws.{below-within, above-within}
 use Rattle.model_range.specs.RangeLoopLaws.{Counted, counted-first, counted-turn}
@@ -30,8 +31,17 @@ abbrev μ-loop : tie.MeasureT-loop
 μ-loop m count middle₀ below₀ above₀ i₀ middle below above i = count - i
 
 module _ (c : tie.Start Inv-loop μ-loop) where
-  whole : length (c .args .t1 .terms) ≡ 64
-  whole = simp length-map at (c .good .0 .1 .1 .1 .1 .1 .0 .1 .0 .1)
+  keys-whole : length (c .args .t1 .keys) ≡ 64
+  keys-whole = search needs
+
+  coefficients-whole : length (c .args .t1 .coefficients) ≡ 64
+  coefficients-whole = search needs
+
+  even : length (c .args .t1 .keys) ≡ length (c .args .t1 .coefficients)
+  even = keys-whole ∙ sym coefficients-whole
+
+  whole : length (listed (c .args .t1)) ≡ 64
+  whole = length-paired _ _ even ∙ keys-whole
 
   known : Limits (c .args .t1)
   known = limits _ _ (c .pre)
@@ -40,60 +50,75 @@ module _ (c : tie.Start Inv-loop μ-loop) where
   unfolding most-terms
   few = known .few
 
-  long : c .args .t1 .count ≤ length (c .args .t1 .terms)
+  long : c .args .t1 .count ≤ length (listed (c .args .t1))
   long = omega (arith, few, whole)
 
 loop-holds : tie.Need-loop-holds Inv-loop μ-loop
 loop-holds c = counted-first _ (c .pre) (long c)
 
-mul-t : tie.Need-mul-t Inv-loop μ-loop
-mul-t c = omega (arith, few (c .before .before))
+mul-key : tie.Need-mul-key Inv-loop μ-loop
+mul-key c = omega (arith, few (c .before .before))
 
-element-copy-out-t : tie.Need-element-copy-out-t Inv-loop μ-loop
-element-copy-out-t c = omega (arith, few (c .before .before))
+element-copy-out-key : tie.Need-element-copy-out-key Inv-loop μ-loop
+element-copy-out-key c = omega (arith, few (c .before .before))
 
-add-i : tie.Need-add-i Inv-loop μ-loop
-add-i c = omega (arith, few (c .before .before .before))
+mul-c : tie.Need-mul-c Inv-loop μ-loop
+mul-c c = omega (arith, few (c .before .before .before))
 
--- ---- one turn: what the three functions give of the term at hand
-module _ (c : tie.After-steady Inv-loop μ-loop) where
+element-copy-out-c : tie.Need-element-copy-out-c Inv-loop μ-loop
+element-copy-out-c c = omega (arith, few (c .before .before .before))
+
+-- ---- one turn: the term at hand
+module _ (c : tie.After-c Inv-loop μ-loop) where
   abbrev place : tie.At-loop Inv-loop μ-loop
-  place = c .before .before .before .before
+  place = c .before .before .before
 
   abbrev start : tie.Start Inv-loop μ-loop
   start = place .before
 
   abbrev at : Term
-  at = getD (start .args .t1 .terms) (place .loop .i) zero-term
+  at = getD (listed (start .args .t1)) (place .loop .i) zero-term
 
   inside : place .loop .i < start .args .t1 .count
-  inside = c .before .before .before .loop-test .taken
+  inside = c .before .before .loop-test .taken
 
-  read-back : toZ w64 (ofZ w64 (at .coefficient)) ≡ at .coefficient
-  read-back = toZ-ofZ (record { sfits = c .before .struct-told .given .1 .0 .1 })
+  key-is : getD (start .args .t1 .keys) (place .loop .i) 0 ≡ at .key
+  key-is = sym (key-at _ _ (place .loop .i) (even start))
 
-  steady-is : toZ w64 (ofZ w64 (c .steady .result)) ≡ key-steady (at .key) (at .coefficient)
-  steady-is = answered (c .steady .ok) (c .steady .ensures ∙ ap (key-steady (at .key)) read-back)
+  read-back : toZ w64 (ofZ w64 (getD (start .args .t1 .coefficients) (place .loop .i) (pos 0))) ≡ at .coefficient
+  read-back = toZ-ofZ (record { sfits = c .c .given }) ∙ sym (coefficient-at _ _ (place .loop .i) (even start))
+
+add-i : tie.Need-add-i Inv-loop μ-loop
+add-i c = omega (arith, few (start c))
+
+-- what the three functions give of it
+steady-is : (c : tie.After-steady Inv-loop μ-loop)
+    → toZ w64 (ofZ w64 (c .steady .result)) ≡ key-steady (at (c .before) .key) (at (c .before) .coefficient)
+steady-is c =
+    answered (c .steady .ok) (c .steady .ensures ∙ ap₂ key-steady (key-is (c .before)) (read-back (c .before)))
 
 fall-is : (c : tie.After-fall Inv-loop μ-loop) → c .fall .result
     ≡ key-fall (at (c .before .before .before) .key) (at (c .before .before .before) .coefficient)
-fall-is c = c .fall .ensures ∙ ap (key-fall _) (read-back (c .before .before .before))
+fall-is c =
+    let t = c .before .before .before in c .fall .ensures ∙ ap₂ key-fall (key-is t) (read-back t)
 
 rise-is : (c : tie.After-rise Inv-loop μ-loop) → c .rise .result
-    ≡ key-rise (at (c .before .before .before .before .before) .key)
-    (at (c .before .before .before .before .before) .coefficient)
-rise-is c = c .rise .ensures ∙ ap (key-rise _) (read-back (c .before .before .before .before .before))
+    ≡ key-rise (at (c .before .before .before .before) .key) (at (c .before .before .before .before) .coefficient)
+rise-is c =
+    let t = c .before .before .before .before in c .rise .ensures ∙ ap₂ key-rise (key-is t) (read-back t)
 
 steady-requires : tie.Need-steady-requires Inv-loop μ-loop
 steady-requires c κs = search needs
 
 sum-requires : tie.Need-sum-requires Inv-loop μ-loop
-sum-requires c κs = rw (steady-is c) (omega (
-  arith,
-  span-fits,
-  known (start c) .small,
-  steady-room _ (start c .pre) (long (start c)) _ _ _ _ (place c .loop .inv) (inside c),
-))
+sum-requires c κs =
+    let t = c .before in
+    rw (steady-is c) (omega (
+      arith,
+      span-fits,
+      known (start t) .small,
+      steady-room _ (start t .pre) (long (start t)) _ _ _ _ (place t .loop .inv) (inside t),
+    ))
 
 fall-requires : tie.Need-fall-requires Inv-loop μ-loop
 fall-requires c κs = search needs
@@ -114,7 +139,7 @@ rise-requires c κs = search needs
 
 add-above : tie.Need-add-above Inv-loop μ-loop
 add-above c =
-    let t = c .before .before .before .before .before in
+    let t = c .before .before .before .before in
     omega (
       arith,
       span-fits,
@@ -128,11 +153,13 @@ loop-less c = omega arith
 
 loop-again : tie.Need-loop-again Inv-loop μ-loop
 loop-again c =
-    let s = c .before .before .before .before in
-    let t = s .before in
+    let f = c .before in
+    let s = f .before in
+    let t = s .before .before in
     counted-turn _ (start t .pre) (long (start t)) _ _ _ _ (place t .loop .inv) (inside t) _ _ _
-    (answered (s .sum .ok) (s .sum .ensures ∙ ap (λ z. toZ w64 (place t .loop .middle) +ℤ z) (steady-is t)))
-    (ap (λ x. place t .loop .below + x) (fall-is (c .before .before)))
+    (answered (s .sum .ok)
+    (s .sum .ensures ∙ ap (λ z. toZ w64 (place t .loop .middle) +ℤ z) (steady-is (s .before))))
+    (ap (λ x. place t .loop .below + x) (fall-is f))
     (ap (λ x. place t .loop .above + x) (rise-is c))
 
 -- ---- the ends
@@ -203,8 +230,10 @@ range-of-spec =
     Inv-loop
     μ-loop
     loop-holds
-    mul-t
-    element-copy-out-t
+    mul-key
+    element-copy-out-key
+    mul-c
+    element-copy-out-c
     add-i
     steady-requires
     sum-requires

@@ -1,5 +1,5 @@
 -- `handed` stores the terms one after the other, as far as both slices go.
-use mathlib.Core.Path.{_≡_, refl}
+use mathlib.Core.Path.{_≡_, refl, ap}
 use native.Mathlib.Omega.{arith}
 use lib.IntN.{ℤ, pos}
 use lib.ListN.{length, getD}
@@ -11,17 +11,18 @@ use borrow.Author.Needs.{needs}
 use Rattle.calculus.specs.Model.{most-terms}
 use Rattle.model_types.specs.Arrays.{padded}
 use Rattle.model_types.specs.ModelStruct.{pad}
+use Rattle.model_types.specs.PairedLaws.{Listed, listed-next, listed-same, listed-struct}
 use Rattle.model_slices.specs.HandedModels.{terms-of, handed}
 use Rattle.model_slices.specs.HandedModelsLaws.{handed-more, terms-end}
 use Rattle.model_slices.proofs.handed.Statement.{statement}
 use Rattle.model_slices.proofs.handed.Tie as tie
 
 abbrev Inv-loop : tie.InvT-loop
-Inv-loop n count radius keys coefficients both places out₀ i₀ out i =
-    (i ≤ places) × (out ≡ pad (terms-of i keys coefficients))
+Inv-loop n count radius keys coefficients both places out-keys₀ out₀ i₀ out-keys out i =
+    (i ≤ places) × Listed out-keys out (pad (terms-of i keys coefficients))
 
 abbrev μ-loop : tie.MeasureT-loop
-μ-loop n count radius keys coefficients both places out₀ i₀ out i = places - i
+μ-loop n count radius keys coefficients both places out-keys₀ out₀ i₀ out-keys out i = places - i
 
 least-requires : tie.Need-least-requires Inv-loop μ-loop
 least-requires c κs = search needs
@@ -31,7 +32,7 @@ least-requires-2 c κs = search needs
 
 loop-holds : tie.Need-loop-holds Inv-loop μ-loop
 unfolding padded terms-of most-terms
-loop-holds c = (omega arith, refl)
+loop-holds c = (omega arith, record { keys-are = refl; coefficients-are = refl })
 
 mul-k : tie.Need-mul-k Inv-loop μ-loop
 mul-k c = search needs
@@ -44,6 +45,12 @@ mul-c c = search needs
 
 shared-slice-copy-out-c : tie.Need-shared-slice-copy-out-c Inv-loop μ-loop
 shared-slice-copy-out-c c = search needs
+
+mul-out-keys : tie.Need-mul-out-keys Inv-loop μ-loop
+mul-out-keys c = search needs
+
+array-write-out-keys : tie.Need-array-write-out-keys Inv-loop μ-loop
+array-write-out-keys c = search needs
 
 mul-out : tie.Need-mul-out Inv-loop μ-loop
 mul-out c = search needs
@@ -73,8 +80,10 @@ loop-again c =
     let l = c .before .before .before in
     let a = l .before .before .before .before .args in (
       omega arith,
-      rw (l .loop .inv .1, read-back c)
-          (handed-more (l .loop .i) (a .keys .now) (a .coefficients .now) (omega arith) (omega arith) (omega arith)),
+      rw (read-back c)
+          (listed-next (l .loop .inv .1) (l .loop .i) _ _
+          (handed-more (l .loop .i) (a .keys .now) (a .coefficients .now) (omega arith) (omega arith)
+          (omega arith))),
     )
 
 returns : tie.Need-returns Inv-loop μ-loop
@@ -83,7 +92,8 @@ returns c =
     let l = c .before in
     let a = l .before .before .before .before .args in
     let e : l .loop .i ≡ min 64 (min (length (a .keys .now)) (length (a .coefficients .now))) = omega arith in
-    rw (l .loop .inv .1, terms-end (l .loop .i) 64 (a .keys .now) (a .coefficients .now) e)
+    listed-struct (listed-same (l .loop .inv .1)
+    (ap pad (terms-end (l .loop .i) 64 (a .keys .now) (a .coefficients .now) e))) _ _ _
 
 pub handed-spec : {M : Type 1} → statement M
 handed-spec =
@@ -98,6 +108,8 @@ handed-spec =
     shared-slice-read-k
     mul-c
     shared-slice-copy-out-c
+    mul-out-keys
+    array-write-out-keys
     mul-out
     array-set-from-out
     add-i

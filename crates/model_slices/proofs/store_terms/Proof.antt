@@ -1,18 +1,15 @@
--- `store_terms` stores one term after the other.
+-- `store_terms` stores the key and the coefficient of one place after the other.
 use mathlib.Core.Path.{_≡_, refl, _∙_}
-use mathlib.Core.List.{map}
 use Prim.Native.Nat.{_≤_, _-_}
 use native.Mathlib.Omega.{arith}
 use borrow.Author.Needs.{needs}
-use lib.IntN.{pos}
-use lib.ListN.{length, take, getD, length-map, length-set}
+use lib.IntN.{ℤ, pos}
+use lib.ListN.{length, take, getD, length-set}
 use lib.Seq.{take-all}
 use mir.Facts.{toZ-ofZ}
 use mir.Syntax.{w64}
 use mir.Val.{toZ, ofZ}
 use Rattle.calculus.specs.Model.{most-terms}
-use Rattle.model_types.specs.declared.Term.{Term}
-use Rattle.model_types.specs.ModelStruct.{zero-term}
 use Rattle.model_slices.specs.HandedModels.{over, stored-keys, stored-coefficients}
 use Rattle.model_slices.specs.HandedModelsLaws.{stored-more}
 use Rattle.model_slices.proofs.store_terms.Statement.{statement}
@@ -21,24 +18,33 @@ use Rattle.model_slices.proofs.store_terms.Tie as tie
 abbrev Inv-loop : tie.InvT-loop
 Inv-loop keys₀ coefficients₀ m i₀ keys coefficients i =
     (i ≤ 64) × (length keys ≡ length keys₀) × (length coefficients ≡ length coefficients₀)
-    × (keys ≡ over (map (λ t. t .key) (take i (m .terms))) keys₀)
-    × (coefficients ≡ over (map (λ t. t .coefficient) (take i (m .terms))) coefficients₀)
+    × (keys ≡ over (take i (m .keys)) keys₀)
+    × (coefficients ≡ over (take i (m .coefficients)) coefficients₀)
 
 abbrev μ-loop : tie.MeasureT-loop
 μ-loop keys₀ coefficients₀ m i₀ keys coefficients i = 64 - i
 
-whole : (c : tie.Start Inv-loop μ-loop) → length (c .args .t1 .terms) ≡ 64
-whole c = simp length-map at (c .good .0 .1 .1 .1 .1 .1 .0 .1 .0 .1)
+keys-whole : (c : tie.Start Inv-loop μ-loop) → length (c .args .t1 .keys) ≡ 64
+keys-whole c = search needs
+
+coefficients-whole : (c : tie.Start Inv-loop μ-loop) → length (c .args .t1 .coefficients) ≡ 64
+coefficients-whole c = search needs
 
 loop-holds : tie.Need-loop-holds Inv-loop μ-loop
 unfolding over
 loop-holds c = (omega arith, refl, refl, refl, refl)
 
-mul-t : tie.Need-mul-t Inv-loop μ-loop
-mul-t c = search needs
+mul-k : tie.Need-mul-k Inv-loop μ-loop
+mul-k c = search needs
 
-element-copy-out-t : tie.Need-element-copy-out-t Inv-loop μ-loop
-element-copy-out-t c = search needs
+element-copy-out-k : tie.Need-element-copy-out-k Inv-loop μ-loop
+element-copy-out-k c = search needs
+
+mul-c : tie.Need-mul-c Inv-loop μ-loop
+mul-c c = search needs
+
+element-copy-out-c : tie.Need-element-copy-out-c Inv-loop μ-loop
+element-copy-out-c c = search needs
 
 mul-keys : tie.Need-mul-keys Inv-loop μ-loop
 unfolding most-terms
@@ -48,9 +54,9 @@ slice-write-keys : tie.Need-slice-write-keys Inv-loop μ-loop
 unfolding most-terms
 slice-write-keys c = search needs
 
-mul-c : tie.Need-mul-c Inv-loop μ-loop
+mul-c-2 : tie.Need-mul-c-2 Inv-loop μ-loop
 unfolding most-terms
-mul-c c = search needs
+mul-c-2 c = search needs
 
 slice-set-from-c : tie.Need-slice-set-from-c Inv-loop μ-loop
 unfolding most-terms
@@ -63,31 +69,31 @@ loop-less : tie.Need-loop-less Inv-loop μ-loop
 loop-less c = search needs
 
 -- the coefficient that is stored is the one that was read
-module _ (c : tie.After-struct-told Inv-loop μ-loop) where
+module _ (c : tie.After-c Inv-loop μ-loop) where
   abbrev loop : tie.At-loop Inv-loop μ-loop
   loop = c .before .before .before
 
-  abbrev at : Term
-  at = getD (loop .before .args .t1 .terms) (loop .loop .i) zero-term
+  abbrev at : ℤ
+  at = getD (loop .before .args .t1 .coefficients) (loop .loop .i) (pos 0)
 
-  read-back : toZ w64 (ofZ w64 (at .coefficient)) ≡ at .coefficient
-  read-back = toZ-ofZ (record { sfits = c .struct-told .given .1 .0 .1 })
+  read-back : toZ w64 (ofZ w64 at) ≡ at
+  read-back = toZ-ofZ (record { sfits = c .c .given })
 
 loop-again : tie.Need-loop-again Inv-loop μ-loop
 unfolding most-terms
 loop-again c =
     let l = loop c in
     let s = l .before in
+    let m = s .args .t1 in
     let h = l .loop .inv in
-    let i = l .loop .i in
-    let w = whole s in (
+    let i = l .loop .i in (
       omega arith,
-      length-set (l .loop .keys) i (at c .key) ∙ h .1,
+      length-set (l .loop .keys) i _ ∙ h .1,
       length-set (l .loop .coefficients) i _ ∙ h .2,
-      rw (h .3) (stored-more 0 (λ t. t .key) (s .args .t1 .terms) (s .args .keys .now) i (omega arith) (omega arith)),
+      rw (h .3) (stored-more 0 (m .keys) (s .args .keys .now) i (omega (arith, keys-whole s)) (omega arith)),
       rw (h .4, read-back c)
-          (stored-more (pos 0) (λ t. t .coefficient) (s .args .t1 .terms) (s .args .coefficients .now) i (omega arith)
-          (omega arith)),
+          (stored-more (pos 0) (m .coefficients) (s .args .coefficients .now) i
+          (omega (arith, coefficients-whole s)) (omega arith)),
     )
 
 same-length : tie.Need-same-length Inv-loop μ-loop
@@ -101,8 +107,10 @@ unfolding stored-keys stored-coefficients
 returns c =
     let l = c .before in
     let s = l .before in
-    let all = take-all (l .loop .i) (s .args .t1 .terms) (omega (arith, whole s)) in
-    (rw (l .loop .inv .3, all), rw (l .loop .inv .4, all))
+    let m = s .args .t1 in (
+      rw (l .loop .inv .3, take-all (l .loop .i) (m .keys) (omega (arith, keys-whole s))),
+      rw (l .loop .inv .4, take-all (l .loop .i) (m .coefficients) (omega (arith, coefficients-whole s))),
+    )
 
 pub store-terms-spec : {M : Type 1} → statement M
 store-terms-spec =
@@ -111,11 +119,13 @@ store-terms-spec =
     Inv-loop
     μ-loop
     loop-holds
-    mul-t
-    element-copy-out-t
+    mul-k
+    element-copy-out-k
+    mul-c
+    element-copy-out-c
     mul-keys
     slice-write-keys
-    mul-c
+    mul-c-2
     slice-set-from-c
     add-i
     loop-less

@@ -9,8 +9,11 @@ use Rattle.calculus_laws.specs.MonomialKeyLaws.{word-key, key-monomial}
 use Rattle.model_types.proofs.of_one_term.Statement.{statement}
 use Rattle.model_types.proofs.of_one_term.Tie as tie
 
-array-set-from-out : tie.Need-array-set-from-out
-array-set-from-out c = search needs
+array-write-keys : tie.Need-array-write-keys
+array-write-keys c = search needs
+
+array-set-from-coefficients : tie.Need-array-set-from-coefficients
+array-set-from-coefficients c = search needs
 
 returns : tie.Need-returns
 unfolding most-terms one-term pack pack-term padded
@@ -20,4 +23,4 @@ returns c = rw (
 )
 
 pub of-one-term-spec : {M : Type 1} → statement M
-of-one-term-spec = tie.close (tie.spec array-set-from-out returns)
+of-one-term-spec = tie.close (tie.spec array-write-keys array-set-from-coefficients returns)

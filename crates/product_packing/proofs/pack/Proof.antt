@@ -1,5 +1,5 @@
 -- `pack` puts one term after the other behind those before it.
-use mathlib.Core.Path.{_≡_, refl}
+use mathlib.Core.Path.{_≡_, refl, _∙_}
 use mathlib.Core.List.{map}
 use Prim.Native.Nat.{_-_, _≤_}
 use native.Mathlib.Omega.{arith}
@@ -12,6 +12,7 @@ use mir.Val.{toZ, ofZ}
 use Rattle.calculus.specs.Model.{most-terms}
 use Rattle.model_types.specs.Arrays.{padded}
 use Rattle.model_types.specs.ModelStruct.{pad}
+use Rattle.model_types.specs.PairedLaws.{Listed, listed-next, listed-struct}
 use Rattle.product_sums.specs.TermArrays.{terms}
 use Rattle.product_sums.specs.TermArrayLaws.{terms-length}
 use Rattle.product_packing.specs.Transfer.{narrowed-term, packed}
@@ -20,15 +21,15 @@ use Rattle.product_packing.proofs.pack.Statement.{statement}
 use Rattle.product_packing.proofs.pack.Tie as tie
 
 abbrev Inv-loop : tie.InvT-loop
-Inv-loop n radius count keys coefficients out₀ i₀ out i =
-    (i ≤ count) × (out ≡ pad (map narrowed-term (terms i keys coefficients)))
+Inv-loop n radius count keys coefficients out-keys₀ out₀ i₀ out-keys out i =
+    (i ≤ count) × Listed out-keys out (pad (map narrowed-term (terms i keys coefficients)))
 
 abbrev μ-loop : tie.MeasureT-loop
-μ-loop n radius count keys coefficients out₀ i₀ out i = count - i
+μ-loop n radius count keys coefficients out-keys₀ out₀ i₀ out-keys out i = count - i
 
 loop-holds : tie.Need-loop-holds Inv-loop μ-loop
 unfolding most-terms padded terms
-loop-holds c = (omega arith, refl)
+loop-holds c = (omega arith, record { keys-are = refl; coefficients-are = refl })
 
 mul-narrow-key : tie.Need-mul-narrow-key Inv-loop μ-loop
 mul-narrow-key c = search needs
@@ -46,6 +47,14 @@ mul-c c = search needs
 
 shared-slice-copy-out-c : tie.Need-shared-slice-copy-out-c Inv-loop μ-loop
 shared-slice-copy-out-c c = search needs
+
+mul-out-keys : tie.Need-mul-out-keys Inv-loop μ-loop
+unfolding most-terms
+mul-out-keys c = search needs
+
+array-write-out-keys : tie.Need-array-write-out-keys Inv-loop μ-loop
+unfolding most-terms
+array-write-out-keys c = search needs
 
 mul-out : tie.Need-mul-out Inv-loop μ-loop
 unfolding most-terms
@@ -70,8 +79,9 @@ loop-again c =
     let read-back : toZ w64 (ofZ w64 z) ≡ z = toZ-ofZ (record { sfits = c .c .given }) in
     rw (c .before .narrow-key .ensures, read-back) (
       omega arith,
-      packing-turn _ _ (l .loop .i) _ (omega (arith, s .pre .keys-long)) (omega (arith, s .pre .coefficients-long))
-          (omega (arith, s .pre .few)) (l .loop .inv .1),
+      listed-next (l .loop .inv .1) (l .loop .i) _ _
+          (packing-turn _ _ (l .loop .i) _ (omega (arith, s .pre .keys-long))
+          (omega (arith, s .pre .coefficients-long)) (omega (arith, s .pre .few)) refl),
     )
 
 returns : tie.Need-returns Inv-loop μ-loop
@@ -80,8 +90,8 @@ returns c =
     let l = c .before in
     let s = l .before .before in
     let e : l .loop .i ≡ s .args .count = omega arith in
-    rw (
-      l .loop .inv .1,
+    listed-struct (l .loop .inv .1) _ _ _
+    ∙ rw (
       e,
       terms-length (s .args .count) (s .args .keys .now) (s .args .coefficients .now) (s .pre .keys-long)
           (s .pre .coefficients-long),
@@ -99,6 +109,8 @@ pack-spec =
     narrow-key-requires
     mul-c
     shared-slice-copy-out-c
+    mul-out-keys
+    array-write-out-keys
     mul-out
     array-set-from-out
     add-i

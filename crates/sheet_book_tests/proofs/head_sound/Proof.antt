@@ -1,16 +1,20 @@
 -- `head_sound` compares n, then the count of terms.
-use mathlib.Core.Path.{_≡_}
 use native.Mathlib.Omega.{arith}
 use borrow.Author.Needs.{needs}
 use borrow.Author.Tests.{eq-eqb, ne-eqb}
-use lib.ListN.{length, length-map}
 use Rattle.calculus.specs.Model.{most-terms}
+use Rattle.model_types.specs.PairedLaws.{words-below}
+use Rattle.sheet_book_tests.specs.WholeModel.{Whole-model}
 use Rattle.sheet_book_tests.proofs.head_sound.Statement.{statement}
 use Rattle.sheet_book_tests.proofs.head_sound.Tie as tie
 
-whole : (c : tie.Start) → length (c .args .m .terms) ≡ most-terms
+whole : (c : tie.Start) → Whole-model (c .args .m)
 unfolding most-terms
-whole c = simp length-map at (c .good .1 .0 .1 .1 .1 .1 .1 .0 .1 .0 .1)
+whole c = record {
+  keys = search needs;
+  coefficients = search needs;
+  words = let own = c .good .1 .0 .1 .1 .1 .1 .1 .0 in words-below (c .args .m .keys) (own .0) (own .1 .1);
+}
 
 returns : tie.Need-returns
 returns c =

@@ -6,6 +6,7 @@ use native.Mathlib.Omega.{arith}
 use borrow.Author.Needs.{needs}
 use lib.ListN.{length, length-map}
 use Rattle.model_types.specs.declared.Model.{Model}
+use Rattle.model_types.specs.ModelStruct.{of-terms}
 use Rattle.format.specs.Format.{model-bytes}
 use Rattle.format.specs.ReadBackLaws.{models-short}
 use Rattle.sheet_book.specs.BookStruct.{held-model, held-book}
@@ -56,7 +57,7 @@ module _ (c : tie.After-model-size Inv-loop μ-loop) where
       let b = start .args .t1 in
       let k = turn .loop .k in
       let i : k < b .«model_count» = c .before .before .loop-test .taken in
-      let x : Model = record { n = 0; count = 0; radius = 0; terms = [] } in
+      let x : Model = of-terms 0 0 0 [] in
       let y = held-model x in
       omega (
         arith,

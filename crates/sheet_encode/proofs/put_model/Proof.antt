@@ -1,10 +1,11 @@
 -- `put_model` puts the radius and the count, and the terms behind them.
-use mathlib.Core.Path.{_≡_, sym, _∙_, ap}
+use mathlib.Core.Path.{_≡_, sym, _∙_, ap, ap₂}
 use mathlib.Core.List.{map}
 use Prim.Native.Nat.{_+_, _*_, _-_, _<_, _≤_}
 use native.Mathlib.Omega.{arith}
 use borrow.Author.Needs.{needs}
-use lib.ListN.{length, getD, set, length-map, length-set}
+use lib.IntN.{pos}
+use lib.ListN.{length, getD, set, length-set}
 use lib.Seq.{sets}
 use mir.Facts.{toZ-ofZ}
 use mir.Syntax.{w64}
@@ -12,7 +13,9 @@ use mir.Val.{toZ, ofZ}
 use Rattle.calculus.specs.Model.{most-terms}
 use Rattle.model_types.specs.declared.Term.{Term}
 use Rattle.model_types.specs.declared.Model.{Model}
-use Rattle.model_types.specs.ModelStruct.{zero-term}
+use Rattle.model_types.specs.ModelStruct.{zero-term, listed}
+use Rattle.model_types.specs.PairedLaws.{length-paired, key-at}
+use Rattle.model_types.specs.PairedLaws as P
 use Rattle.format.specs.Bytes.{join}
 use Rattle.format.specs.Format.{head-length, term-length, term-bytes}
 use Rattle.format.specs.ReadBackLaws.{length-term, length-terms}
@@ -31,8 +34,17 @@ abbrev μ-loop : tie.MeasureT-loop
 μ-loop buffer₀ at m n count size place₀ i₀ buffer place i = count - i
 
 module _ (c : tie.Start Inv-loop μ-loop) where
-  whole : length (c .args .t3 .terms) ≡ 64
-  whole = simp length-map at (c .good .1 .1 .0 .1 .1 .1 .1 .1 .0 .1 .0 .1)
+  keys-whole : length (c .args .t3 .keys) ≡ 64
+  keys-whole = search needs
+
+  coefficients-whole : length (c .args .t3 .coefficients) ≡ 64
+  coefficients-whole = search needs
+
+  even : length (c .args .t3 .keys) ≡ length (c .args .t3 .coefficients)
+  even = keys-whole ∙ sym coefficients-whole
+
+  whole : length (listed (c .args .t3)) ≡ 64
+  whole = length-paired _ _ even ∙ keys-whole
 
   few : c .args .t3 .count ≤ 64
   unfolding most-terms
@@ -76,30 +88,39 @@ long : (c : tie.At-loop Inv-loop μ-loop) → length (c .loop .buffer) ≡ lengt
 long c = put-length (term-bytes _) _ _ _ (c .loop .inv)
     ∙ (simp length-set (c .before .before .before .put-u32 .kept .0))
 
-mul-t : tie.Need-mul-t Inv-loop μ-loop
-mul-t c = omega (arith, few (start (c .before)))
+mul-key : tie.Need-mul-key Inv-loop μ-loop
+mul-key c = omega (arith, few (start (c .before)))
 
-element-copy-out-t : tie.Need-element-copy-out-t Inv-loop μ-loop
-element-copy-out-t c = omega (arith, few (start (c .before)))
+element-copy-out-key : tie.Need-element-copy-out-key Inv-loop μ-loop
+element-copy-out-key c = omega (arith, few (start (c .before)))
 
-module _ (c : tie.After-struct-told Inv-loop μ-loop) where
+mul-c : tie.Need-mul-c Inv-loop μ-loop
+mul-c c = omega (arith, few (start (c .before .before)))
+
+element-copy-out-c : tie.Need-element-copy-out-c Inv-loop μ-loop
+element-copy-out-c c = omega (arith, few (start (c .before .before)))
+
+module _ (c : tie.After-c Inv-loop μ-loop) where
   abbrev turn : tie.At-loop Inv-loop μ-loop
-  turn = c .before .before .before .before
+  turn = c .before .before .before
 
   abbrev held : Model
   held = start turn .args .t3
 
   abbrev term : Term
-  term = getD (held .terms) (turn .loop .i) zero-term
+  term = getD (listed held) (turn .loop .i) zero-term
 
   inside : turn .loop .i < held .count
-  inside = c .before .before .before .loop-test .taken
+  inside = c .before .before .loop-test .taken
 
-  whole-count : held .count ≤ length (held .terms)
+  whole-count : held .count ≤ length (listed held)
   whole-count = omega (arith, whole (start turn), few (start turn))
 
-  read-back : toZ w64 (ofZ w64 (term .coefficient)) ≡ term .coefficient
-  read-back = toZ-ofZ (record { sfits = c .struct-told .given .1 .0 .1 })
+  key-is : getD (held .keys) (turn .loop .i) 0 ≡ term .key
+  key-is = sym (key-at _ _ (turn .loop .i) (even (start turn)))
+
+  read-back : toZ w64 (ofZ w64 (getD (held .coefficients) (turn .loop .i) (pos 0))) ≡ term .coefficient
+  read-back = toZ-ofZ (record { sfits = c .c .given }) ∙ sym (P.coefficient-at _ _ (turn .loop .i) (even (start turn)))
 
   here : getD (held-model held .terms) (turn .loop .i) (held-term zero-term) ≡ held-term term
   here = term-at held (turn .loop .i) zero-term inside whole-count
@@ -128,18 +149,19 @@ module _ (c : tie.After-struct-told Inv-loop μ-loop) where
       )
 
 put-term-requires : tie.Need-put-term-requires Inv-loop μ-loop
-put-term-requires c κs = (
-  rw (read-back c) (coefficient-at (held c) (start (turn c) .pre .0) _ _ (inside c) (whole-count c)),
-  fits c,
-)
+put-term-requires c κs =
+    let t = c .before in (
+      rw (read-back t) (coefficient-at (held t) (start (turn t) .pre .0) _ _ (inside t) (whole-count t)),
+      fits t,
+    )
 
 add-place-2 : tie.Need-add-place-2 Inv-loop μ-loop
 add-place-2 c =
-    let t = c .before .before .before in
+    let t = c .before .before .before .before in
     omega (arith, fits t, sized t, long (turn t), start (turn t) .fits)
 
 add-i : tie.Need-add-i Inv-loop μ-loop
-add-i c = omega (arith, few (start (turn (c .before .before .before))))
+add-i c = omega (arith, few (start (turn (c .before .before .before .before))))
 
 loop-less : tie.Need-loop-less Inv-loop μ-loop
 loop-less c = search needs
@@ -147,16 +169,16 @@ loop-less c = search needs
 loop-again : tie.Need-loop-again Inv-loop μ-loop
 unfolding held-term
 loop-again c =
-    let t = c .before .before .before in
+    let t = c .before .before .before .before in
     let l = turn t in
     put-turn (term-bytes (held t .n)) _ _ _ (l .loop .inv) (held-term zero-term) (held-term (term t)) (below t)
     (here t) _ _
     (c .before .before .put-term .ensures
-    ∙ ap (λ z. sets (l .loop .buffer) (l .loop .place) (term-bytes (held t .n) (record {
-      key = term t .key;
+    ∙ ap₂ (λ k z. sets (l .loop .buffer) (l .loop .place) (term-bytes (held t .n) (record {
+      key = k;
       coefficient = z;
     })))
-    (read-back t))
+    (key-is t) (read-back t))
     (ap (λ s. l .loop .place + s) (sized t ∙ sym (length-term (held t .n) (held-term (term t)))))
 
 -- ---- after the loop
@@ -189,8 +211,10 @@ put-model-spec =
     slice-write-buffer
     add-place
     loop-holds
-    mul-t
-    element-copy-out-t
+    mul-key
+    element-copy-out-key
+    mul-c
+    element-copy-out-c
     put-term-requires
     add-place-2
     add-i

@@ -7,6 +7,7 @@ use borrow.Author.Needs.{needs}
 use lib.ListN.{length, getD, length-map}
 use lib.Seq.{sets}
 use Rattle.model_types.specs.declared.Model.{Model}
+use Rattle.model_types.specs.ModelStruct.{of-terms}
 use Rattle.format.specs.Bytes.{join}
 use Rattle.format.specs.Format.{model-bytes}
 use Rattle.sheet_book.specs.declared.Book.{Book}
@@ -47,7 +48,7 @@ element-copy-out-m c = omega (arith, few (c .before .before .before))
 
 -- what the element is where there is none
 abbrev blank : Model
-blank = record { n = 0; count = 0; radius = 0; terms = [] }
+blank = of-terms 0 0 0 []
 
 module _ (c : tie.After-m Inv-loop μ-loop) where
   abbrev turn : tie.At-loop Inv-loop μ-loop

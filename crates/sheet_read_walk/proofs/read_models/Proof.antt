@@ -31,11 +31,13 @@ use Rattle.sheet_read_walk.proofs.read_models.Statement.{statement}
 use Rattle.sheet_read_walk.proofs.read_models.Tie as tie
 
 abbrev Inv-terms : tie.InvT-terms
-Inv-terms s n d count size models at k left total radius terms₀ span₀ least₀ place₀ i₀ terms span least place i =
-    Terms-so-far s n d at span least place i × Terms-kept s n at terms i
+Inv-terms s n d count size models at k left total radius keys₀ coefficients₀ span₀ least₀ place₀ i₀
+    keys coefficients span least place i =
+    Terms-so-far s n d at span least place i × Terms-kept s n at keys coefficients i
 
 abbrev μ-terms : tie.MeasureT-terms
-μ-terms s n d count size models at k left total radius terms₀ span₀ least₀ place₀ i₀ terms span least place i =
+μ-terms s n d count size models at k left total radius keys₀ coefficients₀ span₀ least₀ place₀ i₀
+    keys coefficients span least place i =
     total - i
 
 abbrev Inv-models : tie.InvT-models
@@ -179,11 +181,17 @@ term-at-requires c κs =
 term-sound-requires : tie.Need-term-sound-requires Inv-terms μ-terms Inv-models μ-models
 term-sound-requires c κs = let p = entry (inner c .before) .pre in (p .0, p .1)
 
-mul-terms : tie.Need-mul-terms Inv-terms μ-terms Inv-models μ-models
-mul-terms c = search needs
+mul-keys : tie.Need-mul-keys Inv-terms μ-terms Inv-models μ-models
+mul-keys c = search needs
 
-array-set-from-terms : tie.Need-array-set-from-terms Inv-terms μ-terms Inv-models μ-models
-array-set-from-terms c = search needs
+array-write-keys : tie.Need-array-write-keys Inv-terms μ-terms Inv-models μ-models
+array-write-keys c = search needs
+
+mul-coefficients : tie.Need-mul-coefficients Inv-terms μ-terms Inv-models μ-models
+mul-coefficients c = search needs
+
+array-set-from-coefficients : tie.Need-array-set-from-coefficients Inv-terms μ-terms Inv-models μ-models
+array-set-from-coefficients c = search needs
 
 magnitude-requires : tie.Need-magnitude-requires Inv-terms μ-terms Inv-models μ-models
 magnitude-requires c κs = search needs
@@ -235,7 +243,8 @@ terms-again c =
           (tested (branch .before) ∙ not-false _ (branch .if4 .left)) _
           (added .capped-sum .ensures
           ∙ ap (λ x. capped (inner t .terms .span + x)) (added .before .magnitude .ensures ∙ ap natAbs (read-back t)))),
-      terms-more _ _ _ _ (p .0) (p .1) (few u) _ _ _ _ (h .0) _ (h .1) l _ (t .before .term-at .ensures),
+      terms-more _ _ _ _ (p .0) (p .1) (few u) _ _ _ _ (h .0) _ _ (h .1) l _ (t .before .term-at .ensures) _
+          (read-back t),
     )
 
 within-span-requires : tie.Need-within-span-requires Inv-terms μ-terms Inv-models μ-models
@@ -268,7 +277,7 @@ models-again c =
     (models-turn _ _ _ _ _ _ _ (m .so-far) k _ (counted u) (room u)
     (span-decides (c .before) ∙ not-false _ (c .if5 .left)) _
     (terms-behind _ _ _ _ (p .0) (p .1) (few u) _ _ _ _ (h .0) w)) _
-    (terms-stored _ _ _ _ (p .0) (p .1) (few u) _ _ _ _ (h .0) _ (h .1) w _ _ (counted u) (u .u32-at .ensures))
+    (terms-stored _ _ _ _ (p .0) (p .1) (few u) _ _ _ _ (h .0) _ _ (h .1) w _ _ (counted u) (u .u32-at .ensures))
 
 returns : tie.Need-returns Inv-terms μ-terms Inv-models μ-models
 returns c =
@@ -335,8 +344,10 @@ read-models-spec =
     terms-holds
     term-at-requires
     term-sound-requires
-    mul-terms
-    array-set-from-terms
+    mul-keys
+    array-write-keys
+    mul-coefficients
+    array-set-from-coefficients
     magnitude-requires
     capped-sum-requires
     cast-least

@@ -1,8 +1,6 @@
 -- `put` stores the terms into two parts, and the numbers.
-use mathlib.Core.Path.{_≡_, refl, _∙_, ap, ap₂}
 use native.Mathlib.Omega.{arith}
 use Prim.Native.Nat.{_-_, _*_}
-use mathlib.Core.List.{map}
 use lib.ListN.{length, take, drop, length-take, length-drop}
 use Rattle.sheet_results.specs.Results.{with-result}
 use Rattle.sheet_results.specs.ResultsLaws.{spliced-part}
@@ -82,11 +80,9 @@ returns c =
     let p = c .before .before .before .before .before .before .put-numbers .ensures in
     let i = s .args .i in
     let r = s .pre .1 .0 in
-    let k = spliced-part (64 * i) (map (λ t. t .key) (take (s .args .m .count) (s .args .m .terms))) (s .args .keys
-    .now)
+    let k = spliced-part (64 * i) (take (s .args .m .count) (s .args .m .keys)) (s .args .keys .now)
     (omega (arith, s .pre .0, r .keys-long)) (w .0) in
-    let z = spliced-part (64 * i) (map (λ t. t .coefficient) (take (s .args .m .count) (s .args .m .terms))) (s .args
-    .coefficients .now)
+    let z = spliced-part (64 * i) (take (s .args .m .count) (s .args .m .coefficients)) (s .args .coefficients .now)
     (omega (arith, s .pre .0, r .coefficients-long)) (w .1) in (
       λ t. record { keys = k t; coefficients = z t; counts = p .0 t; radii = p .1 t },
       p .2,

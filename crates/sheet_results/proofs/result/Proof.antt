@@ -4,24 +4,26 @@ use Prim.Native.Nat.{_≤_, _-_, _+_, _*_}
 use native.Mathlib.Omega.{arith}
 use borrow.Author.Needs.{needs}
 use lib.IntN.{ℤ, pos}
-use lib.ListN.{length, drop, getD}
+use lib.ListN.{drop, getD}
 use mir.Facts.{toZ-ofZ}
 use mir.Syntax.{w64}
 use mir.Val.{toZ, ofZ}
 use Rattle.calculus.specs.Model.{most-terms}
 use Rattle.model_types.specs.Arrays.{padded}
-use Rattle.model_types.specs.ModelStruct.{pad}
+use Rattle.model_types.specs.ModelStruct.{pad, view}
+use Rattle.model_types.specs.PairedLaws.{Listed, listed-next, listed-struct}
 use Rattle.model_slices.specs.HandedModels.{terms-of}
 use Rattle.sheet_results.specs.ResultsLaws.{taken-more, taken-end}
 use Rattle.sheet_results.proofs.result.Statement.{statement}
 use Rattle.sheet_results.proofs.result.Tie as tie
 
 abbrev Inv-loop : tie.InvT-loop
-Inv-loop n j keys coefficients counts radii from count radius out₀ i₀ out i =
-    (i ≤ count) × (count ≤ 64) × (out ≡ pad (terms-of i (drop (64 * j) keys) (drop (64 * j) coefficients)))
+Inv-loop n j keys coefficients counts radii from count radius out-keys₀ out₀ i₀ out-keys out i =
+    (i ≤ count) × (count ≤ 64)
+    × Listed out-keys out (pad (terms-of i (drop (64 * j) keys) (drop (64 * j) coefficients)))
 
 abbrev μ-loop : tie.MeasureT-loop
-μ-loop n j keys coefficients counts radii from count radius out₀ i₀ out i = count - i
+μ-loop n j keys coefficients counts radii from count radius out-keys₀ out₀ i₀ out-keys out i = count - i
 
 mul-from : tie.Need-mul-from Inv-loop μ-loop
 mul-from c = search needs
@@ -40,7 +42,7 @@ shared-slice-read-radius c = search needs
 
 loop-holds : tie.Need-loop-holds Inv-loop μ-loop
 unfolding padded terms-of most-terms
-loop-holds c = (omega arith, c .before .before .pre .1 .few _, refl)
+loop-holds c = (omega arith, c .before .before .pre .1 .few _, record { keys-are = refl; coefficients-are = refl })
 
 add-at : tie.Need-add-at Inv-loop μ-loop
 add-at c = search needs
@@ -56,6 +58,12 @@ mul-c c = search needs
 
 shared-slice-copy-out-c : tie.Need-shared-slice-copy-out-c Inv-loop μ-loop
 shared-slice-copy-out-c c = search needs
+
+mul-out-keys : tie.Need-mul-out-keys Inv-loop μ-loop
+mul-out-keys c = search needs
+
+array-write-out-keys : tie.Need-array-write-out-keys Inv-loop μ-loop
+array-write-out-keys c = search needs
 
 mul-out : tie.Need-mul-out Inv-loop μ-loop
 mul-out c = search needs
@@ -89,11 +97,8 @@ loop-again c =
     let s = start c in (
       omega arith,
       l .loop .inv .1,
-      rw (l .loop .inv .2, read-back c) (taken-more (s .pre .1) (s .pre .0) (l .loop .i) (omega (
-        arith,
-        l .loop .inv
-            .1,
-      ))),
+      rw (read-back c) (listed-next (l .loop .inv .2) (l .loop .i) _ _
+          (taken-more (s .pre .1) (s .pre .0) (l .loop .i) (omega (arith, l .loop .inv .1)))),
     )
 
 returns : tie.Need-returns Inv-loop μ-loop
@@ -101,7 +106,8 @@ returns c =
     let l = c .before in
     let s = l .before .before .before in
     let e : l .loop .i ≡ getD (s .args .counts .now) (s .args .j) 0 = omega arith in
-    rw (l .loop .inv .2) (taken-end (s .pre .1) (s .pre .0) (s .args .n) (l .loop .i) e)
+    ap view (listed-struct (l .loop .inv .2) _ _ _)
+    ∙ taken-end (s .pre .1) (s .pre .0) (s .args .n) (l .loop .i) e
 
 pub result-spec : {M : Type 1} → statement M
 result-spec =
@@ -120,6 +126,8 @@ result-spec =
     shared-slice-read-k
     mul-c
     shared-slice-copy-out-c
+    mul-out-keys
+    array-write-out-keys
     mul-out
     array-set-from-out
     add-i

@@ -9,6 +9,7 @@ use lib.ListN.{length, getD, length-map}
 use Rattle.calculus.specs.Book.{most-models}
 use Rattle.model_types.specs.declared.Model.{Model}
 use Rattle.model_types.specs.ModelStruct.{view}
+use Rattle.model_types.specs.ModelStruct.{of-terms}
 use Rattle.sheet_book.specs.declared.Book.{Book}
 use Rattle.sheet_book.specs.declared.Step.{Step}
 use Rattle.sheet_book.specs.BookStruct.{no-step, held-step, held-book}
@@ -35,7 +36,7 @@ abbrev μ-loop : tie.MeasureT-loop
 -- ---- the book and the step at hand
 -- a place past the end of the models
 abbrev empty-place : Model
-empty-place = record { n = 0; count = 0; radius = 0; terms = [] }
+empty-place = of-terms 0 0 0 []
 
 abbrev beginning : tie.At-loop Inv-loop μ-loop → tie.Start Inv-loop μ-loop
 beginning l = l .before .before .before .before .before .before .before
