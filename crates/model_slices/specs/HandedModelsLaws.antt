@@ -1,21 +1,22 @@
 -- One more term of two slices, and one more place of a slice overwritten.
 use mathlib.Core.Path.{_≡_, refl, sym, _∙_, ap, subst}
 use mathlib.Core.Bool.{true, _&&_}
-use mathlib.Core.List.{List, [], _∷_, _++_, map, append-assoc}
+use mathlib.Core.List.{List, [], _∷_, _++_, map, append-assoc, map-append}
 use Prim.Native.Nat.{ℕ, zero, suc, _+_, _-_, _≤_, _<_, min}
 use native.Mathlib.Numerals.{add-one}
 use native.Mathlib.Omega.{arith}
 use lib.Dec.{T, leb, leb→le}
 use lib.IntN.{ℤ, pos}
-use lib.ListN.{length, take, drop, getD, set, replicate, length-append}
+use lib.ListN.{length, take, drop, getD, set, replicate, length-append, length-map}
 use lib.Seq.{set-at, drop-cons, length-take-le}
 use Rattle.calculus.specs.Model.{most-terms}
 use Rattle.calculus_laws.specs.TestLaws.{and-left, and-right}
 use Rattle.model_types.specs.declared.Term.{Term}
 use Rattle.model_types.specs.Arrays.{first-places, padded}
 use Rattle.model_types.specs.ModelStruct.{zero-term, places, pad, view-term, view, listed, of-terms}
+use Rattle.model_types.specs.ModelStruct.{keys-of, coefficients-of}
 use Rattle.model_types.specs.ModelStructLaws.{pad-more, take-more}
-use Rattle.model_types.specs.PairedLaws.{paired-of}
+use Rattle.model_types.specs.PairedLaws.{Listed, paired-of}
 use Rattle.model_slices.specs.HandedModels.{terms-of, handed, over, answer-numbers, model-room}
 
 -- ---- terms of two slices
@@ -123,6 +124,56 @@ module _ {A : Type 0} (d : A) where
   stored-more l k i h w =
       over-more (take i l) k i _ (length-take-le i l (omega arith)) w
       ∙ ap (λ r. over r k) (sym (take-more l i d h))
+
+-- zeros overwritten
+zeros-left : {A : Type 0} (z : A) (n m : ℕ) → drop n (replicate m z) ≡ replicate (m - n) z
+zeros-left z zero m = let e : m - 0 ≡ m = omega arith in rw e
+zeros-left z (suc n) zero = let e : 0 - suc n ≡ 0 = omega arith in rw e
+zeros-left z (suc n) (suc m) = let e : suc m - suc n ≡ m - n = omega arith in rw e (zeros-left z n m)
+
+pub over-zeros : {A : Type 0} (z : A) (m : ℕ) (l : List A) → over l (replicate m z) ≡ padded z m l
+unfolding over padded
+over-zeros z m l = ap (λ r. l ++ r) (zeros-left z (length l) m)
+
+-- ---- arrays of the first terms
+keys-first : (i : ℕ) (ks : List ℕ) (cs : List ℤ) → i ≤ length ks → i ≤ length cs → keys-of (terms-of i ks cs) ≡ take i ks
+unfolding terms-of
+keys-first zero ks cs h l = refl
+keys-first (suc i) [] cs h l = absurd (omega arith)
+keys-first (suc i) (k ∷ ks) [] h l = absurd (omega arith)
+keys-first (suc i) (k ∷ ks) (c ∷ cs) h l = ap (λ (r : List ℕ). k ∷ r) (keys-first i ks cs (omega arith) (omega arith))
+
+coefficients-first : (i : ℕ) (ks : List ℕ) (cs : List ℤ) → i ≤ length ks → i ≤ length cs
+    → coefficients-of (terms-of i ks cs) ≡ take i cs
+unfolding terms-of
+coefficients-first zero ks cs h l = refl
+coefficients-first (suc i) [] cs h l = absurd (omega arith)
+coefficients-first (suc i) (k ∷ ks) [] h l = absurd (omega arith)
+coefficients-first (suc i) (k ∷ ks) (c ∷ cs) h l =
+    ap (λ (r : List ℤ). c ∷ r) (coefficients-first i ks cs (omega arith) (omega arith))
+
+-- an image of a list with zeros after it
+map-zeros : {A B : Type 0} (f : A → B) (z : A) (n : ℕ) → map f (replicate n z) ≡ replicate n (f z)
+map-zeros f z zero = refl
+map-zeros f z (suc n) = ap (λ r. f z ∷ r) (map-zeros f z n)
+
+map-padded : {B : Type 0} (f : Term → B) (l : List Term) → map f (pad l) ≡ padded (f zero-term) most-terms (map f l)
+unfolding padded
+map-padded f l = map-append f l _ ∙ ap (λ r. map f l ++ r)
+    (map-zeros f zero-term (most-terms - length l)
+    ∙ ap (λ n. replicate (most-terms - n) (f zero-term)) (sym (length-map l f)))
+
+-- zeros, with the first keys and coefficients of two slices over them
+pub filled-listed : (i : ℕ) (ks : List ℕ) (cs : List ℤ) → i ≤ length ks → i ≤ length cs
+    → Listed (over (take i ks) (replicate most-terms 0)) (over (take i cs) (replicate most-terms (pos 0)))
+    (pad (terms-of i ks cs))
+filled-listed i ks cs h l = record {
+  keys-are = over-zeros 0 most-terms (take i ks) ∙ ap (padded 0 most-terms) (sym (keys-first i ks cs h l))
+      ∙ sym (map-padded (λ t. t .key) (terms-of i ks cs));
+  coefficients-are = over-zeros (pos 0) most-terms (take i cs)
+      ∙ ap (padded (pos 0) most-terms) (sym (coefficients-first i ks cs h l))
+      ∙ sym (map-padded (λ t. t .coefficient) (terms-of i ks cs));
+}
 
 -- two stores
 pub over-two : {A : Type 0} (l : List A) (a b : A) → 2 ≤ length l → set (set l 0 a) 1 b ≡ over (a ∷ b ∷ []) l

@@ -2,10 +2,11 @@
 // radius, and slices of keys and of coefficients, which may be longer than its count.
 ghost use mathlib.Core.Path.{_≡_};
 ghost use Prim.Native.Nat.{_≤_, min};
-ghost use lib.ListN.{length};
+ghost use lib.ListN.{length, take};
 ghost use Rattle.calculus.specs.Model.{«most-terms»};
-ghost use Rattle.model_types.specs.ModelStruct.{view, «verdict-number», «verdict-place»};
-ghost use Rattle.model_slices.specs.HandedModels.{handed, lent, «answer-numbers», «model-room»};
+ghost use Rattle.model_types.specs.ModelStruct.{view, pad, «of-terms», «verdict-number», «verdict-place»};
+ghost use Rattle.model_slices.specs.HandedModels.{«terms-of», handed, lent, over};
+ghost use Rattle.model_slices.specs.HandedModels.{«answer-numbers», «model-room»};
 ghost use Rattle.model_slices.specs.HandedModels.{«stored-keys», «stored-coefficients», «stored-numbers»};
 use model_types::Key;
 use model_types::Model;
@@ -44,22 +45,52 @@ pub fn lent(count: usize, keys: usize, coefficients: usize) -> bool
     named <= coefficients
 }
 
-// The model that is handed over. Its places are the first 64 of the slices, and zeros where these end before.
-pub fn handed(n: u8, count: usize, radius: u64, keys: &[Key], coefficients: &[i64]) -> Model
-    ensures { λ r. ⌜ r ≡ handed n count radius (now (keys .entry)) (now (coefficients .entry)) ⌝ }
+// ---- terms copied
+// The first keys of a slice go into another. (Keys and coefficients each have a function: those of a struct can be lent
+// to one only at one lifetime, which a caller's two slices do not have.)
+pub fn copy_keys(count: usize, keys: &[Key], out: &mut [Key])
+    requires { ⌜ (count ≤ length (now keys)) × (count ≤ length (now out)) ⌝ }
+    ensures { λ r. ⌜ now (out .exit) ≡ over (take count (now (keys .entry))) (now (out .entry)) ⌝ }
 {
-    let both = least(keys.len(), coefficients.len());
-    let places = least(model_types::MOST_TERMS, both);
-    let mut out_keys: [Key; model_types::MOST_TERMS] = [0; model_types::MOST_TERMS];
-    let mut out = [0i64; model_types::MOST_TERMS];
     let mut i = 0;
-    while i < places {
+    while i < count {
         let k = keys[i];
+        out[i] = k;
+        i += 1;
+    }
+}
+
+// The first coefficients.
+pub fn copy_coefficients(count: usize, coefficients: &[i64], out: &mut [i64])
+    requires { ⌜ (count ≤ length (now coefficients)) × (count ≤ length (now out)) ⌝ }
+    ensures { λ r. ⌜ now (out .exit) ≡ over (take count (now (coefficients .entry))) (now (out .entry)) ⌝ }
+{
+    let mut i = 0;
+    while i < count {
         let c = coefficients[i];
-        out_keys[i] = k;
         out[i] = c;
         i += 1;
     }
+}
+
+// The struct of a model whose first places hold the first terms of two slices, and the others zeros.
+pub fn filled(
+    n: u8,
+    count: usize,
+    radius: u64,
+    places: usize,
+    keys: &[Key],
+    coefficients: &[i64],
+) -> Model
+    requires { ⌜ places ≤ most-terms ⌝ }
+    requires { ⌜ (places ≤ length (now keys)) × (places ≤ length (now coefficients)) ⌝ }
+    ensures { λ r. ⌜ r ≡ of-terms n count radius
+        (pad (terms-of places (now (keys .entry)) (now (coefficients .entry)))) ⌝ }
+{
+    let mut out_keys: [Key; model_types::MOST_TERMS] = [0; model_types::MOST_TERMS];
+    let mut out = [0i64; model_types::MOST_TERMS];
+    copy_keys(places, keys, &mut out_keys);
+    copy_coefficients(places, coefficients, &mut out);
     Model {
         n: n,
         count: count,
@@ -69,6 +100,15 @@ pub fn handed(n: u8, count: usize, radius: u64, keys: &[Key], coefficients: &[i6
     }
 }
 
+// The model that is handed over. Its places are the first 64 of the slices, and zeros where these end before.
+pub fn handed(n: u8, count: usize, radius: u64, keys: &[Key], coefficients: &[i64]) -> Model
+    ensures { λ r. ⌜ r ≡ handed n count radius (now (keys .entry)) (now (coefficients .entry)) ⌝ }
+{
+    let both = least(keys.len(), coefficients.len());
+    let places = least(model_types::MOST_TERMS, both);
+    filled(n, count, radius, places, keys, coefficients)
+}
+
 // The same model to every call: only the places that its count names are copied, and zeros stand behind them.
 pub fn taken(n: u8, count: usize, radius: u64, keys: &[Key], coefficients: &[i64]) -> Model
     ensures { λ r. ⌜ view r ≡ view (handed n count radius (now (keys .entry)) (now (coefficients .entry))) ⌝ }
@@ -76,23 +116,7 @@ pub fn taken(n: u8, count: usize, radius: u64, keys: &[Key], coefficients: &[i64
     let both = least(keys.len(), coefficients.len());
     let named = least(count, model_types::MOST_TERMS);
     let places = least(named, both);
-    let mut out_keys: [Key; model_types::MOST_TERMS] = [0; model_types::MOST_TERMS];
-    let mut out = [0i64; model_types::MOST_TERMS];
-    let mut i = 0;
-    while i < places {
-        let k = keys[i];
-        let c = coefficients[i];
-        out_keys[i] = k;
-        out[i] = c;
-        i += 1;
-    }
-    Model {
-        n: n,
-        count: count,
-        radius: radius,
-        keys: out_keys,
-        coefficients: out,
-    }
+    filled(n, count, radius, places, keys, coefficients)
 }
 
 // Document 01's number of a verdict, 0 without a refusal.
@@ -121,14 +145,8 @@ pub fn store_terms(m: Model, keys: &mut [Key], coefficients: &mut [i64])
     ensures { λ r. ⌜ (now (keys .exit) ≡ stored-keys m (now (keys .entry)))
         × (now (coefficients .exit) ≡ stored-coefficients m (now (coefficients .entry))) ⌝ }
 {
-    let mut i = 0;
-    while i < model_types::MOST_TERMS {
-        let k = m.keys[i];
-        let c = m.coefficients[i];
-        keys[i] = k;
-        coefficients[i] = c;
-        i += 1;
-    }
+    copy_keys(model_types::MOST_TERMS, &m.keys, keys);
+    copy_coefficients(model_types::MOST_TERMS, &m.coefficients, coefficients);
 }
 
 // The numbers of an answer.

@@ -38,24 +38,7 @@ pub fn result(
     let from = model_types::MOST_TERMS * j;
     let count = counts[j];
     let radius = radii[j];
-    let mut out_keys: [Key; model_types::MOST_TERMS] = [0; model_types::MOST_TERMS];
-    let mut out = [0i64; model_types::MOST_TERMS];
-    let mut i = 0;
-    while i < count {
-        let at = from + i;
-        let k = keys[at];
-        let c = coefficients[at];
-        out_keys[i] = k;
-        out[i] = c;
-        i += 1;
-    }
-    Model {
-        n: n,
-        count: count,
-        radius: radius,
-        keys: out_keys,
-        coefficients: out,
-    }
+    model_slices::filled(n, count, radius, count, &keys[from..], &coefficients[from..])
 }
 
 // The model at a place if it is named, or else the zero model.
@@ -112,14 +95,8 @@ fn store_named(m: Model, keys: &mut [Key], coefficients: &mut [i64])
         × (now (coefficients .exit) ≡ over (take (m .count) (m .coefficients)) (now (coefficients .entry))) ⌝ }
 {
     let count = model_slices::least(m.count, model_types::MOST_TERMS);
-    let mut i = 0;
-    while i < count {
-        let k = m.keys[i];
-        let c = m.coefficients[i];
-        keys[i] = k;
-        coefficients[i] = c;
-        i += 1;
-    }
+    model_slices::copy_keys(count, &m.keys, keys);
+    model_slices::copy_coefficients(count, &m.coefficients, coefficients);
 }
 
 // A result and its row are put at a place.

@@ -28,14 +28,8 @@ pub fn cleared(m: Model) -> Model
     let count = m.count;
     let mut keys: [Key; model_types::MOST_TERMS] = [0; model_types::MOST_TERMS];
     let mut coefficients = [0i64; model_types::MOST_TERMS];
-    let mut i = 0;
-    while i < count {
-        let k = m.keys[i];
-        let c = m.coefficients[i];
-        keys[i] = k;
-        coefficients[i] = c;
-        i += 1;
-    }
+    model_slices::copy_keys(count, &m.keys, &mut keys);
+    model_slices::copy_coefficients(count, &m.coefficients, &mut coefficients);
     Model {
         n: m.n,
         count: count,
