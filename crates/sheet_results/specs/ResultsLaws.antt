@@ -18,7 +18,7 @@ use Rattle.model_types.specs.ArrayLaws.{first-take, first-padded}
 use Rattle.model_types.specs.ModelStruct.{zero-term, paired, listed, of-terms, view-term, pad, view, pack}
 use Rattle.model_types.specs.PairedLaws.{paired-of}
 use Rattle.model_slices.specs.HandedModels.{terms-of, handed, over}
-use Rattle.model_slices.specs.HandedModelsLaws.{handed-more, taken-view}
+use Rattle.model_slices.specs.HandedModelsLaws.{taken-view}
 use Rattle.model_types.specs.declared.Refusal.{Refusal}
 use Rattle.model_types.specs.declared.Accounted.{Accounted}
 use Rattle.model_types.specs.declared.Verdict.the-variants.{Accepted, Refused}
@@ -27,17 +27,19 @@ use Rattle.sheet_results.specs.Results.{unless, settled-results, settled
 
 -- ---- a part of a list replaced
 module _ {A : Type 0} where
+  -- the part from a on
+  pub part-all : (a : ℕ) (xs : List A) → take (length xs - a) (drop a xs) ≡ drop a xs
+  part-all a xs = take-all (length xs - a) (drop a xs) (omega (arith, length-drop a xs))
+
   -- what a slice holds when its part from a on comes back
   pub spliced-part : (a : ℕ) (new xs : List A) {ys : List A} → a ≤ length xs
       → ys ≡ over new (take (length xs - a) (drop a xs))
       → take a xs ++ (ys ++ drop (length xs - a) (drop a xs)) ≡ spliced a new xs
   unfolding spliced
   spliced-part a new xs h e =
-      let all : take (length xs - a) (drop a xs) ≡ drop a xs =
-      take-all (length xs - a) (drop a xs) (omega (arith, length-drop a xs)) in
       let none : drop (length xs - a) (drop a xs) ≡ [] =
       ap (λ n. drop n (drop a xs)) (sym (length-drop a xs)) ∙ drop-length (drop a xs) in
-      ap (λ r. take a xs ++ (r ++ drop (length xs - a) (drop a xs))) (e ∙ ap (over new) all)
+      ap (λ r. take a xs ++ (r ++ drop (length xs - a) (drop a xs))) (e ∙ ap (over new) (part-all a xs))
       ∙ ap (λ r. take a xs ++ (over new (drop a xs) ++ r)) none
       ∙ ap (λ r. take a xs ++ r) (append-nil (over new (drop a xs)))
 
@@ -226,20 +228,7 @@ module _ (n : ℕ) (k : Model) (i : ℕ) {m : Results} (r : Roomy m) (l : i < 64
 
 -- ---- the struct at a place, taken out
 module _ {m : Results} (r : Roomy m) {j : ℕ} (l : j < 64) where
-  -- a turn of the loop that takes it
-  pub taken-more : (i : ℕ) → i < 64
-      → set (pad (terms-of i (drop (64 * j) (m .keys)) (drop (64 * j) (m .coefficients)))) i
-      (record { key = getD (m .keys) (64 * j + i) 0; coefficient = getD (m .coefficients) (64 * j + i) (pos 0) })
-      ≡ pad (terms-of (i + 1) (drop (64 * j) (m .keys)) (drop (64 * j) (m .coefficients)))
-  unfolding most-terms
-  taken-more i h =
-      ap₂ (λ (k : ℕ) (c : ℤ). set (pad (terms-of i (drop (64 * j) (m .keys)) (drop (64 * j) (m .coefficients)))) i
-      (record { key = k; coefficient = c })) (sym (getD-drop (64 * j) (m .keys) i 0))
-      (sym (getD-drop (64 * j) (m .coefficients) i (pos 0)))
-      ∙ handed-more i _ _ (omega (arith, r .keys-long, length-drop (64 * j) (m .keys)))
-      (omega (arith, r .coefficients-long, length-drop (64 * j) (m .coefficients))) h
-
-  -- its end
+  -- by the terms that its count names
   pub taken-end : (n i : ℕ) → i ≡ getD (m .counts) j 0
       → view (of-terms n (getD (m .counts) j 0) (getD (m .radii) j 0)
       (pad (terms-of i (drop (64 * j) (m .keys)) (drop (64 * j) (m .coefficients)))))

@@ -19,8 +19,8 @@ least-requires-2 c κs = search needs
 
 -- how many places are copied
 places-are : (c : tie.After-least2)
-    → c .least2 .result ≡ min most-terms
-    (min (length (c .before .before .before .args .keys .now)) (length (c .before .before .before .args .coefficients .now)))
+    → let s = c .before .before .before in
+    c .least2 .result ≡ min most-terms (min (length (s .args .keys .now)) (length (s .args .coefficients .now)))
 unfolding most-terms
 places-are c = c .least2 .ensures ∙ ap (min 64) (c .before .least .ensures)
 

@@ -1,69 +1,94 @@
+-- `result` is filled with the terms that its count names, from the parts of both slices that begin at its place.
+use mathlib.Core.Path.{refl, _∙_, ap, ap₂}
+use Prim.Native.Nat.{_-_, _*_}
+use native.Mathlib.Omega.{arith}
 use borrow.Author.Needs.{needs}
+use lib.ListN.{length, drop, getD, length-take, length-drop}
+use Rattle.calculus.specs.Model.{most-terms}
+use Rattle.model_types.specs.ModelStruct.{pad, view, of-terms}
+use Rattle.model_slices.specs.HandedModels.{terms-of}
+use Rattle.sheet_results.specs.ResultsLaws.{part-all, taken-end}
 use Rattle.sheet_results.proofs.result.Statement.{statement}
 use Rattle.sheet_results.proofs.result.Tie as tie
-use Rattle.sheet_results.proofs.result.Reads as reads
-use Rattle.sheet_results.proofs.result.Lts as lts
-use Rattle.model_slices.proofs.filled.Reads as filled-reads
 
--- src/lib.rt:38:16
 mul-from : tie.Need-mul-from
 mul-from c = search needs
 
--- src/lib.rt:39:17
 mul-count : tie.Need-mul-count
 mul-count c = search needs
 
--- src/lib.rt:39:17
 shared-slice-read-count : tie.Need-shared-slice-read-count
 shared-slice-read-count c = search needs
 
--- src/lib.rt:40:18
 mul-radius : tie.Need-mul-radius
 mul-radius c = search needs
 
--- src/lib.rt:40:18
 shared-slice-read-radius : tie.Need-shared-slice-read-radius
 shared-slice-read-radius c = search needs
 
--- src/lib.rt:41:51
 mul-filled : tie.Need-mul-filled
 mul-filled c = search needs
 
--- src/lib.rt:41:51
 sub-filled : tie.Need-sub-filled
 sub-filled c = search needs
 
--- src/lib.rt:41:51
 part-filled-start : tie.Need-part-filled-start
 part-filled-start c = search needs
 
--- src/lib.rt:41:51
 part-filled-end : tie.Need-part-filled-end
 part-filled-end c = search needs
 
--- src/lib.rt:41:66
 mul-filled-2 : tie.Need-mul-filled-2
 mul-filled-2 c = search needs
 
--- src/lib.rt:41:66
 sub-filled-2 : tie.Need-sub-filled-2
 sub-filled-2 c = search needs
 
--- src/lib.rt:41:66
 part-filled-start-2 : tie.Need-part-filled-start-2
 part-filled-start-2 c = search needs
 
--- src/lib.rt:41:66
 part-filled-end-2 : tie.Need-part-filled-end-2
 part-filled-end-2 c = search needs
 
--- src/lib.rt:41:5
 filled-requires : tie.Need-filled-requires
-filled-requires c κs = ?
+unfolding most-terms
+filled-requires c κs =
+    let s = c .before .before .before .before .before .before .before in
+    let k = s .args .keys .now in
+    let z = s .args .coefficients .now in
+    let j = s .args .j in
+    let r = s .pre .1 in (
+      r .few j,
+      (
+        omega (
+          arith,
+          r .few j,
+          s .pre .0,
+          r .keys-long,
+          length-take (length k - 64 * j) (drop (64 * j) k),
+          length-drop (64 * j) k,
+        ),
+        omega (
+          arith,
+          r .few j,
+          s .pre .0,
+          r .coefficients-long,
+          length-take (length z - 64 * j) (drop (64 * j) z),
+          length-drop (64 * j) z,
+        ),
+      ),
+    )
 
--- src/lib.rt:25:1
 returns : tie.Need-returns
-returns c = ?
+returns c =
+    let s = c .before .before .before .before .before .before .before .before in
+    let a = s .args in
+    ap view
+    (c .filled .ensures
+    ∙ ap₂ (λ k z. of-terms (a .n) (getD (a .counts .now) (a .j) 0) (getD (a .radii .now) (a .j) 0)
+    (pad (terms-of (getD (a .counts .now) (a .j) 0) k z)))
+    (part-all (64 * a .j) (a .keys .now)) (part-all (64 * a .j) (a .coefficients .now)))
+    ∙ taken-end (s .pre .1) (s .pre .0) (a .n) _ refl
 
 pub result-spec : {M : Type 1} → statement M
 result-spec =
