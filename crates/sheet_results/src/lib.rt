@@ -38,7 +38,14 @@ pub fn result(
     let from = model_types::MOST_TERMS * j;
     let count = counts[j];
     let radius = radii[j];
-    model_slices::filled(n, count, radius, count, &keys[from..], &coefficients[from..])
+    model_slices::filled(
+        n,
+        count,
+        radius,
+        count,
+        &keys[from..],
+        &coefficients[from..],
+    )
 }
 
 // The model at a place if it is named, or else the zero model.
