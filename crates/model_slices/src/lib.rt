@@ -4,8 +4,8 @@ ghost use mathlib.Core.Path.{_≡_};
 ghost use Prim.Native.Nat.{_≤_, min};
 ghost use lib.ListN.{length, take};
 ghost use Rattle.calculus.specs.Model.{«most-terms»};
-ghost use Rattle.model_types.specs.ModelStruct.{view, pad, «of-terms», «verdict-number», «verdict-place»};
-ghost use Rattle.model_slices.specs.HandedModels.{«terms-of», handed, lent, over};
+ghost use Rattle.model_types.specs.ModelStruct.{view, «verdict-number», «verdict-place»};
+ghost use Rattle.model_slices.specs.HandedModels.{handed, lent, over};
 ghost use Rattle.model_slices.specs.HandedModels.{«answer-numbers», «model-room»};
 ghost use Rattle.model_slices.specs.HandedModels.{«stored-keys», «stored-coefficients», «stored-numbers»};
 use model_types::Key;
@@ -73,20 +73,12 @@ pub fn copy_coefficients(count: usize, coefficients: &[i64], out: &mut [i64])
     }
 }
 
-// The struct of a model whose first places hold the first terms of two slices, and the others zeros.
-pub fn filled(
-    n: u8,
-    count: usize,
-    radius: u64,
-    places: usize,
-    keys: &[Key],
-    coefficients: &[i64],
-) -> Model
-    requires { ⌜ places ≤ most-terms ⌝ }
-    requires { ⌜ (places ≤ length (now keys)) × (places ≤ length (now coefficients)) ⌝ }
-    ensures { λ r. ⌜ r ≡ of-terms n count radius
-        (pad (terms-of places (now (keys .entry)) (now (coefficients .entry)))) ⌝ }
+// The model that is handed over. Its places are the first 64 of the slices, and zeros where these end before.
+pub fn handed(n: u8, count: usize, radius: u64, keys: &[Key], coefficients: &[i64]) -> Model
+    ensures { λ r. ⌜ r ≡ handed n count radius (now (keys .entry)) (now (coefficients .entry)) ⌝ }
 {
+    let both = least(keys.len(), coefficients.len());
+    let places = least(model_types::MOST_TERMS, both);
     let mut out_keys: [Key; model_types::MOST_TERMS] = [0; model_types::MOST_TERMS];
     let mut out = [0i64; model_types::MOST_TERMS];
     copy_keys(places, keys, &mut out_keys);
@@ -100,15 +92,6 @@ pub fn filled(
     }
 }
 
-// The model that is handed over. Its places are the first 64 of the slices, and zeros where these end before.
-pub fn handed(n: u8, count: usize, radius: u64, keys: &[Key], coefficients: &[i64]) -> Model
-    ensures { λ r. ⌜ r ≡ handed n count radius (now (keys .entry)) (now (coefficients .entry)) ⌝ }
-{
-    let both = least(keys.len(), coefficients.len());
-    let places = least(model_types::MOST_TERMS, both);
-    filled(n, count, radius, places, keys, coefficients)
-}
-
 // The same model to every call: only the places that its count names are copied, and zeros stand behind them.
 pub fn taken(n: u8, count: usize, radius: u64, keys: &[Key], coefficients: &[i64]) -> Model
     ensures { λ r. ⌜ view r ≡ view (handed n count radius (now (keys .entry)) (now (coefficients .entry))) ⌝ }
@@ -116,7 +99,17 @@ pub fn taken(n: u8, count: usize, radius: u64, keys: &[Key], coefficients: &[i64
     let both = least(keys.len(), coefficients.len());
     let named = least(count, model_types::MOST_TERMS);
     let places = least(named, both);
-    filled(n, count, radius, places, keys, coefficients)
+    let mut out_keys: [Key; model_types::MOST_TERMS] = [0; model_types::MOST_TERMS];
+    let mut out = [0i64; model_types::MOST_TERMS];
+    copy_keys(places, keys, &mut out_keys);
+    copy_coefficients(places, coefficients, &mut out);
+    Model {
+        n: n,
+        count: count,
+        radius: radius,
+        keys: out_keys,
+        coefficients: out,
+    }
 }
 
 // Document 01's number of a verdict, 0 without a refusal.

@@ -38,14 +38,17 @@ pub fn result(
     let from = model_types::MOST_TERMS * j;
     let count = counts[j];
     let radius = radii[j];
-    model_slices::filled(
-        n,
-        count,
-        radius,
-        count,
-        &keys[from..],
-        &coefficients[from..],
-    )
+    let mut out_keys: [Key; model_types::MOST_TERMS] = [0; model_types::MOST_TERMS];
+    let mut out = [0i64; model_types::MOST_TERMS];
+    model_slices::copy_keys(count, &keys[from..], &mut out_keys);
+    model_slices::copy_coefficients(count, &coefficients[from..], &mut out);
+    Model {
+        n: n,
+        count: count,
+        radius: radius,
+        keys: out_keys,
+        coefficients: out,
+    }
 }
 
 // The model at a place if it is named, or else the zero model.

@@ -5,9 +5,10 @@ use native.Mathlib.Omega.{arith}
 use borrow.Author.Needs.{needs}
 use lib.ListN.{length}
 use Rattle.calculus.specs.Model.{most-terms}
-use Rattle.model_types.specs.ModelStruct.{pad, of-terms}
+use Rattle.model_types.specs.ModelStruct.{pad}
+use Rattle.model_types.specs.PairedLaws.{listed-same, listed-struct}
 use Rattle.model_slices.specs.HandedModels.{handed}
-use Rattle.model_slices.specs.HandedModelsLaws.{terms-end}
+use Rattle.model_slices.specs.HandedModelsLaws.{terms-end, filled-listed}
 use Rattle.model_slices.proofs.handed.Statement.{statement}
 use Rattle.model_slices.proofs.handed.Tie as tie
 
@@ -17,6 +18,18 @@ least-requires c κs = search needs
 least-requires-2 : tie.Need-least-requires-2
 least-requires-2 c κs = search needs
 
+slice-aggregate-copy-keys : tie.Need-slice-aggregate-copy-keys
+slice-aggregate-copy-keys c = search needs
+
+copy-keys-requires : tie.Need-copy-keys-requires
+copy-keys-requires c κs = search needs
+
+slice-aggregate-copy-coefficients : tie.Need-slice-aggregate-copy-coefficients
+slice-aggregate-copy-coefficients c = search needs
+
+copy-coefficients-requires : tie.Need-copy-coefficients-requires
+copy-coefficients-requires c κs = search needs
+
 -- how many places are copied
 places-are : (c : tie.After-least2)
     → let s = c .before .before .before in
@@ -24,18 +37,25 @@ places-are : (c : tie.After-least2)
 unfolding most-terms
 places-are c = c .least2 .ensures ∙ ap (min 64) (c .before .least .ensures)
 
-filled-requires : tie.Need-filled-requires
-unfolding most-terms
-filled-requires c κs =
-    let e = places-are c in (omega (arith, e), (omega (arith, e), omega (arith, e)))
-
 returns : tie.Need-returns
-unfolding handed
+unfolding handed most-terms
 returns c =
-    let a = c .before .before .before .before .args in
-    c .filled .ensures
-    ∙ ap (λ l. of-terms (a .n) (a .count) (a .radius) (pad l))
-    (terms-end _ most-terms (a .keys .now) (a .coefficients .now) (places-are (c .before)))
+    let l = c .before .before .before .before .before .before in
+    let a = l .before .before .before .args in
+    let p = places-are l in
+    rw (c .before .before .before .before .copy-keys .ensures, c .before .copy-coefficients .ensures)
+    (listed-struct (listed-same
+    (filled-listed (l .least2 .result) (a .keys .now) (a .coefficients .now) (omega (arith, p)) (omega (arith, p)))
+    (ap pad (terms-end _ most-terms (a .keys .now) (a .coefficients .now) p))) _ _ _)
 
 pub handed-spec : {M : Type 1} → statement M
-handed-spec = tie.close (tie.spec least-requires least-requires-2 filled-requires returns)
+handed-spec =
+    tie.close
+    (tie.spec
+    least-requires
+    least-requires-2
+    slice-aggregate-copy-keys
+    copy-keys-requires
+    slice-aggregate-copy-coefficients
+    copy-coefficients-requires
+    returns)

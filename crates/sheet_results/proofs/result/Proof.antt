@@ -1,12 +1,13 @@
--- `result` is filled with the terms that its count names, from the parts of both slices that begin at its place.
-use mathlib.Core.Path.{refl, _∙_, ap, ap₂}
+-- `result` copies the terms that its count names, from the parts of both slices that begin at its place.
+use mathlib.Core.Path.{refl, _∙_, ap}
 use Prim.Native.Nat.{_-_, _*_}
 use native.Mathlib.Omega.{arith}
 use borrow.Author.Needs.{needs}
 use lib.ListN.{length, drop, getD, length-take, length-drop}
 use Rattle.calculus.specs.Model.{most-terms}
-use Rattle.model_types.specs.ModelStruct.{pad, view, of-terms}
-use Rattle.model_slices.specs.HandedModels.{terms-of}
+use Rattle.model_types.specs.ModelStruct.{view}
+use Rattle.model_types.specs.PairedLaws.{listed-struct}
+use Rattle.model_slices.specs.HandedModelsLaws.{filled-listed}
 use Rattle.sheet_results.specs.ResultsLaws.{part-all, taken-end}
 use Rattle.sheet_results.proofs.result.Statement.{statement}
 use Rattle.sheet_results.proofs.result.Tie as tie
@@ -26,69 +27,88 @@ mul-radius c = search needs
 shared-slice-read-radius : tie.Need-shared-slice-read-radius
 shared-slice-read-radius c = search needs
 
-mul-filled : tie.Need-mul-filled
-mul-filled c = search needs
+mul-copy-keys : tie.Need-mul-copy-keys
+mul-copy-keys c = search needs
 
-sub-filled : tie.Need-sub-filled
-sub-filled c = search needs
+sub-copy-keys : tie.Need-sub-copy-keys
+sub-copy-keys c = search needs
 
-part-filled-start : tie.Need-part-filled-start
-part-filled-start c = search needs
+part-copy-keys-start : tie.Need-part-copy-keys-start
+part-copy-keys-start c = search needs
 
-part-filled-end : tie.Need-part-filled-end
-part-filled-end c = search needs
+part-copy-keys-end : tie.Need-part-copy-keys-end
+part-copy-keys-end c = search needs
 
-mul-filled-2 : tie.Need-mul-filled-2
-mul-filled-2 c = search needs
+slice-aggregate-copy-keys : tie.Need-slice-aggregate-copy-keys
+slice-aggregate-copy-keys c = search needs
 
-sub-filled-2 : tie.Need-sub-filled-2
-sub-filled-2 c = search needs
-
-part-filled-start-2 : tie.Need-part-filled-start-2
-part-filled-start-2 c = search needs
-
-part-filled-end-2 : tie.Need-part-filled-end-2
-part-filled-end-2 c = search needs
-
-filled-requires : tie.Need-filled-requires
-unfolding most-terms
-filled-requires c κs =
+copy-keys-requires : tie.Need-copy-keys-requires
+copy-keys-requires c κs =
     let s = c .before .before .before .before .before .before .before in
-    let k = s .args .keys .now in
-    let z = s .args .coefficients .now in
+    let l = s .args .keys .now in
     let j = s .args .j in
     let r = s .pre .1 in (
-      r .few j,
-      (
-        omega (
-          arith,
-          r .few j,
-          s .pre .0,
-          r .keys-long,
-          length-take (length k - 64 * j) (drop (64 * j) k),
-          length-drop (64 * j) k,
-        ),
-        omega (
-          arith,
-          r .few j,
-          s .pre .0,
-          r .coefficients-long,
-          length-take (length z - 64 * j) (drop (64 * j) z),
-          length-drop (64 * j) z,
-        ),
+      omega (
+        arith,
+        r .few j,
+        s .pre .0,
+        r .keys-long,
+        length-take (length l - 64 * j) (drop (64 * j) l),
+        length-drop (64 * j) l,
       ),
+      r .few j,
+    )
+
+mul-copy-coefficients : tie.Need-mul-copy-coefficients
+mul-copy-coefficients c = search needs
+
+sub-copy-coefficients : tie.Need-sub-copy-coefficients
+sub-copy-coefficients c = search needs
+
+part-copy-coefficients-start : tie.Need-part-copy-coefficients-start
+part-copy-coefficients-start c = search needs
+
+part-copy-coefficients-end : tie.Need-part-copy-coefficients-end
+part-copy-coefficients-end c = search needs
+
+slice-aggregate-copy-coefficients : tie.Need-slice-aggregate-copy-coefficients
+slice-aggregate-copy-coefficients c = search needs
+
+copy-coefficients-requires : tie.Need-copy-coefficients-requires
+copy-coefficients-requires c κs =
+    let s = c .before .before .before .before .before .before .before .before .before .before .before in
+    let l = s .args .coefficients .now in
+    let j = s .args .j in
+    let r = s .pre .1 in (
+      omega (
+        arith,
+        r .few j,
+        s .pre .0,
+        r .coefficients-long,
+        length-take (length l - 64 * j) (drop (64 * j) l),
+        length-drop (64 * j) l,
+      ),
+      r .few j,
     )
 
 returns : tie.Need-returns
+unfolding most-terms
 returns c =
-    let s = c .before .before .before .before .before .before .before .before in
+    let s = c .before .before .before .before .before .before .before .before .before .before .before .before .before in
     let a = s .args in
-    ap view
-    (c .filled .ensures
-    ∙ ap₂ (λ k z. of-terms (a .n) (getD (a .counts .now) (a .j) 0) (getD (a .radii .now) (a .j) 0)
-    (pad (terms-of (getD (a .counts .now) (a .j) 0) k z)))
-    (part-all (64 * a .j) (a .keys .now)) (part-all (64 * a .j) (a .coefficients .now)))
-    ∙ taken-end (s .pre .1) (s .pre .0) (a .n) _ refl
+    let r = s .pre .1 in
+    rw (
+      c .before .before .before .before .before .copy-keys .ensures,
+      c .before .copy-coefficients .ensures,
+      part-all (64 * a .j) (a .keys .now),
+      part-all (64 * a .j) (a .coefficients .now),
+    )
+    (ap view (listed-struct (filled-listed (getD (a .counts .now) (a .j) 0) (drop (64 * a .j) (a .keys .now))
+    (drop (64 * a .j) (a .coefficients .now))
+    (omega (arith, r .few (a .j), s .pre .0, r .keys-long, length-drop (64 * a .j) (a .keys .now)))
+    (omega (arith, r .few (a .j), s .pre .0, r .coefficients-long, length-drop (64 * a .j) (a .coefficients .now))))
+    _ _ _)
+    ∙ taken-end (s .pre .1) (s .pre .0) (a .n) _ refl)
 
 pub result-spec : {M : Type 1} → statement M
 result-spec =
@@ -99,13 +119,16 @@ result-spec =
     shared-slice-read-count
     mul-radius
     shared-slice-read-radius
-    mul-filled
-    sub-filled
-    part-filled-start
-    part-filled-end
-    mul-filled-2
-    sub-filled-2
-    part-filled-start-2
-    part-filled-end-2
-    filled-requires
+    mul-copy-keys
+    sub-copy-keys
+    part-copy-keys-start
+    part-copy-keys-end
+    slice-aggregate-copy-keys
+    copy-keys-requires
+    mul-copy-coefficients
+    sub-copy-coefficients
+    part-copy-coefficients-start
+    part-copy-coefficients-end
+    slice-aggregate-copy-coefficients
+    copy-coefficients-requires
     returns)
