@@ -1,5 +1,6 @@
-// The product of two models, in what is lent or in room of its own: both are unpacked into wide keys, what the order
-// keeps of the products of their terms is found there, and that is packed again.
+// The product of two models, in what is lent or in room of its own: the arrays of both are lent to the product of
+// models in slices. (Keys are copied before: `&` of two fields of one struct is not covered by the borrow checker where
+// the callee takes them at two lifetimes.)
 ghost use mathlib.Core.Path.{_≡_};
 ghost use Prim.Native.Nat.{_*_};
 ghost use Rattle.calculus.specs.Refusal.{«at-place»};
@@ -10,11 +11,9 @@ ghost use Rattle.model_types.specs.SharesStruct.{accounted};
 ghost use Rattle.product_hash_collect.specs.CollectorContracts.{«Free-table»};
 ghost use Rattle.product_room.specs.ProductTerms.{«Lent-room»};
 ghost use Rattle.product_answer.specs.ProductFactors.{Factors};
-use model_slices::Kept;
 use model_types::Accounted;
 use model_types::Answer;
 use model_types::Model;
-use product_sums::Gathered;
 
 // ---- in what is lent
 // f times g at order d with the shares of its radius, in a grid where the monomials are few, or else in a table. What
@@ -33,39 +32,23 @@ pub fn multiplied_accounted(
     ensures table { λ r. ⌜ Free-table (now (slots .entry)) (now (keys .entry)) (now (sums .entry))
         (now (slots .exit)) (now (keys .exit)) (now (sums .exit)) ⌝ }
 {
-    let mut ka = [0u64; model_types::MOST_TERMS];
-    let mut ca = [0i64; model_types::MOST_TERMS];
-    let mut kb = [0u64; model_types::MOST_TERMS];
-    let mut cb = [0i64; model_types::MOST_TERMS];
-    let mut kept = [0u64; model_types::MOST_TERMS + 1];
-    let mut coefficients = [0i64; model_types::MOST_TERMS + 1];
-    let a = product_packing::unpack(f, &mut ka, &mut ca);
-    let b = product_packing::unpack(g, &mut kb, &mut cb);
-    let r: Gathered = product_terms::kept_lent(
-        d as u64,
-        &ka,
-        &ca,
+    let keys1 = f.keys;
+    let keys2 = g.keys;
+    product_slices::multiplied_slices_accounted(
+        d,
+        f.n,
         f.count,
-        &kb,
-        &cb,
+        f.radius,
+        &keys1,
+        &f.coefficients,
         g.count,
+        g.radius,
+        &keys2,
+        &g.coefficients,
         slots,
         keys,
         sums,
-        &mut kept,
-        &mut coefficients,
-    );
-    let k: Kept = product_answer::kept_answer(
-        f.n,
-        a,
-        f.radius,
-        b,
-        g.radius,
-        r,
-        &kept,
-        &coefficients,
-    );
-    product_answer::packed_kept(f.n, k, &kept, &coefficients)
+    )
 }
 
 // f times g at order d, in a grid or a table that is lent.
@@ -93,34 +76,23 @@ pub fn multiplied_alone(d: u8, f: Model, g: Model) -> Answer
     requires { ⌜ Factors d f g ⌝ }
     ensures { λ r. ⌜ r ≡ answer (at-place 0 (multiply d (view f) (view g))) ⌝ }
 {
-    let mut ka = [0u64; model_types::MOST_TERMS];
-    let mut ca = [0i64; model_types::MOST_TERMS];
-    let mut kb = [0u64; model_types::MOST_TERMS];
-    let mut cb = [0i64; model_types::MOST_TERMS];
     let mut kept = [0u64; model_types::MOST_TERMS + 1];
     let mut coefficients = [0i64; model_types::MOST_TERMS + 1];
-    let a = product_packing::unpack(f, &mut ka, &mut ca);
-    let b = product_packing::unpack(g, &mut kb, &mut cb);
-    let r: Gathered = product_terms::kept_alone(
-        d as u64,
-        &ka,
-        &ca,
+    let keys1 = f.keys;
+    let keys2 = g.keys;
+    let k = product_slices::multiplied_slices_alone(
+        d,
+        f.n,
         f.count,
-        &kb,
-        &cb,
+        f.radius,
+        &keys1,
+        &f.coefficients,
         g.count,
+        g.radius,
+        &keys2,
+        &g.coefficients,
         &mut kept,
         &mut coefficients,
-    );
-    let k: Kept = product_answer::kept_answer(
-        f.n,
-        a,
-        f.radius,
-        b,
-        g.radius,
-        r,
-        &kept,
-        &coefficients,
     );
     let product = product_answer::packed_kept(f.n, k, &kept, &coefficients);
     product.answer

@@ -1,117 +1,51 @@
--- `multiplied_alone` unpacks both factors, has what is kept of their products found, and has that answered.
+-- `multiplied_alone` lends the arrays of both factors, has the product kept in two arrays of its own, and packs it.
 use mathlib.Core.Path.{_∙_}
-use Prim.Native.Nat.{_≤_}
 use borrow.Author.Needs.{needs}
 use lib.Dec.{lit≤}
-use lib.ListN.{length}
 use Rattle.calculus.specs.Model.{most-terms}
-use Rattle.model_types.specs.ModelStructLaws.{limits}
-use Rattle.product_hash_collect.specs.CollectorContracts.{Held-factors}
 use Rattle.model_types.specs.SharesStructLaws.{accounted-answer}
-use Rattle.product_answer.specs.ProductFactors.{Factors}
-use Rattle.product_answer.specs.FactorLaws.{unpack-ready, factors, factors-answer, end-ready, end-answer}
+use Rattle.model_multiplication.specs.OwnArraysLaws.{Whole, own-factors, first-long, second-long, own-product}
 use Rattle.model_multiplication.proofs.multiplied_alone.Statement.{statement}
 use Rattle.model_multiplication.proofs.multiplied_alone.Tie as tie
-use Rattle.model_multiplication.proofs.multiplied_alone.Reads as reads
-use Rattle.model_multiplication.proofs.multiplied_alone.Lts as lts
-use Rattle.product_packing.proofs.unpack.Reads as unpack-reads
-use Rattle.product_terms.proofs.kept_alone.Reads as kept-alone-reads
 
-slice-aggregate-unpack : tie.Need-slice-aggregate-unpack
-slice-aggregate-unpack c = search needs
-
-slice-aggregate-unpack-2 : tie.Need-slice-aggregate-unpack-2
-slice-aggregate-unpack-2 c = search needs
-
-unpack-requires : tie.Need-unpack-requires
-unfolding most-terms
-unpack-requires c κs =
-    let s = c .before .before in
-    unpack-ready _ _ (s .pre .first) _ _ (lit≤ tt) (lit≤ tt)
-
-slice-aggregate-unpack-3 : tie.Need-slice-aggregate-unpack-3
-slice-aggregate-unpack-3 c = search needs
-
-slice-aggregate-unpack-4 : tie.Need-slice-aggregate-unpack-4
-slice-aggregate-unpack-4 c = search needs
-
-unpack-requires-2 : tie.Need-unpack-requires-2
-unfolding most-terms
-unpack-requires-2 c κs =
-    let s = c .before .before .before .before .before .before .before in
-    unpack-ready _ _ (s .pre .second) _ _ (lit≤ tt) (lit≤ tt)
-
--- ---- where both factors are unpacked
-module _ (c : tie.After-unpack2) where
-  abbrev first : tie.After-unpack
-  first = c .before .before .before .before .before
-
-  abbrev start : tie.Start
-  start = first .before .before .before
-
-  abbrev given : Factors (start .args .d) (start .args .f) (start .args .g)
-  given = start .pre
-
-  ka-long : start .args .f .count ≤ length (first .unpack .last .1 .0)
+-- ---- the arrays of both factors have all places
+module _ (s : tie.Start) where
+  first-whole : Whole (s .args .t2)
   unfolding most-terms
-  ka-long = let few = limits _ _ (given .first) .few in search needs
+  first-whole = record { keys-whole = search needs; coefficients-whole = search needs }
 
-  ca-long : start .args .f .count ≤ length (first .unpack .last .1 .1 .0)
+  second-whole : Whole (s .args .t3)
   unfolding most-terms
-  ca-long = let few = limits _ _ (given .first) .few in search needs
+  second-whole = record { keys-whole = search needs; coefficients-whole = search needs }
 
-  kb-long : start .args .g .count ≤ length (c .unpack2 .last .1 .0)
-  unfolding most-terms
-  kb-long = let few = limits _ _ (given .second) .few in search needs
+slice-aggregate-multiplied-slices-alone : tie.Need-slice-aggregate-multiplied-slices-alone
+slice-aggregate-multiplied-slices-alone c = search needs
 
-  cb-long : start .args .g .count ≤ length (c .unpack2 .last .1 .1 .0)
-  unfolding most-terms
-  cb-long = let few = limits _ _ (given .second) .few in search needs
+slice-aggregate-multiplied-slices-alone-2 : tie.Need-slice-aggregate-multiplied-slices-alone-2
+slice-aggregate-multiplied-slices-alone-2 c = search needs
 
-  held : Held-factors (first .unpack .last .1 .0) (first .unpack .last .1 .1 .0) (start .args .f .count)
-      (c .unpack2 .last .1 .0) (c .unpack2 .last .1 .1 .0) (start .args .g .count)
-  held = factors _ _ _ given (first .unpack .ensures) (c .unpack2 .ensures) ka-long ca-long kb-long cb-long
+slice-aggregate-multiplied-slices-alone-3 : tie.Need-slice-aggregate-multiplied-slices-alone-3
+slice-aggregate-multiplied-slices-alone-3 c = search needs
 
-slice-aggregate-kept-alone : tie.Need-slice-aggregate-kept-alone
-slice-aggregate-kept-alone c = search needs
+slice-aggregate-multiplied-slices-alone-4 : tie.Need-slice-aggregate-multiplied-slices-alone-4
+slice-aggregate-multiplied-slices-alone-4 c = search needs
 
-slice-aggregate-kept-alone-2 : tie.Need-slice-aggregate-kept-alone-2
-slice-aggregate-kept-alone-2 c = search needs
-
-slice-aggregate-kept-alone-3 : tie.Need-slice-aggregate-kept-alone-3
-slice-aggregate-kept-alone-3 c = search needs
-
-slice-aggregate-kept-alone-4 : tie.Need-slice-aggregate-kept-alone-4
-slice-aggregate-kept-alone-4 c = search needs
-
-slice-aggregate-kept-alone-5 : tie.Need-slice-aggregate-kept-alone-5
-slice-aggregate-kept-alone-5 c = search needs
-
-slice-aggregate-kept-alone-6 : tie.Need-slice-aggregate-kept-alone-6
-slice-aggregate-kept-alone-6 c = search needs
-
-kept-alone-requires : tie.Need-kept-alone-requires
+multiplied-slices-alone-requires : tie.Need-multiplied-slices-alone-requires
 unfolding most-terms
-kept-alone-requires c κs =
-    let u = c .before .before .before .before .before .before .before .before in
-    (held u, record { kept-room = lit≤ tt; coefficients-room = lit≤ tt })
-
-slice-aggregate-kept-answer : tie.Need-slice-aggregate-kept-answer
-slice-aggregate-kept-answer c = search needs
-
-slice-aggregate-kept-answer-2 : tie.Need-slice-aggregate-kept-answer-2
-slice-aggregate-kept-answer-2 c = search needs
-
-kept-answer-requires : tie.Need-kept-answer-requires
-unfolding most-terms
-kept-answer-requires c κs =
-    let w = c .before .before .before .before in
-    let u = w .before .before .before .before .before .before .before .before .before in
-    end-ready _ _ _ (given u) (first u .unpack .ensures) (u .unpack2 .ensures)
-    (ka-long u) (ca-long u) (kb-long u) (cb-long u)
-    (factors-answer _ _ _ (given u) (first u .unpack .ensures) (u .unpack2 .ensures)
-    (ka-long u) (ca-long u) (kb-long u) (cb-long u) (w .kept-alone .ensures))
-    (search needs) (search needs)
+multiplied-slices-alone-requires c κs =
+    let s = c .before .before .before .before .before .before .before .before .before .before .before .before in
+    let wf = first-whole s in
+    let wg = second-whole s in
+    let h = s .pre in (
+      own-factors h wf wg,
+      (
+        first-long h wf wg,
+        (
+          second-long h wf wg,
+          record { kept-room = lit≤ tt; coefficients-room = lit≤ tt },
+        ),
+      ),
+    )
 
 slice-aggregate-packed-kept : tie.Need-slice-aggregate-packed-kept
 slice-aggregate-packed-kept c = search needs
@@ -123,39 +57,22 @@ packed-kept-requires : tie.Need-packed-kept-requires
 packed-kept-requires c κs = search needs
 
 returns : tie.Need-returns
-unfolding most-terms
 returns c =
-    let k = c .before .before .before .before in
-    let w = k .before .before .before .before .before in
-    let u = w .before .before .before .before .before .before .before .before .before in
+    let m = c .before .before .before .before .before .before in
+    let s = m .before .before .before .before .before .before .before .before .before .before .before .before .before in
     accounted-answer _ _
     (c .before .packed-kept .ensures
-    ∙ end-answer _ _ _ (given u) (first u .unpack .ensures) (u .unpack2 .ensures)
-    (ka-long u) (ca-long u) (kb-long u) (cb-long u)
-    (factors-answer _ _ _ (given u) (first u .unpack .ensures) (u .unpack2 .ensures)
-    (ka-long u) (ca-long u) (kb-long u) (cb-long u) (w .kept-alone .ensures))
-    (search needs) (search needs) (k .kept-answer .ensures .0))
+    ∙ own-product (s .pre) (first-whole s) (second-whole s) _ (m .multiplied-slices-alone .ensures .0))
 
 pub multiplied-alone-spec : {M : Type 1} → statement M
 multiplied-alone-spec =
     tie.close
     (tie.spec
-    slice-aggregate-unpack
-    slice-aggregate-unpack-2
-    unpack-requires
-    slice-aggregate-unpack-3
-    slice-aggregate-unpack-4
-    unpack-requires-2
-    slice-aggregate-kept-alone
-    slice-aggregate-kept-alone-2
-    slice-aggregate-kept-alone-3
-    slice-aggregate-kept-alone-4
-    slice-aggregate-kept-alone-5
-    slice-aggregate-kept-alone-6
-    kept-alone-requires
-    slice-aggregate-kept-answer
-    slice-aggregate-kept-answer-2
-    kept-answer-requires
+    slice-aggregate-multiplied-slices-alone
+    slice-aggregate-multiplied-slices-alone-2
+    slice-aggregate-multiplied-slices-alone-3
+    slice-aggregate-multiplied-slices-alone-4
+    multiplied-slices-alone-requires
     slice-aggregate-packed-kept
     slice-aggregate-packed-kept-2
     packed-kept-requires
