@@ -35,8 +35,8 @@ use Rattle.product_sums.specs.Wide.{wide-terms}
 use Rattle.product_sums.specs.Kept.{counted}
 use Rattle.product_sums.specs.GatherLaws.{counted-few, counted-many}
 use Rattle.product_sums.specs.ProductSums.{gathered-product}
-use Rattle.product_packing.specs.Transfer.{Pack-ready, packed}
-use Rattle.product_packing.specs.TransferLaws.{packed-wide, pack-ready}
+use Rattle.product_answer.specs.PackedTerms.{Pack-ready, packed}
+use Rattle.product_answer.specs.PackedTermsLaws.{packed-wide, pack-ready}
 use Rattle.product_answer.specs.CollectedProduct.{Product}
 use Rattle.product_answer.specs.ErrorShares.{error-shares}
 use Rattle.product_answer.specs.ErrorLaws.{error-fits, shares-are}

@@ -1,13 +1,12 @@
 -- The product of two sound models in memory: what its steps ask, and what they come to.
 use mathlib.Core.Path.{_≡_, refl}
-use mathlib.Core.List.{List, []}
+use mathlib.Core.List.{List}
 use Prim.Native.Nat.{ℕ, _≤_}
 use native.Mathlib.Nat as NatL
 use native.Mathlib.Omega.{arith}
 use lib.Dec.{T}
 use lib.IntN.{ℤ}
 use lib.ListN.{length}
-use Rattle.polynomial.specs.Polynomial.{product}
 use Rattle.numbers.specs.Fixed.{span-limit}
 use Rattle.numbers.specs.FixedLaws.{span-square-fits}
 use Rattle.calculus.specs.Key.{key-width}
@@ -22,24 +21,16 @@ use Rattle.model_types.specs.declared.Accounted.{Accounted}
 use Rattle.model_types.specs.ModelStruct.{view}
 use Rattle.model_types.specs.SharesStruct.{accounted}
 use Rattle.model_types.specs.ModelStructLaws.{limits}
-use Rattle.product_sums.specs.TermArrays.{terms}
 use Rattle.product_sums.specs.declared.Gathered.{Gathered}
 use Rattle.product_sums.specs.ProductSums.{Product-gathered}
 use Rattle.product_sums.specs.ProductSums as Sums
 use Rattle.product_hash_collect.specs.CollectorContracts as Contracts
 use Rattle.product_hash_collect.specs.FactorArrayLaws.{sums-answer}
-use Rattle.product_packing.specs.Transfer.{Unpack-ready, Unpacked}
 use Rattle.product_answer.specs.CollectedProduct.{Product}
-use Rattle.product_answer.specs.ProductFactors.{Factors}
+use Rattle.product_answer.specs.ProductFactors.{Factors, Unpacked}
 
 -- ---- one factor
 module _ (d : ℕ) (m : Model) (h : T (sound d (view m))) where
-  pub unpack-ready : (keys : List ℕ) (coefficients : List ℤ) → most-terms ≤ length keys
-      → most-terms ≤ length coefficients → Unpack-ready m keys coefficients
-  unpack-ready keys coefficients lk lc =
-      let l = limits d m h in
-      record { width = l .width; few = l .few; small = l .small; keys-room = lk; coefficients-room = lc }
-
   fitting : T (every (λ k c. fits (m .n) d k) (view m .terms))
   unfolding view
   fitting = sound-parts d (view m) h .0 .fitting

@@ -13,8 +13,8 @@ use Rattle.model_types.specs.declared.Accounted.{Accounted}
 use Rattle.model_types.specs.ModelStruct.{pack}
 use Rattle.model_types.specs.SharesStruct.{stored-shares}
 use Rattle.product_sums.specs.TermArrays.{terms}
-use Rattle.product_packing.specs.Transfer.{Pack-ready, packed}
 use Rattle.model_slices.specs.declared.Kept.{Kept}
+use Rattle.product_answer.specs.PackedTerms.{Pack-ready, packed}
 
 -- a model, or the zero model in one variable beside a refusal
 unfoldable pub model-unless : Verdict → Model → Model

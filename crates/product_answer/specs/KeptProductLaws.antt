@@ -1,14 +1,12 @@
 -- The answer of a product in arrays: its span as it is summed, and what each way out answers.
-use mathlib.Core.Path.{_≡_, refl, sym, _∙_, ap, ap₂}
-use mathlib.Core.List.{List, [], _∷_, _++_, map}
+use mathlib.Core.Path.{_≡_, refl, sym, _∙_, ap}
+use mathlib.Core.List.{List, [], _∷_, map}
 use mathlib.Core.Bool.{true, false}
-use Prim.Native.Nat.{ℕ, suc, _+_, _*_, _≤_, _<_}
-use native.Mathlib.Numerals.{add-one}
+use Prim.Native.Nat.{ℕ, _+_, _*_, _≤_, _<_}
 use native.Mathlib.Omega.{arith}
 use lib.Dec.{leb}
 use lib.IntN.{ℤ, pos, natAbs}
 use lib.ListN.{length, getD, length-map}
-use lib.Seq.{set-getD}
 use Rattle.numbers.specs.Fixed.{span-limit, capped, round-up}
 use Rattle.numbers.specs.FixedLaws.{capped-more, capped-within}
 use Rattle.calculus.specs.Terms.{Terms, size, sum-over}
@@ -33,10 +31,10 @@ use Rattle.model_types.specs.ModelStructLaws.{refusal-cause}
 use Rattle.model_types.specs.PairedLaws.{paired-of}
 use Rattle.model_types.specs.SharesStruct.{stored-shares, accounted, unless-refused}
 use Rattle.model_limits.specs.LimitLaws.{answer-within, answer-over}
-use Rattle.product_sums.specs.TermArrays.{at-key, terms}
-use Rattle.product_sums.specs.TermArrayLaws.{terms-push}
+use Rattle.product_sums.specs.TermArrays.{terms}
 use Rattle.product_sums.specs.declared.Gathered.{Gathered}
-use Rattle.product_packing.specs.Transfer.{narrowed-term, packed}
+use Rattle.product_answer.specs.PackedTerms.{narrowed-term, packed}
+use Rattle.product_answer.specs.PackedTermsLaws.{terms-more}
 use Rattle.product_answer.specs.CollectedProduct.{Product}
 use Rattle.product_answer.specs.CollectedProductLaws.{too-many, struct-packed, struct-answer}
 use Rattle.product_answer.specs.CollectedProductLaws.{product-accounted}
@@ -46,17 +44,10 @@ use Rattle.product_answer.specs.KeptProduct.{model-unless, kept-model, k
 
 -- ---- the span as it is summed: known as far as the cap
 module _ (keys : List ℕ) (cs : List ℤ) where
-  pub terms-more : (i : ℕ) → i < length keys → i < length cs
-      → terms (i + 1) keys cs ≡ terms i keys cs ++ (at-key (getD keys i 0) (getD cs i (pos 0)) ∷ [])
-  terms-more i h l =
-      ap (λ j. terms j keys cs) (add-one i)
-      ∙ ap₂ (λ k c. terms (suc i) k c) (sym (set-getD keys i 0)) (sym (set-getD cs i (pos 0)))
-      ∙ terms-push i keys cs (getD keys i 0) (getD cs i (pos 0)) h l
-
   size-more : (i : ℕ) → i < length keys → i < length cs
       → size (terms (i + 1) keys cs) ≡ size (terms i keys cs) + natAbs (getD cs i (pos 0))
   unfolding size
-  size-more i h l = ap size (terms-more i h l) ∙ sum-snoc ℕ-addition (λ k c. natAbs c) (terms i keys cs) _
+  size-more i h l = ap size (terms-more keys cs i h l) ∙ sum-snoc ℕ-addition (λ k c. natAbs c) (terms i keys cs) _
 
   module _ (radius : ℕ) where
     pub spanned-first : capped radius ≡ capped (size (terms 0 keys cs) + radius)

@@ -1,3 +1,5 @@
+pub mod PackedTerms
+pub mod PackedTermsLaws
 pub mod CollectedProduct
 pub mod ErrorShares
 pub mod ErrorLaws

@@ -11,12 +11,16 @@ ghost use Rattle.calculus.specs.Operations.{multiply};
 ghost use Rattle.calculus.specs.Shares.{«product-shares»};
 ghost use Rattle.model_types.specs.SharesStruct.{«stored-shares», accounted};
 ghost use Rattle.product_sums.specs.TermArrays.{terms};
+ghost use Rattle.model_slices.specs.HandedModels.{over};
+ghost use Rattle.product_answer.specs.PackedTerms.{«Pack-ready», «narrow-keys», «narrow-coefficients», packed};
 ghost use Rattle.product_answer.specs.CollectedProduct.{Product};
 ghost use Rattle.product_answer.specs.ErrorShares.{«error-shares»};
 ghost use Rattle.product_answer.specs.KeptProduct.{«kept-accounted», «Kept-ready», «kept-refused»};
 use model_slices::Kept;
 use model_types::Accounted;
 use model_types::Answer;
+use model_types::Key;
+use model_types::Model;
 use model_types::Refusal;
 use model_types::Shares;
 use model_types::Verdict;
@@ -120,7 +124,49 @@ pub fn kept_answer(
     }
 }
 
-// ---- as a struct
+// ---- packed
+// The first count terms go into two slices, by keys.
+pub fn store_first(
+    count: usize,
+    kept: &[u64],
+    rounded: &[i64],
+    keys: &mut [Key],
+    coefficients: &mut [i64],
+)
+    requires { ⌜ Pack-ready count (now kept) (now rounded) ⌝ }
+    requires { ⌜ (count ≤ length (now keys)) × (count ≤ length (now coefficients)) ⌝ }
+    ensures { λ r. ⌜ (now (keys .exit)
+        ≡ over (narrow-keys (terms count (now (kept .entry)) (now (rounded .entry)))) (now (keys .entry)))
+        × (now (coefficients .exit)
+        ≡ over (narrow-coefficients (terms count (now (kept .entry)) (now (rounded .entry))))
+        (now (coefficients .entry))) ⌝ }
+{
+    let mut i = 0;
+    while i < count {
+        let c = rounded[i];
+        keys[i] = model_keys::narrow_key(kept[i]);
+        coefficients[i] = c;
+        i += 1;
+    }
+}
+
+// The model of the first count terms.
+fn pack(n: u8, radius: u64, count: usize, kept: &[u64], rounded: &[i64]) -> Model
+    requires { ⌜ Pack-ready count (now kept) (now rounded) ⌝ }
+    ensures { λ r. ⌜ r ≡ packed n radius (terms count (now (kept .entry)) (now (rounded .entry))) ⌝ }
+{
+    let mut keys: [Key; model_types::MOST_TERMS] = [0; model_types::MOST_TERMS];
+    let mut coefficients = [0i64; model_types::MOST_TERMS];
+    store_first(count, kept, rounded, &mut keys, &mut coefficients);
+    Model {
+        n: n,
+        count: count,
+        radius: radius,
+        keys: keys,
+        coefficients: coefficients,
+    }
+}
+
 // The answer's model beside its verdict: its terms packed, or the zero model beside a refusal.
 fn packed_answer(n: u8, k: Kept, keys: &[u64], coefficients: &[i64]) -> Answer
     requires { ⌜ Kept-ready k (now keys) (now coefficients) ⌝ }
@@ -129,7 +175,7 @@ fn packed_answer(n: u8, k: Kept, keys: &[u64], coefficients: &[i64]) -> Answer
     let v = k.verdict;
     match v {
         Verdict::Accepted => Answer {
-            model: product_packing::pack(n, k.radius, k.count, keys, coefficients),
+            model: pack(n, k.radius, k.count, keys, coefficients),
             verdict: Verdict::Accepted,
         },
         Verdict::Refused(refusal, place) => model_types::refuse(refusal, place),

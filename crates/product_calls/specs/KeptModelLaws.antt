@@ -10,8 +10,8 @@ use Rattle.model_types.specs.declared.Verdict.the-variants.{Accepted, Refused}
 use Rattle.model_types.specs.ModelStruct.{pack}
 use Rattle.product_sums.specs.TermArrays.{terms}
 use Rattle.product_sums.specs.TermArrayLaws.{terms-length}
-use Rattle.product_packing.specs.Transfer.{packed}
 use Rattle.model_slices.specs.declared.Kept.{Kept}
+use Rattle.product_answer.specs.PackedTerms.{packed}
 use Rattle.product_answer.specs.KeptProduct.{model-unless, kept-model, Kept-ready}
 
 module _ (n : ℕ) (k : Kept) (keys : List ℕ) (coefficients : List ℤ) where

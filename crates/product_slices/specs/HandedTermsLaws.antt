@@ -1,25 +1,30 @@
 -- A model that lies in slices: what stands at a place, and one turn of the loop that unpacks its terms.
-use mathlib.Core.Path.{_≡_, refl, sym, _∙_, ap, subst}
-use mathlib.Core.List.{List, [], _∷_}
+use mathlib.Core.Path.{_≡_, refl, sym, _∙_, ap, ap₂}
+use mathlib.Core.List.{List, [], _∷_, _++_}
 use Prim.Native.Nat.{ℕ, zero, suc, _+_, _^_, _≤_, _<_}
+use native.Mathlib.Numerals.{add-one}
 use native.Mathlib.Omega.{arith}
 use lib.IntN.{ℤ, pos, natAbs}
 use lib.ListN.{length, getD, set, List·getD-append}
 use lib.Seq.{set-getD}
 use Rattle.numbers.specs.FixedLaws.{span-fits}
-use Rattle.calculus.specs.Key.{key-limit}
+use Rattle.calculus.specs.Key.{key-limit, monomial-of}
+use Rattle.calculus.specs.Terms.{term, sum-over, size, map-monomials}
 use Rattle.calculus.specs.Model.{most-terms}
 use Rattle.model_keys.specs.Keys.{widened}
+use Rattle.model_keys.specs.WideKeyLaws.{widened-monomial}
 use Rattle.model_types.specs.declared.Term.{Term}
 use Rattle.model_types.specs.declared.Model.{Model}
 use Rattle.model_types.specs.Arrays.{padded}
 use Rattle.model_types.specs.ArrayLaws.{length-padded}
-use Rattle.model_types.specs.ModelStruct.{zero-term, listed}
-use Rattle.model_types.specs.ModelStructLaws.{read-within-span, size-more}
+use Rattle.model_types.specs.ModelStruct.{zero-term, view-term, listed}
+use Rattle.model_types.specs.ModelStructLaws.{read, view-terms, read-within-span, size-more, map-more}
 use Rattle.model_slices.specs.HandedModels.{terms-of, handed}
 use Rattle.model_slices.specs.HandedModelsLaws.{listed-handed}
-use Rattle.product_packing.specs.Transfer.{Unpacked}
-use Rattle.product_packing.specs.TransferLaws.{Unpacking, unpacking-first, unpacking-turn, unpacking-end}
+use Rattle.product_sums.specs.TermArrays.{at-key, terms}
+use Rattle.product_sums.specs.TermArrayLaws.{terms-push}
+use Rattle.product_sums.specs.Wide.{wide, wide-terms}
+use Rattle.product_answer.specs.ProductFactors.{Unpacked}
 use Rattle.product_slices.specs.HandedTerms.{Handed}
 
 -- ---- the terms of two slices
@@ -70,7 +75,12 @@ module _ (n count radius : ℕ) (ks : List ℕ) (cs : List ℤ) where
       ∙ pair-at most-terms i ks cs h l m
 
 -- ---- the loop that unpacks them: the coefficients stay where they are
-module _ {count : ℕ} {ks : List ℕ} {cs : List ℤ} (w : Handed count ks cs) (wide₀ : List ℕ) where
+-- the first i terms of a model stand by their wide keys
+pub record Unpacking (m : Model) (cs : List ℤ) (wides : List ℕ) (total i : ℕ) : Type 0 where
+  pub held : terms i wides cs ≡ wide-terms (read (m .n) i (listed m))
+  pub sum : total ≡ size (read (m .n) i (listed m))
+
+module _ {count : ℕ} {ks : List ℕ} {cs : List ℤ} (w : Handed count ks cs) where
   abbrev model : Model
   model = handed (w .vars) count (w .radius) ks cs
 
@@ -78,40 +88,63 @@ module _ {count : ℕ} {ks : List ℕ} {cs : List ℤ} (w : Handed count ks cs) 
   unfolding handed
   whole = handed-long (w .vars) count (w .radius) ks cs (w .few)
 
-  pub handed-first : Unpacking model wide₀ cs wide₀ cs 0 0
-  handed-first = unpacking-first model whole wide₀ cs
+  pub handed-first : (wides : List ℕ) → Unpacking model cs wides 0 0
+  unfolding terms wide-terms map-monomials size sum-over
+  handed-first wides = record { held = refl; sum = refl }
 
-  module _ {wide : List ℕ} {total i : ℕ} (h : Unpacking model wide₀ cs wide cs total i) where
+  module _ {wides : List ℕ} {total i : ℕ} (h : Unpacking model cs wides total i) where
     module _ (l : i < count) where
       at : getD (listed model) i zero-term ≡ pair (getD ks i 0) (getD cs i (pos 0))
       at = handed-at (w .vars) count (w .radius) ks cs i (omega (arith, w .few)) (omega (arith, w .keys-long))
           (omega (arith, w .coefficients-long))
 
-      pub handed-turn : i < length wide → getD ks i 0 < key-limit
-          → Unpacking model wide₀ cs (set wide i (widened (getD ks i 0))) cs
-          (total + natAbs (getD cs i (pos 0))) (i + 1)
+      inside : i < length (listed model)
       unfolding handed
+      inside = omega (arith, whole)
+
+      -- one more is read
+      read-one : wide-terms (read (model .n) (i + 1) (listed model))
+          ≡ wide-terms (read (model .n) i (listed model))
+          ++ (term (getD cs i (pos 0)) (wide (monomial-of (model .n) (getD ks i 0))) ∷ [])
+      unfolding wide-terms map-monomials view-term
+      read-one =
+          map-more (model .n) i (listed model) inside (λ s. term (s .coefficient) (wide (s .exponents)))
+          ∙ ap (λ (t : Term). wide-terms (read (model .n) i (listed model))
+          ++ (term (t .coefficient) (wide (monomial-of (model .n) (t .key))) ∷ [])) at
+
+      size-one : size (read (model .n) (i + 1) (listed model))
+          ≡ size (read (model .n) i (listed model)) + natAbs (getD cs i (pos 0))
+      size-one = size-more (model .n) i (listed model) inside
+          ∙ ap (λ (t : Term). size (read (model .n) i (listed model)) + natAbs (t .coefficient)) at
+
+      pub handed-turn : i < length wides → getD ks i 0 < key-limit
+          → Unpacking model cs (set wides i (widened (getD ks i 0))) (total + natAbs (getD cs i (pos 0))) (i + 1)
+      unfolding wide handed
       handed-turn lw small =
-          let turn = unpacking-turn model whole wide₀ cs h l lw (omega (arith, w .coefficients-long)) (w .width)
-          (subst (λ (t : Term). t .key < key-limit) (sym at) small) in
-          subst (λ z. Unpacking model wide₀ cs (set wide i (widened (getD ks i 0))) z
-          (total + natAbs (getD cs i (pos 0))) (i + 1)) (set-getD cs i (pos 0))
-          (subst (λ (t : Term). Unpacking model wide₀ cs (set wide i (widened (t .key))) (set cs i (t .coefficient))
-          (total + natAbs (t .coefficient)) (i + 1)) at turn)
+          let k = getD ks i 0 in
+          let c = getD cs i (pos 0) in
+          record {
+            held = ap (λ j. terms j (set wides i (widened k)) cs) (add-one i)
+                ∙ ap (terms (suc i) (set wides i (widened k))) (sym (set-getD cs i (pos 0)))
+                ∙ terms-push i wides cs (widened k) c lw (omega (arith, w .coefficients-long))
+                ∙ ap₂ (λ p z. p ++ (at-key z c ∷ [])) (h .held) (widened-monomial (w .vars) k (w .width) small)
+                ∙ sym read-one;
+            sum = omega (arith, h .sum, size-one);
+          }
 
       -- the sum fits
       pub handed-room : total + natAbs (getD cs i (pos 0)) < 2 ^ 63
       unfolding handed
-      handed-room = omega (
-        arith,
-        h .sum,
-        ap (λ (t : Term). natAbs (t .coefficient)) at,
-        size-more (w .vars) i (listed model) (omega (arith, whole)),
-        read-within-span model (i + 1) whole (omega arith),
-        w .small,
-        span-fits,
-      )
+      handed-room =
+          omega (arith, h .sum, size-one, read-within-span model (i + 1) whole (omega arith), w .small, span-fits)
 
-    pub handed-end : count ≤ i → Unpacked model wide cs total
+    pub handed-end : i ≡ count → Unpacked model wides cs total
     unfolding handed
-    handed-end l = unpacking-end model whole wide₀ cs h l
+    handed-end e =
+        let v = sym (view-terms model whole) in
+        record {
+          held = ap (λ j. terms j wides cs) (sym e) ∙ h .held
+              ∙ ap (λ j. wide-terms (read (w .vars) j (listed model))) e
+              ∙ ap wide-terms v;
+          sum = h .sum ∙ ap (λ j. size (read (w .vars) j (listed model))) e ∙ ap size v;
+        }

@@ -1,15 +1,12 @@
 -- The places of a model in slices: one turn of each loop that stores, and all of them.
 use mathlib.Core.Path.{_≡_, refl, sym, _∙_, ap}
-use mathlib.Core.List.{List, [], _∷_, _++_, map, append-assoc, append-nil, map-append}
+use mathlib.Core.List.{List, [], _∷_, _++_, map, append-assoc, append-nil}
 use Prim.Native.Nat.{ℕ, zero, suc, _+_, _-_, _≤_, _<_}
 use native.Mathlib.Omega.{arith}
 use lib.IntN.{ℤ, pos}
-use lib.ListN.{length, getD, set, take, drop, replicate, length-append, length-map, length-replicate}
-use lib.ListN.{take-append-drop}
+use lib.ListN.{length, set, take, drop, replicate, length-append, length-replicate, take-append-drop}
 use lib.Seq.{length-take-le, take-at, drop-append-add, drop-drop}
-use Rattle.polynomial.specs.Polynomial.{exponent}
 use Rattle.calculus.specs.Model.{most-terms, zero-model}
-use Rattle.model_keys.specs.Keys.{narrowed}
 use Rattle.model_types.specs.declared.Term.{Term}
 use Rattle.model_types.specs.declared.Verdict.{Verdict}
 use Rattle.model_types.specs.declared.Verdict.the-variants.{Accepted, Refused}
@@ -18,48 +15,12 @@ use Rattle.model_types.specs.ModelStruct.{zero-term, pad, pack}
 use Rattle.model_types.specs.PairedLaws.{Listed}
 use Rattle.model_slices.specs.HandedModels.{over, stored-keys, stored-coefficients}
 use Rattle.model_slices.specs.HandedModelsLaws.{over-more}
-use Rattle.product_sums.specs.TermArrays.{at-key, terms}
-use Rattle.product_sums.specs.TermArrayLaws.{terms-length}
-use Rattle.product_packing.specs.Transfer.{Pack-ready, narrowed-term, packed}
+use Rattle.product_sums.specs.TermArrays.{terms}
 use Rattle.model_slices.specs.declared.Kept.{Kept}
 use Rattle.product_answer.specs.KeptProduct.{model-unless, kept-model, kept-count, Kept-ready}
-use Rattle.product_answer.specs.KeptProductLaws.{terms-more}
-use Rattle.product_slices.specs.KeptPlaces.{narrow-keys, narrow-coefficients, zeroed}
-
--- ---- what is kept: one term more is stored
-module _ (kept : List ℕ) (cs : List ℤ) where
-  module _ {A : Type 0} (f : Term → A) where
-    images : ℕ → List A
-    images i = map f (map narrowed-term (terms i kept cs))
-
-    long : (i : ℕ) → i ≤ length kept → i ≤ length cs → length (images i) ≡ i
-    unfolding images
-    long i h l =
-        length-map (map narrowed-term (terms i kept cs)) f ∙ length-map (terms i kept cs) narrowed-term
-        ∙ terms-length i kept cs h l
-
-    image-more : (d : A) (i : ℕ) (k : List A) → i < length kept → i < length cs → i < length k
-        → set (over (images i) k) i (f (narrowed-term (at-key (getD kept i 0) (getD cs i (pos 0)))))
-        ≡ over (images (i + 1)) k
-    unfolding images
-    image-more d i k h l m =
-        over-more d (images i) k i _ (long i (omega arith) (omega arith)) m
-        ∙ ap (λ r. over r k)
-        (sym (ap (λ p. map f (map narrowed-term p)) (terms-more kept cs i h l)
-        ∙ ap (map f) (map-append narrowed-term (terms i kept cs) _)
-        ∙ map-append f (map narrowed-term (terms i kept cs)) _))
-
-  pub keys-more : (i : ℕ) (k : List ℕ) → i < length kept → i < length cs → i < length k
-      → set (over (narrow-keys (terms i kept cs)) k) i (narrowed (getD kept i 0))
-      ≡ over (narrow-keys (terms (i + 1) kept cs)) k
-  unfolding narrow-keys images narrowed-term exponent
-  keys-more = image-more (λ t. t .key) 0
-
-  pub coefficients-more : (i : ℕ) (k : List ℤ) → i < length kept → i < length cs → i < length k
-      → set (over (narrow-coefficients (terms i kept cs)) k) i (getD cs i (pos 0))
-      ≡ over (narrow-coefficients (terms (i + 1) kept cs)) k
-  unfolding narrow-coefficients images narrowed-term
-  coefficients-more = image-more (λ t. t .coefficient) (pos 0)
+use Rattle.product_answer.specs.PackedTerms.{narrowed-term, Pack-ready, narrow-keys, narrow-coefficients, packed}
+use Rattle.product_answer.specs.PackedTermsLaws.{images, images-long, map-padded}
+use Rattle.product_slices.specs.KeptPlaces.{zeroed}
 
 -- ---- zeros: one more is stored
 module _ {A : Type 0} (z : A) where
@@ -101,18 +62,6 @@ module _ {A : Type 0} (z : A) where
       rw (e, take-at l (drop from k) from e, long, rest)
 
 -- ---- all places of an answer's model
-map-zeros : {A : Type 0} (f : Term → A) (n : ℕ) → map f (replicate n zero-term) ≡ replicate n (f zero-term)
-map-zeros f zero = refl
-map-zeros f (suc n) = ap (λ l. f zero-term ∷ l) (map-zeros f n)
-
-map-padded : {A : Type 0} (f : Term → A) (n : ℕ) (l : List Term)
-    → map f (padded zero-term n l) ≡ padded (f zero-term) n (map f l)
-unfolding padded
-map-padded f n l =
-    map-append f l (replicate (n - length l) zero-term)
-    ∙ ap (λ r. map f l ++ r)
-    (map-zeros f (n - length l) ∙ ap (λ c. replicate (n - c) (f zero-term)) (sym (length-map l f)))
-
 places-are : (v : Verdict) (n e count : ℕ) (kept : List ℕ) (cs : List ℤ)
     → let m = model-unless v (packed n e (terms count kept cs)) in
     Listed (m .keys) (m .coefficients) (pad (map narrowed-term (terms (kept-count v count) kept cs)))
@@ -144,7 +93,7 @@ module _ (k : Kept) (kept : List ℕ) (cs : List ℤ) (w : Kept-ready k kept cs)
     unfolding images
     all-stored =
         zeroed-behind (f zero-term) stored most-terms (images kept cs f stored) to
-        (long kept cs f stored (stored-ready .keys-long) (stored-ready .coefficients-long)) (stored-ready .few)
+        (images-long kept cs f stored (stored-ready .keys-long) (stored-ready .coefficients-long)) (stored-ready .few)
         ∙ ap (λ l. over l to) (sym (map-padded f most-terms (map narrowed-term (terms stored kept cs))))
 
   pub keys-stored : (n : ℕ) (to : List ℕ)

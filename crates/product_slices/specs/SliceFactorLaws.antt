@@ -1,11 +1,10 @@
 -- The product of two sound models that lie in slices: what its steps ask, and what they come to.
 use mathlib.Core.Path.{_≡_}
-use mathlib.Core.List.{List, []}
+use mathlib.Core.List.{List}
 use Prim.Native.Nat.{ℕ, _≤_}
 use lib.Dec.{T}
 use lib.IntN.{ℤ}
 use lib.ListN.{length}
-use Rattle.polynomial.specs.Polynomial.{product}
 use Rattle.calculus.specs.Model.{most-terms, sound}
 use Rattle.calculus.specs.Operations.{multiply}
 use Rattle.calculus.specs.Shares.{product-shares}
@@ -15,13 +14,11 @@ use Rattle.model_types.specs.ModelStruct.{view}
 use Rattle.model_types.specs.ModelStructLaws.{limits}
 use Rattle.model_types.specs.SharesStruct.{accounted}
 use Rattle.model_slices.specs.HandedModels.{handed}
-use Rattle.product_sums.specs.TermArrays.{terms}
 use Rattle.product_sums.specs.declared.Gathered.{Gathered}
 use Rattle.product_sums.specs.ProductSums.{Product-gathered}
 use Rattle.product_hash_collect.specs.CollectorContracts.{Held-factors}
-use Rattle.product_packing.specs.Transfer.{Unpacked}
 use Rattle.product_answer.specs.CollectedProduct.{Product}
-use Rattle.product_answer.specs.ProductFactors.{Factors}
+use Rattle.product_answer.specs.ProductFactors.{Factors, Unpacked}
 use Rattle.product_answer.specs.FactorLaws.{factors, factors-answer, end-ready, end-answer}
 use Rattle.product_slices.specs.HandedTerms.{Handed}
 

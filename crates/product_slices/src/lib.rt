@@ -9,16 +9,14 @@ ghost use Rattle.calculus.specs.Operations.{multiply};
 ghost use Rattle.calculus.specs.Shares.{«product-shares»};
 ghost use Rattle.model_types.specs.ModelStruct.{view};
 ghost use Rattle.model_types.specs.SharesStruct.{accounted};
-ghost use Rattle.product_sums.specs.TermArrays.{terms};
-ghost use Rattle.model_slices.specs.HandedModels.{handed, over, «stored-keys», «stored-coefficients»};
+ghost use Rattle.model_slices.specs.HandedModels.{handed, «stored-keys», «stored-coefficients»};
 ghost use Rattle.product_hash_collect.specs.CollectorContracts.{«Free-table»};
 ghost use Rattle.product_room.specs.ProductTerms.{«Lent-room», «Kept-room»};
-ghost use Rattle.product_packing.specs.Transfer.{Unpacked, «Pack-ready»};
-ghost use Rattle.product_answer.specs.ProductFactors.{Factors};
+ghost use Rattle.product_answer.specs.ProductFactors.{Factors, Unpacked};
 ghost use Rattle.product_slices.specs.HandedTerms.{Handed};
 ghost use Rattle.product_answer.specs.KeptProduct.{«kept-model», «kept-accounted», «Kept-ready»};
 ghost use Rattle.product_answer.specs.KeptProduct.{«kept-count»};
-ghost use Rattle.product_slices.specs.KeptPlaces.{«narrow-keys», «narrow-coefficients», zeroed};
+ghost use Rattle.product_slices.specs.KeptPlaces.{zeroed};
 use model_keys::Key;
 pub use model_slices::Kept;
 use model_types::Accounted;
@@ -213,31 +211,6 @@ fn kept_count(v: Verdict, count: usize) -> usize
     count
 }
 
-// The first count terms go into two slices, by keys.
-fn store_first(
-    count: usize,
-    kept: &[u64],
-    rounded: &[i64],
-    keys: &mut [Key],
-    coefficients: &mut [i64],
-)
-    requires { ⌜ Pack-ready count (now kept) (now rounded) ⌝ }
-    requires { ⌜ (count ≤ length (now keys)) × (count ≤ length (now coefficients)) ⌝ }
-    ensures { λ r. ⌜ (now (keys .exit)
-        ≡ over (narrow-keys (terms count (now (kept .entry)) (now (rounded .entry)))) (now (keys .entry)))
-        × (now (coefficients .exit)
-        ≡ over (narrow-coefficients (terms count (now (kept .entry)) (now (rounded .entry))))
-        (now (coefficients .entry))) ⌝ }
-{
-    let mut i = 0;
-    while i < count {
-        let c = rounded[i];
-        keys[i] = model_keys::narrow_key(kept[i]);
-        coefficients[i] = c;
-        i += 1;
-    }
-}
-
 // Zeros go into the other places of a model.
 fn store_zeros(from: usize, keys: &mut [Key], coefficients: &mut [i64])
     requires { ⌜ from ≤ most-terms ⌝ }
@@ -271,6 +244,6 @@ pub fn store_kept(
 {
     let v = k.verdict;
     let count = kept_count(v, k.count);
-    store_first(count, kept, rounded, keys, coefficients);
+    product_answer::store_first(count, kept, rounded, keys, coefficients);
     store_zeros(count, keys, coefficients);
 }

@@ -4,7 +4,7 @@ use borrow.Author.Needs.{needs}
 use lib.ListN.{length}
 use Rattle.calculus.specs.Model.{most-terms}
 use Rattle.model_slices.specs.HandedModels.{handed}
-use Rattle.product_packing.specs.Transfer.{Unpacked}
+use Rattle.product_answer.specs.ProductFactors.{Unpacked}
 use Rattle.product_slices.specs.SliceFactorLaws.{few-terms, sound-handed, sound-unpacked}
 use Rattle.product_slices.specs.SliceFactorLaws.{slice-factors, slice-ready, slice-answer}
 use Rattle.product_slices.proofs.multiplied_slices.Statement.{statement}

@@ -4,7 +4,7 @@ use native.Mathlib.Omega.{arith}
 use borrow.Author.Needs.{needs}
 use lib.IntN.{pos}
 use Rattle.calculus.specs.Model.{most-terms}
-use Rattle.product_packing.specs.Transfer.{Pack-ready}
+use Rattle.product_answer.specs.PackedTerms.{Pack-ready}
 use Rattle.product_slices.specs.KeptPlaces.{zeroed}
 use Rattle.product_slices.specs.KeptPlacesLaws.{stored-ready, keys-stored, coefficients-stored}
 use Rattle.product_slices.proofs.store_kept.Statement.{statement}

@@ -10,9 +10,8 @@ use mir.Syntax.{w64}
 use mir.Val.{toZ, ofZ}
 use Rattle.calculus_laws.specs.MonomialKeyLaws.{word-key}
 use Rattle.model_slices.specs.HandedModels.{handed}
-use Rattle.product_packing.specs.TransferLaws.{Unpacking}
 use Rattle.product_slices.specs.HandedTerms.{Handed}
-use Rattle.product_slices.specs.HandedTermsLaws.{handed-first, handed-turn, handed-room, handed-end}
+use Rattle.product_slices.specs.HandedTermsLaws.{Unpacking, handed-first, handed-turn, handed-room, handed-end}
 use Rattle.product_slices.proofs.unpack.Statement.{statement}
 use Rattle.product_slices.proofs.unpack.Tie as tie
 
@@ -20,7 +19,7 @@ abbrev Inv-loop : tie.InvT-loop
 Inv-loop count keys coefficients wide₀ total₀ i₀ wide total i =
     (i ≤ count) × (length wide ≡ length wide₀)
     × ((w : Handed count keys coefficients)
-    → Unpacking (handed (w .vars) count (w .radius) keys coefficients) wide₀ coefficients wide coefficients total i)
+    → Unpacking (handed (w .vars) count (w .radius) keys coefficients) coefficients wide total i)
 
 abbrev μ-loop : tie.MeasureT-loop
 μ-loop count keys coefficients wide₀ total₀ i₀ wide total i = count - i
@@ -70,7 +69,7 @@ add-total : tie.Need-add-total Inv-loop μ-loop
 add-total c =
     let l = loop c in
     let s = start c in
-    let room = handed-room (s .pre .0) _ (l .loop .inv .2 (s .pre .0)) (omega arith) in
+    let room = handed-room (s .pre .0) (l .loop .inv .2 (s .pre .0)) (omega arith) in
     record { fits = omega (arith, room, size-at c) }
 
 add-i : tie.Need-add-i Inv-loop μ-loop
@@ -86,7 +85,7 @@ loop-again c =
       omega arith,
       length-set (l .loop .wide) (l .loop .i) _ ∙ l .loop .inv .1,
       λ w. rw (c .before .wide-key .ensures, size-at c)
-          (handed-turn w _ (l .loop .inv .2 w) (omega arith) (omega arith)
+          (handed-turn w (l .loop .inv .2 w) (omega arith) (omega arith)
           (word-key _ (l .before .before .shared-slice-known .given (l .loop .i) .fits))),
     )
 
@@ -94,7 +93,7 @@ same-length : tie.Need-same-length Inv-loop μ-loop
 same-length c = search needs
 
 returns : tie.Need-returns Inv-loop μ-loop
-returns c w = handed-end w _ (c .before .loop .inv .2 w) (c .loop-test .left)
+returns c w = handed-end w (c .before .loop .inv .2 w) (omega arith)
 
 pub unpack-spec : {M : Type 1} → statement M
 unpack-spec =

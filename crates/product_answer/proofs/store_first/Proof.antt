@@ -10,10 +10,10 @@ use mir.Syntax.{w64}
 use mir.Val.{toZ, ofZ}
 use Rattle.model_slices.specs.HandedModels.{over}
 use Rattle.product_sums.specs.TermArrays.{terms}
-use Rattle.product_slices.specs.KeptPlaces.{narrow-keys, narrow-coefficients}
-use Rattle.product_slices.specs.KeptPlacesLaws.{keys-more, coefficients-more}
-use Rattle.product_slices.proofs.store_first.Statement.{statement}
-use Rattle.product_slices.proofs.store_first.Tie as tie
+use Rattle.product_answer.specs.PackedTerms.{narrow-keys, narrow-coefficients}
+use Rattle.product_answer.specs.PackedTermsLaws.{keys-more, coefficients-more}
+use Rattle.product_answer.proofs.store_first.Statement.{statement}
+use Rattle.product_answer.proofs.store_first.Tie as tie
 
 abbrev Inv-loop : tie.InvT-loop
 Inv-loop count kept rounded keys₀ coefficients₀ i₀ keys coefficients i =

@@ -1,2 +1,0 @@
-pub mod Transfer
-pub mod TransferLaws
