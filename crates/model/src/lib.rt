@@ -260,6 +260,12 @@ pub fn quotient(d: u8, f: Model, g: Model, h: Model, w: Model) -> Answer
 }
 
 // ---- for the layer above: operands that are known to be sound, and a lent table
+// Whether two slices hold a model by the rules, with degrees up to d.
+pub use model_soundness::sound_slices;
+
+// The same for two arrays that are lent together, such as those of one struct.
+pub use model_soundness::sound_arrays;
+
 // Whether a term may stand in a model of n variables, n from 1 to 8, behind keys that are below `least`.
 pub use model_soundness::term_sound;
 

@@ -1,42 +1,13 @@
-// The tests of models that lie in slices, without a struct on the way: the rules of one model, and those of a product.
+// The tests of a product of models that lie in slices, without a struct on the way.
 ghost use mathlib.Core.Bool.{true};
 ghost use mathlib.Core.Path.{_≡_};
 ghost use lib.ListN.{length};
-ghost use Rattle.calculus.specs.Model.{sound};
 ghost use Rattle.model_types.specs.ModelStruct.{view, verdict};
 ghost use Rattle.model_slices.specs.HandedModels.{handed, lent};
 ghost use Rattle.model_call_tests.specs.Admission.{ordered};
 use model_types::Key;
-use model_types::MOST_TERMS;
 use model_types::Refusal;
 use model_types::Verdict;
-
-// Whether slices hold a model by the rules, with degrees up to d. The span is summed without wrapping.
-pub fn sound(n: u8, count: usize, radius: u64, keys: &[Key], coefficients: &[i64], d: u8) -> bool
-    requires { ⌜ lent count (length (now keys)) (length (now coefficients)) ≡ true ⌝ }
-    ensures { λ r. ⌜ r ≡ sound d (view (handed n count radius (now (keys .entry)) (now (coefficients .entry)))) ⌝ }
-{
-    if !model_types::vars_sound(n) {
-        return false;
-    }
-    if MOST_TERMS < count {
-        return false;
-    }
-    let mut span = radius;
-    let mut least: u64 = 0;
-    let mut i = 0;
-    while i < count {
-        let k = keys[i];
-        let c = coefficients[i];
-        if !model_soundness::term_sound(n, d, least, k, c) {
-            return false;
-        }
-        span = fixed::capped_sum(span, fixed::magnitude(c));
-        least = k as u64 + 1;
-        i += 1;
-    }
-    fixed::within_span(span)
-}
 
 // The tests of a product with order d. 3, 5 at place 0 or 1, 10.
 pub fn ordered(
@@ -61,10 +32,10 @@ pub fn ordered(
     if !model_types::order_sound(d) {
         return Verdict::Refused(Refusal::BadLimits, 0);
     }
-    if !sound(n1, count1, radius1, keys1, coefficients1, d) {
+    if !model_soundness::sound_slices(n1, count1, radius1, keys1, coefficients1, d) {
         return Verdict::Refused(Refusal::BadModel, 0);
     }
-    if !sound(n2, count2, radius2, keys2, coefficients2, d) {
+    if !model_soundness::sound_slices(n2, count2, radius2, keys2, coefficients2, d) {
         return Verdict::Refused(Refusal::BadModel, 1);
     }
     if n1 != n2 {

@@ -1,1 +1,2 @@
 pub mod SoundPassLaws
+pub mod SliceSoundLaws

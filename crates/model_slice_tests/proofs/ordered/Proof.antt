@@ -39,22 +39,22 @@ second c =
     view (handed (a .n2) (a .count2) (a .radius2) (a .keys2 .now) (a .coefficients2 .now))
 
 first-holds : (c : tie.Else2) → sound (start (c .before .before) .args .d) (first (c .before .before)) ≡ true
-first-holds c = sym (c .before .sound .ensures) ∙ not-false _ (c .if2 .left)
+first-holds c = sym (c .before .sound-slices .ensures) ∙ not-false _ (c .if2 .left)
 
 second-holds : (c : tie.Else3)
     → sound (start (c .before .before .before .before) .args .d) (second (c .before .before .before .before)) ≡ true
-second-holds c = sym (c .before .sound2 .ensures) ∙ not-false _ (c .if3 .left)
+second-holds c = sym (c .before .sound-slices2 .ensures) ∙ not-false _ (c .if3 .left)
 
-sound-requires : tie.Need-sound-requires
-sound-requires c κs = search needs
+sound-slices-requires : tie.Need-sound-slices-requires
+sound-slices-requires c κs = search needs
 
 returns-2 : tie.Need-returns-2
 unfolding require-at require-two ordered refusal verdict
 returns-2 c =
-    rw (order-holds (c .before .before), sym (c .before .sound .ensures) ∙ not-true _ (c .if2 .taken))
+    rw (order-holds (c .before .before), sym (c .before .sound-slices .ensures) ∙ not-true _ (c .if2 .taken))
 
-sound-requires-2 : tie.Need-sound-requires-2
-sound-requires-2 c κs = search needs
+sound-slices-requires-2 : tie.Need-sound-slices-requires-2
+sound-slices-requires-2 c κs = search needs
 
 returns-3 : tie.Need-returns-3
 unfolding require-at require-two ordered refusal verdict
@@ -63,7 +63,7 @@ returns-3 c =
     rw (
       order-holds (e .before .before),
       first-holds e,
-      sym (c .before .sound2 .ensures) ∙ not-true _ (c .if3 .taken),
+      sym (c .before .sound-slices2 .ensures) ∙ not-true _ (c .if3 .taken),
     )
 
 returns-4 : tie.Need-returns-4
@@ -100,9 +100,9 @@ ordered-spec =
     (tie.spec
     order-sound-requires
     returns
-    sound-requires
+    sound-slices-requires
     returns-2
-    sound-requires-2
+    sound-slices-requires-2
     returns-3
     returns-4
     returns-5)

@@ -1,4 +1,5 @@
--- `sound` is the test of all rules: terms that pass leave the rest to decide, and the span is known as far as the cap.
+-- `sound_slices` is the test of all rules: terms that pass leave the rest to decide, and the span is known as far as
+-- the cap.
 use mathlib.Core.Path.{_≡_, sym, _∙_, ap}
 use mathlib.Core.Bool.{true}
 use Prim.Native.Nat.{ℕ, _≤_, _<_, _+_, _-_}
@@ -18,11 +19,11 @@ use Rattle.calculus.specs.Tests.{vars-sound}
 use Rattle.model_types.specs.ModelStruct.{term-sound}
 use Rattle.model_types.specs.ModelStructLaws.{vars-range}
 use Rattle.model_slices.specs.HandedModels.{handed}
 use Rattle.model_soundness.specs.SoundPassLaws.{Passed}
-use Rattle.model_slice_tests.specs.SliceTestLaws.{lent-places, slices-vars-not, slices-many-not, slices-first}
-use Rattle.model_slice_tests.specs.SliceTestLaws.{slices-end, slices-turn, slices-not}
-use Rattle.model_slice_tests.proofs.sound.Statement.{statement}
-use Rattle.model_slice_tests.proofs.sound.Tie as tie
+use Rattle.model_soundness.specs.SliceSoundLaws.{lent-places, slices-vars-not, slices-many-not, slices-first}
+use Rattle.model_soundness.specs.SliceSoundLaws.{slices-end, slices-turn, slices-not}
+use Rattle.model_soundness.proofs.sound_slices.Statement.{statement}
+use Rattle.model_soundness.proofs.sound_slices.Tie as tie
 
 abbrev Inv-loop : tie.InvT-loop
 Inv-loop n count radius keys coefficients d span₀ least₀ i₀ span least i =
@@ -161,8 +162,8 @@ returns-4 c =
     c .within-span .ensures
     ∙ slices-end _ _ _ _ _ _ (vars-hold b) (few b) _ _ _ (c .before .before .loop .inv) (c .before .loop-test .left)
 
-pub sound-spec : {M : Type 1} → statement M
-sound-spec =
+pub sound-slices-spec : {M : Type 1} → statement M
+sound-slices-spec =
     tie.close
     (tie.spec
     Inv-loop
