@@ -1,4 +1,3 @@
 pub mod Unsound
-pub mod WholeModel
 pub mod WalkLaws
 pub mod VerdictLaws

@@ -1,14 +1,12 @@
 -- The loops that walk over a book's models and steps to the first that fails.
-use mathlib.Core.Path.{_≡_, refl, sym, _∙_, ap}
+use mathlib.Core.Path.{_≡_, sym, _∙_, ap}
 use mathlib.Core.Bool.{Bool, true, false, _&&_}
 use mathlib.Core.List.{List}
 use Prim.Native.Nat.{ℕ, _+_, _≤_, _<_}
 use native.Mathlib.Omega.{arith}
-use borrow.Author.Tests.{eq-eqb, eqb-true, leb-true, leb-false}
-use lib.Dec.{leb, eqb}
+use lib.Dec.{eqb}
 use lib.ListN.{length, getD}
-use Rattle.calculus.specs.Model.{most-terms, sound}
-use Rattle.model.specs.OperationLaws.{many-not}
+use Rattle.calculus.specs.Model.{sound}
 use Rattle.model_types.specs.declared.Model.{Model}
 use Rattle.model_types.specs.ModelStruct.{view}
 use Rattle.format.specs.HeldBook.{outline-of, held-model-sound, held-step-sound}
@@ -56,22 +54,6 @@ module _ (b : Book) where
   step-test i s = ap (λ o. held-step-sound o i (held-step s)) (outline-book b)
       ∙ step-by-code (b .n) (b .d) (b .«model_count») (b .«step_count») i (held-step s)
 
--- ---- two tests, of which the second decides another one
-head-fails : (e t s : Bool) → (t ≡ false → s ≡ false) → e && t ≡ false → e && s ≡ false
-head-fails true t s f h = f h
-head-fails false t s f h = refl
-
-both : (e t : Bool) → e && t ≡ true → (e ≡ true) × (t ≡ true)
-both true t h = (refl, h)
-both false t h = let z : _≡_ {A = ℕ} 0 1 = cc in absurd (omega arith)
-
--- what passes the tests of the head
-pub head-passes : (m : Model) (n : ℕ) → eqb (m .n) n && leb (m .count) most-terms ≡ true
-    → (m .n ≡ n) × (m .count ≤ most-terms)
-head-passes m n h =
-    let p = both (eqb (m .n) n) (leb (m .count) most-terms) h in
-    (eqb-true (m .n) n (p .0), leb-true (m .count) most-terms (p .1))
-
 -- ---- the loop over a book's models: those before number k pass
 abbrev pub Models-walked : Book → (k : ℕ) → Type 0
 Models-walked b k = Walked (λ i. held-model-sound (outline-of (held-book b)))
@@ -90,21 +72,13 @@ module _ (b : Book) (k : ℕ) (fits : b .«model_count» ≤ length (b .models))
         → held-model-sound (outline-of (held-book b)) (held-model m) ≡ t
     by-rules t h = model-test b m ∙ h
 
-    -- a model of another n, or one of too many terms, or one that breaks another rule, is the first that fails
-    pub models-head : eqb (m .n) (b .n) && leb (m .count) most-terms ≡ false → k ≡ first-unsound-model b
+    -- one that fails is the first
+    pub models-unsound : eqb (m .n) (b .n) && sound (b .d) (view m) ≡ false → k ≡ first-unsound-model b
     unfolding first-unsound-model held-book
-    models-head h = place-found no-model held-model _ _ _ k fits w x l
-        (by-rules false (head-fails (eqb (m .n) (b .n)) _ _
-        (λ f. many-not (b .d) m (leb-false (m .count) most-terms f)) h))
+    models-unsound h = place-found no-model held-model _ _ _ k fits w x l (by-rules false h)
 
-    pub models-unsound : m .n ≡ b .n → sound (b .d) (view m) ≡ false → k ≡ first-unsound-model b
-    unfolding first-unsound-model held-book
-    models-unsound h s = place-found no-model held-model _ _ _ k fits w x l
-        (by-rules false (rw (eq-eqb (m .n) (b .n) h) s))
-
-    pub models-turn : m .n ≡ b .n → sound (b .d) (view m) ≡ true → Models-walked b (k + 1)
-    models-turn h s = place-turn no-model held-model _ _ _ k fits w x l
-        (by-rules true (rw (eq-eqb (m .n) (b .n) h) s))
+    pub models-turn : eqb (m .n) (b .n) && sound (b .d) (view m) ≡ true → Models-walked b (k + 1)
+    models-turn h = place-turn no-model held-model _ _ _ k fits w x l (by-rules true h)
 
 -- ---- the loop over its steps
 abbrev pub Steps-walked : Book → (k : ℕ) → Type 0

@@ -2,34 +2,30 @@
 ghost use mathlib.Core.Path.{_≡_};
 ghost use mathlib.Core.Bool.{_&&_};
 ghost use Prim.Native.Nat.{_≤_};
-ghost use lib.Dec.{leb, eqb};
-ghost use Rattle.calculus.specs.Key.{«key-width»};
-ghost use Rattle.calculus.specs.Model.{«most-terms»};
+ghost use lib.Dec.{eqb};
+ghost use Rattle.calculus.specs.Model.{sound};
 ghost use Rattle.calculus.specs.Book.{«most-models», «most-steps»};
+ghost use Rattle.model_types.specs.ModelStruct.{view};
 ghost use Rattle.sheet_book.specs.BookStruct.{«book-verdict»};
 ghost use Rattle.sheet_book_tests.specs.Unsound.{«first-unsound-model», «first-unsound-step»};
-ghost use Rattle.sheet_book_tests.specs.WholeModel.{Whole-model};
 use model_types::Model;
 use model_types::Refusal;
 use model_types::Verdict;
 use sheet_book::Book;
 
-// Whether a model has the book's n, and no more than 64 terms. `whole` tells the caller that its arrays have all
-// places, and that the keys are words.
-fn head_sound(n: u8, m: Model) -> bool
-    ensures { λ r. ⌜ r ≡ (eqb (m .n) n && leb (m .count) most-terms) ⌝ }
-    ensures whole { λ r. ⌜ Whole-model m ⌝ }
+// Test 5: whether a model has the book's n, and keeps the rules with degrees up to d.
+fn model_sound(n: u8, d: u8, m: Model) -> bool
+    ensures { λ r. ⌜ r ≡ (eqb (m .n) n && sound d (view m)) ⌝ }
 {
     if m.n != n {
         return false;
     }
-    m.count <= model_types::MOST_TERMS
+    model::sound_arrays(m.n, m.count, m.radius, &m.keys, &m.coefficients, d)
 }
 
-// The number of the first model that fails test 5, or the count. A fault leaves both loops, and k is then the faulty
-// model's number.
+// The number of the first model that fails test 5, or the count.
 fn first_unsound_model(b: Book) -> usize
-    requires { ⌜ (1 ≤ b .n) × (b .n ≤ key-width) × (b .«model_count» ≤ most-models) ⌝ }
+    requires { ⌜ b .«model_count» ≤ most-models ⌝ }
     ensures { λ r. ⌜ r ≡ first-unsound-model b ⌝ }
 {
     let n = b.n;
@@ -38,27 +34,7 @@ fn first_unsound_model(b: Book) -> usize
     let mut k = 0;
     'models: while k < count {
         let m = b.models[k];
-        let total = m.count;
-        if !head_sound(n, m) {
-            break 'models;
-        }
-        let mut span = m.radius;
-        let mut least: u64 = 0;
-        let mut i = 0;
-        'terms: loop {
-            if total <= i {
-                break 'terms;
-            }
-            let key = m.keys[i];
-            let c = m.coefficients[i];
-            if !model::term_sound(n, d, least, key, c) {
-                break 'models;
-            }
-            span = fixed::capped_sum(span, fixed::magnitude(c));
-            least = key as u64 + 1;
-            i += 1;
-        }
-        if !fixed::within_span(span) {
+        if !model_sound(n, d, m) {
             break 'models;
         }
         k += 1;

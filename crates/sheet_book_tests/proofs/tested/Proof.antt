@@ -40,7 +40,7 @@ returns c = limits-verdict _ (sym (c .before .limits-sound .ensures) ∙ not-tru
 
 first-unsound-model-requires : tie.Need-first-unsound-model-requires
 unfolding most-models
-first-unsound-model-requires c κs = (in-range c .n-low, in-range c .n-high, in-range c .models)
+first-unsound-model-requires c κs = in-range c .models
 
 returns-2 : tie.Need-returns-2
 returns-2 c =
