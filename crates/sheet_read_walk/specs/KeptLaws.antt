@@ -1,78 +1,29 @@
--- What the loops over models, their terms and steps keep of what they read: one law for the start, a turn and the end.
+-- What the loops over models and steps keep of what they read: one law for the start, a turn and the end.
 use mathlib.Core.Path.{_≡_, refl, sym, _∙_, ap, ap₂}
 use mathlib.Core.List.{List, [], _∷_, _++_, map, map-append}
-use Prim.Native.Nat.{ℕ, _+_, _*_, _-_, _≤_, _<_}
+use Prim.Native.Nat.{ℕ, _+_, _-_, _≤_, _<_}
 use native.Mathlib.Omega.{arith}
-use lib.IntN.{ℤ, pos}
 use lib.ListN.{length, getD, set, take, drop, replicate, length-map}
-use lib.Seq.{length-take-le, take-length}
-use Rattle.calculus.specs.Key.{key-width}
-use Rattle.calculus.specs.Model.{zero-model, most-terms}
+use lib.Seq.{length-take-le}
+use Rattle.calculus.specs.Model.{zero-model}
 use Rattle.calculus.specs.Book.{most-models, most-steps}
-use Rattle.model_types.specs.declared.Term.{Term}
 use Rattle.model_types.specs.declared.Model.{Model}
 use Rattle.model_types.specs.Arrays.{padded}
-use Rattle.model_types.specs.ModelStruct.{zero-term, of-terms, pad, pack}
+use Rattle.model_types.specs.ModelStruct.{pack}
 use Rattle.model_types.specs.ArrayLaws.{take-more, padded-more}
-use Rattle.model_types.specs.PairedLaws.{Listed, listed-next, listed-same, listed-struct}
-use Rattle.format.specs.Bytes.{byte, u32}
-use Rattle.format.specs.HeldBook.{Held-term, Held-model, Held-step}
-use Rattle.format.specs.Format.{read-term, read-model, read-step, read-steps}
-use Rattle.format.specs.ReadLoopLaws.{byte-at}
-use Rattle.format.specs.WriteBackLaws.{length-read-terms}
+use Rattle.format.specs.HeldBook.{Held-model, Held-step}
+use Rattle.format.specs.Format.{read-model, read-step, read-steps}
 use Rattle.sheet_book.specs.declared.Step.{Step}
-use Rattle.sheet_book.specs.BookStruct.{no-model, no-step, stored-term, stored-model, stored-step}
+use Rattle.sheet_book.specs.BookStruct.{no-model, no-step, stored-model, stored-step}
 use Rattle.sheet_book.specs.Failing.{first-failing}
 use Rattle.sheet_book.specs.ZeroLaws.{no-model-packed}
 use Rattle.sheet_walk.specs.Walk.{Walk, walk, steps-walked}
-use Rattle.sheet_walk.specs.TermWalkLaws.{Terms-so-far, model-at, terms-at, some-term, inside, in-terms, count-is}
+use Rattle.sheet_walk.specs.TermWalkLaws.{model-at}
 use Rattle.sheet_walk.specs.ModelWalkLaws.{Models-so-far, Ends, walk-place, walk-behind, models-first}
 use Rattle.sheet_walk.specs.StepWalkLaws.{Steps-so-far, steps-first, steps-here, steps-inside}
 use Rattle.sheet_read_walk.specs.declared.ModelsRead.{ModelsRead}
 use Rattle.sheet_read_walk.specs.declared.StepsRead.{StepsRead}
 use Rattle.sheet_read_walk.specs.KeptRecords.{models-read, steps-read}
-
--- ---- terms: before term i of the record at a place
-abbrev pub Terms-kept : List ℕ → (n at : ℕ) (keys : List ℕ) (coefficients : List ℤ) (i : ℕ) → Type 0
-Terms-kept s n at keys coefficients i = Listed keys coefficients (pad (map stored-term (take i (terms-at n at s))))
-
-pub terms-none : (s : List ℕ) (n at : ℕ)
-    → Terms-kept s n at (replicate most-terms 0) (replicate most-terms (pos 0)) 0
-unfolding padded most-terms
-terms-none s n at = record { keys-are = refl; coefficients-are = refl }
-
-module _ (s : List ℕ) (n d at : ℕ) (low : 1 ≤ n) (high : n ≤ key-width) (few : byte (at + 4) s ≤ 64)
-    (span least place i : ℕ) (h : Terms-so-far s n d at span least place i) (keys : List ℕ) (coefficients : List ℤ)
-    (kept : Terms-kept s n at keys coefficients i) where
-  abbrev ts : List Held-term
-  ts = terms-at n at s
-
-  pub terms-more : i < byte (at + 4) s → (t : Term) → t ≡ stored-term (read-term n (drop place s))
-      → (z : ℤ) → z ≡ t .coefficient → Terms-kept s n at (set keys i (t .key)) (set coefficients i z) (i + 1)
-  unfolding most-terms
-  terms-more l t e z c =
-      let within : i < length ts = inside s n d at low high few span least place i h l t e in
-      listed-next kept i (t .key) z
-      (ap (λ x. set (pad (map stored-term (take i ts))) i (record { key = t .key; coefficient = x })) c
-      ∙ padded-more zero-term 64 (map stored-term (take i ts)) i t
-      (length-map (take i ts) stored-term ∙ length-take-le i ts (omega (arith, within))) (omega arith)
-      ∙ ap pad (ap (λ x. map stored-term (take i ts) ++ (x ∷ []))
-      (in-terms s n d at low high few span least place i h l t e)
-      ∙ sym (map-append stored-term (take i ts) (getD ts i some-term ∷ []))
-      ∙ ap (map stored-term)
-      (sym (take-more ts i some-term within))))
-
-  -- the struct that the code makes of them
-  pub terms-stored : byte (at + 4) s ≤ i → (count radius : ℕ) → count ≡ byte (at + 4) s → radius ≡ u32 (drop at s)
-      → record { n = n; count = count; radius = radius; keys = keys; coefficients = coefficients } ≡ model-at n at s
-  unfolding stored-model read-model
-  terms-stored l count radius e r =
-      let c = length-read-terms n (byte 4 (drop at s)) (drop 5 (drop at s)) in
-      let f : i ≡ length ts = omega (arith, h .passed .within, count-is s n d at, byte-at at 4 s) in
-      let g : count ≡ length ts = e ∙ sym (count-is s n d at) in
-      listed-struct (listed-same kept (ap (λ x. pad (map stored-term x)) (ap (λ j. take j ts) f ∙ take-length ts)))
-      n count radius
-      ∙ ap₂ (λ (x y : ℕ). of-terms n x y (pad (map stored-term ts))) g r
 
 -- ---- models: before model k
 pub record Models-kept (s : List ℕ) (n d count : ℕ) (models : List Model) (at k : ℕ) : Type 0 where

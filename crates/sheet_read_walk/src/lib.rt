@@ -6,7 +6,6 @@ ghost use Rattle.calculus.specs.Key.{«key-width»};
 ghost use Rattle.calculus.specs.Book.{«most-models», «most-steps»};
 ghost use Rattle.format.specs.Format.{«step-length»};
 ghost use Rattle.sheet_read_walk.specs.KeptRecords.{«models-read», «steps-read»};
-use model_types::Key;
 use model_types::Model;
 use sheet_book::Step;
 
@@ -24,7 +23,7 @@ pub struct StepsRead {
     pub steps: [Step; sheet_book::MOST_STEPS],
 }
 
-// The models in `s`, which ends at the first step. A fault leaves both loops, and k is then the faulty model's number.
+// The models in `s`, which ends at the first step. A fault leaves the loop, and k is then the faulty model's number.
 pub fn read_models(s: &[u8], n: u8, d: u8, count: usize) -> ModelsRead
     requires { ⌜ (1 ≤ n) × (n ≤ key-width) × (count ≤ most-models) ⌝ }
     ensures { λ r. ⌜ r ≡ models-read n d count (now (s .entry)) ⌝ }
@@ -40,46 +39,19 @@ pub fn read_models(s: &[u8], n: u8, d: u8, count: usize) -> ModelsRead
             break 'models;
         }
         let total = sheet_decode::byte_at(s, at + format::COUNT_AT) as usize;
-        if left < format::MODEL_BYTES + size * total {
+        let taken = format::MODEL_BYTES + size * total;
+        if left < taken {
             break 'models;
         }
         if model_types::MOST_TERMS < total {
             break 'models;
         }
-        let radius = sheet_decode::u32_at(s, at) as u64;
-        let mut keys: [Key; model_types::MOST_TERMS] = [0; model_types::MOST_TERMS];
-        let mut coefficients = [0i64; model_types::MOST_TERMS];
-        let mut span = radius;
-        let mut least: u64 = 0;
-        let mut place = at + format::MODEL_BYTES;
-        let mut i = 0;
-        'terms: loop {
-            if total <= i {
-                break 'terms;
-            }
-            let t = sheet_decode::term_at(s, place, n);
-            if !model::term_sound(n, d, least, t.key, t.coefficient) {
-                break 'models;
-            }
-            let c = t.coefficient;
-            keys[i] = t.key;
-            coefficients[i] = c;
-            span = fixed::capped_sum(span, fixed::magnitude(c));
-            least = t.key as u64 + 1;
-            place += size;
-            i += 1;
-        }
-        if !fixed::within_span(span) {
+        let m = sheet_walk::model_at(s, at, n);
+        if !model::sound_arrays(m.n, m.count, m.radius, &m.keys, &m.coefficients, d) {
             break 'models;
         }
-        models[k] = Model {
-            n: n,
-            count: total,
-            radius: radius,
-            keys: keys,
-            coefficients: coefficients,
-        };
-        at = place;
+        models[k] = m;
+        at += taken;
         k += 1;
     }
     ModelsRead {

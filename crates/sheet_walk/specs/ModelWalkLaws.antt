@@ -8,21 +8,21 @@ use lib.Dec.{leb}
 use lib.ListN.{length, drop, length-append, length-drop}
 use lib.Seq.{drop-drop}
 use borrow.Author.Tests.{le-leb, lt-leb}
-use Rattle.calculus.specs.Model.{sound}
+use Rattle.calculus.specs.Model.{most-terms, sound}
+use Rattle.model_types.specs.declared.Model.{Model}
 use Rattle.model_types.specs.ModelStruct.{view}
+use Rattle.model_slices.specs.HandedModels.{handed, lent}
+use Rattle.model.specs.OperationLaws.{lent-own, handed-own}
 use Rattle.format.specs.Bytes.{byte}
 use Rattle.format.specs.HeldBook.{Held-model, view-model}
 use Rattle.format.specs.Format.{term-length, read-model, model-length}
 use Rattle.format.specs.ReadLoopLaws.{byte-at, model-at-least, and-false}
 use Rattle.sheet_walk.specs.Walk.{record-sound, Walk, walk, models-walked}
-use Rattle.sheet_walk.specs.TermWalkLaws.{view-stored, model-at, many-terms}
+use Rattle.sheet_walk.specs.TermWalkLaws.{view-stored, model-at, length-at, many-terms, keys-whole}
+use Rattle.sheet_walk.specs.TermWalkLaws.{coefficients-whole}
 
 -- ---- the record at a place
 module _ (n d at : ℕ) (s : List ℕ) where
-  length-at : model-length n (drop at s) ≡ 5 + term-length n * byte (at + 4) s
-  unfolding model-length
-  length-at = ap (λ c. 5 + term-length n * c) (byte-at at 4 s)
-
   -- it does not fit,
   no-room : length s - at < model-length n (drop at s) → record-sound n d (drop at s) ≡ false
   unfolding record-sound
@@ -37,7 +37,7 @@ module _ (n d at : ℕ) (s : List ℕ) where
   -- or its terms do not,
   no-terms : (total : ℕ) → total ≡ byte (at + 4) s → length s - at < 5 + term-length n * total
       → record-sound n d (drop at s) ≡ false
-  no-terms total e h = no-room (omega (arith, h, length-at, ap (λ c. term-length n * c) e))
+  no-terms total e h = no-room (omega (arith, h, length-at s n at, ap (λ c. term-length n * c) e))
 
   -- or its model breaks a rule
   unsound : sound d (view (model-at n at s)) ≡ false → record-sound n d (drop at s) ≡ false
@@ -51,10 +51,24 @@ module _ (n d at : ℕ) (s : List ℕ) where
   unfolding record-sound
   record-passes total e l h =
       let room : model-length n (drop at s) ≤ length (drop at s) =
-      omega (arith, l, length-drop at s, length-at, ap (λ c. term-length n * c) e) in
+      omega (arith, l, length-drop at s, length-at s n at, ap (λ c. term-length n * c) e) in
       let holds : sound d (view-model (read-model n (drop at s))) ≡ true =
       ap (sound d) (sym (view-stored (read-model n (drop at s)))) ∙ h in
       rw (le-leb (model-length n (drop at s)) (length (drop at s)) room, holds)
+
+-- ---- the test of the struct of its model, which lends its arrays
+module _ (s : List ℕ) (n at : ℕ) (few : byte (at + 4) s ≤ most-terms) (m : Model) (e : m ≡ model-at n at s) where
+  keys-all : length (m .keys) ≡ most-terms
+  keys-all = ap (λ (x : Model). length (x .keys)) e ∙ keys-whole s n at few
+
+  coefficients-all : length (m .coefficients) ≡ most-terms
+  coefficients-all = ap (λ (x : Model). length (x .coefficients)) e ∙ coefficients-whole s n at few
+
+  pub model-lent : lent (m .count) (length (m .keys)) (length (m .coefficients)) ≡ true
+  model-lent = lent-own _ _ _ keys-all coefficients-all
+
+  pub model-handed : handed (m .n) (m .count) (m .radius) (m .keys) (m .coefficients) ≡ model-at n at s
+  model-handed = handed-own m keys-all coefficients-all ∙ e
 
 -- ---- a walk by the record at the head
 walk-stop : (n d : ℕ) (before : List Held-model) (c : ℕ) (s : List ℕ) → record-sound n d s ≡ false
@@ -107,7 +121,7 @@ module _ (s : List ℕ) (n d count : ℕ) (before : List Held-model) (at k : ℕ
 
   -- or too many terms,
   pub models-many : (total : ℕ) → total ≡ byte (at + 4) s → 64 < total → Ends
-  models-many total e l = stop (unsound n d at s (many-terms s n d at (omega arith)))
+  models-many total e l = stop (unsound n d at s (many-terms s n at d (omega arith)))
 
   -- or a model that breaks another rule
   pub models-unsound : sound d (view (model-at n at s)) ≡ false → Ends
@@ -121,15 +135,15 @@ module _ (s : List ℕ) (n d count : ℕ) (before : List Held-model) (at k : ℕ
 
   -- a turn
   pub models-turn : k < count → (total : ℕ) → total ≡ byte (at + 4) s → 5 + term-length n * total ≤ length s - at
-      → sound d (view (model-at n at s)) ≡ true → (next : ℕ) → next ≡ at + model-length n (drop at s)
-      → Models-so-far s n d count (before ++ (read-model n (drop at s) ∷ [])) next (k + 1)
-  models-turn l total t room f next e = record {
+      → sound d (view (model-at n at s)) ≡ true
+      → Models-so-far s n d count (before ++ (read-model n (drop at s) ∷ [])) (at + (5 + term-length n * total)) (k + 1)
+  models-turn l total t room f = record {
     number = omega (arith, length-append before (read ∷ []), h .number);
     most = omega arith;
-    within = omega (arith, room, e, h .within, length-at n d at s, ap (λ c. term-length n * c) t);
+    within = omega (arith, room, h .within);
     rest =
         let c : count - k ≡ suc (count - (k + 1)) = omega arith in
-        ap (λ r. walk n d (before ++ (read ∷ [])) (count - (k + 1)) r) (behind e)
+        ap (λ r. walk n d (before ++ (read ∷ [])) (count - (k + 1)) r) behind
         ∙ sym (walk-on n d before (count - (k + 1)) (drop at s) (record-passes n d at s total t room f))
         ∙ ap (λ j. walk n d before j (drop at s)) (sym c) ∙ h .rest;
   }
@@ -137,8 +151,11 @@ module _ (s : List ℕ) (n d count : ℕ) (before : List Held-model) (at k : ℕ
       read : Held-model
       read = read-model n (drop at s)
 
-      behind : next ≡ at + model-length n (drop at s) → drop next s ≡ drop (model-length n (drop at s)) (drop at s)
-      behind e = ap (λ j. drop j s) e ∙ sym (drop-drop (model-length n (drop at s)) at s)
+      next : at + (5 + term-length n * total) ≡ at + model-length n (drop at s)
+      next = omega (arith, length-at s n at, ap (λ c. term-length n * c) t)
+
+      behind : drop (at + (5 + term-length n * total)) s ≡ drop (model-length n (drop at s)) (drop at s)
+      behind = ap (λ j. drop j s) next ∙ sym (drop-drop (model-length n (drop at s)) at s)
 
   -- how far the walk goes where it ends
   pub walk-place : Ends → k ≡ length (walk n d [] count s .passed)

@@ -1,26 +1,22 @@
--- The loop over a record's terms: what it holds, and one law for its start, a turn, its way out and its end.
-use mathlib.Core.Path.{_≡_, sym, _∙_, ap, subst}
-use mathlib.Core.Bool.{Bool, true, false}
-use mathlib.Core.List.{List, map}
+-- The loop over a record's terms: what it holds, and one law for its start, a turn and its end; and what the struct of
+-- the record's model has.
+use mathlib.Core.Path.{_≡_, refl, sym, _∙_, ap, ap₂, subst}
+use mathlib.Core.Bool.{false}
+use mathlib.Core.List.{List, [], _∷_, _++_, map, map-append}
 use Prim.Native.Nat.{ℕ, _+_, _*_, _≤_, _<_}
 use native.Mathlib.Omega.{arith}
 use native.Mathlib.Nat as NatL
-use lib.Dec.{leb}
-use lib.IntN.{pos, natAbs}
-use lib.ListN.{length, getD, drop, length-map, List·getD-append, List·getD-map}
-use lib.Seq.{drop-drop}
-use Rattle.numbers.specs.Fixed.{span-limit, capped}
-use Rattle.calculus.specs.Key.{key-width, key-limit}
+use lib.IntN.{ℤ, pos}
+use lib.ListN.{length, getD, set, take, drop, replicate, length-map}
+use lib.Seq.{drop-drop, length-take-le, take-length}
 use Rattle.calculus.specs.Model.{most-terms, sound}
-use Rattle.calculus.specs.Tests.{vars-sound}
 use Rattle.model_types.specs.declared.Term.{Term}
 use Rattle.model_types.specs.declared.Model.{Model}
 use Rattle.model_types.specs.Arrays.{padded}
-use Rattle.model_types.specs.ModelStruct.{zero-term, listed, pad, view, term-sound}
-use Rattle.model_types.specs.ArrayLaws.{length-padded-least}
-use Rattle.model_types.specs.ModelStructLaws.{vars-within}
-use Rattle.model_types.specs.PairedLaws.{paired-of}
-use Rattle.model.specs.OperationLaws.{Passed, passed-first, passed-turn, passed-not, passed-end, many-not}
+use Rattle.model_types.specs.ModelStruct.{zero-term, of-terms, pad, view}
+use Rattle.model_types.specs.ArrayLaws.{take-more, padded-more, length-padded}
+use Rattle.model_types.specs.PairedLaws.{Listed, listed-next, listed-same, listed-struct}
+use Rattle.model.specs.OperationLaws.{many-not}
 use Rattle.format.specs.Bytes.{byte, u32}
 use Rattle.format.specs.HeldBook.{Held-term, Held-model, view-model}
 use Rattle.format.specs.Format.{term-length, read-term, read-terms, read-model, model-length}
@@ -54,110 +50,95 @@ terms-at n at s = read-terms n (byte 4 (drop at s)) (drop 5 (drop at s))
 abbrev pub some-term : Held-term
 some-term = record { key = 0; coefficient = pos 0 }
 
--- before term i
-pub record Terms-so-far (s : List ℕ) (n d at : ℕ) (span least place i : ℕ) : Type 0 where
-  pub passed : Passed d (model-at n at s) span least i
+-- before term i: where it stands, and what two arrays hold of the terms before it
+pub record Terms-so-far (s : List ℕ) (n at : ℕ) (keys : List ℕ) (coefficients : List ℤ) (place i : ℕ) : Type 0 where
+  pub within : i ≤ byte (at + 4) s
   pub placed : place ≡ at + 5 + term-length n * i
+  pub kept : Listed keys coefficients (pad (map stored-term (take i (terms-at n at s))))
 
-module _ (s : List ℕ) (n d at : ℕ) where
+module _ (s : List ℕ) (n at : ℕ) where
   abbrev m : Model
   m = model-at n at s
 
   abbrev ts : List Held-term
   ts = terms-at n at s
 
-  pub count-is : m .count ≡ byte (at + 4) s
-  unfolding stored-model read-model
+  -- the length of the record
+  pub length-at : model-length n (drop at s) ≡ 5 + term-length n * byte (at + 4) s
+  unfolding model-length
+  length-at = ap (λ c. 5 + term-length n * c) (byte-at at 4 s)
+
+  count-is : length ts ≡ byte (at + 4) s
   count-is = length-read-terms n (byte 4 (drop at s)) (drop 5 (drop at s)) ∙ byte-at at 4 s
 
-  -- what its struct holds in all places
-  places-are : listed m ≡ pad (map stored-term ts)
-  unfolding stored-model read-model
-  places-are = paired-of (pad (map stored-term ts))
+  pub many-terms : (d : ℕ) → 64 < byte (at + 4) s → sound d (view m) ≡ false
+  unfolding most-terms stored-model read-model
+  many-terms d h = many-not d m (omega (arith, count-is))
 
-  pub many-terms : 64 < byte (at + 4) s → sound d (view m) ≡ false
-  unfolding most-terms
-  many-terms h = many-not d m (omega (arith, count-is))
+  pub terms-first : Terms-so-far s n at (replicate most-terms 0) (replicate most-terms (pos 0)) (at + 5) 0
+  unfolding padded most-terms
+  terms-first = record {
+    within = omega arith;
+    placed = omega (arith, NatL.mul-zero (term-length n));
+    kept = record { keys-are = refl; coefficients-are = refl };
+  }
 
-  module _ (low : 1 ≤ n) (high : n ≤ key-width) (few : byte (at + 4) s ≤ 64) where
-    vars : vars-sound (m .n) ≡ true
+  module _ (few : byte (at + 4) s ≤ most-terms) where
+    -- both arrays of the struct have all their places
+    all-places : length (pad (map stored-term ts)) ≡ most-terms
+    all-places = length-padded zero-term most-terms (map stored-term ts)
+        (omega (arith, length-map ts stored-term, count-is))
+
+    pub keys-whole : length (m .keys) ≡ most-terms
     unfolding stored-model read-model
-    vars = vars-within n low high
+    keys-whole = length-map (pad (map stored-term ts)) (λ t. t .key) ∙ all-places
 
-    few-terms : m .count ≤ most-terms
-    unfolding most-terms
-    few-terms = omega (arith, count-is)
-
-    whole : m .count ≤ length (listed m)
+    pub coefficients-whole : length (m .coefficients) ≡ most-terms
     unfolding stored-model read-model
-    whole = omega (
-      arith,
-      length-padded-least zero-term most-terms (map stored-term ts),
-      length-map ts stored-term,
-      ap length places-are,
-    )
+    coefficients-whole = length-map (pad (map stored-term ts)) (λ t. t .coefficient) ∙ all-places
 
-    pub terms-first : (radius : ℕ) → radius ≡ u32 (drop at s)
-        → Terms-so-far s n d at radius 0 (at + 5) 0
-    unfolding stored-model read-model
-    terms-first radius e = record {
-      passed = subst (λ r. Passed d m r 0 0) (sym e) (passed-first d m vars few-terms whole);
-      placed = omega (arith, NatL.mul-zero (term-length n));
-    }
-
-    module _ (span least place i : ℕ) (h : Terms-so-far s n d at span least place i) where
+    module _ {keys : List ℕ} {coefficients : List ℤ} {place i : ℕ}
+        (h : Terms-so-far s n at keys coefficients place i) where
       module _ (l : i < byte (at + 4) s) (t : Term) (e : t ≡ stored-term (read-term n (drop place s))) where
         at-place : drop (term-length n * i) (drop 5 (drop at s)) ≡ drop place s
         at-place =
             let e : at + (5 + term-length n * i) ≡ place = omega (arith, h .placed) in
             drop-drop (term-length n * i) 5 (drop at s) ∙ drop-drop (5 + term-length n * i) at s ∙ ap (λ j. drop j s) e
 
-        pub inside : i < length ts
-        inside = omega (arith, length-read-terms n (byte 4 (drop at s)) (drop 5 (drop at s)), byte-at at 4 s)
+        inside : i < length ts
+        inside = omega (arith, count-is)
 
-        pub in-terms : t ≡ stored-term (getD ts i some-term)
+        in-terms : t ≡ stored-term (getD ts i some-term)
         in-terms = e ∙ ap stored-term (sym (read-term-at n (byte 4 (drop at s)) i (drop 5 (drop at s)) some-term
             (omega (arith, byte-at at 4 s)) ∙ ap (read-term n) at-place))
 
-        here : getD (listed m) i zero-term ≡ t
-        unfolding padded stored-term
-        here = ap (λ l. getD l i zero-term) places-are
-            ∙ List·getD-append (map stored-term ts) _ zero-term i (omega (arith, length-map ts stored-term, inside))
-            ∙ List·getD-map stored-term ts i some-term ∙ sym in-terms
+        kept-more : (z : ℤ) → z ≡ t .coefficient
+            → Listed (set keys i (t .key)) (set coefficients i z) (pad (map stored-term (take (i + 1) ts)))
+        kept-more z c =
+            listed-next (h .kept) i (t .key) z
+            (ap (λ x. set (pad (map stored-term (take i ts))) i (record { key = t .key; coefficient = x })) c
+            ∙ padded-more zero-term most-terms (map stored-term (take i ts)) i t
+            (length-map (take i ts) stored-term ∙ length-take-le i ts (omega (arith, inside))) (omega arith)
+            ∙ ap pad (ap (λ x. map stored-term (take i ts) ++ (x ∷ [])) in-terms
+            ∙ sym (map-append stored-term (take i ts) (getD ts i some-term ∷ []))
+            ∙ ap (map stored-term) (sym (take-more ts i some-term inside))))
 
-        abbrev found : Term
-        found = getD (listed m) i zero-term
-
-        counted : i < m .count
-        counted = omega (arith, count-is)
-
-        tested : (b : Bool) → term-sound n d least (t .key) (t .coefficient) ≡ b
-            → term-sound (m .n) d least (found .key) (found .coefficient) ≡ b
-        unfolding stored-model read-model
-        tested b g = subst (λ x. term-sound n d least (x .key) (x .coefficient) ≡ b) (sym here) g
-
-        pub terms-turn : t .key < key-limit → term-sound n d least (t .key) (t .coefficient) ≡ true
-            → (next : ℕ) → next ≡ capped (span + natAbs (t .coefficient))
-            → Terms-so-far s n d at next (t .key + 1) (place + term-length n) (i + 1)
-        terms-turn small g next k = record {
-          passed = subst (λ x. Passed d m next (x .key + 1) (i + 1)) here
-              (passed-turn d m vars few-terms whole span least i (h .passed) counted
-              (subst (λ x. x .key < key-limit) (sym here) small) (tested true g) next
-              (k ∙ ap (λ x. capped (span + natAbs (x .coefficient))) (sym here)));
+        pub terms-turn : (z : ℤ) → z ≡ t .coefficient
+            → Terms-so-far s n at (set keys i (t .key)) (set coefficients i z) (place + term-length n) (i + 1)
+        terms-turn z c = record {
+          within = omega arith;
           placed = omega (arith, h .placed, one-more (term-length n) i);
+          kept = kept-more z c;
         }
 
-        pub terms-bad : t .key < key-limit → term-sound n d least (t .key) (t .coefficient) ≡ false
-            → sound d (view m) ≡ false
-        terms-bad small g = passed-not d m vars few-terms whole span least i (h .passed) counted
-            (subst (λ x. x .key < key-limit) (sym here) small) (tested false g)
-
-      pub terms-end : byte (at + 4) s ≤ i → leb span span-limit ≡ sound d (view m)
-      terms-end l = passed-end d m vars few-terms whole span least i (h .passed) (omega (arith, count-is))
-
-      -- the place behind them
-      pub terms-behind : byte (at + 4) s ≤ i → place ≡ at + model-length n (drop at s)
-      unfolding model-length
-      terms-behind l =
-          let e : i ≡ byte 4 (drop at s) = omega (arith, h .passed .within, count-is, byte-at at 4 s) in
-          omega (arith, h .placed, ap (λ c. term-length n * c) e)
+      -- the struct that the code makes of them
+      pub terms-end : byte (at + 4) s ≤ i → (count radius : ℕ) → count ≡ byte (at + 4) s → radius ≡ u32 (drop at s)
+          → record { n = n; count = count; radius = radius; keys = keys; coefficients = coefficients } ≡ m
+      unfolding stored-model read-model
+      terms-end l count radius e r =
+          let f : i ≡ length ts = omega (arith, h .within, count-is) in
+          let g : count ≡ length ts = e ∙ sym count-is in
+          listed-struct
+          (listed-same (h .kept) (ap (λ x. pad (map stored-term x)) (ap (λ j. take j ts) f ∙ take-length ts)))
+          n count radius
+          ∙ ap₂ (λ (x y : ℕ). of-terms n x y (pad (map stored-term ts))) g r

@@ -3,8 +3,13 @@ ghost use mathlib.Core.Path.{_≡_};
 ghost use Prim.Native.Nat.{_+_, _*_, _≤_};
 ghost use lib.ListN.{length, drop};
 ghost use Rattle.calculus.specs.Key.{«key-width»};
-ghost use Rattle.format.specs.Format.{«step-length»};
+ghost use Rattle.calculus.specs.Model.{«most-terms»};
+ghost use Rattle.format.specs.Bytes.{byte};
+ghost use Rattle.format.specs.Format.{«model-length», «read-model», «step-length»};
+ghost use Rattle.sheet_book.specs.BookStruct.{«stored-model»};
 ghost use Rattle.sheet_walk.specs.Walk.{«models-walked», «steps-walked»};
+use model_types::Key;
+use model_types::Model;
 
 // How far the records of models go: the number of the first faulty one or that of all, and the place behind the others.
 pub struct ModelsWalked {
@@ -12,7 +17,36 @@ pub struct ModelsWalked {
     pub end: usize,
 }
 
-// The models in `s`, which ends at the first step. A fault leaves both loops, and k is then the faulty model's number.
+// The model of the record at a place. Zeros stand behind its terms.
+pub fn model_at(s: &[u8], at: usize, n: u8) -> Model
+    requires { ⌜ (at + model-length n (drop at (now s)) ≤ length (now s)) × (byte (at + 4) (now s) ≤ most-terms) ⌝ }
+    ensures { λ r. ⌜ r ≡ stored-model (read-model n (drop at (now (s .entry)))) ⌝ }
+{
+    let size = sheet_book::term_bytes(n);
+    let total = sheet_decode::byte_at(s, at + format::COUNT_AT) as usize;
+    let radius = sheet_decode::u32_at(s, at) as u64;
+    let mut keys: [Key; model_types::MOST_TERMS] = [0; model_types::MOST_TERMS];
+    let mut coefficients = [0i64; model_types::MOST_TERMS];
+    let mut place = at + format::MODEL_BYTES;
+    let mut i = 0;
+    while i < total {
+        let t = sheet_decode::term_at(s, place, n);
+        let c = t.coefficient;
+        keys[i] = t.key;
+        coefficients[i] = c;
+        place += size;
+        i += 1;
+    }
+    Model {
+        n: n,
+        count: total,
+        radius: radius,
+        keys: keys,
+        coefficients: coefficients,
+    }
+}
+
+// The models in `s`, which ends at the first step. A fault leaves the loop, and k is then the faulty model's number.
 pub fn walk_models(s: &[u8], n: u8, d: u8, count: usize) -> ModelsWalked
     requires { ⌜ (1 ≤ n) × (n ≤ key-width) ⌝ }
     ensures { λ r. ⌜ r ≡ models-walked n d count (now (s .entry)) ⌝ }
@@ -26,33 +60,18 @@ pub fn walk_models(s: &[u8], n: u8, d: u8, count: usize) -> ModelsWalked
             break 'models;
         }
         let total = sheet_decode::byte_at(s, at + format::COUNT_AT) as usize;
-        if left < format::MODEL_BYTES + size * total {
+        let taken = format::MODEL_BYTES + size * total;
+        if left < taken {
             break 'models;
         }
         if model_types::MOST_TERMS < total {
             break 'models;
         }
-        let mut span = sheet_decode::u32_at(s, at) as u64;
-        let mut least: u64 = 0;
-        let mut place = at + format::MODEL_BYTES;
-        let mut i = 0;
-        'terms: loop {
-            if total <= i {
-                break 'terms;
-            }
-            let t = sheet_decode::term_at(s, place, n);
-            if !model::term_sound(n, d, least, t.key, t.coefficient) {
-                break 'models;
-            }
-            span = fixed::capped_sum(span, fixed::magnitude(t.coefficient));
-            least = t.key as u64 + 1;
-            place += size;
-            i += 1;
-        }
-        if !fixed::within_span(span) {
+        let m = model_at(s, at, n);
+        if !model::sound_arrays(m.n, m.count, m.radius, &m.keys, &m.coefficients, d) {
             break 'models;
         }
-        at = place;
+        at += taken;
         k += 1;
     }
     ModelsWalked { place: k, end: at }
