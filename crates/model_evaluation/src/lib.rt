@@ -7,7 +7,7 @@ ghost use Rattle.calculus.specs.Refusal.{«at-place»};
 ghost use Rattle.calculus.specs.Operations as Op;
 ghost use Rattle.calculus.specs.Calls.{«call-evaluate»};
 ghost use Rattle.model_types.specs.ModelStruct.{view, bounds};
-ghost use Rattle.model_horner.specs.Held.{Room};
+ghost use Rattle.model_slices.specs.HeldModels.{Room};
 ghost use Rattle.model_evaluation.specs.Evaluate.{Evaluation, «Turn-of», «Turned-in», «Put-of», «Put-in»};
 use model_horner::Left;
 use model_horner::Passed;
@@ -65,13 +65,13 @@ fn put_turn(
 
 // x in the place of variable i of a model: Horner's rule from the highest power down. What is left goes into the slices
 // after the model's; the others are at hand for each power's terms and for products.
-fn put_constant(
+fn put_constant<'a>(
     i: u8,
     x: i64,
     count: usize,
     radius: u64,
-    keys: &[Key],
-    coefficients: &[i64],
+    keys: &'a [Key],
+    coefficients: &'a [i64],
     stored: &mut [Key],
     out: &mut [i64],
     others: &mut [Key],
@@ -86,12 +86,12 @@ fn put_constant(
     ensures { λ r. ⌜ Put-in i x count radius (now (keys .entry)) (now (coefficients .entry)) r
         (now (stored .exit)) (now (out .exit)) ⌝ }
 {
-    let mut k = model_horner::largest_exponent(i, count, keys);
-    let mut c = model_horner::part(i, k, count, keys, coefficients, stored, out);
+    let mut k = model_powers::largest_exponent(i, count, keys);
+    let mut c = model_powers::part(i, k, count, keys, coefficients, stored, out);
     let mut e = 0;
     while 0 < k {
         k -= 1;
-        let d = model_horner::part(i, k, count, keys, coefficients, others, added);
+        let d = model_powers::part(i, k, count, keys, coefficients, others, added);
         let turn = put_turn(x, c, e, stored, out, d, others, added, spare, products);
         let v = turn.verdict;
         let Verdict::Accepted = v else {

@@ -1,45 +1,19 @@
--- Models that lie in slices of 64 places, and what the steps of Horner's rule ask of them.
+-- What the steps of Horner's rule ask of models that lie in slices of 64 places.
 use mathlib.Core.Path.{_≡_}
 use mathlib.Core.List.{List}
 use Prim.Native.Nat.{ℕ, _+_, _≤_, _<_}
 use lib.IntN.{ℤ}
-use lib.ListN.{length}
 use Rattle.calculus.specs.Refusal.{too-many-terms, stopped, at-place}
 use Rattle.calculus.specs.Operations.{limited, add}
 use Rattle.model_types.specs.declared.Model.{Model}
 use Rattle.model_types.specs.declared.Answer.{Answer}
 use Rattle.model_types.specs.declared.Verdict.the-variants.{Accepted}
-use Rattle.model_types.specs.ModelStruct.{view, pad, answer, of-terms}
-use Rattle.model_slices.specs.HandedModels.{terms-of}
+use Rattle.model_types.specs.ModelStruct.{view, answer}
+use Rattle.model_slices.specs.HeldModels.{held, Room}
 use Rattle.model_limits.specs.Limits.{Packed}
 use Rattle.model_addition.specs.Addition.{Operands}
-use Rattle.model_powers.specs.Powers.{In-variable}
 use Rattle.model_scaling.specs.Scaling.{Scalable}
 use Rattle.model_horner.specs.declared.Left.{Left}
-
--- the struct of a model that lies in slices: the terms that its count names, and zeros behind them
-unfoldable pub held : (n count radius : ℕ) → List ℕ → List ℤ → Model
-held n count radius ks cs = of-terms n count radius (pad (terms-of count ks cs))
-
--- 64 places in each slice
-pub record Room (ks : List ℕ) (cs : List ℤ) : Type 0 where
-  pub keys : length ks ≡ 64
-  pub coefficients : length cs ≡ 64
-
--- keys of a sound model, and one of its variables
-pub record Keys-of (i count : ℕ) (ks : List ℕ) : Type 0 where
-  pub vars : ℕ
-  pub radius : ℕ
-  pub coefficients : List ℤ
-  pub room : Room ks coefficients
-  pub variable : In-variable i (held vars count radius ks coefficients)
-
--- a sound model, and one of its variables
-pub record Part-of (i count : ℕ) (ks : List ℕ) (cs : List ℤ) : Type 0 where
-  pub vars : ℕ
-  pub radius : ℕ
-  pub room : Room ks cs
-  pub variable : In-variable i (held vars count radius ks cs)
 
 -- a sound model, and a constant from -U to U
 pub record Scale-of (X : ℤ) (count radius : ℕ) (ks : List ℕ) (cs : List ℤ) : Type 0 where

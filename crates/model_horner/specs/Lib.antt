@@ -1,5 +1,4 @@
 pub mod Held
-pub mod HeldLaws
 pub mod HeldPassLaws
 pub mod MergePassLaws
 pub mod LeftLaws

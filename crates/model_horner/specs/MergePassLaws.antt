@@ -14,13 +14,14 @@ use Rattle.model_types.specs.declared.Model.{Model}
 use Rattle.model_types.specs.ModelStruct.{zero-term, pad, listed}
 use Rattle.model_types.specs.ModelStructLaws.{limits}
 use Rattle.model_slices.specs.HandedModels.{terms-of}
+use Rattle.model_slices.specs.HeldModels.{held, Room}
+use Rattle.model_slices.specs.HeldModelsLaws.{pair, held-long, held-at, stored-more}
 use Rattle.model_addition.specs.declared.Next.{Next}
 use Rattle.model_addition.specs.Merge.{Takes}
 use Rattle.model_addition.specs.MergeLaws.{Mergeable, Merged, Turn, nothing-stored, turn, skip, store, too-many}
 use Rattle.model_addition.specs.AddedLaws.{Whole, coefficient-within, mergeable, answer-too-many}
 use Rattle.model_addition.specs.AddedLaws.{sum-packed, sum-answer}
-use Rattle.model_horner.specs.Held.{held, Room, Sum-of, Sum-in}
-use Rattle.model_horner.specs.HeldLaws.{pair, held-long, held-at, stored-more}
+use Rattle.model_horner.specs.Held.{Sum-of, Sum-in}
 
 module _ {c d : ℕ} {ks ks₂ : List ℕ} {cs cs₂ : List ℤ} (w : Sum-of c ks cs d ks₂ cs₂) where
   abbrev a : Model

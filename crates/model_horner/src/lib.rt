@@ -2,18 +2,18 @@
 // makes. Behind the terms that a count names any numbers may stand.
 ghost use mathlib.Core.Path.{_≡_};
 ghost use mathlib.Core.List.{List};
-ghost use Prim.Native.Nat.{ℕ, _≤_, max};
+ghost use Prim.Native.Nat.{ℕ, _≤_};
 ghost use lib.Dec.{leb};
 ghost use lib.ListN.{length};
 ghost use Rattle.numbers.specs.Fixed.{«span-limit»};
 ghost use Rattle.calculus.specs.Model.{span};
 ghost use Rattle.calculus.specs.Refusal.{«at-place»};
-ghost use Rattle.calculus.specs.Operations.{«largest-exponent», part, limited};
+ghost use Rattle.calculus.specs.Operations.{limited};
 ghost use Rattle.model_types.specs.ModelStruct.{view, pack, answer};
+ghost use Rattle.model_slices.specs.HeldModels.{held, Room};
 ghost use Rattle.model_limits.specs.Limits.{Packed};
 ghost use Rattle.model_scaling.specs.Scaling.{«scaled-pass»};
-ghost use Rattle.model_horner.specs.Held.{held, Room, «Keys-of», «Part-of», «Scale-of», «Sum-of»};
-ghost use Rattle.model_horner.specs.Held.{«Sum-in», «Left-in»};
+ghost use Rattle.model_horner.specs.Held.{«Scale-of», «Sum-of», «Sum-in», «Left-in»};
 use model_addition::Next;
 use model_keys::Key;
 use model_types::MOST_TERMS;
@@ -32,61 +32,6 @@ pub struct Left {
     pub count: usize,
     pub radius: u64,
     pub verdict: Verdict,
-}
-
-// The larger of two.
-fn larger(a: u32, b: u32) -> u32
-    ensures { λ r. ⌜ r ≡ max a b ⌝ }
-{
-    if a < b { b } else { a }
-}
-
-// The largest exponent of variable i.
-pub fn largest_exponent(i: u8, count: usize, keys: &[Key]) -> u32
-    requires { ⌜ Keys-of i count (now keys) ⌝ }
-    ensures { λ r. ⌜ ((w : Keys-of i count (now (keys .entry)))
-        → r ≡ largest-exponent i
-        (view (held (w .vars) count (w .radius) (now (keys .entry)) (w .coefficients)) .terms)) ⌝ }
-{
-    let mut largest = 0;
-    let mut j = 0;
-    while j < count {
-        let k = keys[j];
-        largest = larger(largest, model_keys::exponent_of(k, i));
-        j += 1;
-    }
-    largest
-}
-
-// What multiplies the k-th power of variable i goes into two slices; the number of its terms.
-pub fn part(
-    i: u8,
-    k: u32,
-    total: usize,
-    keys: &[Key],
-    coefficients: &[i64],
-    stored: &mut [Key],
-    out: &mut [i64],
-) -> usize
-    requires { ⌜ Part-of i total (now keys) (now coefficients) ⌝ }
-    requires { ⌜ Room (now stored) (now out) ⌝ }
-    ensures { λ r. ⌜ ((w : Part-of i total (now (keys .entry)) (now (coefficients .entry)))
-        → held (w .vars) r 0 (now (stored .exit)) (now (out .exit))
-        ≡ pack (part i k (view (held (w .vars) total (w .radius) (now (keys .entry)) (now (coefficients .entry)))))) ⌝ }
-{
-    let mut count = 0;
-    let mut j = 0;
-    while j < total {
-        let key = keys[j];
-        let c = coefficients[j];
-        j += 1;
-        if model_keys::exponent_of(key, i) == k {
-            stored[count] = model_keys::without(key, i);
-            out[count] = c;
-            count += 1;
-        }
-    }
-    count
 }
 
 // A model times the constant x goes into two slices: its terms, and E.

@@ -1,2 +1,4 @@
 pub mod HandedModels
 pub mod HandedModelsLaws
+pub mod HeldModels
+pub mod HeldModelsLaws

@@ -93,12 +93,12 @@ pub fn substituted_accounted(
             shares: Shares::ZERO,
         };
     }
-    let mut k = model_powers::largest_exponent(f, i);
-    let mut h = model_powers::part(f, i, k);
+    let mut k = model_powers::largest_exponent_of(f, i);
+    let mut h = model_powers::part_of(f, i, k);
     let mut last = Shares::ZERO;
     while 0 < k {
         k -= 1;
-        let turn = horner_turn(d, h, g, model_powers::part(f, i, k), slots, keys, sums);
+        let turn = horner_turn(d, h, g, model_powers::part_of(f, i, k), slots, keys, sums);
         let sum = turn.answer;
         let v = sum.verdict;
         let Verdict::Accepted = v else {

@@ -10,7 +10,7 @@ use mir.Syntax.{w64}
 use mir.Val.{toZ, ofZ}
 use Rattle.calculus.specs.Operations.{part}
 use Rattle.model_types.specs.ModelStruct.{view, pack}
-use Rattle.model_horner.specs.Held.{held, Room}
+use Rattle.model_slices.specs.HeldModels.{held, Room}
 use Rattle.model_evaluation.specs.Evaluate.{Put-of, Put-in}
 use Rattle.model_evaluation.specs.PutCoordinateLaws as P
 use Rattle.model_evaluation.specs.SliceTurnLaws.{put-keys, put-part, put-first, put-few, put-turning, put-stops}
@@ -80,7 +80,7 @@ loop-holds c =
       first-room p,
       s .pre .1 .1 .0,
       s .pre .1 .1 .1,
-      λ w. put-first w (found p .largest-exponent .ensures (put-keys w)) _ _ _ (p .part .ensures (put-part w)),
+      λ w. put-first w (found p .largest-exponent .ensures (put-keys w)) _ _ _ (p .part .ensures .0 (put-part w)),
     )
 
 -- ---- a turn
@@ -122,7 +122,7 @@ module _ (c : tie.After-part2 Inv-loop μ-loop) where
     next-is : held (w .vars) (c .part2 .result) 0 next-keys nexts
         ≡ pack (part (start loop .args .i) (loop .loop .k - 1) (view (held (w .vars) (start loop .args .count)
         (start loop .args .radius) (start loop .args .keys .now) (start loop .args .coefficients .now))))
-    next-is = c .part2 .ensures (put-part w)
+    next-is = c .part2 .ensures .0 (put-part w)
 
 put-turn-requires : tie.Need-put-turn-requires Inv-loop μ-loop
 put-turn-requires c κs =

@@ -12,7 +12,8 @@ use Rattle.calculus.specs.Refusal.{at-place}
 use Rattle.model_types.specs.declared.Refusal.the-variants.{TooManyTerms}
 use Rattle.model_types.specs.declared.Verdict.the-variants.{Refused}
 use Rattle.model_types.specs.ModelStruct.{answer}
-use Rattle.model_horner.specs.Held.{held, Room, Sum-in, Left-in}
+use Rattle.model_slices.specs.HeldModels.{held, Room}
+use Rattle.model_horner.specs.Held.{Sum-in, Left-in}
 use Rattle.model_evaluation.specs.Evaluate.{Turn-of, Turned-in}
 use Rattle.model_evaluation.specs.SliceTurnLaws.{product, turn-scale, product-packed, product-few}
 use Rattle.model_evaluation.specs.SliceTurnLaws.{product-left, turn-stops}

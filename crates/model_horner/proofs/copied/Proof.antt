@@ -9,8 +9,8 @@ use mir.Facts.{toZ-ofZ}
 use mir.Syntax.{w64}
 use mir.Val.{toZ, ofZ}
 use Rattle.model_slices.specs.HandedModels.{terms-of}
-use Rattle.model_horner.specs.Held.{Room}
-use Rattle.model_horner.specs.HeldLaws.{room-still, copied-more, held-same}
+use Rattle.model_slices.specs.HeldModels.{Room}
+use Rattle.model_slices.specs.HeldModelsLaws.{room-still, copied-more, held-same}
 use Rattle.model_horner.proofs.copied.Statement.{statement}
 use Rattle.model_horner.proofs.copied.Tie as tie
 

@@ -12,10 +12,11 @@ use Rattle.calculus.specs.Model.{most-terms}
 use Rattle.model_types.specs.ModelStruct.{pad}
 use Rattle.model_types.specs.ZeroTestLaws.{zero-bits, nonzero-bits}
 use Rattle.model_slices.specs.HandedModels.{terms-of}
+use Rattle.model_slices.specs.HeldModels.{held, Room}
+use Rattle.model_slices.specs.HeldModelsLaws.{room-still}
 use Rattle.model_addition.specs.Merge.{Takes}
 use Rattle.model_addition.specs.MergeLaws.{Merged, Turn}
-use Rattle.model_horner.specs.Held.{held, Room, Sum-of}
-use Rattle.model_horner.specs.HeldLaws.{room-still}
+use Rattle.model_horner.specs.Held.{Sum-of}
 use Rattle.model_horner.specs.MergePassLaws.{first-few, second-few, merge-first, merge-fits, merge-turn}
 use Rattle.model_horner.specs.MergePassLaws.{merge-skip, merge-store, merge-many, merge-end}
 use Rattle.model_horner.proofs.merged.Statement.{statement}

@@ -16,10 +16,11 @@ use Rattle.calculus.specs.Terms.{is-nonzero}
 use Rattle.model_types.specs.ModelStruct.{view, pad, pack}
 use Rattle.model_types.specs.ZeroTestLaws.{zero-bits, nonzero-bits}
 use Rattle.model_slices.specs.HandedModels.{terms-of}
+use Rattle.model_slices.specs.HeldModels.{held, Room}
+use Rattle.model_slices.specs.HeldModelsLaws.{room-still}
 use Rattle.model_scaling.specs.Scaling.{scaled-coefficient, scaled-residual, scaled-pass}
 use Rattle.model_scaling.specs.ScaledPassLaws.{Gathered}
-use Rattle.model_horner.specs.Held.{held, Room, Scale-of}
-use Rattle.model_horner.specs.HeldLaws.{room-still}
+use Rattle.model_horner.specs.Held.{Scale-of}
 use Rattle.model_horner.specs.HeldPassLaws.{scale-few, carried-small, scale-first, scale-room, scale-fits}
 use Rattle.model_horner.specs.HeldPassLaws.{scale-within, scale-keep, scale-drop, scale-end}
 use Rattle.model_horner.proofs.scaled.Statement.{statement}

@@ -11,8 +11,8 @@ use mir.Syntax.{w64}
 use mir.Val.{toZ, ofZ}
 use Rattle.numbers.specs.Fixed.{capped}
 use Rattle.calculus.specs.Model.{most-terms}
+use Rattle.model_slices.specs.HeldModels.{held, Room}
 use Rattle.model_limits.specs.LimitLaws.{Summed}
-use Rattle.model_horner.specs.Held.{held, Room}
 use Rattle.model_horner.specs.HeldPassLaws.{span-first, span-turn, span-end}
 use Rattle.model_horner.proofs.within.Statement.{statement}
 use Rattle.model_horner.proofs.within.Tie as tie

@@ -1,152 +1,141 @@
 -- `part` stores the terms of the k-th power in their order, without the variable.
-use mathlib.Core.Path.{_≡_, refl, sym, _∙_, ap, subst}
-use Prim.Native.Nat.{_+_, _-_, _≤_, _<_}
+use mathlib.Core.Path.{_≡_, sym, _∙_}
+use Prim.Native.Nat.{_-_, _≤_, _<_}
 use native.Mathlib.Omega.{arith}
 use borrow.Author.Needs.{needs}
-use lib.IntN.{pos}
-use lib.ListN.{length, getD}
 use mir.Facts.{toZ-ofZ}
-use mir.Syntax.{w64}
-use mir.Val.{toZ, ofZ}
-use Rattle.calculus.specs.Model.{most-degree, most-terms}
-use Rattle.model_types.specs.Arrays.{padded}
-use Rattle.model_types.specs.declared.Term.{Term}
-use Rattle.model_types.specs.ModelStruct.{zero-term, paired, listed}
-use Rattle.model_types.specs.ModelStructLaws.{limits}
-use Rattle.model_types.specs.PairedLaws.{Listed, listed-put, listed-struct, length-paired, key-at, coefficient-at}
-use Rattle.model_keys.specs.Keys.{key-exponent, key-without}
-use Rattle.model_powers.specs.PowersLaws.{slot, Taken, taken-first, taken-room, taken-in, taken-out, taken-end}
+use Rattle.calculus.specs.Model.{most-terms}
+use Rattle.model_types.specs.ModelStruct.{pad}
+use Rattle.model_slices.specs.HandedModels.{terms-of}
+use Rattle.model_slices.specs.HeldModels.{held, Room, Clear}
+use Rattle.model_slices.specs.HeldModelsLaws.{room-still, clear-more}
+use Rattle.model_powers.specs.Powers.{Part-of}
+use Rattle.model_powers.specs.PowersLaws.{Taken}
+use Rattle.model_powers.specs.PowerPassLaws.{part-few, part-slot, part-first, part-room, part-in, part-out}
+use Rattle.model_powers.specs.PowerPassLaws.{part-end}
 use Rattle.model_powers.proofs.part.Statement.{statement}
 use Rattle.model_powers.proofs.part.Tie as tie
 
 abbrev Inv-loop : tie.InvT-loop
-Inv-loop i k f total keys₀ coefficients₀ count₀ j₀ keys coefficients count j =
-    Listed keys coefficients (paired keys coefficients) × Taken i f k (paired keys coefficients) count j
+Inv-loop i k total keys coefficients stored₀ out₀ count₀ j₀ stored out count j =
+    Room stored out × ((w : Part-of i total keys coefficients)
+    → Taken i (held (w .vars) total (w .radius) keys coefficients) k (pad (terms-of count stored out)) count j)
+    × (Clear 0 stored₀ out₀ → Clear count stored out)
 
 abbrev μ-loop : tie.MeasureT-loop
-μ-loop i k f total keys₀ coefficients₀ count₀ j₀ keys coefficients count j = total - j
+μ-loop i k total keys coefficients stored₀ out₀ count₀ j₀ stored out count j = total - j
 
-module _ (c : tie.Start Inv-loop μ-loop) where
-  keys-whole : length (c .args .t1 .keys) ≡ 64
-  keys-whole = search needs
-
-  coefficients-whole : length (c .args .t1 .coefficients) ≡ 64
-  coefficients-whole = search needs
-
-  even : length (c .args .t1 .keys) ≡ length (c .args .t1 .coefficients)
-  even = keys-whole ∙ sym coefficients-whole
-
-  whole : length (listed (c .args .t1)) ≡ 64
-  whole = length-paired _ _ even ∙ keys-whole
-
-  few : c .args .t1 .count ≤ 64
-  unfolding most-terms
-  few = limits most-degree (c .args .t1) (c .pre .model) .few
-
-  long : c .args .t1 .count ≤ length (listed (c .args .t1))
-  long = omega (arith, few, whole)
+few : (c : tie.Start Inv-loop μ-loop) → c .args .total ≤ 64
+unfolding most-terms
+few c = part-few (c .pre .0)
 
 loop-holds : tie.Need-loop-holds Inv-loop μ-loop
-unfolding padded most-terms paired
-loop-holds c = (record { keys-are = refl; coefficients-are = refl }, taken-first (c .pre) (long c))
+loop-holds c = (c .before .before .pre .1, λ w. part-first w _ _, λ z. z)
 
 mul-key : tie.Need-mul-key Inv-loop μ-loop
-mul-key c = omega (arith, few (c .before .before))
+mul-key c = omega (arith, few (c .before .before .before .before))
 
-element-copy-out-key : tie.Need-element-copy-out-key Inv-loop μ-loop
-element-copy-out-key c = omega (arith, few (c .before .before))
+shared-slice-read-key : tie.Need-shared-slice-read-key Inv-loop μ-loop
+shared-slice-read-key c =
+    let s = c .before .before .before .before .before in
+    omega (arith, few s, s .pre .0 .room .keys)
 
 mul-c : tie.Need-mul-c Inv-loop μ-loop
-mul-c c = omega (arith, few (c .before .before .before))
+mul-c c = omega (arith, few (c .before .before .before .before .before))
 
-element-copy-out-c : tie.Need-element-copy-out-c Inv-loop μ-loop
-element-copy-out-c c = omega (arith, few (c .before .before .before))
+shared-slice-copy-out-c : tie.Need-shared-slice-copy-out-c Inv-loop μ-loop
+shared-slice-copy-out-c c =
+    let s = c .before .before .before .before .before in
+    omega (arith, few s, s .pre .0 .room .coefficients)
 
--- the term at hand
+-- a turn
 module _ (c : tie.After-c Inv-loop μ-loop) where
-  abbrev place : tie.At-loop Inv-loop μ-loop
-  place = c .before .before .before
+  abbrev loop : tie.At-loop Inv-loop μ-loop
+  loop = c .before .before .before
 
   abbrev start : tie.Start Inv-loop μ-loop
-  start = place .before
+  start = loop .before .before .before
 
-  abbrev at : Term
-  at = getD (listed (start .args .t1)) (place .loop .j) zero-term
+  inside : loop .loop .j < start .args .total
+  inside = omega (arith, c .before .before .loop-test .taken)
 
-  key-is : at .key ≡ getD (start .args .t1 .keys) (place .loop .j) 0
-  key-is = key-at _ _ (place .loop .j) (even start)
+  room-places : loop .loop .count < most-terms
+  room-places = part-room (start .pre .0) _ _ (loop .loop .inv .1 (start .pre .0)) inside
 
-  read-back : toZ w64 (ofZ w64 (getD (start .args .t1 .coefficients) (place .loop .j) (pos 0))) ≡ at .coefficient
-  read-back = toZ-ofZ (record { sfits = c .c .given }) ∙ sym (coefficient-at _ _ (place .loop .j) (even start))
-
-  -- there is room for one more
-  room : place .loop .count < 64
+  room : loop .loop .count < 64
   unfolding most-terms
-  room = taken-room (start .pre) (long start) (place .loop .inv .1) (c .before .before .loop-test .taken)
+  room = room-places
 
 add-j : tie.Need-add-j Inv-loop μ-loop
-add-j c = omega (arith, few (start c))
+add-j c = omega (arith, few (start c), inside c)
 
 exponent-of-requires : tie.Need-exponent-of-requires Inv-loop μ-loop
-exponent-of-requires c κs = slot (start c .pre)
-
--- its exponent
-power-is : (c : tie.After-exponent-of Inv-loop μ-loop)
-    → c .exponent-of .result ≡ key-exponent (start (c .before) .args .i) (at (c .before) .key)
-power-is c = c .exponent-of .ensures ∙ ap (key-exponent _) (sym (key-is (c .before)))
+exponent-of-requires c κs = part-slot (start c .pre .0)
 
 without-requires : tie.Need-without-requires Inv-loop μ-loop
-without-requires c κs = slot (start (c .before .before) .pre)
+without-requires c κs = part-slot (start (c .before .before) .pre .0)
 
-mul-keys : tie.Need-mul-keys Inv-loop μ-loop
-mul-keys c = omega (arith, room (c .before .before .before))
+mul-stored : tie.Need-mul-stored Inv-loop μ-loop
+mul-stored c = omega (arith, room (c .before .before .before))
 
-array-write-keys : tie.Need-array-write-keys Inv-loop μ-loop
-array-write-keys c = room (c .before .before .before)
+slice-write-stored : tie.Need-slice-write-stored Inv-loop μ-loop
+slice-write-stored c =
+    let t = c .before .before .before in
+    omega (arith, room t, loop t .loop .inv .0 .keys)
 
-mul-coefficients : tie.Need-mul-coefficients Inv-loop μ-loop
-mul-coefficients c = omega (arith, room (c .before .before .before))
+mul-c-2 : tie.Need-mul-c-2 Inv-loop μ-loop
+mul-c-2 c = omega (arith, room (c .before .before .before))
 
-array-set-from-coefficients : tie.Need-array-set-from-coefficients Inv-loop μ-loop
-array-set-from-coefficients c = room (c .before .before .before)
+slice-set-from-c : tie.Need-slice-set-from-c Inv-loop μ-loop
+slice-set-from-c c =
+    let t = c .before .before .before in
+    omega (arith, room t, loop t .loop .inv .0 .coefficients)
 
 add-count : tie.Need-add-count Inv-loop μ-loop
 add-count c = omega (arith, room (c .before .before .before))
 
 loop-less : tie.Need-loop-less Inv-loop μ-loop
-loop-less c = omega arith
+loop-less c = omega (arith, inside (c .before .before .before))
 
 loop-again : tie.Need-loop-again Inv-loop μ-loop
 loop-again c =
     let t = c .before .before .before in
-    let s = start t in
-    let put = listed-put (place t .loop .inv .0) (place t .loop .count)
-    (record { key = key-without (s .args .i) (at t .key); coefficient = at t .coefficient })
-    (c .without .ensures ∙ ap (key-without (s .args .i)) (sym (key-is t))) (read-back t) in (
-      put .0,
-      subst (λ l. Taken (s .args .i) (s .args .t1) (s .args .k) l (place t .loop .count + 1) (place t .loop .j + 1))
-          (sym (put .1))
-          (taken-in (s .pre) (long s) (place t .loop .inv .1) (t .before .before .loop-test .taken)
-          (sym (power-is (c .before .before)) ∙ c .before .if1 .taken) refl refl),
+    let l = loop t in (
+      room-still _ _ _ (l .loop .inv .0),
+      λ w. part-in w _ _ (l .loop .inv .1 w) (inside t) (l .loop .inv .0)
+          (sym (c .before .before .exponent-of .ensures) ∙ c .before .if1 .taken)
+          (c .without .ensures) (toZ-ofZ (record { sfits = t .c .given })),
+      λ z. clear-more _ _ (l .loop .inv .2 z) (l .loop .inv .0) (room-places t),
     )
 
 loop-less-2 : tie.Need-loop-less-2 Inv-loop μ-loop
-loop-less-2 c = omega arith
+loop-less-2 c = omega (arith, inside (c .before .before))
 
 loop-again-2 : tie.Need-loop-again-2 Inv-loop μ-loop
 loop-again-2 c =
     let t = c .before .before in
-    let s = start t in (
-      place t .loop .inv .0,
-      taken-out (s .pre) (long s) (place t .loop .inv .1) (t .before .before .loop-test .taken)
-          (λ e. c .if1 .left (power-is (c .before) ∙ e)),
+    let l = loop t in (
+      l .loop .inv .0,
+      λ w. part-out w _ _ (l .loop .inv .1 w) (inside t) (λ e. c .if1 .left (c .before .exponent-of .ensures ∙ e)),
+      l .loop .inv .2,
     )
+
+same-length : tie.Need-same-length Inv-loop μ-loop
+same-length c =
+    let a = c .before .loop .inv .0 .keys in
+    let b = c .before .before .before .before .pre .1 .keys in search needs
+
+same-length-2 : tie.Need-same-length-2 Inv-loop μ-loop
+same-length-2 c =
+    let a = c .before .loop .inv .0 .coefficients in
+    let b = c .before .before .before .before .pre .1 .coefficients in search needs
 
 returns : tie.Need-returns Inv-loop μ-loop
 returns c =
-    let s = c .before .before in
-    listed-struct (c .before .loop .inv .0) _ _ _
-    ∙ taken-end (s .pre) (long s) (c .before .loop .inv .1) (c .loop-test .left)
+    let i = c .before .loop .inv in (
+      λ w. part-end w _ _ (i .1 w) (omega (arith, c .loop-test .left)),
+      i .2,
+    )
 
 pub part-spec : {M : Type 1} → statement M
 part-spec =
@@ -156,19 +145,21 @@ part-spec =
     μ-loop
     loop-holds
     mul-key
-    element-copy-out-key
+    shared-slice-read-key
     mul-c
-    element-copy-out-c
+    shared-slice-copy-out-c
     add-j
     exponent-of-requires
     without-requires
-    mul-keys
-    array-write-keys
-    mul-coefficients
-    array-set-from-coefficients
+    mul-stored
+    slice-write-stored
+    mul-c-2
+    slice-set-from-c
     add-count
     loop-less
     loop-again
     loop-less-2
     loop-again-2
+    same-length
+    same-length-2
     returns)

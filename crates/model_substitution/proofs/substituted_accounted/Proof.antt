@@ -50,18 +50,18 @@ returns c = (
   record { slots-length = refl; keys-length = refl; sums-length = refl },
 )
 
-largest-exponent-requires : tie.Need-largest-exponent-requires Inv-loop μ-loop
-largest-exponent-requires c κs = in-variable (c .before .before .before .before)
+largest-exponent-of-requires : tie.Need-largest-exponent-of-requires Inv-loop μ-loop
+largest-exponent-of-requires c κs = in-variable (c .before .before .before .before)
 
-part-requires : tie.Need-part-requires Inv-loop μ-loop
-part-requires c κs = in-variable (c .before .before .before .before .before)
+part-of-requires : tie.Need-part-of-requires Inv-loop μ-loop
+part-of-requires c κs = in-variable (c .before .before .before .before .before)
 
 loop-holds : tie.Need-loop-holds Inv-loop μ-loop
 loop-holds c =
     let b = c .before .before .before in (
       left-first (b .before .before .before .pre .0)
           (sym (b .in-box .ensures) ∙ not-false _ (c .before .before .if1 .left))
-          (c .before .largest-exponent .ensures) (c .part .ensures),
+          (c .before .largest-exponent-of .ensures) (c .part-of .ensures),
       refl,
       refl,
       refl,
@@ -74,20 +74,20 @@ start l = l .before .before .before .before .before .before .before
 sub-k : tie.Need-sub-k Inv-loop μ-loop
 sub-k c = omega arith
 
-part-requires-2 : tie.Need-part-requires-2 Inv-loop μ-loop
-part-requires-2 c κs = in-variable (start (c .before))
+part-of-requires-2 : tie.Need-part-of-requires-2 Inv-loop μ-loop
+part-of-requires-2 c κs = in-variable (start (c .before))
 
 horner-turn-requires : tie.Need-horner-turn-requires Inv-loop μ-loop
 horner-turn-requires c κs =
     let p = c .before .before .before in
     let l = p .before .before in
     let i = l .loop .inv in (
-      left-turn (start l .pre .0) (i .0) (p .part2 .ensures),
+      left-turn (start l .pre .0) (i .0) (p .part-of2 .ensures),
       free-room (start l .pre .1) (record { slots-length = i .1; keys-length = i .2; sums-length = i .3 }),
     )
 
 module _ (c : tie.After-horner-turn Inv-loop μ-loop) where
-  abbrev added : tie.After-part2 Inv-loop μ-loop
+  abbrev added : tie.After-part-of2 Inv-loop μ-loop
   added = c .before .before .before .before
 
   abbrev turn : tie.At-loop Inv-loop μ-loop
@@ -129,7 +129,7 @@ returns-2 : tie.Need-returns-2 Inv-loop μ-loop
 returns-2 c =
     let m = refused c in
     let l = turn m in (
-      turn-refused (start l .pre .0) (l .loop .inv .0) (added m .part2 .ensures) (positive m)
+      turn-refused (start l .pre .0) (l .loop .inv .0) (added m .part-of2 .ensures) (positive m)
           (m .horner-turn .ensures .0) (c .enum-told2 .given .1),
       record { slots-length = slots-long m; keys-length = keys-long m; sums-length = sums-long m },
     )
@@ -145,7 +145,7 @@ loop-again : tie.Need-loop-again Inv-loop μ-loop
 loop-again c =
     let m = accepted c in
     let l = turn m in (
-      turn-accepted (start l .pre .0) (l .loop .inv .0) (added m .part2 .ensures) (positive m)
+      turn-accepted (start l .pre .0) (l .loop .inv .0) (added m .part-of2 .ensures) (positive m)
           (m .horner-turn .ensures .0) (c .before .before .enum-told .given .1),
       slots-long m,
       keys-long m,
@@ -193,11 +193,11 @@ substituted-accounted-spec =
     in-box-requires
     refuse-requires
     returns
-    largest-exponent-requires
-    part-requires
+    largest-exponent-of-requires
+    part-of-requires
     loop-holds
     sub-k
-    part-requires-2
+    part-of-requires-2
     horner-turn-requires
     enum-told
     enum-told-2

@@ -1,21 +1,23 @@
 -- A model that lies in slices: what stands at a place, and one more term stored.
 use mathlib.Core.Path.{_≡_, refl, sym, _∙_, ap, ap₂}
-use mathlib.Core.List.{List, [], _∷_, _++_}
+use mathlib.Core.List.{List, [], _∷_, _++_, map}
 use Prim.Native.Nat.{ℕ, zero, suc, _+_, _≤_, _<_}
 use native.Mathlib.Numerals.{add-one}
 use native.Mathlib.Omega.{arith}
 use lib.IntN.{ℤ, pos}
-use lib.ListN.{length, getD, set, length-set, List·getD-append}
+use lib.ListN.{length, take, getD, set, length-set, List·getD-append}
 use lib.Seq.{getD-set-same}
 use Rattle.calculus.specs.Model.{most-terms}
 use Rattle.model_types.specs.declared.Term.{Term}
+use Rattle.model_types.specs.declared.Model.{Model}
 use Rattle.model_types.specs.Arrays.{padded}
 use Rattle.model_types.specs.ArrayLaws.{length-padded}
-use Rattle.model_types.specs.ModelStruct.{zero-term, pad, listed, of-terms}
-use Rattle.model_types.specs.PairedLaws.{paired-of}
+use Rattle.model_types.specs.ModelStruct.{zero-term, view-term, view, pad, paired, listed, of-terms}
+use Rattle.model_types.specs.ModelStructLaws.{view-is}
+use Rattle.model_types.specs.PairedLaws.{paired-of, length-paired, listed-next, listed-struct}
 use Rattle.model_slices.specs.HandedModels.{terms-of}
 use Rattle.model_slices.specs.HandedModelsLaws.{handed-more}
-use Rattle.model_horner.specs.Held.{held, Room}
+use Rattle.model_slices.specs.HeldModels.{held, Room, Clear}
 
 -- a term by its key and its coefficient
 abbrev pub pair : ℕ → ℤ → Term
@@ -123,3 +125,44 @@ pub held-same : (n count radius : ℕ) (ks ks₂ : List ℕ) (cs cs₂ : List �
 unfolding held
 held-same n count radius ks ks₂ cs cs₂ e =
     ap (λ (l : List Term). of-terms n count radius (pad l)) e
+
+-- ---- a struct lends its arrays
+terms-first : (i : ℕ) (ks : List ℕ) (cs : List ℤ) → terms-of i ks cs ≡ take i (paired ks cs)
+unfolding terms-of paired
+terms-first zero ks cs = refl
+terms-first (suc i) [] cs = refl
+terms-first (suc i) (k ∷ ks) [] = refl
+terms-first (suc i) (k ∷ ks) (c ∷ cs) = ap (λ (r : List Term). pair k c ∷ r) (terms-first i ks cs)
+
+take-front : (i : ℕ) (l r : List Term) → length l ≡ i → take i (l ++ r) ≡ l
+take-front zero [] r e = refl
+take-front zero (t ∷ l) r e = absurd (omega arith)
+take-front (suc i) [] r e = absurd (omega arith)
+take-front (suc i) (t ∷ l) r e = ap (λ (s : List Term). t ∷ s) (take-front i l r (omega arith))
+
+module _ (m : Model) (room : Room (m .keys) (m .coefficients)) (few : m .count ≤ most-terms) where
+  -- they hold the model that it holds
+  pub own-view : view (held (m .n) (m .count) (m .radius) (m .keys) (m .coefficients)) ≡ view m
+  unfolding held padded most-terms
+  own-view =
+      let l = length-terms (m .count) (m .keys) (m .coefficients) (omega (arith, room .keys))
+      (omega (arith, room .coefficients)) in
+      let long = length-paired (m .keys) (m .coefficients) (room .keys ∙ sym (room .coefficients)) in
+      view-is _ (held-whole (m .n) (m .count) (m .radius) (m .keys) (m .coefficients) room few)
+      ∙ ap (λ (p : List Term). record { vars = m .n; radius = m .radius; terms = map (view-term (m .n)) p })
+      (ap (take (m .count)) (held-listed (m .n) (m .count) (m .radius) (m .keys) (m .coefficients) room few)
+      ∙ take-front (m .count) (terms-of (m .count) (m .keys) (m .coefficients)) _ l
+      ∙ terms-first (m .count) (m .keys) (m .coefficients))
+      ∙ sym (view-is m (omega (arith, long, room .keys)))
+
+-- ---- arrays for a struct
+-- one more term leaves zeros behind it
+pub clear-more : {count : ℕ} {ks : List ℕ} {cs : List ℤ} (k : ℕ) (c : ℤ) → Clear count ks cs → Room ks cs
+    → count < most-terms → Clear (count + 1) (set ks count k) (set cs count c)
+clear-more {count = count} {ks = ks} {cs = cs} k c h r l = listed-next h count k c (stored-more count ks cs k c r l)
+
+-- so the struct of the arrays is the one that they hold
+pub clear-struct : {count : ℕ} {ks : List ℕ} {cs : List ℤ} (n radius : ℕ) → Clear count ks cs
+    → record { n = n; count = count; radius = radius; keys = ks; coefficients = cs } ≡ held n count radius ks cs
+unfolding held
+clear-struct n radius h = listed-struct h n _ radius
