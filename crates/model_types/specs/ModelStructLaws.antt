@@ -97,7 +97,11 @@ pub length-packed : (m : C.Model) → length (m .terms) ≤ length (listed (pack
 unfolding pack
 length-packed m =
     rw (paired-of (pad (map pack-term (m .terms))))
-    (omega (arith, length-padded-least zero-term most-terms (map pack-term (m .terms)), length-map (m .terms) pack-term))
+    (omega (
+      arith,
+      length-padded-least zero-term most-terms (map pack-term (m .terms)),
+      length-map (m .terms) pack-term,
+    ))
 
 -- the terms of all its places
 pub listed-pack : (m : C.Model) → listed (pack m) ≡ pad (map pack-term (m .terms))

@@ -48,7 +48,8 @@ returns c =
     let p = places-are l in
     rw (c .before .before .before .before .copy-keys .ensures, c .before .copy-coefficients .ensures)
     (ap view (listed-struct
-    (filled-listed (l .least3 .result) (a .keys .now) (a .coefficients .now) (omega (arith, p)) (omega (arith, p))) _ _ _)
+    (filled-listed (l .least3 .result) (a .keys .now) (a .coefficients .now) (omega (arith, p)) (omega (arith, p)))
+    _ _ _)
     ∙ taken-view _ _ _ _ _ _ p)
 
 pub taken-spec : {M : Type 1} → statement M
