@@ -1,6 +1,6 @@
 /* Hechroung: polynomial models in 1 to 8 variables on the box [-1, 1]^n, with an error radius, and curves in Chebyshev
-   polynomials. The functions that are declared extern are proved (crates/exports); those that are written out here only
-   spread a struct into numbers and slices and test for null pointers.
+   polynomials. The functions that are written out here spread structs into numbers and slices, test for null pointers,
+   and hand on to those of hechroung_raw.h, which are proved (crates/exports).
 
    Numbers. Coefficients, radii, values, coordinates and ends are whole numbers in units of 1/HECHROUNG_UNIT.
 
@@ -16,11 +16,12 @@
    shares or without, up to 400 KB, writing and writing back up to 160 KB, opening, a step and a record up to 4 KB (a KB
    is 1,024 bytes; the functions written out here add what they say). These figures are tested, not proved.
 
-   Slices. A slice is a pointer and a length in elements. The functions declared extern never read or write outside the
-   lengths they are given; a pointer must be to that many elements, aligned, and a slice that is written must not
-   overlap another one. A null pointer must not be handed to them; the functions written out here test for it. */
+   Slices. A slice is a pointer and a length in elements. Nothing is read or written outside the lengths that are given;
+   a pointer must be to that many elements, aligned, and a slice that is written must not overlap another one. */
 #ifndef HECHROUNG_H
 #define HECHROUNG_H
+
+#include "hechroung_raw.h"
 
 #include <stddef.h>
 #include <stdint.h>
@@ -40,18 +41,18 @@ extern "C" {
 #endif
 
 /* The version of this header, as text and as numbers; hechroung_version() hands out the text. */
-#define HECHROUNG_VERSION "1.0.0"
-#define HECHROUNG_VERSION_MAJOR 1
+#define HECHROUNG_VERSION "2.0.0"
+#define HECHROUNG_VERSION_MAJOR 2
 #define HECHROUNG_VERSION_MINOR 0
 #define HECHROUNG_VERSION_PATCH 0
 
-/* The number of this layout. A program that hands slices to the functions declared extern can test it when it is
-   compiled: #if HECHROUNG_ABI != 3. In layout 2 keys had 16 bits, those of variables 1 to 4, and a point four
-   coordinates, handed over without a length. A key of layout 2 has to be shifted up by 16 bits; where it is not, the
-   model is refused with 5, since the key names variables above n. The shared library is named by the layout,
-   libhechroung.so.3 (libhechroung.so is a link to it), so that a program that was linked with layout 2 does not start
-   with this one. */
-#define HECHROUNG_ABI 3
+/* The number of the layout: of the functions of hechroung_raw.h, their names, codes and slices. A program that hands
+   slices to them can test it when it is compiled: #if HECHROUNG_ABI != 4. The shared library is named by it,
+   libhechroung.so.4 (libhechroung.so is a link to it), so that a program that was linked with another layout does not
+   start with this one. In layout 3 the functions had other names, an antiderivative was code 9 of a call, and a call on
+   curves had the codes 1 to 4. In layout 2 keys had 16 bits, those of variables 1 to 4: such a key has to be shifted up
+   by 16 bits; where it is not, the model is refused with 5, since the key names variables above n. */
+#define HECHROUNG_ABI 4
 
 #define HECHROUNG_UNIT 1048576
 #define HECHROUNG_DENOMINATOR 212837625
@@ -90,7 +91,7 @@ enum hechroung_refusal {
     HECHROUNG_BAD_RANK = 17
 };
 
-/* The codes of a sheet's steps, the `code` of struct hechroung_step. */
+/* The codes of a sheet's steps, the `code` of struct hechroung_step; hechroung_raw_call has the same. */
 enum hechroung_step_code {
     HECHROUNG_STEP_INPUT = 0,
     HECHROUNG_STEP_CONSTANT = 1,
@@ -189,223 +190,6 @@ struct hechroung_reading {
     int64_t low, high;
 };
 
-/* ---- the proved functions ---- */
-
-/* A call that answers with a model. Codes: 1 constant, 2 variable, 3 negate, 4 add, 5 subtract, 6 multiply,
-   7 substitute, 8 sweep, 9 antiderivative. d is the order of multiply, substitute and antiderivative, i the variable of
-   variable, substitute and antiderivative, from 1, value the constant or the threshold; what a call does not name is
-   not looked at, but the slices of both models are. constant and variable take the n of the first model.
-   Read: for each model at least min(count, 64) keys and as many coefficients.
-   Written: keys and coefficients, at least 64 each, hold the answer's 64 places; numbers, at least 4, hold the
-   refusal's place, n, the count and the radius. What lies after it stays. */
-extern uint8_t hechroung_call(uint8_t code, uint8_t d, uint8_t i, int64_t value,
-                              uint8_t n1, size_t count1, uint64_t radius1,
-                              const uint32_t *keys1, size_t keys1_length,
-                              const int64_t *coefficients1, size_t coefficients1_length,
-                              uint8_t n2, size_t count2, uint64_t radius2,
-                              const uint32_t *keys2, size_t keys2_length,
-                              const int64_t *coefficients2, size_t coefficients2_length,
-                              uint32_t *keys, size_t keys_length,
-                              int64_t *coefficients, size_t coefficients_length,
-                              uint64_t *numbers, size_t numbers_length);
-
-/* The quotient f / g with order d, from a proposal: h should be near f / g and w near 1 / g; both are used without
-   their radii. The answer is the polynomial of h with a radius that the call works out; nothing is supposed of the
-   proposal. Refusals 3 (d), 5 at place 0 to 3 (f, g, h, w), 10, then 8 or 7 of a product or difference inside, 12
-   (uncertified: with this w it is not shown that g is nowhere zero), 7.
-   Read: f, g, h and w in this order, as hechroung_write takes a book's models: of ns, counts and radii at least 4
-   entries, of keys and coefficients at least 4 times 64.
-   Written: out_keys, out_coefficients and out_numbers as for hechroung_call. */
-extern uint8_t hechroung_quotient(uint8_t d, const uint8_t *ns, size_t ns_length,
-                                  const size_t *counts, size_t counts_length,
-                                  const uint64_t *radii, size_t radii_length,
-                                  const uint32_t *keys, size_t keys_length,
-                                  const int64_t *coefficients, size_t coefficients_length,
-                                  uint32_t *out_keys, size_t out_keys_length,
-                                  int64_t *out_coefficients, size_t out_coefficients_length,
-                                  uint64_t *out_numbers, size_t out_numbers_length);
-
-/* A call that answers with two ends. Codes: 1 range, 2 integral, 3 evaluate at a point. The place of a refusal is 0.
-   Read: as above, and for evaluate the first 8 coordinates of the point, which has at least so many, whatever n is; the
-   others take a point of any length and do not look at it. Written: ends, at least 4, hold the low and the high end,
-   and the quotient and the remainder of the exact integral; these two are 0 for range and evaluate, above four
-   variables, and beside a refusal. */
-extern uint8_t hechroung_ends(uint8_t code, uint8_t n, size_t count, uint64_t radius,
-                              const uint32_t *keys, size_t keys_length,
-                              const int64_t *coefficients, size_t coefficients_length,
-                              const int64_t *point, size_t point_length, int64_t *ends, size_t ends_length);
-
-/* Runs a sheet: refusals 1 to 9, 12. Read: the sheet, of any length. Written: keys, coefficients and numbers as above;
-   ends, at least 6, hold the low and high end of the range, then those of the integral, then the quotient and the
-   remainder of the exact integral, which are 0 above four variables. */
-extern uint8_t hechroung_run(const uint8_t *sheet, size_t sheet_length,
-                             uint32_t *keys, size_t keys_length, int64_t *coefficients, size_t coefficients_length,
-                             uint64_t *numbers, size_t numbers_length, int64_t *ends, size_t ends_length);
-
-/* Runs a sheet as hechroung_run does, with the same answer, and stores besides where the radius of each step came
-   from. Written: keys, coefficients, numbers and ends as for hechroung_run; shares, at least 4 times
-   HECHROUNG_MOST_STEPS, hold four numbers for each of 64 steps: carried, rounding, swept and slack of step i from 4 * i
-   on. They are 0 for a refused step and those after it, for steps that the sheet does not have, and for all steps of a
-   sheet refused by 1 to 6. What lies after it stays. */
-extern uint8_t hechroung_shares(const uint8_t *sheet, size_t sheet_length,
-                                uint32_t *keys, size_t keys_length, int64_t *coefficients, size_t coefficients_length,
-                                uint64_t *numbers, size_t numbers_length, int64_t *ends, size_t ends_length,
-                                uint64_t *shares, size_t shares_length);
-
-/* Runs a sheet to the program's lines and returns their length, at most HECHROUNG_LONGEST_TEXT. As much of them as the
-   slice has room for is put at its start, without a zero at the end; what lies after it stays. */
-extern size_t hechroung_print(const uint8_t *sheet, size_t sheet_length, uint8_t *lines, size_t lines_length);
-
-/* Reads a sheet and writes what was read: refusals 1 to 6, 11 (the buffer is too short). Written: numbers, at least 2,
-   hold the refusal's place and the length, 0 with a refusal. The buffer holds the sheet; bytes beyond the length stay,
-   and a refused call changes none. */
-extern uint8_t hechroung_rewrite(const uint8_t *sheet, size_t sheet_length, uint8_t *buffer, size_t buffer_length,
-                                 uint64_t *numbers, size_t numbers_length);
-
-/* Record i of a sheet, from 0: each model's bytes, then each step's 8. It returns the record's length, or 0 where there
-   is none; a sheet that tests 1 to 6 refuse has none. As much of it as the slice has room for is put at its start. */
-extern size_t hechroung_record(const uint8_t *sheet, size_t sheet_length, size_t i,
-                               uint8_t *bytes, size_t bytes_length);
-
-/* Opens a sheet for stepping through it: refusals 1 to 6. Written: numbers, at least 2, hold the refusal's place and
-   the place of the first record; beside a refusal that is the sheet's length, where there is no record. */
-extern uint8_t hechroung_open(const uint8_t *sheet, size_t sheet_length, uint64_t *numbers, size_t numbers_length);
-
-/* The record at a place of an opened sheet: it returns 1 for a model, 2 for a step, 0 where there is none (enum
-   hechroung_record_kind). As much of it as the slice has room for is put at the start of bytes. Written: numbers, at
-   least 2, hold its length and the place of the next record; where there is none that is the place itself, as often as
-   it is asked for. */
-extern uint8_t hechroung_next(const uint8_t *sheet, size_t sheet_length, size_t at,
-                              uint8_t *bytes, size_t bytes_length, uint64_t *numbers, size_t numbers_length);
-
-/* Writes a book as a sheet: refusals 3, 5, 6, 11. Read: for at least min(model_count, 16) models an entry of ns, counts
-   and radii and 64 keys and coefficients each; for at least min(step_count, 64) steps four bytes of fields (code, a, b,
-   v) and a value. Written: buffer and numbers as for hechroung_rewrite. */
-extern uint8_t hechroung_write(uint8_t n, uint8_t d, size_t model_count, size_t step_count,
-                               const uint8_t *ns, size_t ns_length, const size_t *counts, size_t counts_length,
-                               const uint64_t *radii, size_t radii_length, const uint32_t *keys, size_t keys_length,
-                               const int64_t *coefficients, size_t coefficients_length,
-                               const uint8_t *fields, size_t fields_length, const int64_t *values, size_t values_length,
-                               uint8_t *buffer, size_t buffer_length, uint64_t *numbers, size_t numbers_length);
-
-/* Runs a book: refusals 3, 5 to 9, 12. Read: as for hechroung_write, the models' keys and coefficients as book_keys and
-   book_coefficients. Written: keys, coefficients, numbers and ends as for hechroung_run. */
-extern uint8_t hechroung_run_book(uint8_t n, uint8_t d, size_t model_count, size_t step_count,
-                                  const uint8_t *ns, size_t ns_length, const size_t *counts, size_t counts_length,
-                                  const uint64_t *radii, size_t radii_length,
-                                  const uint32_t *book_keys, size_t book_keys_length,
-                                  const int64_t *book_coefficients, size_t book_coefficients_length,
-                                  const uint8_t *fields, size_t fields_length,
-                                  const int64_t *values, size_t values_length,
-                                  uint32_t *keys, size_t keys_length, int64_t *coefficients, size_t coefficients_length,
-                                  uint64_t *numbers, size_t numbers_length, int64_t *ends, size_t ends_length);
-
-/* Runs a book as hechroung_run_book does, and stores its shares besides. Read: as for hechroung_run_book. Written: as
-   for hechroung_shares. */
-extern uint8_t hechroung_shares_book(uint8_t n, uint8_t d, size_t model_count, size_t step_count,
-                                     const uint8_t *ns, size_t ns_length, const size_t *counts, size_t counts_length,
-                                     const uint64_t *radii, size_t radii_length,
-                                     const uint32_t *book_keys, size_t book_keys_length,
-                                     const int64_t *book_coefficients, size_t book_coefficients_length,
-                                     const uint8_t *fields, size_t fields_length,
-                                     const int64_t *values, size_t values_length,
-                                     uint32_t *keys, size_t keys_length,
-                                     int64_t *coefficients, size_t coefficients_length,
-                                     uint64_t *numbers, size_t numbers_length, int64_t *ends, size_t ends_length,
-                                     uint64_t *shares, size_t shares_length);
-
-/* A call on curves. Codes: 1 negate, 2 add, 3 subtract, 4 multiply. negate does not look at the second curve, but the
-   length of its slice is tested. Refusals 5 at place 0 or 1 (that curve), 7; the place of 7 is 0.
-   Read: of each curve the first 16 coefficients, that of T_0 first; there are at least so many.
-   Written: coefficients, at least 16, hold the answer's; numbers, at least 2, hold the refusal's place and the radius.
-   What lies after it stays. */
-extern uint8_t hechroung_curve(uint8_t code,
-                               const int64_t *coefficients1, size_t coefficients1_length, uint64_t radius1,
-                               const int64_t *coefficients2, size_t coefficients2_length, uint64_t radius2,
-                               int64_t *coefficients, size_t coefficients_length,
-                               uint64_t *numbers, size_t numbers_length);
-
-/* The range of a curve over [-1, 1]: the coefficient of T_0, minus and plus all other sizes and the radius. Refusal 5;
-   its place is 0. Read: at least 16 coefficients. Written: ends, at least 2, hold the low and the high end. */
-extern uint8_t hechroung_curve_range(const int64_t *coefficients, size_t coefficients_length, uint64_t radius,
-                                     int64_t *ends, size_t ends_length);
-
-/* The model of one variable that has a curve's polynomial in powers, exactly, and its radius: the same functions are
-   within both. Refusals 5, 7, at place 0. Read: at least 16 coefficients. Written: keys, out_coefficients and numbers
-   as for hechroung_call. */
-extern uint8_t hechroung_to_powers(const int64_t *coefficients, size_t coefficients_length, uint64_t radius,
-                                   uint32_t *keys, size_t keys_length,
-                                   int64_t *out_coefficients, size_t out_coefficients_length,
-                                   uint64_t *numbers, size_t numbers_length);
-
-/* The curve of a model of one variable: each coefficient goes to the nearest unit, halfway to the even one, and what
-   that leaves goes into the radius, so that every function within the model is within the curve. Refusals 5, 13 (n is
-   not 1), 7, at place 0. Read: as a model of hechroung_call, at least min(count, 64) keys and as many coefficients.
-   Written: out_coefficients and out_numbers as for hechroung_curve. */
-extern uint8_t hechroung_from_powers(uint8_t n, size_t count, uint64_t radius,
-                                     const uint32_t *keys, size_t keys_length,
-                                     const int64_t *coefficients, size_t coefficients_length,
-                                     int64_t *out_coefficients, size_t out_coefficients_length,
-                                     uint64_t *out_numbers, size_t out_numbers_length);
-
-/* The range of a model over the box, narrower by cutting: variable i, from 1, is cut into 2^k equal pieces, the model is
-   substituted for on each with order d, and the answer is the overlap of the undivided range with what the ranges of
-   the pieces cover. Every function within the model has its values, times U, between the ends. A deeper cut is not
-   always narrower. Refusals 3 (d), 5 (a degree above d among it), 6 (i), 14 (k above 6), all at place 0, then 8 or 7 of
-   a piece, whose number, from 0, is the place.
-   Read: the model as for hechroung_call. Written: ends, at least 2, hold the low and the high end; numbers, at least 1,
-   hold the refusal's place. */
-extern uint8_t hechroung_cut_range(uint8_t d, uint8_t i, uint8_t k, uint8_t n, size_t count, uint64_t radius,
-                                   const uint32_t *keys, size_t keys_length,
-                                   const int64_t *coefficients, size_t coefficients_length,
-                                   int64_t *ends, size_t ends_length, uint64_t *numbers, size_t numbers_length);
-
-/* The model of a curve that is delivered in doubles, in one variable: any function that differs from c0 + c1 x + c2 x^2
-   by at most the radius, everywhere from -1 to 1, is within it. Of each coefficient's exact value U times it goes to the
-   nearest whole number, ties to even; the radius is U times theirs rounded up, plus 1 for each coefficient that is no
-   whole number of units. Minus zero counts as zero. Refusals 16 (a value is not finite, or the radius is negative), 7.
-   Written: keys, coefficients and numbers as for hechroung_call. */
-extern uint8_t hechroung_doubles(double c0, double c1, double c2, double radius,
-                                 uint32_t *keys, size_t keys_length, int64_t *coefficients, size_t coefficients_length,
-                                 uint64_t *numbers, size_t numbers_length);
-
-/* Holds a row of readings against a model, in order, up to the first that contradicts it: its band from low to high and
-   the ends of the evaluation at its point have no number in common (ends that touch have one). No function within the
-   model passes through that one; of the others nothing is promised, not even that a function within the model passes
-   through them. Refusals 15 at place 0 (more than HECHROUNG_MOST_READINGS readings), 5, then with the reading as place
-   15 (a low value above its high one), 6 (a coordinate above n that is not 0) and 9 (another outside -U to U), each
-   tested of all readings before the next, then 7 (of an evaluation).
-   Read: the model as above; as many readings as lows is long, with 8 coordinates of points each, those of reading i from
-   8 * i on, and a high value. points has at least 8 times that many, highs at least as many.
-   Written: numbers, at least 3, hold the refusal's place, 1 if a reading contradicts and else 0, and the number of the
-   first that does, from 0; the last two are 0 where none does and beside a refusal. What lies after it stays. */
-extern uint8_t hechroung_readings(uint8_t n, size_t count, uint64_t radius,
-                                  const uint32_t *keys, size_t keys_length,
-                                  const int64_t *coefficients, size_t coefficients_length,
-                                  const int64_t *points, size_t points_length,
-                                  const int64_t *lows, size_t lows_length, const int64_t *highs, size_t highs_length,
-                                  uint64_t *numbers, size_t numbers_length);
-
-/* Stores a model of 1 to 4 variables in the archive's form: n, the radius in 4 bytes, the count, then for each term its
-   rank in 2 bytes and its coefficient in 4, by total degree and then key, so that the low degrees come first; at most
-   HECHROUNG_LONGEST_ARCHIVED bytes. The rank is the term's place, from 0, among all 3,876 monomials in four variables
-   of degree at most 15 in that order. Refusals 3 (n is not 1 to 4), 5, 11 (the buffer is too short).
-   Read: at least min(count, 64) keys and as many coefficients. Written: buffer and numbers as for hechroung_rewrite. */
-extern uint8_t hechroung_store(uint8_t n, size_t count, uint64_t radius, const uint32_t *keys, size_t keys_length,
-                               const int64_t *coefficients, size_t coefficients_length,
-                               uint8_t *buffer, size_t buffer_length, uint64_t *numbers, size_t numbers_length);
-
-/* Restores a model from the archive's form: of all its terms, or of the first ones only, `terms` of them where fewer are
-   asked for than are stored. All give the very model that was stored. WARNING: fewer terms give those terms with the
-   stored radius, and that is no band around the curve: what was left out is not in the radius. Who wants a band has to
-   add the sizes |c| of all terms left out to it. Refusals 1 (the length is below 6 or other than 6 + 6 times the
-   count), 3 (n is not 1 to 4), 17 at the first term read, from 0, whose rank is 3,876 or more or does not rise, 5 (more
-   than 64 terms are stored, or the radius or the terms read break a rule). Terms that are not read are not tested.
-   Read: the bytes, of any length. Written: keys, coefficients and numbers as for hechroung_call. */
-extern uint8_t hechroung_restore(const uint8_t *bytes, size_t bytes_length, size_t terms,
-                                 uint32_t *keys, size_t keys_length, int64_t *coefficients, size_t coefficients_length,
-                                 uint64_t *numbers, size_t numbers_length);
-
 /* ---- words ---- */
 
 /* HECHROUNG_VERSION. */
@@ -453,7 +237,7 @@ static inline const char *hechroung_sentence(uint8_t number) {
     return "No call returns this number.";
 }
 
-/* ---- the same for structs. The answer may be one of the models that are read. A place of null is not written. ---- */
+/* ---- calls. The answer may be one of the models that are read. A place of null is not written. ---- */
 
 static inline uint8_t hechroung_called_(uint8_t code, uint8_t d, uint8_t i, int64_t value,
                                         const struct hechroung_model *f, const struct hechroung_model *g,
@@ -462,12 +246,12 @@ static inline uint8_t hechroung_called_(uint8_t code, uint8_t d, uint8_t i, int6
     uint64_t numbers[4] = {0, 0, 0, 0};
     uint8_t number;
     if (f == NULL || g == NULL || answer == NULL) return HECHROUNG_MISUSED;
-    number = hechroung_call(code, d, i, value,
-                            f->n, f->count, f->radius,
-                            f->keys, HECHROUNG_MOST_TERMS, f->coefficients, HECHROUNG_MOST_TERMS,
-                            g->n, g->count, g->radius,
-                            g->keys, HECHROUNG_MOST_TERMS, g->coefficients, HECHROUNG_MOST_TERMS,
-                            model.keys, HECHROUNG_MOST_TERMS, model.coefficients, HECHROUNG_MOST_TERMS, numbers, 4);
+    number = hechroung_raw_call(code, d, i, value,
+                                f->n, f->count, f->radius,
+                                f->keys, HECHROUNG_MOST_TERMS, f->coefficients, HECHROUNG_MOST_TERMS,
+                                g->n, g->count, g->radius,
+                                g->keys, HECHROUNG_MOST_TERMS, g->coefficients, HECHROUNG_MOST_TERMS,
+                                model.keys, HECHROUNG_MOST_TERMS, model.coefficients, HECHROUNG_MOST_TERMS, numbers, 4);
     model.n = HECHROUNG_CAST_(uint8_t, numbers[1]);
     model.count = HECHROUNG_CAST_(size_t, numbers[2]);
     model.radius = numbers[3];
@@ -487,59 +271,61 @@ static inline struct hechroung_model hechroung_zero(uint8_t n) {
 /* The constant value, -2^30 to 2^30. Refusals 3 (n), 6 (value). */
 static inline uint8_t hechroung_constant(uint8_t n, int64_t value, struct hechroung_model *answer) {
     struct hechroung_model of_n = hechroung_zero(n);
-    return hechroung_called_(1, 0, 0, value, &of_n, &of_n, answer, NULL);
+    return hechroung_called_(HECHROUNG_STEP_CONSTANT, 0, 0, value, &of_n, &of_n, answer, NULL);
 }
 
 /* Variable i, 1 to n. Refusals 3 (n), 6 (i). */
 static inline uint8_t hechroung_variable(uint8_t n, uint8_t i, struct hechroung_model *answer) {
     struct hechroung_model of_n = hechroung_zero(n);
-    return hechroung_called_(2, 0, i, 0, &of_n, &of_n, answer, NULL);
+    return hechroung_called_(HECHROUNG_STEP_VARIABLE, 0, i, 0, &of_n, &of_n, answer, NULL);
 }
 
 /* All signs turned. Refusal 5. */
 static inline uint8_t hechroung_negate(const struct hechroung_model *f, struct hechroung_model *answer) {
-    return hechroung_called_(3, 0, 0, 0, f, f, answer, NULL);
+    return hechroung_called_(HECHROUNG_STEP_NEGATE, 0, 0, 0, f, f, answer, NULL);
 }
 
 /* The sum and the difference. Refusals 5 at place 0 or 1 (that model), 10, 8, 7. */
 static inline uint8_t hechroung_add(const struct hechroung_model *f, const struct hechroung_model *g,
                                     struct hechroung_model *answer, size_t *place) {
-    return hechroung_called_(4, 0, 0, 0, f, g, answer, place);
+    return hechroung_called_(HECHROUNG_STEP_ADD, 0, 0, 0, f, g, answer, place);
 }
 
 static inline uint8_t hechroung_subtract(const struct hechroung_model *f, const struct hechroung_model *g,
                                          struct hechroung_model *answer, size_t *place) {
-    return hechroung_called_(5, 0, 0, 0, f, g, answer, place);
+    return hechroung_called_(HECHROUNG_STEP_SUBTRACT, 0, 0, 0, f, g, answer, place);
 }
 
 /* The product; what is above degree d, 1 to 15, goes into the radius. Refusals 3 (d), 5 at place 0 or 1, 10, 8, 7. */
 static inline uint8_t hechroung_multiply(uint8_t d, const struct hechroung_model *f, const struct hechroung_model *g,
                                          struct hechroung_model *answer, size_t *place) {
-    return hechroung_called_(6, d, 0, 0, f, g, answer, place);
+    return hechroung_called_(HECHROUNG_STEP_MULTIPLY, d, 0, 0, f, g, answer, place);
 }
 
 /* g in the place of variable i of f, with order d. Refusals 3 (d), 5 at place 0 or 1, 10, 6 (i), 9, then 8 or 7. */
 static inline uint8_t hechroung_substitute(uint8_t d, uint8_t i, const struct hechroung_model *f,
                                            const struct hechroung_model *g, struct hechroung_model *answer,
                                            size_t *place) {
-    return hechroung_called_(7, d, i, 0, f, g, answer, place);
+    return hechroung_called_(HECHROUNG_STEP_SUBSTITUTE, d, i, 0, f, g, answer, place);
 }
 
 /* Terms but the constant one with |c| up to the threshold, 0 to 2^30, moved into the radius. Refusals 5, 6. */
 static inline uint8_t hechroung_sweep(const struct hechroung_model *f, int64_t threshold,
                                       struct hechroung_model *answer) {
-    return hechroung_called_(8, 0, 0, threshold, f, f, answer, NULL);
+    return hechroung_called_(HECHROUNG_STEP_SWEEP, 0, 0, threshold, f, f, answer, NULL);
 }
 
 /* The antiderivative of f in variable i that is 0 wherever that variable is 0, with order d: a curve of what was
    gathered from the middle of the box on. Refusals 3 (d), 5, 6 (i). */
 static inline uint8_t hechroung_antiderivative(uint8_t d, uint8_t i, const struct hechroung_model *f,
                                                struct hechroung_model *answer) {
-    return hechroung_called_(9, d, i, 0, f, f, answer, NULL);
+    return hechroung_called_(HECHROUNG_STEP_ANTIDERIVATIVE, d, i, 0, f, f, answer, NULL);
 }
 
-/* f / g with order d, from a proposal h for f / g and w for 1 / g, which are used without their radii. Refusals 3 (d),
-   5 at place 0 to 3, 10, then 8 or 7, 12 (uncertified), 7. It takes some 5 KB of stack itself. */
+/* The quotient f / g with order d, from a proposal: h should be near f / g and w near 1 / g; both are used without
+   their radii. The answer is the polynomial of h with a radius that the call works out; nothing is supposed of the
+   proposal. Refusals 3 (d), 5 at place 0 to 3 (f, g, h, w), 10, then 8 or 7 of a product or difference inside, 12
+   (uncertified: with this w it is not shown that g is nowhere zero), 7. It takes some 5 KB of stack itself. */
 static inline uint8_t hechroung_divide(uint8_t d, const struct hechroung_model *f, const struct hechroung_model *g,
                                        const struct hechroung_model *h, const struct hechroung_model *w,
                                        struct hechroung_model *answer, size_t *place) {
@@ -562,9 +348,10 @@ static inline uint8_t hechroung_divide(uint8_t d, const struct hechroung_model *
         memcpy(keys + k * HECHROUNG_MOST_TERMS, models[k]->keys, sizeof models[k]->keys);
         memcpy(coefficients + k * HECHROUNG_MOST_TERMS, models[k]->coefficients, sizeof models[k]->coefficients);
     }
-    number = hechroung_quotient(d, ns, 4, counts, 4, radii, 4,
-                                keys, 4 * HECHROUNG_MOST_TERMS, coefficients, 4 * HECHROUNG_MOST_TERMS,
-                                model.keys, HECHROUNG_MOST_TERMS, model.coefficients, HECHROUNG_MOST_TERMS, numbers, 4);
+    number = hechroung_raw_divide(d, ns, 4, counts, 4, radii, 4,
+                                  keys, 4 * HECHROUNG_MOST_TERMS, coefficients, 4 * HECHROUNG_MOST_TERMS,
+                                  model.keys, HECHROUNG_MOST_TERMS, model.coefficients, HECHROUNG_MOST_TERMS,
+                                  numbers, 4);
     model.n = HECHROUNG_CAST_(uint8_t, numbers[1]);
     model.count = HECHROUNG_CAST_(size_t, numbers[2]);
     model.radius = numbers[3];
@@ -580,9 +367,9 @@ static inline uint8_t hechroung_ended_(uint8_t code, const struct hechroung_mode
     int64_t ends[4] = {0, 0, 0, 0};
     uint8_t number;
     if (f == NULL || point == NULL || answer == NULL) return HECHROUNG_MISUSED;
-    number = hechroung_ends(code, f->n, f->count, f->radius,
-                            f->keys, HECHROUNG_MOST_TERMS, f->coefficients, HECHROUNG_MOST_TERMS,
-                            point, length, ends, 4);
+    number = hechroung_raw_ends(code, f->n, f->count, f->radius,
+                                f->keys, HECHROUNG_MOST_TERMS, f->coefficients, HECHROUNG_MOST_TERMS,
+                                point, length, ends, 4);
     answer->low = ends[0];
     answer->high = ends[1];
     if (exact != NULL) {
@@ -595,13 +382,13 @@ static inline uint8_t hechroung_ended_(uint8_t code, const struct hechroung_mode
 /* The range over the box: every function within the model has its values, times U, between the ends. Refusal 5. */
 static inline uint8_t hechroung_range(const struct hechroung_model *f, struct hechroung_ends *answer) {
     static const int64_t nowhere = 0;
-    return hechroung_ended_(1, f, &nowhere, 0, answer, NULL);
+    return hechroung_ended_(HECHROUNG_ENDS_RANGE, f, &nowhere, 0, answer, NULL);
 }
 
 /* The integral over the box, times U. Refusal 5. */
 static inline uint8_t hechroung_integral(const struct hechroung_model *f, struct hechroung_ends *answer) {
     static const int64_t nowhere = 0;
-    return hechroung_ended_(2, f, &nowhere, 0, answer, NULL);
+    return hechroung_ended_(HECHROUNG_ENDS_INTEGRAL, f, &nowhere, 0, answer, NULL);
 }
 
 /* The same, with the exact integral of the polynomial, which is 0 above four variables. Refusal 5. */
@@ -609,14 +396,14 @@ static inline uint8_t hechroung_integral_exact(const struct hechroung_model *f, 
                                                struct hechroung_exact *exact) {
     static const int64_t nowhere = 0;
     if (exact == NULL) return HECHROUNG_MISUSED;
-    return hechroung_ended_(2, f, &nowhere, 0, answer, exact);
+    return hechroung_ended_(HECHROUNG_ENDS_INTEGRAL, f, &nowhere, 0, answer, exact);
 }
 
 /* The values at the point X_i/U, which has at least HECHROUNG_MOST_VARIABLES coordinates; those above n are 0. Refusals
    5, 6 (a coordinate above n), 9 (one outside -U to U), 7. */
 static inline uint8_t hechroung_evaluate(const struct hechroung_model *f, const int64_t *point, size_t length,
                                          struct hechroung_ends *answer) {
-    return hechroung_ended_(3, f, point, length, answer, NULL);
+    return hechroung_ended_(HECHROUNG_ENDS_EVALUATE, f, point, length, answer, NULL);
 }
 
 static inline void hechroung_summed_(const uint64_t numbers[4], const int64_t ends[6], struct hechroung_summary *answer,
@@ -640,8 +427,8 @@ static inline uint8_t hechroung_run_sheet(const uint8_t *sheet, size_t length, s
     int64_t ends[6] = {0, 0, 0, 0, 0, 0};
     uint8_t number;
     if (sheet == NULL || answer == NULL) return HECHROUNG_MISUSED;
-    number = hechroung_run(sheet, length, answer->model.keys, HECHROUNG_MOST_TERMS,
-                           answer->model.coefficients, HECHROUNG_MOST_TERMS, numbers, 4, ends, 6);
+    number = hechroung_raw_run_sheet(sheet, length, answer->model.keys, HECHROUNG_MOST_TERMS,
+                                     answer->model.coefficients, HECHROUNG_MOST_TERMS, numbers, 4, ends, 6);
     hechroung_summed_(numbers, ends, answer, place);
     return number;
 }
@@ -657,8 +444,9 @@ static inline void hechroung_shared_(const uint64_t numbers[4 * HECHROUNG_MOST_S
     }
 }
 
-/* Runs a sheet and tells where the radius of each of its steps came from, in 64 places. Refusals 1 to 9, 12. It takes
-   some 2 KB of stack itself. */
+/* Runs a sheet, with the same answer, and tells where the radius of each of its steps came from, in 64 places: all 0
+   for a refused step and those after it, for steps that the sheet does not have, and for all steps of a sheet refused
+   by 1 to 6. Refusals 1 to 9, 12. It takes some 2 KB of stack itself. */
 static inline uint8_t hechroung_shares_sheet(const uint8_t *sheet, size_t length, struct hechroung_summary *answer,
                                              struct hechroung_shares shares[HECHROUNG_MOST_STEPS], size_t *place) {
     uint64_t numbers[4] = {0, 0, 0, 0}, rows[4 * HECHROUNG_MOST_STEPS];
@@ -666,15 +454,72 @@ static inline uint8_t hechroung_shares_sheet(const uint8_t *sheet, size_t length
     uint8_t number;
     if (sheet == NULL || answer == NULL || shares == NULL) return HECHROUNG_MISUSED;
     memset(rows, 0, sizeof rows);
-    number = hechroung_shares(sheet, length, answer->model.keys, HECHROUNG_MOST_TERMS,
-                              answer->model.coefficients, HECHROUNG_MOST_TERMS, numbers, 4, ends, 6,
-                              rows, 4 * HECHROUNG_MOST_STEPS);
+    number = hechroung_raw_shares_sheet(sheet, length, answer->model.keys, HECHROUNG_MOST_TERMS,
+                                        answer->model.coefficients, HECHROUNG_MOST_TERMS, numbers, 4, ends, 6,
+                                        rows, 4 * HECHROUNG_MOST_STEPS);
     hechroung_summed_(numbers, ends, answer, place);
     hechroung_shared_(rows, shares);
     return number;
 }
 
-/* The slices of a book, some 14 KB; hechroung_flat_ fills them, and answers 0 where a pointer is null that must not
+/* Runs a sheet to the program's lines and returns their length, at most HECHROUNG_LONGEST_TEXT, or 0 where a pointer is
+   null. As much of them as there is room for is put at the start of `lines`, without a zero at the end; what lies after
+   it stays. */
+static inline size_t hechroung_print(const uint8_t *sheet, size_t sheet_length, uint8_t *lines, size_t lines_length) {
+    if (sheet == NULL || lines == NULL) return 0;
+    return hechroung_raw_print(sheet, sheet_length, lines, lines_length);
+}
+
+/* Reads a sheet and writes what was read; a buffer of HECHROUNG_LONGEST_SHEET bytes is always enough. The length is
+   stored where `length` points. Refusals 1 to 6, 11 (the buffer is too short); a refused call changes no byte and
+   stores the length 0. */
+static inline uint8_t hechroung_rewrite(const uint8_t *sheet, size_t sheet_length,
+                                        uint8_t *buffer, size_t buffer_length, size_t *length, size_t *place) {
+    uint64_t numbers[2] = {0, 0};
+    uint8_t number;
+    if (sheet == NULL || buffer == NULL || length == NULL) return HECHROUNG_MISUSED;
+    number = hechroung_raw_rewrite(sheet, sheet_length, buffer, buffer_length, numbers, 2);
+    *length = HECHROUNG_CAST_(size_t, numbers[1]);
+    if (place != NULL) *place = HECHROUNG_CAST_(size_t, numbers[0]);
+    return number;
+}
+
+/* Record i of a sheet, from 0: each model's bytes, then each step's 8. It returns the record's length, at most
+   HECHROUNG_LONGEST_RECORD, or 0 where there is none or a pointer is null; a sheet that tests 1 to 6 refuse has none.
+   As much of it as there is room for is put at the start of `bytes`. */
+static inline size_t hechroung_record(const uint8_t *sheet, size_t sheet_length, size_t i,
+                                      uint8_t *bytes, size_t bytes_length) {
+    if (sheet == NULL || bytes == NULL) return 0;
+    return hechroung_raw_record(sheet, sheet_length, i, bytes, bytes_length);
+}
+
+/* Opens a sheet for stepping through it: where its first record stands is stored at `first`; beside a refusal that is
+   the sheet's length, where there is no record. Refusals 1 to 6. */
+static inline uint8_t hechroung_open(const uint8_t *sheet, size_t sheet_length, size_t *first, size_t *place) {
+    uint64_t numbers[2] = {0, 0};
+    uint8_t number;
+    if (sheet == NULL || first == NULL) return HECHROUNG_MISUSED;
+    number = hechroung_raw_open(sheet, sheet_length, numbers, 2);
+    *first = HECHROUNG_CAST_(size_t, numbers[1]);
+    if (place != NULL) *place = HECHROUNG_CAST_(size_t, numbers[0]);
+    return number;
+}
+
+/* The record at a place of an opened sheet. It returns an enum hechroung_record_kind, or HECHROUNG_MISUSED. As much of
+   the record as there is room for is put at the start of `bytes`; its length is stored at `length`, and at `next` the
+   place of the next one; where there is no record that is the place itself, as often as it is asked for. */
+static inline uint8_t hechroung_next(const uint8_t *sheet, size_t sheet_length, size_t at,
+                                     uint8_t *bytes, size_t bytes_length, size_t *length, size_t *next) {
+    uint64_t numbers[2] = {0, 0};
+    uint8_t kind;
+    if (sheet == NULL || bytes == NULL || length == NULL || next == NULL) return HECHROUNG_MISUSED;
+    kind = hechroung_raw_next(sheet, sheet_length, at, bytes, bytes_length, numbers, 2);
+    *length = HECHROUNG_CAST_(size_t, numbers[0]);
+    *next = HECHROUNG_CAST_(size_t, numbers[1]);
+    return kind;
+}
+
+/* The slices of a book, some 14 KB; hechroung_flatten_ fills them, and answers 0 where a pointer is null that must not
    be. */
 struct hechroung_flat_ {
     uint8_t ns[HECHROUNG_MOST_MODELS], fields[4 * HECHROUNG_MOST_STEPS];
@@ -684,8 +529,9 @@ struct hechroung_flat_ {
     int64_t coefficients[HECHROUNG_MOST_MODELS * HECHROUNG_MOST_TERMS], values[HECHROUNG_MOST_STEPS];
 };
 
-static inline int hechroung_flat_(const struct hechroung_model *models, size_t model_count,
-                                  const struct hechroung_step *steps, size_t step_count, struct hechroung_flat_ *flat) {
+static inline int hechroung_flatten_(const struct hechroung_model *models, size_t model_count,
+                                     const struct hechroung_step *steps, size_t step_count,
+                                     struct hechroung_flat_ *flat) {
     size_t k, i;
     if ((models == NULL && model_count != 0) || (steps == NULL && step_count != 0)) return 0;
     memset(flat, 0, sizeof *flat);
@@ -716,14 +562,14 @@ static inline uint8_t hechroung_write_sheet(uint8_t n, uint8_t d,
     struct hechroung_flat_ flat;
     uint64_t numbers[2] = {0, 0};
     uint8_t number;
-    if (buffer == NULL || length == NULL || !hechroung_flat_(models, model_count, steps, step_count, &flat))
+    if (buffer == NULL || length == NULL || !hechroung_flatten_(models, model_count, steps, step_count, &flat))
         return HECHROUNG_MISUSED;
-    number = hechroung_write(n, d, model_count, step_count, flat.ns, HECHROUNG_MOST_MODELS,
-                             flat.counts, HECHROUNG_MOST_MODELS, flat.radii, HECHROUNG_MOST_MODELS,
-                             flat.keys, HECHROUNG_MOST_MODELS * HECHROUNG_MOST_TERMS,
-                             flat.coefficients, HECHROUNG_MOST_MODELS * HECHROUNG_MOST_TERMS,
-                             flat.fields, 4 * HECHROUNG_MOST_STEPS, flat.values, HECHROUNG_MOST_STEPS,
-                             buffer, buffer_length, numbers, 2);
+    number = hechroung_raw_write_sheet(n, d, model_count, step_count, flat.ns, HECHROUNG_MOST_MODELS,
+                                       flat.counts, HECHROUNG_MOST_MODELS, flat.radii, HECHROUNG_MOST_MODELS,
+                                       flat.keys, HECHROUNG_MOST_MODELS * HECHROUNG_MOST_TERMS,
+                                       flat.coefficients, HECHROUNG_MOST_MODELS * HECHROUNG_MOST_TERMS,
+                                       flat.fields, 4 * HECHROUNG_MOST_STEPS, flat.values, HECHROUNG_MOST_STEPS,
+                                       buffer, buffer_length, numbers, 2);
     *length = HECHROUNG_CAST_(size_t, numbers[1]);
     if (place != NULL) *place = HECHROUNG_CAST_(size_t, numbers[0]);
     return number;
@@ -738,20 +584,20 @@ static inline uint8_t hechroung_run_models(uint8_t n, uint8_t d,
     uint64_t numbers[4] = {0, 0, 0, 0};
     int64_t ends[6] = {0, 0, 0, 0, 0, 0};
     uint8_t number;
-    if (answer == NULL || !hechroung_flat_(models, model_count, steps, step_count, &flat)) return HECHROUNG_MISUSED;
-    number = hechroung_run_book(n, d, model_count, step_count, flat.ns, HECHROUNG_MOST_MODELS,
-                                flat.counts, HECHROUNG_MOST_MODELS, flat.radii, HECHROUNG_MOST_MODELS,
-                                flat.keys, HECHROUNG_MOST_MODELS * HECHROUNG_MOST_TERMS,
-                                flat.coefficients, HECHROUNG_MOST_MODELS * HECHROUNG_MOST_TERMS,
-                                flat.fields, 4 * HECHROUNG_MOST_STEPS, flat.values, HECHROUNG_MOST_STEPS,
-                                answer->model.keys, HECHROUNG_MOST_TERMS,
-                                answer->model.coefficients, HECHROUNG_MOST_TERMS, numbers, 4, ends, 6);
+    if (answer == NULL || !hechroung_flatten_(models, model_count, steps, step_count, &flat)) return HECHROUNG_MISUSED;
+    number = hechroung_raw_run_models(n, d, model_count, step_count, flat.ns, HECHROUNG_MOST_MODELS,
+                                      flat.counts, HECHROUNG_MOST_MODELS, flat.radii, HECHROUNG_MOST_MODELS,
+                                      flat.keys, HECHROUNG_MOST_MODELS * HECHROUNG_MOST_TERMS,
+                                      flat.coefficients, HECHROUNG_MOST_MODELS * HECHROUNG_MOST_TERMS,
+                                      flat.fields, 4 * HECHROUNG_MOST_STEPS, flat.values, HECHROUNG_MOST_STEPS,
+                                      answer->model.keys, HECHROUNG_MOST_TERMS,
+                                      answer->model.coefficients, HECHROUNG_MOST_TERMS, numbers, 4, ends, 6);
     hechroung_summed_(numbers, ends, answer, place);
     return number;
 }
 
-/* Runs a book of these models and steps and tells where the radius of each step came from, in 64 places. Refusals 3, 5
-   to 9, 12. It takes some 16 KB of stack itself. */
+/* Runs a book of these models and steps and tells where the radius of each step came from, as hechroung_shares_sheet
+   does. Refusals 3, 5 to 9, 12. It takes some 16 KB of stack itself. */
 static inline uint8_t hechroung_shares_models(uint8_t n, uint8_t d,
                                               const struct hechroung_model *models, size_t model_count,
                                               const struct hechroung_step *steps, size_t step_count,
@@ -761,17 +607,17 @@ static inline uint8_t hechroung_shares_models(uint8_t n, uint8_t d,
     uint64_t numbers[4] = {0, 0, 0, 0}, rows[4 * HECHROUNG_MOST_STEPS];
     int64_t ends[6] = {0, 0, 0, 0, 0, 0};
     uint8_t number;
-    if (answer == NULL || shares == NULL || !hechroung_flat_(models, model_count, steps, step_count, &flat))
+    if (answer == NULL || shares == NULL || !hechroung_flatten_(models, model_count, steps, step_count, &flat))
         return HECHROUNG_MISUSED;
     memset(rows, 0, sizeof rows);
-    number = hechroung_shares_book(n, d, model_count, step_count, flat.ns, HECHROUNG_MOST_MODELS,
-                                   flat.counts, HECHROUNG_MOST_MODELS, flat.radii, HECHROUNG_MOST_MODELS,
-                                   flat.keys, HECHROUNG_MOST_MODELS * HECHROUNG_MOST_TERMS,
-                                   flat.coefficients, HECHROUNG_MOST_MODELS * HECHROUNG_MOST_TERMS,
-                                   flat.fields, 4 * HECHROUNG_MOST_STEPS, flat.values, HECHROUNG_MOST_STEPS,
-                                   answer->model.keys, HECHROUNG_MOST_TERMS,
-                                   answer->model.coefficients, HECHROUNG_MOST_TERMS, numbers, 4, ends, 6,
-                                   rows, 4 * HECHROUNG_MOST_STEPS);
+    number = hechroung_raw_shares_models(n, d, model_count, step_count, flat.ns, HECHROUNG_MOST_MODELS,
+                                         flat.counts, HECHROUNG_MOST_MODELS, flat.radii, HECHROUNG_MOST_MODELS,
+                                         flat.keys, HECHROUNG_MOST_MODELS * HECHROUNG_MOST_TERMS,
+                                         flat.coefficients, HECHROUNG_MOST_MODELS * HECHROUNG_MOST_TERMS,
+                                         flat.fields, 4 * HECHROUNG_MOST_STEPS, flat.values, HECHROUNG_MOST_STEPS,
+                                         answer->model.keys, HECHROUNG_MOST_TERMS,
+                                         answer->model.coefficients, HECHROUNG_MOST_TERMS, numbers, 4, ends, 6,
+                                         rows, 4 * HECHROUNG_MOST_STEPS);
     hechroung_summed_(numbers, ends, answer, place);
     hechroung_shared_(rows, shares);
     return number;
@@ -783,9 +629,9 @@ static inline uint8_t hechroung_curved_(uint8_t code, const struct hechroung_cur
     uint64_t numbers[2] = {0, 0};
     uint8_t number;
     if (f == NULL || g == NULL || answer == NULL) return HECHROUNG_MISUSED;
-    number = hechroung_curve(code, f->coefficients, HECHROUNG_CURVE_PLACES, f->radius,
-                             g->coefficients, HECHROUNG_CURVE_PLACES, g->radius,
-                             curve.coefficients, HECHROUNG_CURVE_PLACES, numbers, 2);
+    number = hechroung_raw_curve(code, f->coefficients, HECHROUNG_CURVE_PLACES, f->radius,
+                                 g->coefficients, HECHROUNG_CURVE_PLACES, g->radius,
+                                 curve.coefficients, HECHROUNG_CURVE_PLACES, numbers, 2);
     curve.radius = numbers[1];
     *answer = curve;
     if (place != NULL) *place = HECHROUNG_CAST_(size_t, numbers[0]);
@@ -794,97 +640,115 @@ static inline uint8_t hechroung_curved_(uint8_t code, const struct hechroung_cur
 
 /* All signs turned. Refusal 5. */
 static inline uint8_t hechroung_negate_curve(const struct hechroung_curve *f, struct hechroung_curve *answer) {
-    return hechroung_curved_(1, f, f, answer, NULL);
+    return hechroung_curved_(HECHROUNG_STEP_NEGATE, f, f, answer, NULL);
 }
 
 /* The sum and the difference. Refusals 5 at place 0 or 1 (that curve), 7. */
 static inline uint8_t hechroung_add_curves(const struct hechroung_curve *f, const struct hechroung_curve *g,
                                            struct hechroung_curve *answer, size_t *place) {
-    return hechroung_curved_(2, f, g, answer, place);
+    return hechroung_curved_(HECHROUNG_STEP_ADD, f, g, answer, place);
 }
 
 static inline uint8_t hechroung_subtract_curves(const struct hechroung_curve *f, const struct hechroung_curve *g,
                                                 struct hechroung_curve *answer, size_t *place) {
-    return hechroung_curved_(3, f, g, answer, place);
+    return hechroung_curved_(HECHROUNG_STEP_SUBTRACT, f, g, answer, place);
 }
 
 /* The product by T_i T_j = (T_(i+j) + T_|i-j|) / 2; what is above T_15, and what rounding leaves, goes into the radius.
    Refusals 5 at place 0 or 1, 7. */
 static inline uint8_t hechroung_multiply_curves(const struct hechroung_curve *f, const struct hechroung_curve *g,
                                                 struct hechroung_curve *answer, size_t *place) {
-    return hechroung_curved_(4, f, g, answer, place);
+    return hechroung_curved_(HECHROUNG_STEP_MULTIPLY, f, g, answer, place);
 }
 
-/* The range over [-1, 1]: every function within the curve has its values, times U, between the ends. Refusal 5. */
+/* The range over [-1, 1]: every function within the curve has its values, times U, between the ends, which are the
+   coefficient of T_0, minus and plus all other sizes and the radius. Refusal 5. */
 static inline uint8_t hechroung_range_of_curve(const struct hechroung_curve *f, struct hechroung_ends *answer) {
     int64_t ends[2] = {0, 0};
     uint8_t number;
     if (f == NULL || answer == NULL) return HECHROUNG_MISUSED;
-    number = hechroung_curve_range(f->coefficients, HECHROUNG_CURVE_PLACES, f->radius, ends, 2);
+    number = hechroung_raw_range_of_curve(f->coefficients, HECHROUNG_CURVE_PLACES, f->radius, ends, 2);
     answer->low = ends[0];
     answer->high = ends[1];
     return number;
 }
 
-/* The curve's polynomial in powers, exactly, with its radius. Refusals 5, 7. */
+/* The model of one variable that has the curve's polynomial in powers, exactly, and its radius: the same functions are
+   within both. Refusals 5, 7. */
 static inline uint8_t hechroung_curve_to_powers(const struct hechroung_curve *f, struct hechroung_model *answer) {
     uint64_t numbers[4] = {0, 0, 0, 0};
     uint8_t number;
     if (f == NULL || answer == NULL) return HECHROUNG_MISUSED;
-    number = hechroung_to_powers(f->coefficients, HECHROUNG_CURVE_PLACES, f->radius, answer->keys, HECHROUNG_MOST_TERMS,
-                                 answer->coefficients, HECHROUNG_MOST_TERMS, numbers, 4);
+    number = hechroung_raw_curve_to_powers(f->coefficients, HECHROUNG_CURVE_PLACES, f->radius,
+                                           answer->keys, HECHROUNG_MOST_TERMS,
+                                           answer->coefficients, HECHROUNG_MOST_TERMS, numbers, 4);
     answer->n = HECHROUNG_CAST_(uint8_t, numbers[1]);
     answer->count = HECHROUNG_CAST_(size_t, numbers[2]);
     answer->radius = numbers[3];
     return number;
 }
 
-/* A model of one variable in Chebyshev polynomials, rounded, with a radius that pays for it. Refusals 5, 13 (n), 7. */
+/* The curve of a model of one variable: each coefficient goes to the nearest unit, halfway to the even one, and what
+   that leaves goes into the radius, so that every function within the model is within the curve. Refusals 5, 13 (n is
+   not 1), 7. */
 static inline uint8_t hechroung_curve_from_powers(const struct hechroung_model *f, struct hechroung_curve *answer) {
     uint64_t numbers[2] = {0, 0};
     uint8_t number;
     if (f == NULL || answer == NULL) return HECHROUNG_MISUSED;
-    number = hechroung_from_powers(f->n, f->count, f->radius, f->keys, HECHROUNG_MOST_TERMS,
-                                   f->coefficients, HECHROUNG_MOST_TERMS,
-                                   answer->coefficients, HECHROUNG_CURVE_PLACES, numbers, 2);
+    number = hechroung_raw_curve_from_powers(f->n, f->count, f->radius, f->keys, HECHROUNG_MOST_TERMS,
+                                             f->coefficients, HECHROUNG_MOST_TERMS,
+                                             answer->coefficients, HECHROUNG_CURVE_PLACES, numbers, 2);
     answer->radius = numbers[1];
     return number;
 }
 
-/* The range over the box with variable i, 1 to n, cut into 2^k pieces, k up to 6, by substitutions with order d.
-   Refusals 3 (d), 5, 6 (i), 14 (k), then 8 or 7 with the piece as place. */
+/* The range over the box, narrower by cutting: variable i, 1 to n, is cut into 2^k equal pieces, k up to 6, the model
+   is substituted for on each with order d, and the answer is the overlap of the undivided range with what the ranges of
+   the pieces cover. Every function within the model has its values, times U, between the ends. A deeper cut is not
+   always narrower. Refusals 3 (d), 5 (a degree above d among it), 6 (i), 14 (k above 6), all at place 0, then 8 or 7 of
+   a piece, whose number, from 0, is the place. */
 static inline uint8_t hechroung_range_cut(uint8_t d, uint8_t i, uint8_t k, const struct hechroung_model *f,
                                           struct hechroung_ends *answer, size_t *place) {
     int64_t ends[2] = {0, 0};
     uint64_t numbers[1] = {0};
     uint8_t number;
     if (f == NULL || answer == NULL) return HECHROUNG_MISUSED;
-    number = hechroung_cut_range(d, i, k, f->n, f->count, f->radius,
-                                 f->keys, HECHROUNG_MOST_TERMS, f->coefficients, HECHROUNG_MOST_TERMS,
-                                 ends, 2, numbers, 1);
+    number = hechroung_raw_range_cut(d, i, k, f->n, f->count, f->radius,
+                                     f->keys, HECHROUNG_MOST_TERMS, f->coefficients, HECHROUNG_MOST_TERMS,
+                                     ends, 2, numbers, 1);
     answer->low = ends[0];
     answer->high = ends[1];
     if (place != NULL) *place = HECHROUNG_CAST_(size_t, numbers[0]);
     return number;
 }
 
-/* The model of a curve in doubles. Refusals 16, 7. */
+/* The model of a curve that is delivered in doubles, in one variable: any function that differs from c0 + c1 x + c2 x^2
+   by at most the radius, everywhere from -1 to 1, is within it. Of each coefficient's exact value U times it goes to
+   the nearest whole number, ties to even; the radius is U times theirs rounded up, plus 1 for each coefficient that is
+   no whole number of units. Minus zero counts as zero. Refusals 16 (a value is not finite, or the radius is negative),
+   7. */
 static inline uint8_t hechroung_from_doubles(const struct hechroung_doubles *curve, struct hechroung_model *answer) {
     uint64_t numbers[4] = {0, 0, 0, 0};
     uint8_t number;
     if (curve == NULL || answer == NULL) return HECHROUNG_MISUSED;
-    number = hechroung_doubles(curve->c0, curve->c1, curve->c2, curve->radius, answer->keys, HECHROUNG_MOST_TERMS,
-                               answer->coefficients, HECHROUNG_MOST_TERMS, numbers, 4);
+    number = hechroung_raw_from_doubles(curve->c0, curve->c1, curve->c2, curve->radius,
+                                        answer->keys, HECHROUNG_MOST_TERMS, answer->coefficients, HECHROUNG_MOST_TERMS,
+                                        numbers, 4);
     answer->n = HECHROUNG_CAST_(uint8_t, numbers[1]);
     answer->count = HECHROUNG_CAST_(size_t, numbers[2]);
     answer->radius = numbers[3];
     return number;
 }
 
-/* Holds `count` readings against a model: `contradicted` is 1 if one contradicts it and else 0, and `reading` the number
-   of the first that does. Refusals 15 at place 0, 5, then with the reading as place 15, 6, 9, 7. A longer row than
-   HECHROUNG_MOST_READINGS is handed over by one reading more than that, which is refused. It takes some 20 KB of stack
-   itself. */
+/* Holds `count` readings against a model, in order, up to the first that contradicts it: its band from low to high and
+   the ends of the evaluation at its point have no number in common (ends that touch have one). No function within the
+   model passes through that one; of the others nothing is promised, not even that a function within the model passes
+   through them. `contradicted` is 1 if one contradicts and else 0, and `reading` the number of the first that does,
+   from 0; both are 0 where none does and beside a refusal. Refusals 15 at place 0 (more than HECHROUNG_MOST_READINGS
+   readings), 5, then with the reading as place 15 (a low value above its high one), 6 (a coordinate above n that is not
+   0) and 9 (another outside -U to U), each tested of all readings before the next, then 7 (of an evaluation). A longer
+   row than HECHROUNG_MOST_READINGS is handed over by one reading more than that, which is refused. It takes some 20 KB
+   of stack itself. */
 static inline uint8_t hechroung_hold(const struct hechroung_model *f, const struct hechroung_reading *readings,
                                      size_t count, int *contradicted, size_t *reading, size_t *place) {
     int64_t points[HECHROUNG_MOST_VARIABLES * (HECHROUNG_MOST_READINGS + 1)];
@@ -900,7 +764,7 @@ static inline uint8_t hechroung_hold(const struct hechroung_model *f, const stru
         lows[i] = readings[i].low;
         highs[i] = readings[i].high;
     }
-    number = hechroung_readings(f->n, f->count, f->radius,
+    number = hechroung_raw_hold(f->n, f->count, f->radius,
                                 f->keys, HECHROUNG_MOST_TERMS, f->coefficients, HECHROUNG_MOST_TERMS,
                                 points, HECHROUNG_MOST_VARIABLES * count, lows, count, highs, count, numbers, 3);
     *contradicted = HECHROUNG_CAST_(int, numbers[1]);
@@ -909,27 +773,35 @@ static inline uint8_t hechroung_hold(const struct hechroung_model *f, const stru
     return number;
 }
 
-/* A model in the archive's form, and its length. Refusals 3 (n), 5, 11. */
+/* Stores a model of 1 to 4 variables in the archive's form: n, the radius in 4 bytes, the count, then for each term its
+   rank in 2 bytes and its coefficient in 4, by total degree and then key, so that the low degrees come first; at most
+   HECHROUNG_LONGEST_ARCHIVED bytes. The rank is the term's place, from 0, among all 3,876 monomials in four variables
+   of degree at most 15 in that order. The length is stored where `length` points. Refusals 3 (n is not 1 to 4), 5, 11
+   (the buffer is too short); a refused call changes no byte and stores the length 0. */
 static inline uint8_t hechroung_store_model(const struct hechroung_model *f, uint8_t *buffer, size_t buffer_length,
                                             size_t *length) {
     uint64_t numbers[2] = {0, 0};
     uint8_t number;
     if (f == NULL || buffer == NULL || length == NULL) return HECHROUNG_MISUSED;
-    number = hechroung_store(f->n, f->count, f->radius, f->keys, HECHROUNG_MOST_TERMS,
-                             f->coefficients, HECHROUNG_MOST_TERMS, buffer, buffer_length, numbers, 2);
+    number = hechroung_raw_store_model(f->n, f->count, f->radius, f->keys, HECHROUNG_MOST_TERMS,
+                                       f->coefficients, HECHROUNG_MOST_TERMS, buffer, buffer_length, numbers, 2);
     *length = HECHROUNG_CAST_(size_t, numbers[1]);
     return number;
 }
 
-/* The model of the first terms of one that is stored, `terms` of them, or all if there are fewer. Less than all are no
-   band around the curve: see hechroung_restore. Refusals 1, 3, 17 at the term, 5. */
+/* Restores a model from the archive's form: of all its terms, or of the first ones only, `terms` of them where fewer
+   are asked for than are stored. All give the very model that was stored. WARNING: fewer terms give those terms with
+   the stored radius, and that is no band around the curve: what was left out is not in the radius. Who wants a band has
+   to add the sizes |c| of all terms left out to it. Refusals 1 (the length is below 6 or other than 6 + 6 times the
+   count), 3 (n is not 1 to 4), 17 at the first term read, from 0, whose rank is 3,876 or more or does not rise, 5 (more
+   than 64 terms are stored, or the radius or the terms read break a rule). Terms that are not read are not tested. */
 static inline uint8_t hechroung_restore_model(const uint8_t *bytes, size_t bytes_length, size_t terms,
                                               struct hechroung_model *answer, size_t *place) {
     uint64_t numbers[4] = {0, 0, 0, 0};
     uint8_t number;
     if (bytes == NULL || answer == NULL) return HECHROUNG_MISUSED;
-    number = hechroung_restore(bytes, bytes_length, terms, answer->keys, HECHROUNG_MOST_TERMS,
-                               answer->coefficients, HECHROUNG_MOST_TERMS, numbers, 4);
+    number = hechroung_raw_restore_model(bytes, bytes_length, terms, answer->keys, HECHROUNG_MOST_TERMS,
+                                         answer->coefficients, HECHROUNG_MOST_TERMS, numbers, 4);
     answer->n = HECHROUNG_CAST_(uint8_t, numbers[1]);
     answer->count = HECHROUNG_CAST_(size_t, numbers[2]);
     answer->radius = numbers[3];

@@ -6,7 +6,7 @@ use std::path::{Path, PathBuf};
 use std::process::Command;
 
 /// The layout of include/hechroung.h, HECHROUNG_ABI, that src/raw.rs is written for.
-const LAYOUT: &str = "3";
+const LAYOUT: &str = "4";
 
 fn main() {
     println!("cargo:rustc-env=HECHROUNG_LAYOUT={LAYOUT}");

@@ -143,12 +143,12 @@ impl Library {
         assert!(!library.is_null(), "{path}: {}", why());
         // SAFETY: the functions have these signatures, in all builds of that layout.
         unsafe {
-            let ends = function(library, c"hechroung_ends");
+            let ends = function(library, [c"hechroung_raw_ends", c"hechroung_ends"]);
             Library {
                 layout,
                 call: std::mem::transmute::<*mut c_void, Call>(function(
                     library,
-                    c"hechroung_call",
+                    [c"hechroung_raw_call", c"hechroung_call"],
                 )),
                 ends: match layout {
                     Layout::Two => {
@@ -156,10 +156,13 @@ impl Library {
                     }
                     Layout::Now => EitherEnds::Now(std::mem::transmute::<*mut c_void, Ends>(ends)),
                 },
-                run: std::mem::transmute::<*mut c_void, Run>(function(library, c"hechroung_run")),
+                run: std::mem::transmute::<*mut c_void, Run>(function(
+                    library,
+                    [c"hechroung_raw_run_sheet", c"hechroung_run"],
+                )),
                 record: std::mem::transmute::<*mut c_void, Record>(function(
                     library,
-                    c"hechroung_record",
+                    [c"hechroung_raw_record", c"hechroung_record"],
                 )),
             }
         }
@@ -309,11 +312,12 @@ impl Library {
     }
 }
 
-fn function(library: *mut c_void, name: &CStr) -> *mut c_void {
-    // SAFETY: the library is loaded, and the name ends with a zero.
-    let function = unsafe { dlsym(library, name.as_ptr()) };
-    assert!(!function.is_null(), "{}", why());
-    function
+/// The function by its name, or by the one that it had in layouts 2 and 3.
+fn function(library: *mut c_void, names: [&CStr; 2]) -> *mut c_void {
+    // SAFETY: the library is loaded, and the names end with a zero.
+    let function = names.map(|name| unsafe { dlsym(library, name.as_ptr()) });
+    let found = function.into_iter().find(|function| !function.is_null());
+    found.unwrap_or_else(|| panic!("{}", why()))
 }
 
 /// The loader's last complaint.

@@ -37,12 +37,12 @@ int main(void) {
         hechroung_run_sheet(sheet, length, &of_sheet, NULL) || of_book.exact.remainder != of_sheet.exact.remainder ||
         of_book.model.coefficients[1] != square.coefficients[1])
         return 1;
-    uint64_t numbers[2];
     uint8_t record[8];
+    size_t at, record_length;
     int kind, count = 0;
-    if (hechroung_open(sheet, length, numbers, 2)) return 1;
-    while ((kind = hechroung_next(sheet, length, numbers[1], record, sizeof record, numbers, 2)) != 0) {
-        if (kind != 2 || record[0] != steps[count].code) return 1;
+    if (hechroung_open(sheet, length, &at, NULL)) return 1;
+    while ((kind = hechroung_next(sheet, length, at, record, sizeof record, &record_length, &at)) != 0) {
+        if (kind != HECHROUNG_STEP_RECORD || record[0] != steps[count].code) return 1;
         count++;
     }
     if (count != 4) return 1;

@@ -5,7 +5,7 @@
 #include <stdio.h>
 
 /* The exact integral stands after the ends from layout 2 on, and keys have 32 bits from this one on. */
-#if HECHROUNG_ABI != 3
+#if HECHROUNG_ABI != 4
 #error "this example is for layout 3 of hechroung.h"
 #endif
 

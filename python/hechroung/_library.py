@@ -1,4 +1,4 @@
-"""The shared library: where it is found, and its functions. All names of include/hechroung.h stand here."""
+"""The shared library: where it is found, and its functions. All names of include/hechroung_raw.h stand here."""
 
 import ctypes
 import os
@@ -8,7 +8,7 @@ from typing import Any
 
 from ._fields import crossed, f64, i64, i64s, octets, size, sizes, u8, u32s, u64, u64s
 
-LAYOUT = 3
+LAYOUT = 4
 """That of the header which these declarations follow; the shared library is named by it."""
 
 NAME = f"libhechroung.so.{LAYOUT}"
@@ -63,29 +63,29 @@ _summary = (*_answer, *_ends)
 _shares = (u64s, size)
 _curve = (*_coefficients, u64)
 
-call = _exported("hechroung_call", u8, u8, u8, u8, i64, *_model, *_model, *_answer)
-quotient = _exported("hechroung_quotient", u8, u8, *_models, *_answer)
-ends = _exported("hechroung_ends", u8, u8, *_model, i64s, size, *_ends)
-cut_range = _exported("hechroung_cut_range", u8, u8, u8, u8, *_model, *_ends, *_numbers)
+call = _exported("hechroung_raw_call", u8, u8, u8, u8, i64, *_model, *_model, *_answer)
+quotient = _exported("hechroung_raw_divide", u8, u8, *_models, *_answer)
+ends = _exported("hechroung_raw_ends", u8, u8, *_model, i64s, size, *_ends)
+cut_range = _exported("hechroung_raw_range_cut", u8, u8, u8, u8, *_model, *_ends, *_numbers)
 
-run = _exported("hechroung_run", u8, *_bytes, *_summary)
-shares = _exported("hechroung_shares", u8, *_bytes, *_summary, *_shares)
-lines = _exported("hechroung_print", size, *_bytes, *_bytes)
-rewrite = _exported("hechroung_rewrite", u8, *_bytes, *_bytes, *_numbers)
-record = _exported("hechroung_record", size, *_bytes, size, *_bytes)
-open_sheet = _exported("hechroung_open", u8, *_bytes, *_numbers)
-next_record = _exported("hechroung_next", u8, *_bytes, size, *_bytes, *_numbers)
+run = _exported("hechroung_raw_run_sheet", u8, *_bytes, *_summary)
+shares = _exported("hechroung_raw_shares_sheet", u8, *_bytes, *_summary, *_shares)
+lines = _exported("hechroung_raw_print", size, *_bytes, *_bytes)
+rewrite = _exported("hechroung_raw_rewrite", u8, *_bytes, *_bytes, *_numbers)
+record = _exported("hechroung_raw_record", size, *_bytes, size, *_bytes)
+open_sheet = _exported("hechroung_raw_open", u8, *_bytes, *_numbers)
+next_record = _exported("hechroung_raw_next", u8, *_bytes, size, *_bytes, *_numbers)
 
-write = _exported("hechroung_write", u8, *_book, *_bytes, *_numbers)
-run_book = _exported("hechroung_run_book", u8, *_book, *_summary)
-shares_book = _exported("hechroung_shares_book", u8, *_book, *_summary, *_shares)
+write = _exported("hechroung_raw_write_sheet", u8, *_book, *_bytes, *_numbers)
+run_book = _exported("hechroung_raw_run_models", u8, *_book, *_summary)
+shares_book = _exported("hechroung_raw_shares_models", u8, *_book, *_summary, *_shares)
 
-curve = _exported("hechroung_curve", u8, u8, *_curve, *_curve, *_coefficients, *_numbers)
-curve_range = _exported("hechroung_curve_range", u8, *_curve, *_ends)
-to_powers = _exported("hechroung_to_powers", u8, *_curve, *_answer)
-from_powers = _exported("hechroung_from_powers", u8, *_model, *_coefficients, *_numbers)
+curve = _exported("hechroung_raw_curve", u8, u8, *_curve, *_curve, *_coefficients, *_numbers)
+curve_range = _exported("hechroung_raw_range_of_curve", u8, *_curve, *_ends)
+to_powers = _exported("hechroung_raw_curve_to_powers", u8, *_curve, *_answer)
+from_powers = _exported("hechroung_raw_curve_from_powers", u8, *_model, *_coefficients, *_numbers)
 
-doubles = _exported("hechroung_doubles", u8, f64, f64, f64, f64, *_answer)
-readings = _exported("hechroung_readings", u8, *_model, i64s, size, i64s, size, i64s, size, *_numbers)
-store = _exported("hechroung_store", u8, *_model, *_bytes, *_numbers)
-restore = _exported("hechroung_restore", u8, *_bytes, size, *_answer)
+doubles = _exported("hechroung_raw_from_doubles", u8, f64, f64, f64, f64, *_answer)
+readings = _exported("hechroung_raw_hold", u8, *_model, i64s, size, i64s, size, i64s, size, *_numbers)
+store = _exported("hechroung_raw_store_model", u8, *_model, *_bytes, *_numbers)
+restore = _exported("hechroung_raw_restore_model", u8, *_bytes, size, *_answer)

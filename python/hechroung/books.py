@@ -8,6 +8,7 @@ from dataclasses import dataclass
 from typing import Any, NamedTuple
 
 from . import _library as library
+from . import codes
 from ._fields import array, i64, u8, u64, whole
 from ._handing import SHEET, Answer, check, models_slices
 from .errors import Misused
@@ -31,57 +32,57 @@ class Step(NamedTuple):
     @classmethod
     def input(cls, model: int) -> Step:
         """A model of the book."""
-        return cls(0, model)
+        return cls(codes.INPUT, model)
 
     @classmethod
     def constant(cls, value: int) -> Step:
         """A constant, in units."""
-        return cls(1, value=value)
+        return cls(codes.CONSTANT, value=value)
 
     @classmethod
     def variable(cls, v: int) -> Step:
         """Variable v, from 1."""
-        return cls(2, v=v)
+        return cls(codes.VARIABLE, v=v)
 
     @classmethod
     def negate(cls, a: int) -> Step:
         """Step a with all signs turned."""
-        return cls(3, a)
+        return cls(codes.NEGATE, a)
 
     @classmethod
     def add(cls, a: int, b: int) -> Step:
         """The sum of steps a and b."""
-        return cls(4, a, b)
+        return cls(codes.ADD, a, b)
 
     @classmethod
     def subtract(cls, a: int, b: int) -> Step:
         """Step a less step b."""
-        return cls(5, a, b)
+        return cls(codes.SUBTRACT, a, b)
 
     @classmethod
     def multiply(cls, a: int, b: int) -> Step:
         """The product of steps a and b, to the book's order."""
-        return cls(6, a, b)
+        return cls(codes.MULTIPLY, a, b)
 
     @classmethod
     def substitute(cls, a: int, v: int, b: int) -> Step:
         """Step b in the place of variable v of step a."""
-        return cls(7, a, b, v)
+        return cls(codes.SUBSTITUTE, a, b, v)
 
     @classmethod
     def sweep(cls, a: int, threshold: int) -> Step:
         """Step a without its terms of a size up to the threshold, which go into the radius."""
-        return cls(8, a, value=threshold)
+        return cls(codes.SWEEP, a, value=threshold)
 
     @classmethod
     def quotient(cls, f: int, g: int, h: int, w: int) -> Step:
         """Step f divided by step g, from a proposal: step h for the quotient and step w for 1 / g."""
-        return cls(9, f, g, h, w)
+        return cls(codes.QUOTIENT, f, g, h, w)
 
     @classmethod
     def antiderivative(cls, a: int, v: int) -> Step:
         """The antiderivative of step a in variable v that is 0 wherever that variable is 0."""
-        return cls(10, a, v=v)
+        return cls(codes.ANTIDERIVATIVE, a, v=v)
 
 
 class Summary(NamedTuple):

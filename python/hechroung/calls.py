@@ -9,12 +9,11 @@ from collections.abc import Iterable
 from . import _library as library
 from ._fields import array, i64, u64
 from ._handing import CUT, Answer, check, eight, model_slices, models_slices, one_for_each, tested_point
+from .codes import (ADD, ANTIDERIVATIVE, CONSTANT, EVALUATE, INTEGRAL, MULTIPLY, NEGATE, RANGE, SUBSTITUTE, SUBTRACT,
+                    SWEEP, VARIABLE)
 from .limits import MOST_VARIABLES
-from .models import ADD, MULTIPLY, NEGATE, SUBTRACT, Model, called, tested_model
+from .models import Model, called, tested_model
 from .results import Ends, Exact
-
-CONSTANT, VARIABLE, SUBSTITUTE, SWEEP, ANTIDERIVATIVE = 1, 2, 7, 8, 9
-RANGE, INTEGRAL, EVALUATE = 1, 2, 3
 
 
 def constant(n: int, value: int, order: int | None = None) -> Model:

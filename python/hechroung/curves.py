@@ -9,12 +9,11 @@ from typing import Any
 from . import _library as library
 from ._fields import array, i64, u64, whole
 from ._handing import SINGLE, Answer, check, model_slices
+from .codes import ADD, MULTIPLY, NEGATE, SUBTRACT
 from .errors import Misused
 from .limits import CURVE_PLACES
 from .models import Model, tested_model
 from .results import Ends
-
-NEGATE, ADD, SUBTRACT, MULTIPLY = 1, 2, 3, 4
 
 
 @dataclass(frozen=True, slots=True, repr=False)

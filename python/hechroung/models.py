@@ -11,14 +11,12 @@ from typing import Any
 from . import _library as library
 from ._fields import i64, u8, u32, u64, whole
 from ._handing import Answer, Terms, model_slices
+from .codes import ADD, MULTIPLY, NEGATE, SUBTRACT
 from .errors import Misused
 from .limits import MOST_ORDER, MOST_VARIABLES
 from .numbers import rounded
 
 Exponents = tuple[int, ...]
-
-# The codes of the calls that operators make.
-NEGATE, ADD, SUBTRACT, MULTIPLY = 3, 4, 5, 6
 
 
 def key_of(exponents: int | Iterable[int]) -> int:

@@ -7,6 +7,7 @@ from fractions import Fraction
 from typing import Any, NamedTuple
 
 from .books import Report, Step, Summary
+from .codes import ANTIDERIVATIVE, CONSTANT, INPUT, QUOTIENT, SUBSTITUTE, VARIABLE
 from .errors import Refused
 from .inputs import Loaded
 from .limits import UNIT
@@ -14,7 +15,7 @@ from .models import Model, exponents_of
 from .numbers import outward
 from .results import Shares
 from .sheets import read, shares
-from .text import ANTIDERIVATIVE, CONSTANT, DIVIDE, INPUT, SUBSTITUTE, VARIABLE, monomial, step_words, wrapped
+from .text import monomial, step_words, wrapped
 
 PARTS = Shares._fields
 MOST_NAME = 24
@@ -31,7 +32,7 @@ def fed(steps: Sequence[Step]) -> bool:
         inside = any(divided[operand] for operand in operands(step))
         if step.code == ANTIDERIVATIVE and inside:
             return True
-        divided.append(inside or step.code == DIVIDE)
+        divided.append(inside or step.code == QUOTIENT)
     return False
 
 
@@ -40,7 +41,7 @@ def operands(step: Step) -> list[int]:
     code, a, b, v, value = step
     if code in (INPUT, CONSTANT, VARIABLE):
         return []
-    if code == DIVIDE:
+    if code == QUOTIENT:
         return [a, b, v, value]
     return [a, b] if 4 <= code <= SUBSTITUTE else [a]
 
@@ -69,7 +70,7 @@ def promised(steps: Sequence[Step]) -> Promise:
     if fed(steps):
         return Promise("nothing", "nothing")
     return Promise("polynomials" if ANTIDERIVATIVE in codes else "functions",
-                   "nothing" if DIVIDE in codes else "polynomials")
+                   "nothing" if QUOTIENT in codes else "polynomials")
 
 
 # ---- decimals

@@ -16,6 +16,8 @@ from functools import lru_cache
 from typing import Any, NoReturn
 
 from .books import Book, Step
+from .codes import (ADD, ANTIDERIVATIVE, CONSTANT, INPUT, MULTIPLY, NEGATE, QUOTIENT, SUBSTITUTE, SUBTRACT, SWEEP,
+                    VARIABLE)
 from .limits import MOST_MODELS, MOST_ORDER, MOST_STEPS, MOST_TERMS, MOST_VARIABLES, SPAN, UNIT
 from .models import Model, exponents_of
 from .numbers import rounded
@@ -66,8 +68,6 @@ KEYWORDS = frozenset(re.findall(r'"([a-z]+)"', GRAMMAR))
 _TERMINALS = dict(re.findall(r"^([A-Z]+): /(.*)/$", GRAMMAR, re.MULTILINE))
 _NUMBER, _NAME = re.compile(_TERMINALS["NUMBER"]), re.compile(_TERMINALS["NAME"])
 
-# The codes of steps, as docs/SHEETS.md has them.
-INPUT, CONSTANT, VARIABLE, NEGATE, ADD, SUBTRACT, MULTIPLY, SUBSTITUTE, SWEEP, DIVIDE, ANTIDERIVATIVE = range(11)
 _OPERATORS = {ADD: "+", SUBTRACT: "-", MULTIPLY: "*"}
 _SUPERSCRIPTS = {"²": 2, "³": 3}
 # Letters that the text form has no use for, and what may be meant by them.
@@ -454,7 +454,7 @@ class _Assembler:
         return self.push(tree, SWEEP, self.outcome(operand), 0, 0, threshold)
 
     def of_divide(self, tree: Any, *operands: Any) -> int:
-        return self.push(tree, DIVIDE, *[self.outcome(operand) for operand in operands])
+        return self.push(tree, QUOTIENT, *[self.outcome(operand) for operand in operands])
 
     def of_antiderivative(self, tree: Any, operand: Any, token: Any) -> int:
         v = self.variable(token)
@@ -578,7 +578,7 @@ def step_words(step: Step, variables: Sequence[str], models: Sequence[str], step
         return f"substitute {steps[b]} for {variables[v - 1]} in {steps[a]}"
     if code == SWEEP:
         return f"sweep {steps[a]} at {shown(value)}"
-    if code == DIVIDE:
+    if code == QUOTIENT:
         return f"divide {steps[a]} by {steps[b]} proposal {steps[v]}, {steps[value]}"
     if code == ANTIDERIVATIVE:
         return f"antiderivative {steps[a]} in {variables[v - 1]}"

@@ -1,13 +1,14 @@
-"""The declarations of _library and the numbers of limits, held against include/hechroung.h."""
+"""The declarations of _library, the numbers of limits and the codes, held against include/."""
 
 import re
 from pathlib import Path
 
-from hechroung import _library, errors, limits
+from hechroung import _library, codes, errors, limits
 from hechroung.version import VERSION
 from hechroung._fields import f64, i64, i64s, octets, size, sizes, u8, u32s, u64, u64s
 
-HEADER = (Path(__file__).resolve().parents[2] / "include" / "hechroung.h").read_text(encoding="utf-8")
+INCLUDE = Path(__file__).resolve().parents[2] / "include"
+HEADER, RAW = (Path(INCLUDE, name).read_text(encoding="utf-8") for name in ("hechroung.h", "hechroung_raw.h"))
 FIELDS = {
     "uint8_t": u8, "uint64_t": u64, "int64_t": i64, "size_t": size, "double": f64, "uint8_t *": octets,
     "uint32_t *": u32s, "uint64_t *": u64s, "int64_t *": i64s, "size_t *": sizes,
@@ -16,7 +17,7 @@ FIELDS = {
 
 def declared() -> dict[str, tuple]:
     """Of each extern function what it answers and the types of its parameters."""
-    found = re.findall(r"^extern (\w+) (\w+)\(([^)]*)\);", HEADER, re.MULTILINE)
+    found = re.findall(r"^extern (\w+) (\w+)\(([^)]*)\);", RAW, re.MULTILINE)
     return {name: (FIELDS[answer], tuple(map(field, parameters.split(",")))) for answer, name, parameters in found}
 
 
@@ -29,7 +30,8 @@ def test_functions():
     exported = [found for found in vars(_library).values() if hasattr(found, "fields")]
     ours = {function.__name__: (function.answer, function.fields) for function in exported}
     assert ours == declared()
-    assert len(ours) == len(re.findall(r"^extern [^;]*\bhechroung_\w+\(", HEADER, re.MULTILINE))
+    assert len(ours) == len(re.findall(r"^extern [^;]*\bhechroung_\w+\(", RAW, re.MULTILINE))
+    assert "extern uint8_t" not in HEADER
 
 
 def test_numbers():
@@ -39,3 +41,10 @@ def test_numbers():
     ours |= {"ABI": _library.LAYOUT, "MISUSED": errors.MISUSED}
     ours |= {f"VERSION_{part}": int(n) for part, n in zip(("MAJOR", "MINOR", "PATCH"), VERSION.split("."))}
     assert ours == {name: value for name, value in theirs.items() if name != "LONGEST_TEXT"}
+
+
+def test_codes():
+    """Those of steps and those of ends: the same names and numbers, no more and no fewer."""
+    found = re.findall(r"^ +HECHROUNG_(?:STEP|ENDS)_(\w+) = (\d+)", HEADER + RAW, re.MULTILINE)
+    theirs = {name: int(code) for name, code in found if name != "RECORD"}
+    assert theirs == {name: code for name, code in vars(codes).items() if name.isupper()}

@@ -30,6 +30,25 @@ static void same_summary(const struct hechroung_summary *a, const struct hechrou
     HOLDS(a->exact.quotient == b->exact.quotient && a->exact.remainder == b->exact.remainder);
 }
 
+/* Record by record, by its place and by its number, and written back as it was. */
+static void records(const struct input *input) {
+    uint8_t bytes[HECHROUNG_LONGEST_RECORD], again[HECHROUNG_LONGEST_RECORD], buffer[HECHROUNG_LONGEST_SHEET];
+    size_t at = 0, length = 0, place = 99, other = 98, count = 0;
+    uint8_t kind;
+    const uint8_t number = hechroung_open(input->at, input->left, &at, &place);
+    HOLDS(number <= 6 && (number == 0 || at == input->left));
+    HOLDS(hechroung_rewrite(input->at, input->left, buffer, sizeof buffer, &length, &other) == number);
+    HOLDS(place == other && length == (number == 0 ? input->left : 0) && memcmp(buffer, input->at, length) == 0);
+    while ((kind = hechroung_next(input->at, input->left, at, bytes, sizeof bytes, &length, &at)) != 0) {
+        HOLDS(kind == HECHROUNG_MODEL_RECORD || (kind == HECHROUNG_STEP_RECORD && length == 8));
+        HOLDS(hechroung_record(input->at, input->left, count, again, sizeof again) == length);
+        HOLDS(memcmp(bytes, again, length) == 0);
+        count++;
+    }
+    HOLDS(length == 0 && hechroung_record(input->at, input->left, count, again, sizeof again) == 0);
+    HOLDS(count <= HECHROUNG_MOST_MODELS + HECHROUNG_MOST_STEPS && (number == 0) == (count > 0));
+}
+
 /* By the struct, with shares, and as lines. */
 static void sheet(struct input *input) {
     struct hechroung_summary run, shared;
@@ -39,6 +58,7 @@ static void sheet(struct input *input) {
     size_t place = 99, other = 99;
     const uint8_t number = hechroung_run_sheet(input->at, input->left, &run, &place);
     const size_t length = hechroung_print(input->at, input->left, lines, sizeof lines);
+    records(input);
     model_in_form(number, &run.model);
     HOLDS(run.exact.remainder >= 0 && run.exact.remainder < HECHROUNG_DENOMINATOR);
     HOLDS(run.range.low <= run.range.high && run.integral.low <= run.integral.high);
@@ -201,6 +221,10 @@ static void null_pointers(struct input *input) {
     HOLDS(hechroung_run_sheet(NULL, input->left, &summary, NULL) == HECHROUNG_MISUSED);
     HOLDS(hechroung_run_sheet(input->at, input->left, NULL, NULL) == HECHROUNG_MISUSED);
     HOLDS(hechroung_run_models(1, 1, NULL, 2, NULL, 1, &summary, NULL) == HECHROUNG_MISUSED);
+    HOLDS(hechroung_print(input->at, input->left, NULL, 9) == 0 && hechroung_record(NULL, 9, 0, NULL, 9) == 0);
+    HOLDS(hechroung_rewrite(input->at, input->left, NULL, 9, &length, NULL) == HECHROUNG_MISUSED && length == 3);
+    HOLDS(hechroung_open(NULL, 9, &length, &length) == HECHROUNG_MISUSED && length == 3);
+    HOLDS(hechroung_next(input->at, input->left, 0, NULL, 9, &length, &length) == HECHROUNG_MISUSED && length == 3);
     HOLDS(hechroung_write_sheet(1, 1, &f, 1, NULL, 1, NULL, 9, &length, NULL) == HECHROUNG_MISUSED && length == 3);
     HOLDS(hechroung_negate(NULL, &answer) == HECHROUNG_MISUSED && hechroung_negate(&f, NULL) == HECHROUNG_MISUSED);
     HOLDS(hechroung_add(&f, NULL, &answer, NULL) == HECHROUNG_MISUSED);

@@ -1,7 +1,9 @@
-/* What include/hechroung.h adds to the proved functions: names for numbers, a sentence for each refusal, the version.
-   tools/try-header compiles this as C and as C++ and runs it. */
+/* What include/hechroung.h adds to the proved functions: names for numbers, a sentence for each refusal, the version,
+   and the calls on structs. tools/try-header compiles this as C and as C++ and runs it. */
+#include <hechroung_raw.h>
 #include <hechroung.h>
 #include <hechroung.h>
+#include <hechroung_raw.h>
 
 #include <stdio.h>
 #include <string.h>
@@ -106,8 +108,8 @@ static void steps(void) {
     struct hechroung_model input = hechroung_zero(1);
     struct hechroung_summary summary;
     uint8_t sheet[HECHROUNG_LONGEST_SHEET], bytes[HECHROUNG_LONGEST_RECORD];
-    uint64_t numbers[2];
-    size_t i, length, at;
+    uint8_t again[HECHROUNG_LONGEST_SHEET];
+    size_t i, length, at, record_length, again_length, place = 9;
     input.radius = 9;
     for (i = 0; i < sizeof all / sizeof all[0]; i++) {
         SAME(hechroung_run_models(1, 3, &input, 1, all, i + 1, &summary, NULL), HECHROUNG_ACCEPTED);
@@ -116,13 +118,69 @@ static void steps(void) {
         SAME(summary.model.radius, HECHROUNG_CAST_(uint64_t, expected[i][2]));
     }
     SAME(hechroung_write_sheet(1, 3, &input, 1, all, 1, sheet, sizeof sheet, &length, NULL), HECHROUNG_ACCEPTED);
-    SAME(hechroung_open(sheet, length, numbers, 2), HECHROUNG_ACCEPTED);
-    at = HECHROUNG_CAST_(size_t, numbers[1]);
-    SAME(hechroung_next(sheet, length, at, bytes, sizeof bytes, numbers, 2), HECHROUNG_MODEL_RECORD);
-    at = HECHROUNG_CAST_(size_t, numbers[1]);
-    SAME(hechroung_next(sheet, length, at, bytes, sizeof bytes, numbers, 2), HECHROUNG_STEP_RECORD);
-    at = HECHROUNG_CAST_(size_t, numbers[1]);
-    SAME(hechroung_next(sheet, length, at, bytes, sizeof bytes, numbers, 2), HECHROUNG_NO_RECORD);
+    SAME(hechroung_rewrite(sheet, length, again, sizeof again, &again_length, &place), HECHROUNG_ACCEPTED);
+    SAME(again_length, length);
+    SAME(memcmp(again, sheet, length), 0);
+    SAME(place, 0u);
+    SAME(hechroung_rewrite(sheet, length, again, length - 1, &again_length, NULL), HECHROUNG_SHORT_BUFFER);
+    SAME(again_length, 0u);
+    SAME(hechroung_open(sheet, length - 1, &at, &place), HECHROUNG_BAD_OFFSET);
+    SAME(at, length - 1);
+    SAME(hechroung_open(sheet, length, &at, NULL), HECHROUNG_ACCEPTED);
+    SAME(hechroung_next(sheet, length, at, bytes, sizeof bytes, &record_length, &at), HECHROUNG_MODEL_RECORD);
+    SAME(record_length, 5u);
+    SAME(hechroung_record(sheet, length, 0, bytes, sizeof bytes), 5u);
+    SAME(hechroung_next(sheet, length, at, bytes, sizeof bytes, &record_length, &at), HECHROUNG_STEP_RECORD);
+    SAME(record_length, 8u);
+    SAME(hechroung_record(sheet, length, 1, bytes, sizeof bytes), 8u);
+    SAME(bytes[0], HECHROUNG_STEP_INPUT);
+    SAME(hechroung_next(sheet, length, at, bytes, sizeof bytes, &record_length, &i), HECHROUNG_NO_RECORD);
+    SAME(record_length, 0u);
+    SAME(i, at);
+    SAME(hechroung_record(sheet, length, 2, bytes, sizeof bytes), 0u);
+    SAME(hechroung_print(sheet, length, bytes, 0), 31u);
+}
+
+/* A null pointer makes no call, and nothing is written. */
+static void null_pointers(void) {
+    uint8_t bytes[16];
+    size_t number = 7;
+    SAME(hechroung_print(NULL, 16, bytes, sizeof bytes), 0u);
+    SAME(hechroung_print(smallest, 16, NULL, 16), 0u);
+    SAME(hechroung_record(NULL, 16, 0, bytes, sizeof bytes), 0u);
+    SAME(hechroung_record(smallest, 16, 0, NULL, 8), 0u);
+    SAME(hechroung_rewrite(NULL, 16, bytes, sizeof bytes, &number, NULL), HECHROUNG_MISUSED);
+    SAME(hechroung_rewrite(smallest, 16, NULL, 16, &number, NULL), HECHROUNG_MISUSED);
+    SAME(hechroung_rewrite(smallest, 16, bytes, sizeof bytes, NULL, NULL), HECHROUNG_MISUSED);
+    SAME(hechroung_open(NULL, 16, &number, &number), HECHROUNG_MISUSED);
+    SAME(hechroung_open(smallest, 16, NULL, &number), HECHROUNG_MISUSED);
+    SAME(hechroung_next(NULL, 16, 0, bytes, sizeof bytes, &number, &number), HECHROUNG_MISUSED);
+    SAME(hechroung_next(smallest, 16, 0, NULL, 8, &number, &number), HECHROUNG_MISUSED);
+    SAME(hechroung_next(smallest, 16, 0, bytes, sizeof bytes, NULL, &number), HECHROUNG_MISUSED);
+    SAME(hechroung_next(smallest, 16, 0, bytes, sizeof bytes, &number, NULL), HECHROUNG_MISUSED);
+    SAME(number, 7u);
+}
+
+/* A call by each code, known ones refused for their n of 9: a step's input and quotient are no calls. */
+static void codes(void) {
+    const uint8_t known[] = {0, 1, 1, 1, 1, 1, 1, 1, 1, 0, 1, 0};
+    const uint32_t keys[1] = {0};
+    const int64_t coefficients[1] = {0};
+    struct hechroung_model answer;
+    struct hechroung_curve curve;
+    uint64_t numbers[4];
+    uint8_t code;
+    memset(&curve, 0, sizeof curve);
+    for (code = 0; code < sizeof known; code++) {
+        uint8_t number = hechroung_raw_call(code, 1, 1, 0, 9, 0, 0, keys, 1, coefficients, 1,
+                                            9, 0, 0, keys, 1, coefficients, 1, answer.keys, HECHROUNG_MOST_TERMS,
+                                            answer.coefficients, HECHROUNG_MOST_TERMS, numbers, 4);
+        SAME(number != HECHROUNG_MISUSED, known[code] != 0);
+        number = hechroung_raw_curve(code, curve.coefficients, HECHROUNG_CURVE_PLACES, 0,
+                                     curve.coefficients, HECHROUNG_CURVE_PLACES, 0,
+                                     answer.coefficients, HECHROUNG_CURVE_PLACES, numbers, 2);
+        SAME(number, code < HECHROUNG_STEP_NEGATE || code > HECHROUNG_STEP_MULTIPLY ? HECHROUNG_MISUSED : 0);
+    }
 }
 
 /* Whether the sentence of a refusal names the limit. */
@@ -161,6 +219,8 @@ static void words(void) {
 int main(void) {
     refusals();
     steps();
+    null_pointers();
+    codes();
     words();
     return failed;
 }

@@ -14,7 +14,7 @@
 //! # Ok::<(), hechroung::Refusal>(())
 //! ```
 
-use crate::raw::{self, HandedCurve};
+use crate::raw::{self, code, HandedCurve};
 use crate::{accepted, answered, Ends, Model, Refusal, CURVE_PLACES};
 
 /// A curve: the coefficients of T_0 to T_15, any of which may be 0, and a radius. Any field may hold anything; a call
@@ -44,23 +44,23 @@ impl Curve {
 
 /// All signs turned. Refusal 5.
 pub fn negate(f: &Curve) -> Result<Curve, Refusal> {
-    called(1, f, f)
+    called(code::NEGATE, f, f)
 }
 
 /// The sum. Refusals 5 at place 0 or 1, 7.
 pub fn add(f: &Curve, g: &Curve) -> Result<Curve, Refusal> {
-    called(2, f, g)
+    called(code::ADD, f, g)
 }
 
 /// The difference. Refusals 5 at place 0 or 1, 7.
 pub fn subtract(f: &Curve, g: &Curve) -> Result<Curve, Refusal> {
-    called(3, f, g)
+    called(code::SUBTRACT, f, g)
 }
 
 /// The product by T_i × T_j = (T_(i+j) + T_|i-j|) / 2; what is above T_15, and what rounding leaves, goes into the
 /// radius. Refusals 5 at place 0 or 1, 7.
 pub fn multiply(f: &Curve, g: &Curve) -> Result<Curve, Refusal> {
-    called(4, f, g)
+    called(code::MULTIPLY, f, g)
 }
 
 /// The range over [-1, 1]. Refusal 5.

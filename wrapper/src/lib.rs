@@ -65,7 +65,7 @@ pub use sheets::{open, rewrite, run, run_book, write};
 pub use sheets::{Book, Flat, Kind, Records, Report, Shares, Step, Summary};
 
 use core::fmt;
-use raw::{Handed, HandedModels, MISUSED};
+use raw::{code, ends_code, Handed, HandedModels, MISUSED};
 
 /// The version of this crate, which is that of include/hechroung.h.
 pub const VERSION: &str = env!("CARGO_PKG_VERSION");
@@ -148,12 +148,26 @@ impl Model {
 
     /// The constant `value`, in units. Refusals 3, 6.
     pub fn constant(n: u8, value: i64) -> Result<Model, Refusal> {
-        called(1, 0, 0, value, Handed { n, ..Handed::NONE }, Handed::NONE)
+        called(
+            code::CONSTANT,
+            0,
+            0,
+            value,
+            Handed { n, ..Handed::NONE },
+            Handed::NONE,
+        )
     }
 
     /// Variable i, from 1. Refusals 3, 6.
     pub fn variable(n: u8, i: u8) -> Result<Model, Refusal> {
-        called(2, 0, i, 0, Handed { n, ..Handed::NONE }, Handed::NONE)
+        called(
+            code::VARIABLE,
+            0,
+            i,
+            0,
+            Handed { n, ..Handed::NONE },
+            Handed::NONE,
+        )
     }
 
     /// The terms in use, each a key and a coefficient; a count above 64 has no more than 64.
@@ -175,27 +189,27 @@ impl Model {
 
 /// All signs turned. Refusal 5.
 pub fn negate(f: &Model) -> Result<Model, Refusal> {
-    called(3, 0, 0, 0, f.handed(), Handed::NONE)
+    called(code::NEGATE, 0, 0, 0, f.handed(), Handed::NONE)
 }
 
 /// The sum. Refusals 5 at place 0 or 1, 10, 8, 7.
 pub fn add(f: &Model, g: &Model) -> Result<Model, Refusal> {
-    called(4, 0, 0, 0, f.handed(), g.handed())
+    called(code::ADD, 0, 0, 0, f.handed(), g.handed())
 }
 
 /// The difference. Refusals 5 at place 0 or 1, 10, 8, 7.
 pub fn subtract(f: &Model, g: &Model) -> Result<Model, Refusal> {
-    called(5, 0, 0, 0, f.handed(), g.handed())
+    called(code::SUBTRACT, 0, 0, 0, f.handed(), g.handed())
 }
 
 /// The product; what is above degree d goes into the radius. Refusals 3, 5 at place 0 or 1, 10, 8, 7.
 pub fn multiply(d: u8, f: &Model, g: &Model) -> Result<Model, Refusal> {
-    called(6, d, 0, 0, f.handed(), g.handed())
+    called(code::MULTIPLY, d, 0, 0, f.handed(), g.handed())
 }
 
 /// g put in for variable i of f. Refusals 3, 5 at place 0 or 1, 10, 6, 9, then the first 8 or 7 inside.
 pub fn substitute(d: u8, i: u8, f: &Model, g: &Model) -> Result<Model, Refusal> {
-    called(7, d, i, 0, f.handed(), g.handed())
+    called(code::SUBSTITUTE, d, i, 0, f.handed(), g.handed())
 }
 
 /// f / g with order d, from a proposal: h should be near f / g and w near 1 / g. The answer is h's polynomial with a
@@ -234,7 +248,7 @@ pub fn quotient(d: u8, f: &Model, g: &Model, h: &Model, w: &Model) -> Result<Mod
 
 /// Terms but the constant one with |c| at most the threshold moved into the radius. Refusals 5, 6.
 pub fn sweep(f: &Model, threshold: i64) -> Result<Model, Refusal> {
-    called(8, 0, 0, threshold, f.handed(), Handed::NONE)
+    called(code::SWEEP, 0, 0, threshold, f.handed(), Handed::NONE)
 }
 
 /// The antiderivative of f in variable i that is 0 wherever that variable is 0; what is above degree d goes into the
@@ -249,12 +263,12 @@ pub fn sweep(f: &Model, threshold: i64) -> Result<Model, Refusal> {
 /// # Ok::<(), hechroung::Refusal>(())
 /// ```
 pub fn antiderivative(d: u8, i: u8, f: &Model) -> Result<Model, Refusal> {
-    called(9, d, i, 0, f.handed(), Handed::NONE)
+    called(code::ANTIDERIVATIVE, d, i, 0, f.handed(), Handed::NONE)
 }
 
 /// The range over the box. Refusal 5.
 pub fn range(f: &Model) -> Result<Ends, Refusal> {
-    bounds(1, f, &[])
+    bounds(ends_code::RANGE, f, &[])
 }
 
 /// The integral over the box, with the exact one of the model's polynomial. Refusal 5.
@@ -271,7 +285,7 @@ pub fn range(f: &Model) -> Result<Ends, Refusal> {
 /// # Ok::<(), hechroung::Refusal>(())
 /// ```
 pub fn integral(f: &Model) -> Result<Integral, Refusal> {
-    let [low, high, quotient, remainder] = ended(2, f, &[])?;
+    let [low, high, quotient, remainder] = ended(ends_code::INTEGRAL, f, &[])?;
     Ok(Integral {
         ends: Ends { low, high },
         exact: Exact {
@@ -283,7 +297,7 @@ pub fn integral(f: &Model) -> Result<Integral, Refusal> {
 
 /// The values at the point X_1/U, .., X_n/U; coordinates above n are 0. Refusals 5, 6, 9, 7.
 pub fn evaluate(f: &Model, point: [i64; MOST_VARS]) -> Result<Ends, Refusal> {
-    bounds(3, f, &point)
+    bounds(ends_code::EVALUATE, f, &point)
 }
 
 fn called(

@@ -10,6 +10,43 @@ pub const LAYOUT: &str = env!("HECHROUNG_LAYOUT");
 /// The answer to a call that is not one.
 pub const MISUSED: u8 = 255;
 
+/// The codes of a sheet's steps. [`call`] takes them but [`INPUT`](code::INPUT) and [`QUOTIENT`](code::QUOTIENT), which
+/// takes four models, [`curve`] those from [`NEGATE`](code::NEGATE) to [`MULTIPLY`](code::MULTIPLY).
+pub mod code {
+    /// One of a book's models.
+    pub const INPUT: u8 = 0;
+    /// A constant.
+    pub const CONSTANT: u8 = 1;
+    /// A variable.
+    pub const VARIABLE: u8 = 2;
+    /// All signs turned.
+    pub const NEGATE: u8 = 3;
+    /// The sum.
+    pub const ADD: u8 = 4;
+    /// The difference.
+    pub const SUBTRACT: u8 = 5;
+    /// The product.
+    pub const MULTIPLY: u8 = 6;
+    /// A model in the place of a variable.
+    pub const SUBSTITUTE: u8 = 7;
+    /// Small terms moved into the radius.
+    pub const SWEEP: u8 = 8;
+    /// The quotient, from a proposal.
+    pub const QUOTIENT: u8 = 9;
+    /// The antiderivative.
+    pub const ANTIDERIVATIVE: u8 = 10;
+}
+
+/// The codes of [`ends`].
+pub mod ends_code {
+    /// The range over the box.
+    pub const RANGE: u8 = 1;
+    /// The integral over the box.
+    pub const INTEGRAL: u8 = 2;
+    /// The value at a point.
+    pub const EVALUATE: u8 = 3;
+}
+
 /// A model that is handed over: the slices hold at least min(count, 64) places each.
 #[derive(Clone, Copy, Debug)]
 pub struct Handed<'a> {
@@ -62,7 +99,7 @@ macro_rules! exported {
         /// The types of the exported functions.
         pub mod signature {
             $(
-                #[doc = concat!("`", stringify!($name), "` of include/hechroung.h.")]
+                #[doc = concat!("`", stringify!($name), "` of include/hechroung_raw.h.")]
                 pub type $type = unsafe extern "C" fn($($argument: $of),*) -> $answer;
             )*
         }
@@ -71,7 +108,7 @@ macro_rules! exported {
 
 // A slice passes as a pointer and a length.
 exported! {
-    hechroung_call: Call = (
+    hechroung_raw_call: Call = (
         code: u8,
         d: u8,
         i: u8,
@@ -98,7 +135,7 @@ exported! {
         numbers_length: usize,
     ) -> u8;
 
-    hechroung_quotient: Quotient = (
+    hechroung_raw_divide: Quotient = (
         d: u8,
         ns: *const u8,
         ns_length: usize,
@@ -118,7 +155,7 @@ exported! {
         out_numbers_length: usize,
     ) -> u8;
 
-    hechroung_ends: Ends = (
+    hechroung_raw_ends: Ends = (
         code: u8,
         n: u8,
         count: usize,
@@ -133,7 +170,7 @@ exported! {
         ends_length: usize,
     ) -> u8;
 
-    hechroung_run: Run = (
+    hechroung_raw_run_sheet: Run = (
         sheet: *const u8,
         sheet_length: usize,
         keys: *mut u32,
@@ -146,7 +183,7 @@ exported! {
         ends_length: usize,
     ) -> u8;
 
-    hechroung_shares: Shares = (
+    hechroung_raw_shares_sheet: Shares = (
         sheet: *const u8,
         sheet_length: usize,
         keys: *mut u32,
@@ -161,14 +198,14 @@ exported! {
         shares_length: usize,
     ) -> u8;
 
-    hechroung_print: Print = (
+    hechroung_raw_print: Print = (
         sheet: *const u8,
         sheet_length: usize,
         text: *mut u8,
         text_length: usize,
     ) -> usize;
 
-    hechroung_rewrite: Rewrite = (
+    hechroung_raw_rewrite: Rewrite = (
         sheet: *const u8,
         sheet_length: usize,
         buffer: *mut u8,
@@ -177,7 +214,7 @@ exported! {
         numbers_length: usize,
     ) -> u8;
 
-    hechroung_record: Record = (
+    hechroung_raw_record: Record = (
         sheet: *const u8,
         sheet_length: usize,
         i: usize,
@@ -185,14 +222,14 @@ exported! {
         bytes_length: usize,
     ) -> usize;
 
-    hechroung_open: Open = (
+    hechroung_raw_open: Open = (
         sheet: *const u8,
         sheet_length: usize,
         numbers: *mut u64,
         numbers_length: usize,
     ) -> u8;
 
-    hechroung_next: Next = (
+    hechroung_raw_next: Next = (
         sheet: *const u8,
         sheet_length: usize,
         at: usize,
@@ -202,7 +239,7 @@ exported! {
         numbers_length: usize,
     ) -> u8;
 
-    hechroung_run_book: RunBook = (
+    hechroung_raw_run_models: RunBook = (
         n: u8,
         d: u8,
         model_count: usize,
@@ -231,7 +268,7 @@ exported! {
         ends_length: usize,
     ) -> u8;
 
-    hechroung_shares_book: SharesBook = (
+    hechroung_raw_shares_models: SharesBook = (
         n: u8,
         d: u8,
         model_count: usize,
@@ -262,7 +299,7 @@ exported! {
         shares_length: usize,
     ) -> u8;
 
-    hechroung_write: Write = (
+    hechroung_raw_write_sheet: Write = (
         n: u8,
         d: u8,
         model_count: usize,
@@ -287,7 +324,7 @@ exported! {
         numbers_length: usize,
     ) -> u8;
 
-    hechroung_curve: Curve = (
+    hechroung_raw_curve: Curve = (
         code: u8,
         coefficients1: *const i64,
         coefficients1_length: usize,
@@ -301,7 +338,7 @@ exported! {
         numbers_length: usize,
     ) -> u8;
 
-    hechroung_curve_range: CurveRange = (
+    hechroung_raw_range_of_curve: CurveRange = (
         coefficients: *const i64,
         coefficients_length: usize,
         radius: u64,
@@ -309,7 +346,7 @@ exported! {
         ends_length: usize,
     ) -> u8;
 
-    hechroung_to_powers: ToPowers = (
+    hechroung_raw_curve_to_powers: ToPowers = (
         coefficients: *const i64,
         coefficients_length: usize,
         radius: u64,
@@ -321,7 +358,7 @@ exported! {
         numbers_length: usize,
     ) -> u8;
 
-    hechroung_from_powers: FromPowers = (
+    hechroung_raw_curve_from_powers: FromPowers = (
         n: u8,
         count: usize,
         radius: u64,
@@ -335,7 +372,7 @@ exported! {
         out_numbers_length: usize,
     ) -> u8;
 
-    hechroung_cut_range: CutRange = (
+    hechroung_raw_range_cut: CutRange = (
         d: u8,
         i: u8,
         k: u8,
@@ -352,7 +389,7 @@ exported! {
         numbers_length: usize,
     ) -> u8;
 
-    hechroung_doubles: Doubles = (
+    hechroung_raw_from_doubles: Doubles = (
         c0: f64,
         c1: f64,
         c2: f64,
@@ -365,7 +402,7 @@ exported! {
         numbers_length: usize,
     ) -> u8;
 
-    hechroung_readings: Readings = (
+    hechroung_raw_hold: Readings = (
         n: u8,
         count: usize,
         radius: u64,
@@ -383,7 +420,7 @@ exported! {
         numbers_length: usize,
     ) -> u8;
 
-    hechroung_store: Store = (
+    hechroung_raw_store_model: Store = (
         n: u8,
         count: usize,
         radius: u64,
@@ -397,7 +434,7 @@ exported! {
         numbers_length: usize,
     ) -> u8;
 
-    hechroung_restore: Restore = (
+    hechroung_raw_restore_model: Restore = (
         bytes: *const u8,
         bytes_length: usize,
         terms: usize,
@@ -439,9 +476,8 @@ pub struct HandedBook<'a> {
     pub values: &'a [i64],
 }
 
-/// A call that answers with a model. Codes: 1 constant, 2 variable, 3 negate, 4 add, 5 subtract, 6 multiply,
-/// 7 substitute, 8 sweep, 9 antiderivative. It returns the refusal's number, 0 without one. 64 keys and 64 coefficients
-/// go into the slices, and the refusal's place, n, the count and the radius into `numbers`.
+/// A call that answers with a model, by its [`code`]. It returns the refusal's number, 0 without one. 64 keys and 64
+/// coefficients go into the slices, and the refusal's place, n, the count and the radius into `numbers`.
 #[allow(clippy::too_many_arguments)]
 #[must_use]
 pub fn call(
@@ -458,7 +494,7 @@ pub fn call(
     // SAFETY: each pointer comes from a slice that stays borrowed during the call, with the slice's own length, and no
     // two slices that are written overlap each other or one that is read. The contract asks for nothing else.
     unsafe {
-        hechroung_call(
+        hechroung_raw_call(
             code,
             d,
             i,
@@ -499,7 +535,7 @@ pub fn quotient(
 ) -> u8 {
     // SAFETY: as in `call`.
     unsafe {
-        hechroung_quotient(
+        hechroung_raw_divide(
             d,
             models.ns.as_ptr(),
             models.ns.len(),
@@ -521,15 +557,15 @@ pub fn quotient(
     }
 }
 
-/// A call that answers with two ends. Codes: 1 range, 2 integral, 3 evaluate at the first eight coordinates of `point`,
-/// which the others do not look at. It returns the refusal's number, 0 without one; the low and the high end go into
-/// `ends`, and after them the quotient and the remainder of the exact integral, or 0 for the other codes and above
-/// four variables.
+/// A call that answers with two ends, by its [`ends_code`]. Evaluate takes the first eight coordinates of `point`, which
+/// the others do not look at. It returns the refusal's number, 0 without one; the low and the high end go into `ends`,
+/// and after them the quotient and the remainder of the exact integral, or 0 for the other codes and above four
+/// variables.
 #[must_use]
 pub fn ends(code: u8, f: Handed<'_>, point: &[i64], ends: &mut [i64]) -> u8 {
     // SAFETY: as in `call`.
     unsafe {
-        hechroung_ends(
+        hechroung_raw_ends(
             code,
             f.n,
             f.count,
@@ -559,7 +595,7 @@ pub fn run(
 ) -> u8 {
     // SAFETY: as in `call`.
     unsafe {
-        hechroung_run(
+        hechroung_raw_run_sheet(
             sheet.as_ptr(),
             sheet.len(),
             keys.as_mut_ptr(),
@@ -587,7 +623,7 @@ pub fn shares(
 ) -> u8 {
     // SAFETY: as in `call`.
     unsafe {
-        hechroung_shares(
+        hechroung_raw_shares_sheet(
             sheet.as_ptr(),
             sheet.len(),
             keys.as_mut_ptr(),
@@ -607,7 +643,7 @@ pub fn shares(
 /// Runs a sheet to the program's lines: their length. As much of them as `text` has room for is put there.
 pub fn print(sheet: &[u8], text: &mut [u8]) -> usize {
     // SAFETY: as in `call`.
-    unsafe { hechroung_print(sheet.as_ptr(), sheet.len(), text.as_mut_ptr(), text.len()) }
+    unsafe { hechroung_raw_print(sheet.as_ptr(), sheet.len(), text.as_mut_ptr(), text.len()) }
 }
 
 /// Reads a sheet and writes what was read: the refusal's number, 0 without one. Its place and the length go into
@@ -616,7 +652,7 @@ pub fn print(sheet: &[u8], text: &mut [u8]) -> usize {
 pub fn rewrite(sheet: &[u8], buffer: &mut [u8], numbers: &mut [u64]) -> u8 {
     // SAFETY: as in `call`.
     unsafe {
-        hechroung_rewrite(
+        hechroung_raw_rewrite(
             sheet.as_ptr(),
             sheet.len(),
             buffer.as_mut_ptr(),
@@ -632,7 +668,7 @@ pub fn rewrite(sheet: &[u8], buffer: &mut [u8], numbers: &mut [u64]) -> u8 {
 pub fn record(sheet: &[u8], i: usize, bytes: &mut [u8]) -> usize {
     // SAFETY: as in `call`.
     unsafe {
-        hechroung_record(
+        hechroung_raw_record(
             sheet.as_ptr(),
             sheet.len(),
             i,
@@ -647,7 +683,7 @@ pub fn record(sheet: &[u8], i: usize, bytes: &mut [u8]) -> usize {
 pub fn write(book: HandedBook<'_>, buffer: &mut [u8], numbers: &mut [u64]) -> u8 {
     // SAFETY: as in `call`.
     unsafe {
-        hechroung_write(
+        hechroung_raw_write_sheet(
             book.n,
             book.d,
             book.model_count,
@@ -680,7 +716,7 @@ pub fn write(book: HandedBook<'_>, buffer: &mut [u8], numbers: &mut [u64]) -> u8
 pub fn open(sheet: &[u8], numbers: &mut [u64]) -> u8 {
     // SAFETY: as in `call`.
     unsafe {
-        hechroung_open(
+        hechroung_raw_open(
             sheet.as_ptr(),
             sheet.len(),
             numbers.as_mut_ptr(),
@@ -695,7 +731,7 @@ pub fn open(sheet: &[u8], numbers: &mut [u64]) -> u8 {
 pub fn next(sheet: &[u8], at: usize, bytes: &mut [u8], numbers: &mut [u64]) -> u8 {
     // SAFETY: as in `call`.
     unsafe {
-        hechroung_next(
+        hechroung_raw_next(
             sheet.as_ptr(),
             sheet.len(),
             at,
@@ -718,7 +754,7 @@ pub fn run_book(
 ) -> u8 {
     // SAFETY: as in `call`.
     unsafe {
-        hechroung_run_book(
+        hechroung_raw_run_models(
             book.n,
             book.d,
             book.model_count,
@@ -761,7 +797,7 @@ pub fn shares_book(
 ) -> u8 {
     // SAFETY: as in `call`.
     unsafe {
-        hechroung_shares_book(
+        hechroung_raw_shares_models(
             book.n,
             book.d,
             book.model_count,
@@ -803,8 +839,8 @@ pub struct HandedCurve<'a> {
     pub radius: u64,
 }
 
-/// A call on curves. Codes: 1 negate, 2 add, 3 subtract, 4 multiply. It returns the refusal's number, 0 without one. 16
-/// coefficients go into the slice, and the refusal's place and the radius into `numbers`.
+/// A call on curves, by its [`code`]: negate, add, subtract or multiply. It returns the refusal's number, 0 without one.
+/// 16 coefficients go into the slice, and the refusal's place and the radius into `numbers`.
 #[must_use]
 pub fn curve(
     code: u8,
@@ -815,7 +851,7 @@ pub fn curve(
 ) -> u8 {
     // SAFETY: as in `call`.
     unsafe {
-        hechroung_curve(
+        hechroung_raw_curve(
             code,
             f.coefficients.as_ptr(),
             f.coefficients.len(),
@@ -836,7 +872,7 @@ pub fn curve(
 pub fn curve_range(f: HandedCurve<'_>, ends: &mut [i64]) -> u8 {
     // SAFETY: as in `call`.
     unsafe {
-        hechroung_curve_range(
+        hechroung_raw_range_of_curve(
             f.coefficients.as_ptr(),
             f.coefficients.len(),
             f.radius,
@@ -856,7 +892,7 @@ pub fn to_powers(
 ) -> u8 {
     // SAFETY: as in `call`.
     unsafe {
-        hechroung_to_powers(
+        hechroung_raw_curve_to_powers(
             f.coefficients.as_ptr(),
             f.coefficients.len(),
             f.radius,
@@ -876,7 +912,7 @@ pub fn to_powers(
 pub fn from_powers(f: Handed<'_>, coefficients: &mut [i64], numbers: &mut [u64]) -> u8 {
     // SAFETY: as in `call`.
     unsafe {
-        hechroung_from_powers(
+        hechroung_raw_curve_from_powers(
             f.n,
             f.count,
             f.radius,
@@ -898,7 +934,7 @@ pub fn from_powers(f: Handed<'_>, coefficients: &mut [i64], numbers: &mut [u64])
 pub fn cut_range(d: u8, i: u8, k: u8, f: Handed<'_>, ends: &mut [i64], numbers: &mut [u64]) -> u8 {
     // SAFETY: as in `call`.
     unsafe {
-        hechroung_cut_range(
+        hechroung_raw_range_cut(
             d,
             i,
             k,
@@ -929,7 +965,7 @@ pub fn doubles(
 ) -> u8 {
     // SAFETY: as in `call`.
     unsafe {
-        hechroung_doubles(
+        hechroung_raw_from_doubles(
             c0,
             c1,
             c2,
@@ -961,7 +997,7 @@ pub struct HandedReadings<'a> {
 pub fn readings(f: Handed<'_>, rows: HandedReadings<'_>, numbers: &mut [u64]) -> u8 {
     // SAFETY: as in `call`.
     unsafe {
-        hechroung_readings(
+        hechroung_raw_hold(
             f.n,
             f.count,
             f.radius,
@@ -987,7 +1023,7 @@ pub fn readings(f: Handed<'_>, rows: HandedReadings<'_>, numbers: &mut [u64]) ->
 pub fn store(model: Handed<'_>, buffer: &mut [u8], numbers: &mut [u64]) -> u8 {
     // SAFETY: as in `call`.
     unsafe {
-        hechroung_store(
+        hechroung_raw_store_model(
             model.n,
             model.count,
             model.radius,
@@ -1015,7 +1051,7 @@ pub fn restore(
 ) -> u8 {
     // SAFETY: as in `call`.
     unsafe {
-        hechroung_restore(
+        hechroung_raw_restore_model(
             bytes.as_ptr(),
             bytes.len(),
             terms,

@@ -44,6 +44,42 @@ fn the_header_has_the_same_limits() {
     assert_eq!(hechroung::LONGEST_TEXT, proved);
 }
 
+/// The number of this name in an enum of C.
+fn code_of(header: &str, name: &str) -> u8 {
+    let words = format!("    HECHROUNG_{name} = ");
+    let line = header.lines().find_map(|line| line.strip_prefix(&words));
+    let number = line.expect(name).trim_end_matches(',');
+    number.parse().expect(name)
+}
+
+#[test]
+fn the_headers_have_the_same_codes() {
+    use hechroung::raw::{code, ends_code};
+    let (header, raw) = (text("include/hechroung.h"), text("include/hechroung_raw.h"));
+    for (name, expected) in [
+        ("INPUT", code::INPUT),
+        ("CONSTANT", code::CONSTANT),
+        ("VARIABLE", code::VARIABLE),
+        ("NEGATE", code::NEGATE),
+        ("ADD", code::ADD),
+        ("SUBTRACT", code::SUBTRACT),
+        ("MULTIPLY", code::MULTIPLY),
+        ("SUBSTITUTE", code::SUBSTITUTE),
+        ("SWEEP", code::SWEEP),
+        ("QUOTIENT", code::QUOTIENT),
+        ("ANTIDERIVATIVE", code::ANTIDERIVATIVE),
+    ] {
+        assert_eq!(code_of(&header, &format!("STEP_{name}")), expected);
+    }
+    for (name, expected) in [
+        ("RANGE", ends_code::RANGE),
+        ("INTEGRAL", ends_code::INTEGRAL),
+        ("EVALUATE", ends_code::EVALUATE),
+    ] {
+        assert_eq!(code_of(&raw, &format!("ENDS_{name}")), expected);
+    }
+}
+
 #[test]
 fn the_header_has_the_same_version_and_layout() {
     let header = text("include/hechroung.h");

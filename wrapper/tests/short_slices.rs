@@ -394,7 +394,7 @@ fn a_call_needs_its_places_and_room() {
     let mut three = [i64::from(MARK); 3];
     assert_eq!(raw::ends(1, Handed::NONE, &[], &mut three), MISUSED);
     assert_eq!(three, [i64::from(MARK); 3]);
-    for code in [0, 10, 255] {
+    for code in [0, 9, 11, 255] {
         let mut room = Room::new([64, 64, 4, 4]);
         let none = Handed::NONE;
         let called = raw::call(
@@ -471,7 +471,7 @@ fn a_point_has_eight_coordinates() {
     }
 }
 
-/// Code 9, the antiderivative: order and variable are tested, the second model is not looked at.
+/// Code 10, the antiderivative: order and variable are tested, the second model is not looked at.
 #[test]
 fn an_antiderivative_takes_its_order_and_its_variable() {
     let x = Handed {
@@ -498,7 +498,7 @@ fn an_antiderivative_takes_its_order_and_its_variable() {
     for ((d, i), number, numbers) in expected {
         let mut room = Room::new([64, 64, 4, 0]);
         let called = raw::call(
-            9,
+            10,
             d,
             i,
             i64::MIN,
@@ -634,13 +634,13 @@ fn a_call_on_curves_needs_16_coefficients_of_each_and_room() {
         (number, stored, written)
     };
     // The second curve of negate is not looked at, but its length is.
-    for code in 1..=4 {
+    for code in 3..=6 {
         assert_eq!(called(code, SHORT_CURVE, CURVE, 16, 2), MARKED, "{code}");
         assert_eq!(called(code, CURVE, SHORT_CURVE, 16, 2), MARKED, "{code}");
         assert_eq!(called(code, CURVE, CURVE, 15, 2), MARKED, "{code}");
         assert_eq!(called(code, CURVE, CURVE, 16, 1), MARKED, "{code}");
     }
-    for code in [0, 5, 255] {
+    for code in [0, 1, 2, 7, 255] {
         assert_eq!(called(code, CURVE, CURVE, 16, 2), MARKED, "{code}");
     }
     let broken = HandedCurve {
@@ -649,11 +649,11 @@ fn a_call_on_curves_needs_16_coefficients_of_each_and_room() {
     };
     // The number; the first three coefficients, and the place and the radius. 9 T_1 T_1 is too small to count.
     for (code, g, number, first, numbers) in [
-        (1, broken, 0, [0, -3, 0], [0, 2]),
-        (2, CURVE, 0, [0, 6, 0], [0, 4]),
-        (3, CURVE, 0, [0, 0, 0], [0, 4]),
-        (4, CURVE, 0, [0, 0, 0], [0, 1]),
-        (2, broken, 5, [0, 0, 0], [1, 0]),
+        (3, broken, 0, [0, -3, 0], [0, 2]),
+        (4, CURVE, 0, [0, 6, 0], [0, 4]),
+        (5, CURVE, 0, [0, 0, 0], [0, 4]),
+        (6, CURVE, 0, [0, 0, 0], [0, 1]),
+        (4, broken, 5, [0, 0, 0], [1, 0]),
     ] {
         let mut coefficients = [0; 16];
         coefficients[..3].copy_from_slice(&first);

@@ -1,5 +1,5 @@
 -- The single calls on models that are handed over: the call that a code names, and what the slices hold at the end.
-use mathlib.Core.Bool.{Bool, true, false, _&&_, cond}
+use mathlib.Core.Bool.{Bool, true, false, _&&_, _||_, cond}
 use mathlib.Core.List.{List, [], _∷_}
 use Prim.Native.Nat.{ℕ}
 use lib.Dec.{eqb, leb}
@@ -20,8 +20,12 @@ use Rattle.model_types.specs.ModelStruct.{answer, integral-answer, verdict-numb
 use Rattle.model_slices.specs.HandedModels.{lent, misused, over, stored-keys, stored-coefficients, stored-numbers}
 
 -- ---- the calls by their codes
--- the call that a code names: 1 to 8 as for a sheet's steps, 9 the antiderivative; constant and variable take the n of
--- the first model
+-- whether a code names a call that answers with a model: as a sheet's steps 1 to 8 and 10, the antiderivative, but not
+-- 9, the quotient, which takes four models
+unfoldable pub call-known : (code : ℕ) → Bool
+call-known code = eqb code 10 || (leb 1 code && leb code 8)
+
+-- the call that it names; constant and variable take the n of the first model
 unfoldable pub model-call : (code d i : ℕ) (v : ℤ) (f g : C.Model) → Result C.Model
 model-call code d i v f g =
     cond (eqb code 1) (call-constant (f .vars) v)
@@ -80,7 +84,7 @@ stored-answer a ks cs ns =
 
 -- whether the code is known and the slices are long enough
 unfoldable pub call-fits : (code count₁ keys₁ coefficients₁ count₂ keys₂ coefficients₂ : ℕ) (room : Bool) → Bool
-call-fits code c₁ k₁ z₁ c₂ k₂ z₂ room = leb 1 code && leb code 9 && lent c₁ k₁ z₁ && lent c₂ k₂ z₂ && room
+call-fits code c₁ k₁ z₁ c₂ k₂ z₂ room = call-known code && lent c₁ k₁ z₁ && lent c₂ k₂ z₂ && room
 
 -- a call that fits is answered, any other returns 255 and changes nothing
 unfoldable pub called : (fits : Bool) → Result C.Model → List ℕ → List ℤ → List ℕ → Called

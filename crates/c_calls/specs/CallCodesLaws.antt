@@ -1,7 +1,7 @@
--- What a call that fits has room for, two ends alone as structs, and how large a remainder is.
+-- Which codes name a call, what a call that fits has room for, two ends alone as structs, and how large a remainder is.
 use mathlib.Core.Path.{_≡_, refl, sym, subst}
 use mathlib.Core.Bool.{Bool, true, false, _&&_, cond}
-use mathlib.Core.List.{List}
+use mathlib.Core.List.{List, [], _∷_, map}
 use Prim.Native.Nat.{ℕ, _^_, _≤_, _<_}
 use native.Mathlib.Omega.{arith}
 use lib.Dec.{T, eqb, leb, leb→le}
@@ -18,15 +18,22 @@ use Rattle.calculus_laws.specs.TestLaws.{and-right}
 use Rattle.model_types.specs.ModelStruct.{bounds, integral-answer}
 use Rattle.model_slices.specs.HandedModels.{lent, answer-numbers, model-room}
 use Rattle.model_slices.specs.HandedModelsLaws.{room-parts}
-use Rattle.c_calls.specs.CallCodes.{alone, ends-alone, ends-call, call-fits, ends-call-fits}
+use Rattle.c_calls.specs.CallCodes.{call-known, alone, ends-alone, ends-call, call-fits, ends-call-fits}
 use Rattle.c_calls.specs.CallCodes.{point-fits}
+
+-- codes 0 to 11: a step's 0, an input, and 9, a quotient, are no calls
+pub known-codes :
+    map call-known (0 ∷ 1 ∷ 2 ∷ 3 ∷ 4 ∷ 5 ∷ 6 ∷ 7 ∷ 8 ∷ 9 ∷ 10 ∷ 11 ∷ [])
+    ≡ false ∷ true ∷ true ∷ true ∷ true ∷ true ∷ true ∷ true ∷ true ∷ false ∷ true ∷ false ∷ []
+unfolding call-known
+known-codes = refl
 
 pub fits-room : (code c₁ k₁ z₁ c₂ k₂ z₂ k z n : ℕ) → call-fits code c₁ k₁ z₁ c₂ k₂ z₂ (model-room k z n) ≡ true
     → (most-terms ≤ k) × (most-terms ≤ z) × (answer-numbers ≤ n)
 unfolding call-fits
 fits-room code c₁ k₁ z₁ c₂ k₂ z₂ k z n h =
     room-parts k z n
-    (and-right (leb 1 code && leb code 9 && lent c₁ k₁ z₁ && lent c₂ k₂ z₂) (model-room k z n) (subst T (sym h) tt))
+    (and-right (call-known code && lent c₁ k₁ z₁ && lent c₂ k₂ z₂) (model-room k z n) (subst T (sym h) tt))
 
 pub fits-ends : (code c k z p e : ℕ) → ends-call-fits code c k z p e ≡ true → 4 ≤ e
 unfolding ends-call-fits

@@ -5,7 +5,8 @@ ghost use lib.ListN.{length};
 ghost use Rattle.calculus.specs.Model.{«most-terms»};
 ghost use Rattle.model_types.specs.ModelStruct.{view, answer, «integral-answer»};
 ghost use Rattle.model_slices.specs.HandedModels.{«answer-numbers»};
-ghost use Rattle.c_calls.specs.CallCodes.{«model-call», «ends-call», «call-fits», «ends-call-fits»};
+ghost use Rattle.c_calls.specs.CallCodes.{«model-call», «ends-call», «call-known», «call-fits»};
+ghost use Rattle.c_calls.specs.CallCodes.{«ends-call-fits»};
 ghost use Rattle.c_calls.specs.CallCodes.{«called-state», «stored-answer», «ends-alone», «ends-state»};
 ghost use Rattle.c_calls.specs.CallCodes.{«stored-integral», coordinate, coordinates, «point-fits»};
 use model::Answer;
@@ -23,40 +24,62 @@ const ENDS: usize = 4;
 // The coordinates of a point.
 const COORDINATES: usize = model_types::MOST_VARS as usize;
 
-// The last code of a call that answers with a model, and of one that answers with two ends.
-const ANTIDERIVATIVE: u8 = 9;
+// The codes of calls that answer with a model are those of a sheet's steps. Code 9, the quotient, is none of them: it
+// takes four models.
+const CONSTANT: u8 = 1;
+
+const VARIABLE: u8 = 2;
+
+const NEGATE: u8 = 3;
+
+const ADD: u8 = 4;
+
+const SUBTRACT: u8 = 5;
+
+pub const MULTIPLY: u8 = 6;
+
+const SUBSTITUTE: u8 = 7;
+
+const SWEEP: u8 = 8;
+
+const ANTIDERIVATIVE: u8 = 10;
+
+// The codes of calls that answer with two ends, which no step does.
+const RANGE: u8 = 1;
+
+const INTEGRAL: u8 = 2;
 
 const EVALUATE: u8 = 3;
 
-// The call that a code names: 1 constant, 2 variable, 3 negate, 4 add, 5 subtract, 6 multiply, 7 substitute, 8 sweep,
-// any other antiderivative. The constructors take the n of the first model, which is handed over beside it: read here,
-// it would have the compiler take the model apart and copy it.
+// The call that a code names, the antiderivative for any that the others do not have. The constructors take the n of
+// the first model, which is handed over beside it: read here, it would have the compiler take the model apart and copy
+// it.
 pub fn model_call(code: u8, d: u8, i: u8, value: i64, n: u8, f: Model, g: Model) -> Answer
     requires { ⌜ n ≡ f .n ⌝ }
     ensures { λ r. ⌜ r ≡ answer (model-call code d i value (view f) (view g)) ⌝ }
 {
-    if code == 1 {
+    if code == CONSTANT {
         return Model::constant(n, value);
     }
-    if code == 2 {
+    if code == VARIABLE {
         return Model::variable(n, i);
     }
-    if code == 3 {
+    if code == NEGATE {
         return model::negate(f);
     }
-    if code == 4 {
+    if code == ADD {
         return model::add(f, g);
     }
-    if code == 5 {
+    if code == SUBTRACT {
         return model::subtract(f, g);
     }
-    if code == 6 {
+    if code == MULTIPLY {
         return model::multiply(d, f, g);
     }
-    if code == 7 {
+    if code == SUBSTITUTE {
         return model::substitute(d, i, f, g);
     }
-    if code == 8 {
+    if code == SWEEP {
         return model::sweep(f, value);
     }
     model::antiderivative(d, i, f)
@@ -103,15 +126,15 @@ pub fn coordinates(point: &[i64]) -> [i64; model_types::MOST_VARS as usize]
     [x1, x2, x3, x4, x5, x6, x7, x8]
 }
 
-// The call that a code names: 1 range, 2 integral, any other evaluate. Of the three only an integral has a quotient and
-// a remainder.
+// The call that a code names, evaluate for any that the others do not have. Of the three only an integral has a
+// quotient and a remainder.
 pub fn ends_call(code: u8, xs: [i64; model_types::MOST_VARS as usize], f: Model) -> Integral
     ensures { λ r. ⌜ r ≡ integral-answer (ends-call code xs (view f)) ⌝ }
 {
-    if code == 1 {
+    if code == RANGE {
         return alone(model::range(f));
     }
-    if code == 2 {
+    if code == INTEGRAL {
         return model::integral(f);
     }
     alone(model::evaluate(f, xs))
@@ -136,6 +159,19 @@ pub fn store_answer(
     model_slices::verdict_number(v)
 }
 
+// Whether a code names a call that answers with a model: 1 to 8, and 10.
+fn call_known(code: u8) -> bool
+    ensures { λ r. ⌜ r ≡ call-known code ⌝ }
+{
+    if code == ANTIDERIVATIVE {
+        return true;
+    }
+    if code < CONSTANT {
+        return false;
+    }
+    code <= SWEEP
+}
+
 // Whether a call that answers with a model is one: its code is known and its slices are long enough.
 pub fn call_fits(
     code: u8,
@@ -149,10 +185,7 @@ pub fn call_fits(
 ) -> bool
     ensures { λ r. ⌜ r ≡ call-fits code count1 keys1 coefficients1 count2 keys2 coefficients2 room ⌝ }
 {
-    if code < 1 {
-        return false;
-    }
-    if ANTIDERIVATIVE < code {
+    if !call_known(code) {
         return false;
     }
     if !model_slices::lent(count1, keys1, coefficients1) {
@@ -185,7 +218,7 @@ pub fn ends_call_fits(
 ) -> bool
     ensures { λ r. ⌜ r ≡ ends-call-fits code count keys coefficients point ends ⌝ }
 {
-    if code < 1 {
+    if code < RANGE {
         return false;
     }
     if EVALUATE < code {

@@ -20,12 +20,12 @@ use Rattle.model_slices.specs.HandedModels.{lent, misused, over}
 unfoldable pub handed-curve : List ℤ → (radius : ℕ) → C.Curve
 handed-curve cs radius = record { coefficients = take places cs; radius = radius }
 
--- the call that a code names: 1 negate, 2 add, 3 subtract, 4 multiply
+-- the call that a code names, as in a sheet's steps: 3 negate, 4 add, 5 subtract, 6 multiply
 unfoldable pub curve-call : (code : ℕ) (f g : C.Curve) → Result C.Curve
 curve-call code f g =
-    cond (eqb code 1) (call-negate f)
-    (cond (eqb code 2) (call-add f g)
-    (cond (eqb code 3) (call-subtract f g)
+    cond (eqb code 3) (call-negate f)
+    (cond (eqb code 4) (call-add f g)
+    (cond (eqb code 5) (call-subtract f g)
     (call-multiply f g)))
 
 -- ---- a call that answers with a curve
@@ -56,7 +56,7 @@ curve-room coefficients numbers = leb places coefficients && leb curve-numbers n
 -- whether the code is known, both curves have sixteen coefficients, and there is room
 unfoldable pub curve-fits : (code coefficients₁ coefficients₂ : ℕ) (room : Bool) → Bool
 curve-fits code c₁ c₂ room =
-    leb 1 code && leb code 4 && leb places c₁ && leb places c₂ && room
+    leb 3 code && leb code 6 && leb places c₁ && leb places c₂ && room
 
 -- a call that fits is answered, any other returns 255 and changes nothing
 unfoldable pub called-curve : (fits : Bool) → Result C.Curve → List ℤ → List ℕ → Called-curve

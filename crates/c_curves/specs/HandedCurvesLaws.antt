@@ -55,20 +55,20 @@ module _ (code c₁ c₂ c n : ℕ) (h : curve-fits code c₁ c₂ (curve-room c
   unfolding curve-fits
   fits-curve-room =
       curve-parts c n
-      (and-right (leb 1 code && leb code 4 && leb places c₁ && leb places c₂) (curve-room c n) (subst T (sym h) tt))
+      (and-right (leb 3 code && leb code 6 && leb places c₁ && leb places c₂) (curve-room c n) (subst T (sym h) tt))
 
-  both : T (leb 1 code && leb code 4 && leb places c₁ && leb places c₂)
+  both : T (leb 3 code && leb code 6 && leb places c₁ && leb places c₂)
   unfolding curve-fits
-  both = and-left (leb 1 code && leb code 4 && leb places c₁ && leb places c₂) (curve-room c n) (subst T (sym h) tt)
+  both = and-left (leb 3 code && leb code 6 && leb places c₁ && leb places c₂) (curve-room c n) (subst T (sym h) tt)
 
   pub fits-second : places ≤ c₂
-  fits-second = leb→le places c₂ (and-right (leb 1 code && leb code 4 && leb places c₁) (leb places c₂) both)
+  fits-second = leb→le places c₂ (and-right (leb 3 code && leb code 6 && leb places c₁) (leb places c₂) both)
 
   pub fits-first : places ≤ c₁
   fits-first =
       leb→le places c₁
-      (and-right (leb 1 code && leb code 4) (leb places c₁)
-      (and-left (leb 1 code && leb code 4 && leb places c₁) (leb places c₂) both))
+      (and-right (leb 3 code && leb code 6) (leb places c₁)
+      (and-left (leb 3 code && leb code 6 && leb places c₁) (leb places c₂) both))
 
 module _ (c e : ℕ) (h : range-fits c e ≡ true) where
   pub fits-range : places ≤ c

@@ -13,8 +13,14 @@ use model_curves::Bounds;
 use model_curves::Curve;
 use model_curves::CurveAnswer;
 
-// The last code of a call that answers with a curve.
-const MULTIPLY: u8 = 4;
+// The codes of calls that answer with a curve, those of a sheet's steps for models.
+const NEGATE: u8 = 3;
+
+const ADD: u8 = 4;
+
+const SUBTRACT: u8 = 5;
+
+const MULTIPLY: u8 = 6;
 
 // The numbers of a curve's answer: the refusal's place and the radius.
 const NUMBERS: usize = 2;
@@ -40,17 +46,17 @@ pub fn handed_curve(coefficients: &[i64], radius: u64) -> Curve
     }
 }
 
-// The call that a code names: 1 negate, 2 add, 3 subtract, any other multiply.
+// The call that a code names, the product for any that the others do not have.
 pub fn curve_call(code: u8, f: Curve, g: Curve) -> CurveAnswer
     ensures { λ r. ⌜ r ≡ curve-answer (curve-call code (view-curve f) (view-curve g)) ⌝ }
 {
-    if code == 1 {
+    if code == NEGATE {
         return model_curves::negate(f);
     }
-    if code == 2 {
+    if code == ADD {
         return model_curves::add(f, g);
     }
-    if code == 3 {
+    if code == SUBTRACT {
         return model_curves::subtract(f, g);
     }
     model_curves::multiply(f, g)
@@ -97,7 +103,7 @@ pub fn curve_room(coefficients: usize, numbers: usize) -> bool
 pub fn curve_fits(code: u8, coefficients1: usize, coefficients2: usize, room: bool) -> bool
     ensures { λ r. ⌜ r ≡ curve-fits code coefficients1 coefficients2 room ⌝ }
 {
-    if code < 1 {
+    if code < NEGATE {
         return false;
     }
     if MULTIPLY < code {

@@ -2,12 +2,12 @@
 use mathlib.Core.Path.{_≡_, refl, sym, ap, subst}
 use mathlib.Core.Bool.{Bool, true, false, _&&_}
 use Prim.Native.Nat.{ℕ}
-use lib.Dec.{T, leb}
+use lib.Dec.{T}
 use lib.IntN.{ℤ}
 use Rattle.calculus.specs.Model.{Model}
 use Rattle.calculus.specs.Calls.{call-multiply}
 use Rattle.model_slices.specs.HandedModels.{lent}
-use Rattle.c_calls.specs.CallCodes.{model-call, call-fits}
+use Rattle.c_calls.specs.CallCodes.{model-call, call-known, call-fits}
 
 -- code 6 names the product
 pub product-code : (code d i : ℕ) (v : ℤ) (f g : Model) → code ≡ 6
@@ -20,11 +20,10 @@ pub fits-lent : (code c₁ k₁ z₁ c₂ k₂ z₂ : ℕ) (room : Bool) → cal
     → (lent c₁ k₁ z₁ ≡ true) × (lent c₂ k₂ z₂ ≡ true)
 unfolding call-fits
 fits-lent code c₁ k₁ z₁ c₂ k₂ z₂ room h =
-    parts (leb 1 code) (leb code 9) (lent c₁ k₁ z₁) (lent c₂ k₂ z₂) room (subst T (sym h) tt)
+    parts (call-known code) (lent c₁ k₁ z₁) (lent c₂ k₂ z₂) room (subst T (sym h) tt)
   where
-    parts : (a b c d e : Bool) → T (a && b && c && d && e) → (c ≡ true) × (d ≡ true)
-    parts true true true true e t = (refl, refl)
-    parts true true true false e t = absurd t
-    parts true true false d e t = absurd t
-    parts true false c d e t = absurd t
-    parts false b c d e t = absurd t
+    parts : (a b c d : Bool) → T (a && b && c && d) → (b ≡ true) × (c ≡ true)
+    parts true true true d t = (refl, refl)
+    parts true true false d t = absurd t
+    parts true false c d t = absurd t
+    parts false b c d t = absurd t

@@ -10,7 +10,7 @@ use model_types::Key;
 // A model is stored in the archive's form, from the buffer's start on: the refusal's number, 0 without one, or MISUSED.
 // The refusal's place and the length go into the numbers; bytes beyond the length stay, all of them with a refusal.
 #[no_mangle]
-pub extern "C" fn hechroung_store(
+pub extern "C" fn hechroung_raw_store_model(
     n: u8,
     count: usize,
     radius: u64,
@@ -36,7 +36,7 @@ pub extern "C" fn hechroung_store(
 // without one, or MISUSED. The answer's 64 keys and coefficients go into two slices, the refusal's place, n, the count
 // and the radius into the third.
 #[no_mangle]
-pub extern "C" fn hechroung_restore(
+pub extern "C" fn hechroung_raw_restore_model(
     bytes: &[u8],
     terms: usize,
     keys: &mut [Key],

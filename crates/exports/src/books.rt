@@ -13,7 +13,7 @@ use model_types::Key;
 // A book is written as a sheet into the buffer: the refusal's number, 0 without one, or MISUSED. The refusal's place
 // and the length go into the numbers.
 #[no_mangle]
-pub extern "C" fn hechroung_write(
+pub extern "C" fn hechroung_raw_write_sheet(
     n: u8,
     d: u8,
     modelcount: usize,
@@ -60,7 +60,7 @@ pub extern "C" fn hechroung_write(
 // A sheet is read, and what was read is written into the buffer: the refusal's number, 0 without one, or MISUSED. The
 // refusal's place and the length go into the numbers.
 #[no_mangle]
-pub extern "C" fn hechroung_rewrite(sheet: &[u8], buffer: &mut [u8], numbers: &mut [u64]) -> u8
+pub extern "C" fn hechroung_raw_rewrite(sheet: &[u8], buffer: &mut [u8], numbers: &mut [u64]) -> u8
     ensures { λ r. ⌜ write-state r (now (buffer .exit)) (now (numbers .exit))
         ≡ called-rewrite (leb 2 (length (now (numbers .entry)))) (read-answer (read (now (sheet .entry))))
         (now (buffer .entry)) (now (numbers .entry)) ⌝ }

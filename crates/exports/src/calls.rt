@@ -7,13 +7,11 @@ ghost use Rattle.c_calls.specs.CallCodes.{«model-call», «ends-call», «call
 ghost use Rattle.c_calls.specs.CallCodes.{«called-state», called, «ends-state», «called-ends», coordinates};
 use model_types::Key;
 
-// The code of a product, which is made from the slices.
-const MULTIPLY: u8 = 6;
-
 // A call that answers with a model: the refusal's number, 0 without one, or MISUSED. The answer's 64 keys and
-// coefficients go into two slices, the refusal's place, n, the count and the radius into the third.
+// coefficients go into two slices, the refusal's place, n, the count and the radius into the third. A product is
+// made from the slices.
 #[no_mangle]
-pub extern "C" fn hechroung_call(
+pub extern "C" fn hechroung_raw_call(
     code: u8,
     d: u8,
     i: u8,
@@ -57,7 +55,7 @@ pub extern "C" fn hechroung_call(
     ) {
         return c_calls::MISUSED;
     }
-    if code == MULTIPLY {
+    if code == c_calls::MULTIPLY {
         return c_products::multiply(
             d,
             n1,
@@ -85,7 +83,7 @@ pub extern "C" fn hechroung_call(
 // remainder go into the slice; the last two are 0 but for an integral. Evaluate takes the first eight coordinates of
 // the point, the others do not look at it. The place of every refusal is 0.
 #[no_mangle]
-pub extern "C" fn hechroung_ends(
+pub extern "C" fn hechroung_raw_ends(
     code: u8,
     n: u8,
     count: usize,

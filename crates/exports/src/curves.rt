@@ -14,7 +14,7 @@ use model_types::Key;
 // A call that answers with a curve: the refusal's number, 0 without one, or MISUSED. Sixteen coefficients go into a
 // slice, the refusal's place and the radius into another one.
 #[no_mangle]
-pub extern "C" fn hechroung_curve(
+pub extern "C" fn hechroung_raw_curve(
     code: u8,
     coefficients1: &[i64],
     radius1: u64,
@@ -44,7 +44,11 @@ pub extern "C" fn hechroung_curve(
 // The range of a curve: the refusal's number, 0 without one, or MISUSED. Both ends go into the slice. The place of
 // every refusal is 0.
 #[no_mangle]
-pub extern "C" fn hechroung_curve_range(coefficients: &[i64], radius: u64, ends: &mut [i64]) -> u8
+pub extern "C" fn hechroung_raw_range_of_curve(
+    coefficients: &[i64],
+    radius: u64,
+    ends: &mut [i64],
+) -> u8
     ensures { λ r. ⌜ range-state r (now (ends .exit))
         ≡ called-range (range-fits (length (now (coefficients .entry))) (length (now (ends .entry))))
         (call-range (handed-curve (now (coefficients .entry)) radius)) (now (ends .entry)) ⌝ }
@@ -60,7 +64,7 @@ pub extern "C" fn hechroung_curve_range(coefficients: &[i64], radius: u64, ends:
 // A curve in powers: the refusal's number, 0 without one, or MISUSED. The model goes into three slices as the answer of
 // a single call does.
 #[no_mangle]
-pub extern "C" fn hechroung_to_powers(
+pub extern "C" fn hechroung_raw_curve_to_powers(
     coefficients: &[i64],
     radius: u64,
     keys: &mut [Key],
@@ -87,7 +91,7 @@ pub extern "C" fn hechroung_to_powers(
 // A model in powers of one variable as a curve: the refusal's number, 0 without one, or MISUSED. The curve goes into
 // two slices as the answer of a call on curves does.
 #[no_mangle]
-pub extern "C" fn hechroung_from_powers(
+pub extern "C" fn hechroung_raw_curve_from_powers(
     n: u8,
     count: usize,
     radius: u64,

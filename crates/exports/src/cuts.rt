@@ -7,7 +7,7 @@ use model_types::Key;
 // The range of a model, variable i cut into 2^k pieces, with order d: the refusal's number, 0 without one, or MISUSED.
 // The two ends go into one slice, the refusal's place into the other.
 #[no_mangle]
-pub extern "C" fn hechroung_cut_range(
+pub extern "C" fn hechroung_raw_range_cut(
     d: u8,
     i: u8,
     k: u8,

@@ -9,7 +9,7 @@ use model_types::Key;
 // The model of c0 + c1 x + c2 x² with its radius: the refusal's number, 0 without one, or MISUSED. The answer's 64 keys
 // and coefficients go into two slices, the refusal's place, n, the count and the radius into the third.
 #[no_mangle]
-pub extern "C" fn hechroung_doubles(
+pub extern "C" fn hechroung_raw_from_doubles(
     c0: f64,
     c1: f64,
     c2: f64,

@@ -11,7 +11,7 @@ use model_types::Key;
 // one behind the other as a book's are; the answer's 64 keys and coefficients go into two slices, the refusal's place,
 // n, the count and the radius into the third.
 #[no_mangle]
-pub extern "C" fn hechroung_quotient(
+pub extern "C" fn hechroung_raw_divide(
     d: u8,
     ns: &[u8],
     counts: &[usize],

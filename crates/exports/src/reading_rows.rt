@@ -13,7 +13,7 @@ use model_types::Key;
 // as there are low values, with eight coordinates of `points` each and a high value. The refusal's place, 1 or 0 for
 // whether a reading contradicts, and the number of the first that does go into the last slice.
 #[no_mangle]
-pub extern "C" fn hechroung_readings(
+pub extern "C" fn hechroung_raw_hold(
     n: u8,
     count: usize,
     radius: u64,

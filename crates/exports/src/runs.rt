@@ -18,7 +18,7 @@ use model_types::Key;
 // slices, the refusal's place, n, the count and the radius into the third, the ends of the range and of the integral,
 // the quotient and the remainder into the fourth.
 #[no_mangle]
-pub extern "C" fn hechroung_run(
+pub extern "C" fn hechroung_raw_run_sheet(
     sheet: &[u8],
     keys: &mut [Key],
     coefficients: &mut [i64],
@@ -37,7 +37,7 @@ pub extern "C" fn hechroung_run(
 // A book in memory is run: the refusal's number, 0 without one, or MISUSED. The result goes into the slices as a
 // sheet's does.
 #[no_mangle]
-pub extern "C" fn hechroung_run_book(
+pub extern "C" fn hechroung_raw_run_models(
     n: u8,
     d: u8,
     modelcount: usize,

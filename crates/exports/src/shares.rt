@@ -41,10 +41,10 @@ fn store_report(
     c_runs::store_summary(s, keys, coefficients, numbers, ends)
 }
 
-// A sheet is run as by hechroung_run, and besides where the radius of each of 64 steps came from goes into the fifth
-// slice: row i from place 4 × i on as carried, rounding, swept and slack.
+// A sheet is run as by hechroung_raw_run_sheet, and besides where the radius of each of 64 steps came from goes into
+// the fifth slice: row i from place 4 × i on as carried, rounding, swept and slack.
 #[no_mangle]
-pub extern "C" fn hechroung_shares(
+pub extern "C" fn hechroung_raw_shares_sheet(
     sheet: &[u8],
     keys: &mut [Key],
     coefficients: &mut [i64],
@@ -74,9 +74,9 @@ pub extern "C" fn hechroung_shares(
     store_report(r, keys, coefficients, numbers, ends, shares)
 }
 
-// A book in memory is run as by hechroung_run_book, and the rows go into the last slice as a sheet's do.
+// A book in memory is run as by hechroung_raw_run_models, and the rows go into the last slice as a sheet's do.
 #[no_mangle]
-pub extern "C" fn hechroung_shares_book(
+pub extern "C" fn hechroung_raw_shares_models(
     n: u8,
     d: u8,
     modelcount: usize,

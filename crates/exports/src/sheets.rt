@@ -10,7 +10,7 @@ ghost use Rattle.c_sheets.specs.StepCalls.{«next-state», «called-next»};
 
 // A sheet is run to the program's lines: their length. As much of them as the slice has room for stands at its start.
 #[no_mangle]
-pub extern "C" fn hechroung_print(sheet: &[u8], lines: &mut [u8]) -> usize
+pub extern "C" fn hechroung_raw_print(sheet: &[u8], lines: &mut [u8]) -> usize
     ensures { λ r. ⌜ (r ≡ length (printed (now (sheet .entry))))
         × (now (lines .exit) ≡ laid (printed (now (sheet .entry))) (now (lines .entry))) ⌝ }
 {
@@ -20,7 +20,7 @@ pub extern "C" fn hechroung_print(sheet: &[u8], lines: &mut [u8]) -> usize
 // Record i of a sheet, from 0: its length, or 0 where there is none. As much of it as the slice has room for stands at
 // its start. A sheet that tests 1 to 6 refuse has none.
 #[no_mangle]
-pub extern "C" fn hechroung_record(sheet: &[u8], i: usize, bytes: &mut [u8]) -> usize
+pub extern "C" fn hechroung_raw_record(sheet: &[u8], i: usize, bytes: &mut [u8]) -> usize
     ensures { λ r. ⌜ (r ≡ length (record-bytes (now (sheet .entry)) i))
         × (now (bytes .exit) ≡ laid (record-bytes (now (sheet .entry)) i) (now (bytes .entry))) ⌝ }
 {
@@ -31,7 +31,7 @@ pub extern "C" fn hechroung_record(sheet: &[u8], i: usize, bytes: &mut [u8]) -> 
 // A sheet is opened for stepping: the number of the refusal, 0 without one, or MISUSED. The refusal's place and the
 // place of the first record go into the numbers; beside a refusal that is the sheet's length, where there is no record.
 #[no_mangle]
-pub extern "C" fn hechroung_open(sheet: &[u8], numbers: &mut [u64]) -> u8
+pub extern "C" fn hechroung_raw_open(sheet: &[u8], numbers: &mut [u64]) -> u8
     ensures { λ r. ⌜ open-state r (now (numbers .exit))
         ≡ called-open (leb 2 (length (now (numbers .entry)))) (start-answer (now (sheet .entry)))
         (now (numbers .entry)) ⌝ }
@@ -42,7 +42,7 @@ pub extern "C" fn hechroung_open(sheet: &[u8], numbers: &mut [u64]) -> u8
 // The record at a place of a sheet: 1 for a model, 2 for a step, 0 where there is none, or MISUSED. Its length and the
 // place of the next go into the numbers, and as much of it as the slice has room for to the start of `bytes`.
 #[no_mangle]
-pub extern "C" fn hechroung_next(
+pub extern "C" fn hechroung_raw_next(
     sheet: &[u8],
     at: usize,
     bytes: &mut [u8],

@@ -78,7 +78,11 @@ impl Shape {
     /// Mostly long enough.
     pub fn random(random: &mut Random, call: &Call) -> Shape {
         let code = if random.one_in(12) {
-            random.byte(5, 255)
+            // 1 and 2 in the place of two that are known.
+            match random.byte(5, 255) {
+                known @ (5 | 6) => known - 4,
+                unknown => unknown,
+            }
         } else {
             0
         };
@@ -297,21 +301,21 @@ fn made(call: &Call, shape: &Shape, inputs: [usize; 2], stored: &mut Stored) -> 
             signed, numbers, ..
         } = stored;
         stored.number = raw::curve(code, f.handed(), g.handed(), signed, numbers);
-        (1..=4).contains(&code) && first.min(second) >= PLACES
+        (3..=6).contains(&code) && first.min(second) >= PLACES
     };
     match call {
         // The second curve may be anything.
         Call::Negate { f } => two(
-            1,
+            3,
             f,
             &StoredChebyshev {
                 radius: u64::MAX,
                 ..*f
             },
         ),
-        Call::Add { f, g } => two(2, f, g),
-        Call::Subtract { f, g } => two(3, f, g),
-        Call::Multiply { f, g } => two(4, f, g),
+        Call::Add { f, g } => two(4, f, g),
+        Call::Subtract { f, g } => two(5, f, g),
+        Call::Multiply { f, g } => two(6, f, g),
         Call::Range { f } => {
             let f = LentCurve::of(f, first);
             stored.number = raw::curve_range(f.handed(), &mut stored.signed);

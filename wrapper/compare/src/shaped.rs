@@ -41,7 +41,11 @@ impl Shape {
     /// Mostly long enough.
     pub fn random(random: &mut Random) -> Shape {
         let code = if random.one_in(12) {
-            random.byte(10, 255)
+            // 9 in the place of 10: a step's quotient is no call, and an antiderivative is one.
+            match random.byte(10, 255) {
+                10 => 9,
+                unknown => unknown,
+            }
         } else {
             0
         };
@@ -156,7 +160,7 @@ fn compare_model(
         &mut coefficients,
         &mut stored,
     );
-    let fits = (1..=9).contains(&arguments.code)
+    let fits = matches!(arguments.code, 1..=8 | 10)
         && lent(&arguments.f, keys1, coefficients1)
         && lent(&arguments.g, keys2, coefficients2)
         && outputs[0] >= MOST_TERMS
@@ -408,7 +412,7 @@ fn arguments(call: &Call) -> Arguments {
             ..none
         },
         Call::Antiderivative { f, i, order } => Arguments {
-            code: 9,
+            code: 10,
             d: *order,
             i: *i,
             f: to_model(f),

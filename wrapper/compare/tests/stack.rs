@@ -459,7 +459,7 @@ fn a_call_stays_within_its_figure() {
         let last = book.model_count.saturating_sub(1);
         pairs.push((Lent::new(&book.models[0]), Lent::new(&book.models[last])));
     }
-    for code in 1..=9 {
+    for code in (1..=8).chain([10]) {
         let mut accepted = 0;
         let used = pairs.iter().enumerate().map(|(k, (f, g))| {
             // The heaviest are of order 15.
@@ -568,10 +568,10 @@ fn a_call_on_curves_stays_within_its_figure() {
     let used = curve_calls().into_iter().map(|call| {
         let mut answer = Answer::NONE;
         let used = match &call {
-            CurveCall::Negate { f } => stack.run(|| answer.curve(1, f, f)),
-            CurveCall::Add { f, g } => stack.run(|| answer.curve(2, f, g)),
-            CurveCall::Subtract { f, g } => stack.run(|| answer.curve(3, f, g)),
-            CurveCall::Multiply { f, g } => stack.run(|| answer.curve(4, f, g)),
+            CurveCall::Negate { f } => stack.run(|| answer.curve(3, f, f)),
+            CurveCall::Add { f, g } => stack.run(|| answer.curve(4, f, g)),
+            CurveCall::Subtract { f, g } => stack.run(|| answer.curve(5, f, g)),
+            CurveCall::Multiply { f, g } => stack.run(|| answer.curve(6, f, g)),
             CurveCall::Range { f } => stack.run(|| answer.curve_range(f)),
             CurveCall::ToPowers { f } => stack.run(|| answer.curve_to_powers(f)),
             CurveCall::FromPowers { f } => {

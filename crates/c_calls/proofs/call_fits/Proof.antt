@@ -1,60 +1,56 @@
 -- `call_fits` makes the tests one after the other.
 use mathlib.Core.Path.{sym, _∙_}
 use borrow.Author.Needs.{needs}
-use borrow.Author.Tests.{le-leb, lt-leb, not-true, not-false}
+use borrow.Author.Tests.{not-true, not-false}
 use Rattle.c_calls.specs.CallCodes.{call-fits}
 use Rattle.c_calls.proofs.call_fits.Statement.{statement}
 use Rattle.c_calls.proofs.call_fits.Tie as tie
 
+call-known-requires : tie.Need-call-known-requires
+call-known-requires c κs = search needs
+
 returns : tie.Need-returns
 unfolding call-fits
-returns c = rw (lt-leb 1 _ (c .if1 .taken))
-
-returns-2 : tie.Need-returns-2
-unfolding call-fits
-returns-2 c = rw (le-leb 1 _ (c .before .if1 .left), lt-leb _ 9 (c .if2 .taken))
+returns c = rw (sym (c .before .call-known .ensures) ∙ not-true _ (c .if1 .taken))
 
 lent-requires : tie.Need-lent-requires
 lent-requires c κs = search needs
 
-returns-3 : tie.Need-returns-3
+returns-2 : tie.Need-returns-2
 unfolding call-fits
-returns-3 c =
-    let e = c .before .before in
+returns-2 c =
+    let k = c .before .before in
     rw (
-      le-leb 1 _ (e .before .if1 .left),
-      le-leb _ 9 (e .if2 .left),
-      sym (c .before .lent .ensures) ∙ not-true _ (c .if3 .taken),
+      sym (k .before .call-known .ensures) ∙ not-false _ (k .if1 .left),
+      sym (c .before .lent .ensures) ∙ not-true _ (c .if2 .taken),
     )
 
 lent-requires-2 : tie.Need-lent-requires-2
 lent-requires-2 c κs = search needs
 
+returns-3 : tie.Need-returns-3
+unfolding call-fits
+returns-3 c =
+    let l = c .before .before in
+    let k = l .before .before in
+    rw (
+      sym (k .before .call-known .ensures) ∙ not-false _ (k .if1 .left),
+      sym (l .before .lent .ensures) ∙ not-false _ (l .if2 .left),
+      sym (c .before .lent2 .ensures) ∙ not-true _ (c .if3 .taken),
+    )
+
 returns-4 : tie.Need-returns-4
 unfolding call-fits
 returns-4 c =
     let l = c .before .before in
-    let e = l .before .before in
+    let k = l .before .before in
     rw (
-      le-leb 1 _ (e .before .if1 .left),
-      le-leb _ 9 (e .if2 .left),
-      sym (l .before .lent .ensures) ∙ not-false _ (l .if3 .left),
-      sym (c .before .lent2 .ensures) ∙ not-true _ (c .if4 .taken),
-    )
-
-returns-5 : tie.Need-returns-5
-unfolding call-fits
-returns-5 c =
-    let l = c .before .before in
-    let e = l .before .before in
-    rw (
-      le-leb 1 _ (e .before .if1 .left),
-      le-leb _ 9 (e .if2 .left),
-      sym (l .before .lent .ensures) ∙ not-false _ (l .if3 .left),
-      sym (c .before .lent2 .ensures) ∙ not-false _ (c .if4 .left),
+      sym (k .before .call-known .ensures) ∙ not-false _ (k .if1 .left),
+      sym (l .before .lent .ensures) ∙ not-false _ (l .if2 .left),
+      sym (c .before .lent2 .ensures) ∙ not-false _ (c .if3 .left),
     )
 
 pub call-fits-spec : {M : Type 1} → statement M
 call-fits-spec =
     tie.close
-    (tie.spec returns returns-2 lent-requires returns-3 lent-requires-2 returns-4 returns-5)
+    (tie.spec call-known-requires returns lent-requires returns-2 lent-requires-2 returns-3 returns-4)

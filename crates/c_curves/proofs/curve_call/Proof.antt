@@ -10,7 +10,7 @@ negate-requires c κs = search needs
 
 returns : tie.Need-returns
 unfolding curve-call
-returns c = rw (c .negate .ensures, eq-eqb _ 1 (c .before .if1 .taken))
+returns c = rw (c .negate .ensures, eq-eqb _ 3 (c .before .if1 .taken))
 
 add-requires : tie.Need-add-requires
 add-requires c κs = search needs
@@ -19,7 +19,7 @@ returns-2 : tie.Need-returns-2
 unfolding curve-call
 returns-2 c =
     let t = c .before in
-    rw (c .add .ensures, ne-eqb _ 1 (t .before .if1 .left), eq-eqb _ 2 (t .if2 .taken))
+    rw (c .add .ensures, ne-eqb _ 3 (t .before .if1 .left), eq-eqb _ 4 (t .if2 .taken))
 
 subtract-requires : tie.Need-subtract-requires
 subtract-requires c κs = search needs
@@ -30,9 +30,9 @@ returns-3 c =
     let t = c .before in
     rw (
       c .subtract .ensures,
-      ne-eqb _ 1 (t .before .before .if1 .left),
-      ne-eqb _ 2 (t .before .if2 .left),
-      eq-eqb _ 3 (t .if3 .taken),
+      ne-eqb _ 3 (t .before .before .if1 .left),
+      ne-eqb _ 4 (t .before .if2 .left),
+      eq-eqb _ 5 (t .if3 .taken),
     )
 
 multiply-requires : tie.Need-multiply-requires
@@ -44,9 +44,9 @@ returns-4 c =
     let t = c .before in
     rw (
       c .multiply .ensures,
-      ne-eqb _ 1 (t .before .before .if1 .left),
-      ne-eqb _ 2 (t .before .if2 .left),
-      ne-eqb _ 3 (t .if3 .left),
+      ne-eqb _ 3 (t .before .before .if1 .left),
+      ne-eqb _ 4 (t .before .if2 .left),
+      ne-eqb _ 5 (t .if3 .left),
     )
 
 pub curve-call-spec : {M : Type 1} → statement M

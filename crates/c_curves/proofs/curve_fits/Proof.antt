@@ -7,17 +7,17 @@ use Rattle.c_curves.proofs.curve_fits.Tie as tie
 
 returns : tie.Need-returns
 unfolding curve-fits
-returns c = rw (lt-leb 1 _ (c .if1 .taken))
+returns c = rw (lt-leb 3 _ (c .if1 .taken))
 
 returns-2 : tie.Need-returns-2
 unfolding curve-fits
-returns-2 c = rw (le-leb 1 _ (c .before .if1 .left), lt-leb _ 4 (c .if2 .taken))
+returns-2 c = rw (le-leb 3 _ (c .before .if1 .left), lt-leb _ 6 (c .if2 .taken))
 
 returns-3 : tie.Need-returns-3
 unfolding curve-fits places
 returns-3 c =
     let e = c .before in
-    rw (le-leb 1 _ (e .before .if1 .left), le-leb _ 4 (e .if2 .left), lt-leb 16 _ (c .if3 .taken))
+    rw (le-leb 3 _ (e .before .if1 .left), le-leb _ 6 (e .if2 .left), lt-leb 16 _ (c .if3 .taken))
 
 returns-4 : tie.Need-returns-4
 unfolding curve-fits places
@@ -25,8 +25,8 @@ returns-4 c =
     let f = c .before in
     let e = f .before in
     rw (
-      le-leb 1 _ (e .before .if1 .left),
-      le-leb _ 4 (e .if2 .left),
+      le-leb 3 _ (e .before .if1 .left),
+      le-leb _ 6 (e .if2 .left),
       le-leb 16 _ (f .if3 .left),
       lt-leb 16 _ (c .if4 .taken),
     )
@@ -37,8 +37,8 @@ returns-5 c =
     let f = c .before in
     let e = f .before in
     rw (
-      le-leb 1 _ (e .before .if1 .left),
-      le-leb _ 4 (e .if2 .left),
+      le-leb 3 _ (e .before .if1 .left),
+      le-leb _ 6 (e .if2 .left),
       le-leb 16 _ (f .if3 .left),
       le-leb 16 _ (c .if4 .left),
     )

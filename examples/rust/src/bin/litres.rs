@@ -67,7 +67,17 @@ fn main() -> Result<(), Refusal> {
     }
     // The exported function itself takes slices of any length: here there is no room for the answer.
     let none = Handed::NONE;
-    let number = raw::call(9, ORDER, 1, 0, none, none, &mut [], &mut [], &mut []);
+    let number = raw::call(
+        raw::code::ANTIDERIVATIVE,
+        ORDER,
+        1,
+        0,
+        none,
+        none,
+        &mut [],
+        &mut [],
+        &mut [],
+    );
     println!("misused {number}");
     Ok(())
 }

@@ -69,7 +69,7 @@ fn main() -> Result<(), Refusal> {
         coefficients: &[],
         radius: 0,
     };
-    let number = raw::curve(4, none, none, &mut [], &mut []);
+    let number = raw::curve(raw::code::MULTIPLY, none, none, &mut [], &mut []);
     println!("misused {number}");
     Ok(())
 }
