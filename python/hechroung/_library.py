@@ -23,18 +23,22 @@ def places() -> Iterator[Path]:
     yield _HERE.parents[1] / "target" / "lib" / NAME
 
 
-def found() -> Path:
-    """The first place that has the library."""
-    tried = list(places())
+def loaded() -> tuple[ctypes.CDLL, str]:
+    """The library from the first place that has it, else the one that is installed, by the system's loader; and where
+    it was found, without a folder in the last case."""
+    tried = list(map(str, places()))
     for path in tried:
-        if path.is_file():
-            return path
-    raise ImportError(f"{NAME} is not found: build it with tools/library in the checkout of Hechroung, or set "
-                      f"HECHROUNG_LIB to the folder that has it. Looked for: {', '.join(map(str, tried))}")
+        if os.path.isfile(path):
+            return ctypes.CDLL(path), path
+    try:
+        return ctypes.CDLL(NAME), NAME
+    except OSError:
+        raise ImportError(f"{NAME} is not found: build it with tools/library in the checkout of Hechroung, install "
+                          f"Debian's libhechroung{LAYOUT}, or set HECHROUNG_LIB to the folder that has it. Looked for: "
+                          f"{', '.join(tried)}, and where the system has its libraries") from None
 
 
-PATH = found()
-_library = ctypes.CDLL(str(PATH))
+_library, PATH = loaded()
 
 
 def _exported(name: str, answer: Any, *fields: Any) -> Callable[..., int]:

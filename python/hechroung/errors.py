@@ -10,50 +10,56 @@ MISUSED = 255
 
 
 class Refusal(NamedTuple):
-    """A row of the table of refusals: its name, when it is given, and what to do."""
+    """A row of the table of refusals: its name, and the header's sentence: what is wrong and what to do."""
 
     name: str
-    when: str
-    advice: str
+    sentence: str
 
 
 REFUSALS: dict[int, Refusal] = {
-    1: Refusal("BadLength", "the bytes are too few, too many, or not as many as they announce",
-               "hand over the whole sheet, 16 to 8,792 bytes, or the whole archived model"),
-    2: Refusal("BadMark", "the last two bytes are no mark of a sheet",
-               "end the sheet with hex 4D 4B (1 to 4 variables) or 4D 57 (5 to 8); perhaps this is no sheet"),
-    3: Refusal("BadLimits", "n, the order or a count is outside its limits",
-               "take 1 to 8 variables (1 to 4 in the archive), an order of 1 to 15, at most 16 models and 1 to 64 "
-               "steps; on a sheet n has to fit the mark"),
-    4: Refusal("BadOffset", "the offset of the first step does not fit the length",
-               "set the trailer's offset so that offset + 8 × steps + 8 is the length"),
-    5: Refusal("BadModel", "a model breaks a rule",
-               "give it keys that rise, no coefficient 0, at most 64 terms, degrees up to the order, exponents of its "
-               "own n variables only, and sizes and radius that sum to at most 2^30 units"),
-    6: Refusal("BadStep", "a step, or an argument of a single call, is not of its form",
-               "name earlier steps only, variables 1 to n, constants from -2^30 to 2^30, thresholds from 0 to 2^30, "
-               "and leave every other field and coordinate 0"),
-    7: Refusal("OverSpan", "the sizes of all coefficients and the radius sum to more than 2^30 units, 1024",
-               "scale the curve down, or make its radius smaller"),
-    8: Refusal("TooManyTerms", "more than 64 terms are left",
-               "lower the order, or sweep small terms into the radius before"),
-    9: Refusal("LeavesBox", "what is put in for a variable, or a coordinate, may leave -1 to 1",
-               "scale it so that its range, radius included, lies from -1 to 1"),
-    10: Refusal("VariablesDiffer", "the models of one call differ in their number of variables",
-                "make them all with the same n"),
-    11: Refusal("ShortBuffer", "the buffer is too short for what is written",
-                "give a buffer of 8,792 bytes for a sheet, 390 for an archived model"),
-    12: Refusal("Uncertified", "with this proposal it is not shown that the divisor is nowhere zero",
-                "propose a w nearer to 1 / g; where g may be zero in the box no proposal helps"),
-    13: Refusal("NotOneVariable", "a model to convert to a Chebyshev curve has more than one variable",
-                "convert models with n = 1 only"),
-    14: Refusal("CutTooDeep", "the box is to be cut to a depth above 6", "take a depth from 0 to 6"),
-    15: Refusal("BadReading", "a row has more than 256 readings, or a reading's low value is above its high one",
-                "split the row, or exchange the two values"),
-    16: Refusal("BadDouble", "a value of a curve in doubles is not finite, or its radius is negative",
-                "ask the supplier for finite coefficients and a radius from 0"),
-    17: Refusal("BadRank", "the rank of an archived term is 3,876 or more, or does not rise",
-                "the archive is damaged: take another copy of it"),
+    1: Refusal("BadLength",
+               "The length is wrong: a sheet has 16 to 8792 bytes, an archived model 6 and 6 more for each of its "
+               "terms; hand over all of its bytes and no others."),
+    2: Refusal("BadMark",
+               "The sheet's last two bytes are not its mark, hex 4D 4B for up to four variables or 4D 57 for more: "
+               "see whether it is a sheet and was not cut short."),
+    3: Refusal("BadLimits",
+               "A number is outside its limits: n is 1 to 8 and fits the sheet's mark (1 to 4 in the archive), the "
+               "order 1 to 15; there are 0 to 16 models and 1 to 64 steps."),
+    4: Refusal("BadOffset",
+               "The sheet's parts do not fit its length, which is the offset of the first step, 8 bytes for each "
+               "step and 8: mend the trailer."),
+    5: Refusal("BadModel",
+               "The model that the place names breaks a rule: it has at most 64 terms, keys that rise, no "
+               "coefficient of 0, no variable above n, degrees up to the order, a span up to 2^30 and its book's n, "
+               "and ends before the steps."),
+    6: Refusal("BadStep",
+               "The step that the place names, or an argument, breaks its form: operands are earlier steps, a "
+               "variable is 1 to n, a constant -2^30 to 2^30, a threshold 0 to 2^30, and what is not used is 0."),
+    7: Refusal("OverSpan",
+               "The span, the sizes of all coefficients and the radius together, rises above 2^30 units: scale the "
+               "inputs down."),
+    8: Refusal("TooManyTerms", "More than 64 terms are left: lower the order, or sweep small terms before."),
+    9: Refusal("LeavesBox",
+               "The box is left: what is put in for a variable, its radius included, and each coordinate has to lie "
+               "from -1 to 1; scale it."),
+    10: Refusal("VariablesDiffer", "The models differ in n: give all models of a call the same."),
+    11: Refusal("ShortBuffer",
+                "The buffer is too short: 8792 bytes are enough for every sheet, 390 for every archived model."),
+    12: Refusal("Uncertified",
+                "Uncertified: the proposal w does not show that the divisor is nowhere zero; bring w nearer to 1 / "
+                "g, and see whether g has a zero in the box."),
+    13: Refusal("NotOneVariable",
+                "A model to convert into a Chebyshev curve has another n than 1: hand over a model of one variable."),
+    14: Refusal("CutTooDeep", "The box is to be cut to a depth above 6: take a depth of 0 to 6."),
+    15: Refusal("BadReading",
+                "A row has more than 256 readings, or the reading that the place names has a low value above its "
+                "high one: cut the row into shorter ones, or mend the reading."),
+    16: Refusal("BadDouble",
+                "A value in doubles is infinite or no number, or the radius is negative: mend what was delivered."),
+    17: Refusal("BadRank",
+                "The rank of the archived term that the place names is 3876 or more, or does not rise: the bytes are "
+                "damaged, or no archived model."),
 }
 
 
@@ -64,7 +70,7 @@ class Refused(Exception):
     place     where: the number of a model, a step, a piece, a reading or a term, from 0
     of        which of these the place counts, or "" where the place says nothing
     name      the refusal's name, such as "OverSpan"
-    sentence  when it is given and what to do
+    sentence  what is wrong and what to do
     shares    of a run with shares those of the steps before the refused one
     """
 
@@ -80,9 +86,8 @@ class Refused(Exception):
 
     @property
     def sentence(self) -> str:
-        """When the refusal is given, and what to do."""
-        refusal = REFUSALS[self.number]
-        return f"{refusal.when}; {refusal.advice}"
+        """What is wrong and what to do, word for word as the header says it."""
+        return REFUSALS[self.number].sentence
 
     def __reduce__(self) -> tuple[type, tuple[int, int, str, tuple[Shares, ...]]]:
         return type(self), (self.number, self.place, self.of, self.shares)

@@ -136,7 +136,7 @@ def refused_sentence(loaded: Loaded, refusal: Refused) -> str:
     """A refusal with the names of steps and models, why, and what to do."""
     sentence = refusal.sentence
     if left_over(loaded, refusal):
-        sentence = "bytes are left over before the first step; mend the offset or the number of models in the trailer"
+        sentence = "Bytes are left over before the first step: mend the offset or the number of models in the trailer."
     return f"refused {refusal.number}{named_place(loaded, refusal)}: {sentence}"
 
 

@@ -1,4 +1,4 @@
-"""The declarations of _library, the numbers of limits and the codes, held against include/."""
+"""The declarations of _library, the numbers of limits, the codes and the sentences, held against include/."""
 
 import re
 from pathlib import Path
@@ -48,3 +48,10 @@ def test_codes():
     found = re.findall(r"^ +HECHROUNG_(?:STEP|ENDS)_(\w+) = (\d+)", HEADER + RAW, re.MULTILINE)
     theirs = {name: int(code) for name, code in found if name != "RECORD"}
     assert theirs == {name: code for name, code in vars(codes).items() if name.isupper()}
+
+
+def test_sentences():
+    """Word for word; strings that stand after one another are one, as in C."""
+    block = HEADER.partition("sentences[] = {\n")[2].partition("};")[0]
+    sentences = ["".join(re.findall(r'"(.*)"', string)) for string in re.split(r",$", block, flags=re.MULTILINE)]
+    assert sentences == ["Accepted.", *(errors.REFUSALS[number].sentence for number in range(1, 18)), ""]

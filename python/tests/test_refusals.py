@@ -83,7 +83,7 @@ def test_a_refusal(number, place, of, call):
     refusal = raised.value
     assert (refusal.number, refusal.place, refusal.of) == (number, place, of)
     assert refusal.name == REFUSALS[number].name
-    assert REFUSALS[number].when in refusal.sentence and REFUSALS[number].advice in refusal.sentence
+    assert refusal.sentence == REFUSALS[number].sentence
     where = f" at {of} {place}" if of else ""
     assert str(refusal) == f"refused {number} ({refusal.name}){where}: {refusal.sentence}"
     again = pickle.loads(pickle.dumps(refusal))
