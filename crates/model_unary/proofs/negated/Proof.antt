@@ -82,7 +82,7 @@ module _ (c : tie.After-old Inv-loop μ-loop) where
   at = getD (listed (start .args .t1)) (place .loop .i) zero-term
 
   read-back : toZ w64 (ofZ w64 (getD (start .args .t1 .coefficients) (place .loop .i) (pos 0))) ≡ at .coefficient
-  read-back = toZ-ofZ (record { sfits = c .old .given }) 
+  read-back = toZ-ofZ (record { sfits = c .old .given })
       ∙ sym (coefficient-at _ _ (place .loop .i) (even start))
 
   key-is : at .key ≡ getD (start .args .t1 .keys) (place .loop .i) 0

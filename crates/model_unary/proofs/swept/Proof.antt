@@ -140,11 +140,13 @@ loop-less c = omega arith
 loop-again : tie.Need-loop-again Inv-loop μ-loop
 loop-again c =
     let t = c .before .before .before in
-    let s = start t in
-    (place t .loop .inv .0, rw (size-is (c .before .before))
-    (swept-drop _ _ (long s) _ _ _ _ (place t .loop .inv .1) (t .before .before .loop-test .taken) (known s .width)
-    (key-small t)
-    (tested (c .before) ∙ c .if1 .taken)))
+    let s = start t in (
+      place t .loop .inv .0,
+      rw (size-is (c .before .before))
+          (swept-drop _ _ (long s) _ _ _ _ (place t .loop .inv .1) (t .before .before .loop-test .taken) (known s .width)
+          (key-small t)
+          (tested (c .before) ∙ c .if1 .taken)),
+    )
 
 mul-keys : tie.Need-mul-keys Inv-loop μ-loop
 mul-keys c = omega (arith, room (c .before .before .before))
