@@ -143,8 +143,8 @@ loop-again c =
     let s = start t in (
       place t .loop .inv .0,
       rw (size-is (c .before .before))
-          (swept-drop _ _ (long s) _ _ _ _ (place t .loop .inv .1) (t .before .before .loop-test .taken) (known s .width)
-          (key-small t)
+          (swept-drop _ _ (long s) _ _ _ _ (place t .loop .inv .1) (t .before .before .loop-test .taken)
+          (known s .width) (key-small t)
           (tested (c .before) ∙ c .if1 .taken)),
     )
 
