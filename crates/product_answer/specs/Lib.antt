@@ -5,6 +5,5 @@ pub mod ErrorShares
 pub mod ErrorLaws
 pub mod CollectedProductLaws
 pub mod ProductFactors
-pub mod FactorLaws
 pub mod KeptProduct
 pub mod KeptProductLaws

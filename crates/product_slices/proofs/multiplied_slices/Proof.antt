@@ -14,11 +14,11 @@ use Rattle.product_slices.proofs.multiplied_slices.Tie as tie
 module _ (s : tie.Start) where
   few-first : s .args .count1 ≤ 64
   unfolding most-terms
-  few-first = few-terms _ _ _ _ _ _ (s .pre .0 .first) (s .pre .1 .0 .0) (s .pre .1 .0 .1)
+  few-first = few-terms _ _ _ _ _ _ (s .pre .0 .first)
 
   few-second : s .args .count2 ≤ 64
   unfolding most-terms
-  few-second = few-terms _ _ _ _ _ _ (s .pre .0 .second) (s .pre .1 .1 .0 .0) (s .pre .1 .1 .0 .1)
+  few-second = few-terms _ _ _ _ _ _ (s .pre .0 .second)
 
 slice-aggregate-unpack : tie.Need-slice-aggregate-unpack
 slice-aggregate-unpack c = search needs
