@@ -14,9 +14,9 @@ use Rattle.calculus.specs.Operations.{constant, multiply, add, substitute}
 use Rattle.calculus.specs.Tests.{all-in-unit}
 use Rattle.model_types.specs.declared.Model.{Model}
 use Rattle.model_types.specs.ModelStruct.{view, answer}
-use Rattle.model_horner.specs.declared.Left.{Left}
+use Rattle.model_limits.specs.declared.Left.{Left}
 use Rattle.model_slices.specs.HeldModels.{held, Room}
-use Rattle.model_horner.specs.Held.{Left-in}
+use Rattle.model_limits.specs.Limits.{Left-in}
 
 -- a sound model, and a coordinate from -U to U for each of its variables
 pub record Evaluation (m : Model) (xs : List ℤ) : Type 0 where

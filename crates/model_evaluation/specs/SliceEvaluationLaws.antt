@@ -22,9 +22,9 @@ use Rattle.model_types.specs.ModelStruct.{zero-term, paired, listed, view-term,
 use Rattle.model_types.specs.ModelStructLaws.{view-is, limits}
 use Rattle.model_types.specs.PairedLaws.{length-paired}
 use Rattle.model_slices.specs.HandedModels.{terms-of}
-use Rattle.model_horner.specs.declared.Left.{Left}
+use Rattle.model_limits.specs.declared.Left.{Left}
 use Rattle.model_slices.specs.HeldModels.{held, Room}
-use Rattle.model_horner.specs.Held.{Left-in}
+use Rattle.model_limits.specs.Limits.{Left-in}
 use Rattle.model_slices.specs.HeldModelsLaws.{held-listed, held-whole}
 use Rattle.model_evaluation.specs.Evaluate.{Evaluation, Putting, Put-of}
 use Rattle.model_evaluation.specs.EvaluationLaws as E

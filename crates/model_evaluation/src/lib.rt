@@ -9,8 +9,8 @@ ghost use Rattle.calculus.specs.Calls.{«call-evaluate»};
 ghost use Rattle.model_types.specs.ModelStruct.{view, bounds};
 ghost use Rattle.model_slices.specs.HeldModels.{Room};
 ghost use Rattle.model_evaluation.specs.Evaluate.{Evaluation, «Turn-of», «Turned-in», «Put-of», «Put-in»};
-use model_horner::Left;
 use model_horner::Passed;
+use model_limits::Left;
 use model_types::Bounds;
 use model_types::Key;
 use model_types::Model;
@@ -37,7 +37,7 @@ fn put_turn(
         (now (added .entry)) r (now (keys .exit)) (now (coefficients .exit)) ⌝ }
 {
     let p: Passed = model_horner::scaled(x, c, radius, keys, coefficients, spare, products);
-    let product = model_horner::limited(p.count, fixed::round_up(p.error), products);
+    let product = model_limits::limited_slices(p.count, fixed::round_up(p.error), products);
     let v = product.verdict;
     let Verdict::Accepted = v else {
         return product;
@@ -60,7 +60,7 @@ fn put_turn(
             verdict: Verdict::Refused(Refusal::TooManyTerms, 0),
         };
     }
-    model_horner::limited(total, e, coefficients)
+    model_limits::limited_slices(total, e, coefficients)
 }
 
 // x in the place of variable i of a model: Horner's rule from the highest power down. What is left goes into the slices
@@ -100,7 +100,7 @@ fn put_constant<'a>(
         c = turn.count;
         e = turn.radius;
     }
-    model_horner::limited(c, fixed::capped_sum(e, radius), out)
+    model_limits::limited_slices(c, fixed::capped_sum(e, radius), out)
 }
 
 // The range of what is left of m after the coordinates are put in for its variables, one after the other.

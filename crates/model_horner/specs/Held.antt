@@ -6,14 +6,11 @@ use lib.IntN.{ℤ}
 use Rattle.calculus.specs.Refusal.{too-many-terms, stopped, at-place}
 use Rattle.calculus.specs.Operations.{limited, add}
 use Rattle.model_types.specs.declared.Model.{Model}
-use Rattle.model_types.specs.declared.Answer.{Answer}
-use Rattle.model_types.specs.declared.Verdict.the-variants.{Accepted}
 use Rattle.model_types.specs.ModelStruct.{view, answer}
 use Rattle.model_slices.specs.HeldModels.{held, Room}
 use Rattle.model_limits.specs.Limits.{Packed}
 use Rattle.model_addition.specs.Addition.{Operands}
 use Rattle.model_scaling.specs.Scaling.{Scalable}
-use Rattle.model_horner.specs.declared.Left.{Left}
 
 -- a sound model, and a constant from -U to U
 pub record Scale-of (X : ℤ) (count radius : ℕ) (ks : List ℕ) (cs : List ℤ) : Type 0 where
@@ -36,8 +33,3 @@ pub record Sum-in (a b : Model) (n count : ℕ) (ks : List ℕ) (cs : List ℤ) 
   pub sum : count ≤ 64 → answer (at-place 0 (limited (view (held n count (a .radius + b .radius) ks cs))))
       ≡ answer (at-place 0 (add (view a) (view b)))
   pub many : 64 < count → answer (at-place 0 (add (view a) (view b))) ≡ answer (stopped too-many-terms 0)
-
--- an answer of which the terms lie in slices: its verdict, and unless it is refused its model
-pub record Left-in (n : ℕ) (r : Left) (ks : List ℕ) (cs : List ℤ) (a : Answer) : Type 0 where
-  pub verdict : r .verdict ≡ a .verdict
-  pub model : r .verdict ≡ Accepted → held n (r .count) (r .radius) ks cs ≡ a .model

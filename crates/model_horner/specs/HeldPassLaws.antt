@@ -4,11 +4,10 @@ use mathlib.Core.Bool.{not}
 use mathlib.Core.List.{List}
 use Prim.Native.Nat.{ℕ, _+_, _*_, _^_, _≤_, _<_}
 use native.Mathlib.Omega.{arith}
-use lib.Dec.{T, leb}
+use lib.Dec.{T}
 use lib.IntN.{ℤ, pos, natAbs}
 use lib.ListN.{length, getD, set}
-use Rattle.numbers.specs.Fixed.{span-limit, capped}
-use Rattle.calculus.specs.Model.{most-degree, most-terms, span}
+use Rattle.calculus.specs.Model.{most-degree, most-terms}
 use Rattle.calculus.specs.Terms.{is-nonzero}
 use Rattle.model_types.specs.declared.Term.{Term}
 use Rattle.model_types.specs.declared.Model.{Model}
@@ -17,7 +16,6 @@ use Rattle.model_types.specs.ModelStructLaws.{limits}
 use Rattle.model_slices.specs.HandedModels.{terms-of}
 use Rattle.model_slices.specs.HeldModels.{held, Room}
 use Rattle.model_slices.specs.HeldModelsLaws.{pair, held-whole, held-at, stored-more}
-use Rattle.model_limits.specs.LimitLaws as L
 use Rattle.model_scaling.specs.Scaling.{scaled-coefficient, scaled-residual, scaled-pass}
 use Rattle.model_scaling.specs.ScaledPassLaws as S
 use Rattle.model_horner.specs.Held.{Scale-of}
@@ -89,24 +87,3 @@ module _ {X : ℤ} {total radius : ℕ} {ks : List ℕ} {cs : List ℤ} (w : Sca
     pub scale-end : total ≤ j → held (w .vars) count error ks₂ cs₂ ≡ pack (scaled-pass X (view multiplied))
     unfolding held
     scale-end l = S.gathered-end (w .scalable) scale-whole g l
-
--- ---- the span
-module _ (n count radius : ℕ) (ks : List ℕ) (cs : List ℤ) (room : Room ks cs) (few : count ≤ most-terms) where
-  abbrev spanned : Model
-  spanned = held n count radius ks cs
-
-  pub span-first : L.Summed spanned radius 0
-  unfolding held
-  span-first = L.summed-first spanned (held-whole n count radius ks cs room few)
-
-  pub span-turn : (total i next : ℕ) → L.Summed spanned total i → i < count
-      → next ≡ capped (total + natAbs (getD cs i (pos 0))) → L.Summed spanned next (i + 1)
-  unfolding held
-  span-turn total i next h l e = L.summed-turn spanned (held-whole n count radius ks cs room few) total i next h l
-      (e ∙ ap (λ (t : Term). capped (total + natAbs (t .coefficient)))
-      (sym (held-at n count radius ks cs room few i l)))
-
-  pub span-end : (total i : ℕ) → L.Summed spanned total i → count ≤ i
-      → leb total span-limit ≡ leb (span (view spanned)) span-limit
-  unfolding held
-  span-end total i h l = L.summed-end spanned (held-whole n count radius ks cs room few) total i h l

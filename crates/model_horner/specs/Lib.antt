@@ -1,4 +1,3 @@
 pub mod Held
 pub mod HeldPassLaws
 pub mod MergePassLaws
-pub mod LeftLaws

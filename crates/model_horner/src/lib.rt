@@ -1,37 +1,20 @@
 // Horner's rule at a coordinate, on models that lie in slices of 64 places: nothing is copied but the terms that a step
 // makes. Behind the terms that a count names any numbers may stand.
 ghost use mathlib.Core.Path.{_≡_};
-ghost use mathlib.Core.List.{List};
 ghost use Prim.Native.Nat.{ℕ, _≤_};
-ghost use lib.Dec.{leb};
-ghost use lib.ListN.{length};
-ghost use Rattle.numbers.specs.Fixed.{«span-limit»};
-ghost use Rattle.calculus.specs.Model.{span};
-ghost use Rattle.calculus.specs.Refusal.{«at-place»};
-ghost use Rattle.calculus.specs.Operations.{limited};
-ghost use Rattle.model_types.specs.ModelStruct.{view, pack, answer};
+ghost use Rattle.model_types.specs.ModelStruct.{view, pack};
 ghost use Rattle.model_slices.specs.HeldModels.{held, Room};
-ghost use Rattle.model_limits.specs.Limits.{Packed};
 ghost use Rattle.model_scaling.specs.Scaling.{«scaled-pass»};
-ghost use Rattle.model_horner.specs.Held.{«Scale-of», «Sum-of», «Sum-in», «Left-in»};
+ghost use Rattle.model_horner.specs.Held.{«Scale-of», «Sum-of», «Sum-in»};
 use model_addition::Next;
 use model_keys::Key;
 use model_types::MOST_TERMS;
-use model_types::Refusal;
 use model_types::Term;
-use model_types::Verdict;
 
 // The terms of a product with a constant in two slices, and what they leave.
 pub struct Passed {
     pub count: usize,
     pub error: u64,
-}
-
-// What is left of a model whose terms lie in two slices, or the refusal.
-pub struct Left {
-    pub count: usize,
-    pub radius: u64,
-    pub verdict: Verdict,
 }
 
 // A model times the constant x goes into two slices: its terms, and E.
@@ -69,22 +52,6 @@ pub fn scaled(
         count: count,
         error: error,
     }
-}
-
-// Whether the span of a model is within the limit.
-pub fn within(count: usize, radius: u64, coefficients: &[i64]) -> bool
-    requires { ⌜ (count ≤ 64) × (length (now coefficients) ≡ 64) ⌝ }
-    ensures { λ r. ⌜ ((n : ℕ) (ks : List ℕ) → Room ks (now (coefficients .entry))
-        → r ≡ leb (span (view (held n count radius ks (now (coefficients .entry))))) span-limit) ⌝ }
-{
-    let mut span = radius;
-    let mut j = 0;
-    while j < count {
-        let c = coefficients[j];
-        span = fixed::capped_sum(span, fixed::magnitude(c));
-        j += 1;
-    }
-    fixed::within_span(span)
 }
 
 // More terms than a model has places.
@@ -142,28 +109,6 @@ pub fn merged(
         }
     }
     count
-}
-
-// The end of every sum and product: the model, unless its span is above the limit.
-pub fn limited(count: usize, radius: u64, coefficients: &[i64]) -> Left
-    requires { ⌜ (count ≤ 64) × (length (now coefficients) ≡ 64) ⌝ }
-    ensures { λ r. ⌜ ((n : ℕ) (ks : List ℕ) → Room ks (now (coefficients .entry))
-        → Packed (held n count radius ks (now (coefficients .entry)))
-        → Left-in n r ks (now (coefficients .entry))
-        (answer (at-place 0 (limited (view (held n count radius ks (now (coefficients .entry)))))))) ⌝ }
-{
-    if within(count, radius, coefficients) {
-        return Left {
-            count: count,
-            radius: radius,
-            verdict: Verdict::Accepted,
-        };
-    }
-    Left {
-        count: 0,
-        radius: 0,
-        verdict: Verdict::Refused(Refusal::OverSpan, 0),
-    }
 }
 
 // The terms that a count names go from two slices into two others.

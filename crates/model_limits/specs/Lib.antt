@@ -1,2 +1,4 @@
 pub mod Limits
 pub mod LimitLaws
+pub mod SpanPassLaws
+pub mod LeftLaws

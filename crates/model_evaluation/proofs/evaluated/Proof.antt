@@ -17,7 +17,7 @@ use Rattle.model_types.specs.declared.Verdict.the-variants.{Accepted}
 use Rattle.model_types.specs.ModelStruct.{view, answer}
 use Rattle.model_types.specs.ModelStructLaws.{limits}
 use Rattle.model_slices.specs.HeldModels.{held, Room}
-use Rattle.model_horner.specs.Held.{Left-in}
+use Rattle.model_limits.specs.Limits.{Left-in}
 use Rattle.model_evaluation.specs.Evaluate.{Evaluation, Put-of, Put-in}
 use Rattle.model_evaluation.specs.EvaluationLaws.{Remaining}
 use Rattle.model_evaluation.specs.SliceEvaluationLaws.{held-evaluation, held-end}

@@ -232,8 +232,8 @@ loop-again c =
 capped-sum-requires : tie.Need-capped-sum-requires Inv-loop μ-loop
 capped-sum-requires c κs = search needs
 
-limited-requires : tie.Need-limited-requires Inv-loop μ-loop
-limited-requires c κs =
+limited-slices-requires : tie.Need-limited-slices-requires Inv-loop μ-loop
+limited-slices-requires c κs =
     let l = c .before .before .before in
     let w = given (start l) in
     (put-few w _ _ _ _ (l .loop .inv .3 w), l .loop .inv .0 .coefficients)
@@ -280,10 +280,10 @@ returns-2 c =
     let l = a .before .before in
     let s = start l in
     subst (λ z. Put-in (s .args .i) z (s .args .count) (s .args .radius) (s .args .keys .now)
-    (s .args .coefficients .now) (c .limited .result) (l .loop .stored) (l .loop .out))
+    (s .args .coefficients .now) (c .limited-slices .result) (l .loop .stored) (l .loop .out))
     (back s) (λ w. put-end w _ _ _ _ (l .loop .inv .3 w) (omega (arith, a .before .loop-test .left))
     (a .capped-sum .ensures)
-    (c .limited .ensures (w .vars) _ (l .loop .inv .0) (put-packed w _ _ _ _ (l .loop .inv .3 w) _)))
+    (c .limited-slices .ensures (w .vars) _ (l .loop .inv .0) (put-packed w _ _ _ _ (l .loop .inv .3 w) _)))
 
 pub put-constant-spec : {M : Type 1} → statement M
 put-constant-spec =
@@ -309,7 +309,7 @@ put-constant-spec =
     loop-less
     loop-again
     capped-sum-requires
-    limited-requires
+    limited-slices-requires
     same-length-7
     same-length-8
     same-length-9

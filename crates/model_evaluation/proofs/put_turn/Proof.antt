@@ -13,7 +13,8 @@ use Rattle.model_types.specs.declared.Refusal.the-variants.{TooManyTerms}
 use Rattle.model_types.specs.declared.Verdict.the-variants.{Refused}
 use Rattle.model_types.specs.ModelStruct.{answer}
 use Rattle.model_slices.specs.HeldModels.{held, Room}
-use Rattle.model_horner.specs.Held.{Sum-in, Left-in}
+use Rattle.model_limits.specs.Limits.{Left-in}
+use Rattle.model_horner.specs.Held.{Sum-in}
 use Rattle.model_evaluation.specs.Evaluate.{Turn-of, Turned-in}
 use Rattle.model_evaluation.specs.SliceTurnLaws.{product, turn-scale, product-packed, product-few}
 use Rattle.model_evaluation.specs.SliceTurnLaws.{product-left, turn-stops}
@@ -62,24 +63,24 @@ module _ (c : tie.After-round-up) where
   few = product-few (turn-of start) _ _ spare products (multiplied .scaled .ensures (turn-scale (turn-of start)))
       (c .round-up .ensures)
 
-limited-requires : tie.Need-limited-requires
-limited-requires c κs = (few (c .before), room (c .before) .coefficients)
+limited-slices-requires : tie.Need-limited-slices-requires
+limited-slices-requires c κs = (few (c .before), room (c .before) .coefficients)
 
 round-up-requires : tie.Need-round-up-requires
 round-up-requires c κs = search needs
 
 -- what is left of it, for any two models that the slices hold
-product-is : (c : tie.After-limited)
+product-is : (c : tie.After-limited-slices)
     → let r = c .before .before in
     let s = start r in
     (w : Turn-of (X s) (s .args .c) (s .args .radius) (s .args .keys .now) (s .args .coefficients .now) (s .args .d)
     (s .args .others .now) (s .args .added .now))
-    → Left-in (w .vars) (c .limited .result) (spare r) (products r) (answer (at-place 0 (product w)))
+    → Left-in (w .vars) (c .limited-slices .result) (spare r) (products r) (answer (at-place 0 (product w)))
 product-is c w =
     let r = c .before .before in
     let e = multiplied r .scaled .ensures (turn-scale w) in
     product-left w _ _ _ _ e (r .round-up .ensures)
-    (c .limited .ensures (w .vars) (spare r) (room r) (product-packed w _ _ _ _ e (r .round-up .ensures)))
+    (c .limited-slices .ensures (w .vars) (spare r) (room r) (product-packed w _ _ _ _ e (r .round-up .ensures)))
 
 enum-told : tie.Need-enum-told
 enum-told c = search needs
@@ -104,7 +105,7 @@ returns c =
     let l = c .before .before in
     let s = start (l .before .before) in
     subst (λ z. Turned-in z (s .args .c) (s .args .radius) (s .args .keys .now) (s .args .coefficients .now)
-    (s .args .d) (s .args .others .now) (s .args .added .now) (l .limited .result) (s .args .keys .now)
+    (s .args .d) (s .args .others .now) (s .args .added .now) (l .limited-slices .result) (s .args .keys .now)
     (s .args .coefficients .now))
     (back s) (λ w. turn-stops w _ _ (product-is l w) (c .enum-told2 .given .1) _ _)
 
@@ -121,7 +122,7 @@ module _ (c : tie.After-merged) where
   abbrev told : tie.After-enum-told
   told = c .before .before .before .before .before
 
-  abbrev left : tie.After-limited
+  abbrev left : tie.After-limited-slices
   left = told .before .before
 
   abbrev passed : tie.After-round-up
@@ -144,7 +145,8 @@ module _ (c : tie.After-merged) where
 
   module _ (w : Turn-of (X begin) (begin .args .c) (begin .args .radius) (begin .args .keys .now)
       (begin .args .coefficients .now) (begin .args .d) (begin .args .others .now) (begin .args .added .now)) where
-    sum-is : Sum-in (held (w .vars) (left .limited .result .count) (left .limited .result .radius) (spare passed)
+    sum-is : Sum-in (held (w .vars) (left .limited-slices .result .count) (left .limited-slices .result .radius)
+        (spare passed)
         (products passed)) (held (w .vars) (begin .args .d) 0 (begin .args .others .now) (begin .args .added .now))
         (w .vars) (c .merged .result) sum-keys sums
     sum-is = c .merged .ensures (turn-sum w _ _ (product-is left w) (told .enum-told .given .1) (room passed))
@@ -172,8 +174,8 @@ returns-2 c =
     (back s) (λ w. turn-many w _ _ (product-is (left m) w) (told m .enum-told .given .1) _ _ (sum-is m w)
     (omega (arith, c .if1 .taken)) refl)
 
-limited-requires-2 : tie.Need-limited-requires-2
-limited-requires-2 c κs =
+limited-slices-requires-2 : tie.Need-limited-slices-requires-2
+limited-slices-requires-2 c κs =
     let m = c .before .before .before .before .before in
     (omega (arith, c .before .if1 .left), sum-room m .coefficients)
 
@@ -195,11 +197,11 @@ returns-3 c =
     let m = i .before .before .before .before in
     let s = begin m in
     subst (λ z. Turned-in z (s .args .c) (s .args .radius) (s .args .keys .now) (s .args .coefficients .now)
-    (s .args .d) (s .args .others .now) (s .args .added .now) (c .limited2 .result) (sum-keys m) (sums m))
+    (s .args .d) (s .args .others .now) (s .args .added .now) (c .limited-slices2 .result) (sum-keys m) (sums m))
     (back s) (λ w.
     let t = told m .enum-told .given .1 in
     turn-end w _ _ (product-is (left m) w) t _ _ (sum-is m w) (omega (arith, i .if1 .left))
-    (c .limited2 .ensures (w .vars) _ (sum-room m)
+    (c .limited-slices2 .ensures (w .vars) _ (sum-room m)
     (turn-packed w _ _ (product-is (left m) w) t _ _ (sum-is m w) (omega (arith, i .if1 .left)))))
 
 pub put-turn-spec : {M : Type 1} → statement M
@@ -208,7 +210,7 @@ put-turn-spec =
     (tie.spec
     scaled-requires
     round-up-requires
-    limited-requires
+    limited-slices-requires
     enum-told
     enum-told-2
     same-length
@@ -222,7 +224,7 @@ put-turn-spec =
     same-length-7
     same-length-8
     returns-2
-    limited-requires-2
+    limited-slices-requires-2
     same-length-9
     same-length-10
     same-length-11

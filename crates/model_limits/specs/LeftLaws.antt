@@ -15,10 +15,9 @@ use Rattle.model_types.specs.declared.Verdict.the-variants.{Accepted, Refused}
 use Rattle.model_types.specs.declared.Answer.{Answer}
 use Rattle.model_types.specs.ModelStruct.{view, answer, refusal}
 use Rattle.model_slices.specs.HeldModels.{held}
-use Rattle.model_limits.specs.Limits.{Packed}
+use Rattle.model_limits.specs.declared.Left.{Left}
+use Rattle.model_limits.specs.Limits.{Packed, Left-in}
 use Rattle.model_limits.specs.LimitLaws.{answer-within, answer-over}
-use Rattle.model_horner.specs.declared.Left.{Left}
-use Rattle.model_horner.specs.Held.{Left-in}
 
 module _ (n count radius : ℕ) (ks : List ℕ) (cs : List ℤ) (p : Packed (held n count radius ks cs)) where
   abbrev tested : Answer

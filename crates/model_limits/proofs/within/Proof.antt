@@ -12,10 +12,10 @@ use mir.Val.{toZ, ofZ}
 use Rattle.numbers.specs.Fixed.{capped}
 use Rattle.calculus.specs.Model.{most-terms}
 use Rattle.model_slices.specs.HeldModels.{held, Room}
 use Rattle.model_limits.specs.LimitLaws.{Summed}
-use Rattle.model_horner.specs.HeldPassLaws.{span-first, span-turn, span-end}
-use Rattle.model_horner.proofs.within.Statement.{statement}
-use Rattle.model_horner.proofs.within.Tie as tie
+use Rattle.model_limits.specs.SpanPassLaws.{span-first, span-turn, span-end}
+use Rattle.model_limits.proofs.within.Statement.{statement}
+use Rattle.model_limits.proofs.within.Tie as tie
 
 abbrev Inv-loop : tie.InvT-loop
 Inv-loop count radius coefficients span₀ j₀ span j =
