@@ -3,6 +3,7 @@ use mathlib.Core.Path.{_≡_, refl, sym, _∙_, ap, subst}
 use mathlib.Core.Bool.{true, _&&_}
 use mathlib.Core.List.{List, [], _∷_, _++_, map, append-assoc, map-append}
 use Prim.Native.Nat.{ℕ, zero, suc, _+_, _-_, _≤_, _<_, min}
+use native.Mathlib.Numerals.{add-one}
 use native.Mathlib.Omega.{arith}
 use lib.Dec.{T, leb, leb→le}
 use lib.IntN.{ℤ, pos}
@@ -14,11 +15,35 @@ use Rattle.model_types.specs.declared.Term.{Term}
 use Rattle.model_types.specs.Arrays.{first-places, padded}
 use Rattle.model_types.specs.ModelStruct.{zero-term, places, pad, view-term, view, listed, of-terms}
 use Rattle.model_types.specs.ModelStruct.{paired, keys-of, coefficients-of}
-use Rattle.model_types.specs.ModelStructLaws.{take-more}
+use Rattle.model_types.specs.ModelStructLaws.{pad-more, take-more}
 use Rattle.model_types.specs.PairedLaws.{Listed, paired-of}
 use Rattle.model_slices.specs.HandedModels.{terms-of, handed, over, answer-numbers, model-room}
 
 -- ---- terms of two slices
+terms-more : (i : ℕ) (ks : List ℕ) (cs : List ℤ) → i < length ks → i < length cs
+    → terms-of (suc i) ks cs ≡ terms-of i ks cs ++ (record { key = getD ks i 0; coefficient = getD cs i (pos 0) } ∷ [])
+unfolding terms-of
+terms-more i [] cs h l = absurd (omega arith)
+terms-more i (k ∷ ks) [] h l = absurd (omega arith)
+terms-more zero (k ∷ ks) (c ∷ cs) h l = refl
+terms-more (suc i) (k ∷ ks) (c ∷ cs) h l =
+    ap (λ (r : List Term). record { key = k; coefficient = c } ∷ r) (terms-more i ks cs (omega arith) (omega arith))
+
+length-terms : (i : ℕ) (ks : List ℕ) (cs : List ℤ) → i ≤ length ks → i ≤ length cs → length (terms-of i ks cs) ≡ i
+unfolding terms-of
+length-terms zero ks cs h l = refl
+length-terms (suc i) [] cs h l = absurd (omega arith)
+length-terms (suc i) (k ∷ ks) [] h l = absurd (omega arith)
+length-terms (suc i) (k ∷ ks) (c ∷ cs) h l = ap suc (length-terms i ks cs (omega arith) (omega arith))
+
+-- a turn of a loop that builds a model
+pub handed-more : (i : ℕ) (ks : List ℕ) (cs : List ℤ) → i < length ks → i < length cs → i < most-terms
+    → set (pad (terms-of i ks cs)) i (record { key = getD ks i 0; coefficient = getD cs i (pos 0) })
+    ≡ pad (terms-of (i + 1) ks cs)
+handed-more i ks cs h l m =
+    pad-more (terms-of i ks cs) i _ (length-terms i ks cs (omega arith) (omega arith)) m
+    ∙ rw (add-one, terms-more i ks cs h l)
+
 -- no more terms than both slices have
 pub terms-end : (i n : ℕ) (ks : List ℕ) (cs : List ℤ) → i ≡ min n (min (length ks) (length cs))
     → terms-of i ks cs ≡ terms-of n ks cs
