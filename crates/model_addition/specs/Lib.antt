@@ -3,3 +3,4 @@ pub mod Addition
 pub mod SumTermsLaws
 pub mod MergeLaws
 pub mod AddedLaws
+pub mod MergePassLaws

@@ -1,12 +1,13 @@
 // Sums of models held in memory: a merge of two lists of terms whose keys rise, then the limits.
 ghost use mathlib.Core.Path.{_≡_};
-ghost use Prim.Native.Nat.{_-_, min};
+ghost use Prim.Native.Nat.{_-_, _≤_, min};
 ghost use Rattle.calculus.specs.Model.{«most-terms»};
 ghost use Rattle.calculus.specs.Refusal.{«at-place»};
 ghost use Rattle.calculus.specs.Operations.{add, subtract};
 ghost use Rattle.model_types.specs.ModelStruct.{view, answer};
+ghost use Rattle.model_slices.specs.HeldModels.{held, Room, Clear};
 ghost use Rattle.model_addition.specs.Merge.{Ready, Takes};
-ghost use Rattle.model_addition.specs.Addition.{Operands};
+ghost use Rattle.model_addition.specs.Addition.{Operands, «Sum-of», «Sum-in»};
 use model_types::Answer;
 use model_types::Key;
 use model_types::MOST_TERMS;
@@ -16,6 +17,9 @@ use model_types::Term;
 
 // The last place of a model's terms.
 const LAST: usize = MOST_TERMS - 1;
+
+// More terms than a model has places.
+const TOO_MANY: usize = MOST_TERMS + 1;
 
 // ---- which term comes next
 // The term of a sum that comes next, and the places after it in the two lists.
@@ -78,26 +82,39 @@ pub fn take_next(i: usize, c: usize, x: Term, j: usize, d: usize, y: Term) -> Ne
 }
 
 // ---- sums and differences
-// a + b: one pass over both lists, in which the 65th term is refused before any span is tested. No coefficient wraps:
-// each is a sum of at most two that are within the span limit.
-pub fn added(a: Model, b: Model) -> Answer
-    requires { ⌜ Operands a b ⌝ }
-    ensures { λ r. ⌜ r ≡ answer (at-place 0 (add (view a) (view b))) ⌝ }
+// The terms of a + b go into two slices: one pass over both lists. The number of the terms, or 65 for any number above
+// 64. No coefficient wraps: each is a sum of at most two that are within the span limit. Where the slices held zeros
+// these stand behind the terms. The slices of a model have one lifetime, so that a struct can lend its two arrays.
+pub fn merged<'a, 'b>(
+    c: usize,
+    keys1: &'a [Key],
+    coefficients1: &'a [i64],
+    d: usize,
+    keys2: &'b [Key],
+    coefficients2: &'b [i64],
+    stored: &mut [Key],
+    out: &mut [i64],
+) -> usize
+    requires { ⌜ Sum-of c (now keys1) (now coefficients1) d (now keys2) (now coefficients2) ⌝ }
+    requires { ⌜ Room (now stored) (now out) ⌝ }
+    ensures terms { λ r. ⌜ ((w : Sum-of c (now (keys1 .entry)) (now (coefficients1 .entry))
+        d (now (keys2 .entry)) (now (coefficients2 .entry)))
+        → Sum-in (held (w .vars) c (w .radius1) (now (keys1 .entry)) (now (coefficients1 .entry)))
+        (held (w .vars) d (w .radius2) (now (keys2 .entry)) (now (coefficients2 .entry)))
+        (w .vars) r (now (stored .exit)) (now (out .exit))) ⌝ }
+    ensures clear { λ r. ⌜ (r ≤ 64 → Clear 0 (now (stored .entry)) (now (out .entry))
+        → Clear r (now (stored .exit)) (now (out .exit))) ⌝ }
 {
-    let c = a.count;
-    let d = b.count;
-    let mut keys: [Key; MOST_TERMS] = [0; MOST_TERMS];
-    let mut coefficients = [0i64; MOST_TERMS];
     let mut count = 0;
     let mut i = 0;
     let mut j = 0;
     while i + j < c + d {
         let p = place(i);
         let q = place(j);
-        let key1 = a.keys[p];
-        let c1 = a.coefficients[p];
-        let key2 = b.keys[q];
-        let c2 = b.coefficients[q];
+        let key1 = keys1[p];
+        let c1 = coefficients1[p];
+        let key2 = keys2[q];
+        let c2 = coefficients2[q];
         let x = Term {
             key: key1,
             coefficient: c1,
@@ -113,12 +130,35 @@ pub fn added(a: Model, b: Model) -> Answer
         j = next.j;
         if z != 0 {
             if MOST_TERMS <= count {
-                return model_types::refuse(Refusal::TooManyTerms, 0);
+                return TOO_MANY;
             }
-            keys[count] = t.key;
-            coefficients[count] = z;
+            stored[count] = t.key;
+            out[count] = z;
             count += 1;
         }
+    }
+    count
+}
+
+// a + b: the 65th term is refused before any span is tested.
+pub fn added(a: Model, b: Model) -> Answer
+    requires { ⌜ Operands a b ⌝ }
+    ensures { λ r. ⌜ r ≡ answer (at-place 0 (add (view a) (view b))) ⌝ }
+{
+    let mut keys: [Key; MOST_TERMS] = [0; MOST_TERMS];
+    let mut coefficients = [0i64; MOST_TERMS];
+    let count = merged(
+        a.count,
+        &a.keys,
+        &a.coefficients,
+        b.count,
+        &b.keys,
+        &b.coefficients,
+        &mut keys,
+        &mut coefficients,
+    );
+    if MOST_TERMS < count {
+        return model_types::refuse(Refusal::TooManyTerms, 0);
     }
     let radius = a.radius + b.radius;
     model_limits::limited(Model {

@@ -18,13 +18,13 @@ use Rattle.model_types.specs.declared.Answer.{Answer}
 use Rattle.model_types.specs.ModelStruct.{view, pack, answer, refusal}
 use Rattle.model_limits.specs.Limits.{Packed, Left-in}
 use Rattle.model_limits.specs.LimitLaws.{packed-radius, limited-capped}
-use Rattle.model_addition.specs.Addition.{Operands}
+use Rattle.model_addition.specs.Addition.{Operands, Sum-of, Sum-in}
 use Rattle.model_scaling.specs.Scaling.{scaled-pass}
 use Rattle.model_scaling.specs.ScaledAnswerLaws.{scaled-packed, scaled-answer}
 use Rattle.model_limits.specs.declared.Left.{Left}
 use Rattle.model_slices.specs.HeldModels.{held, Room}
 use Rattle.model_powers.specs.Powers.{Keys-of, Part-of}
-use Rattle.model_horner.specs.Held.{Scale-of, Sum-of, Sum-in}
+use Rattle.model_horner.specs.Held.{Scale-of}
 use Rattle.model_evaluation.specs.Evaluate.{Putting, put-turn, Turning, Turn-of, Put-of}
 use Rattle.model_evaluation.specs.PutCoordinateLaws as P
 

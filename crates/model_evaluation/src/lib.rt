@@ -19,15 +19,15 @@ use model_types::Verdict;
 
 // One turn of Horner's rule: h times x, then q added. The product goes into the last two slices, the sum into the first
 // two, in which h lay.
-fn put_turn(
+fn put_turn<'a>(
     x: i64,
     c: usize,
     radius: u64,
     keys: &mut [Key],
     coefficients: &mut [i64],
     d: usize,
-    others: &[Key],
-    added: &[i64],
+    others: &'a [Key],
+    added: &'a [i64],
     spare: &mut [Key],
     products: &mut [i64],
 ) -> Left
@@ -43,7 +43,7 @@ fn put_turn(
         return product;
     };
     let e = product.radius;
-    let total = model_horner::merged(
+    let total = model_addition::merged(
         product.count,
         spare,
         products,

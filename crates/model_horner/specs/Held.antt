@@ -1,15 +1,8 @@
--- What the steps of Horner's rule ask of models that lie in slices of 64 places.
-use mathlib.Core.Path.{_≡_}
+-- What a product with a constant asks of a model that lies in slices of 64 places.
 use mathlib.Core.List.{List}
-use Prim.Native.Nat.{ℕ, _+_, _≤_, _<_}
+use Prim.Native.Nat.{ℕ}
 use lib.IntN.{ℤ}
-use Rattle.calculus.specs.Refusal.{too-many-terms, stopped, at-place}
-use Rattle.calculus.specs.Operations.{limited, add}
-use Rattle.model_types.specs.declared.Model.{Model}
-use Rattle.model_types.specs.ModelStruct.{view, answer}
 use Rattle.model_slices.specs.HeldModels.{held, Room}
-use Rattle.model_limits.specs.Limits.{Packed}
-use Rattle.model_addition.specs.Addition.{Operands}
 use Rattle.model_scaling.specs.Scaling.{Scalable}
 
 -- a sound model, and a constant from -U to U
@@ -17,19 +10,3 @@ pub record Scale-of (X : ℤ) (count radius : ℕ) (ks : List ℕ) (cs : List �
   pub vars : ℕ
   pub room : Room ks cs
   pub scalable : Scalable X (held vars count radius ks cs)
-
--- two sound models in the same variables
-pub record Sum-of (c : ℕ) (ks : List ℕ) (cs : List ℤ) (d : ℕ) (ks₂ : List ℕ) (cs₂ : List ℤ) : Type 0 where
-  pub vars : ℕ
-  pub radius1 : ℕ
-  pub radius2 : ℕ
-  pub first-room : Room ks cs
-  pub second-room : Room ks₂ cs₂
-  pub operands : Operands (held vars c radius1 ks cs) (held vars d radius2 ks₂ cs₂)
-
--- the terms of a + b, of which the limits are still to be tested, or more than 64
-pub record Sum-in (a b : Model) (n count : ℕ) (ks : List ℕ) (cs : List ℤ) : Type 0 where
-  pub packed : count ≤ 64 → Packed (held n count (a .radius + b .radius) ks cs)
-  pub sum : count ≤ 64 → answer (at-place 0 (limited (view (held n count (a .radius + b .radius) ks cs))))
-      ≡ answer (at-place 0 (add (view a) (view b)))
-  pub many : 64 < count → answer (at-place 0 (add (view a) (view b))) ≡ answer (stopped too-many-terms 0)

@@ -14,7 +14,7 @@ use Rattle.model_types.specs.declared.Verdict.the-variants.{Refused}
 use Rattle.model_types.specs.ModelStruct.{answer}
 use Rattle.model_slices.specs.HeldModels.{held, Room}
 use Rattle.model_limits.specs.Limits.{Left-in}
-use Rattle.model_horner.specs.Held.{Sum-in}
+use Rattle.model_addition.specs.Addition.{Sum-in}
 use Rattle.model_evaluation.specs.Evaluate.{Turn-of, Turned-in}
 use Rattle.model_evaluation.specs.SliceTurnLaws.{product, turn-scale, product-packed, product-few}
 use Rattle.model_evaluation.specs.SliceTurnLaws.{product-left, turn-stops}
@@ -149,7 +149,7 @@ module _ (c : tie.After-merged) where
         (spare passed)
         (products passed)) (held (w .vars) (begin .args .d) 0 (begin .args .others .now) (begin .args .added .now))
         (w .vars) (c .merged .result) sum-keys sums
-    sum-is = c .merged .ensures (turn-sum w _ _ (product-is left w) (told .enum-told .given .1) (room passed))
+    sum-is = c .merged .ensures .0 (turn-sum w _ _ (product-is left w) (told .enum-told .given .1) (room passed))
 
 same-length-5 : tie.Need-same-length-5
 same-length-5 c = search needs

@@ -1,10 +1,10 @@
 -- `merged` merges: what is stored, followed by the sum of what is left, is the sum.
-use mathlib.Core.Path.{_≡_, _∙_, ap, subst}
-use Prim.Native.Nat.{ℕ, _+_, _-_, _<_, _≤_}
+use mathlib.Core.Path.{_≡_}
+use Prim.Native.Nat.{_+_, _-_, _<_, _≤_}
 use native.Mathlib.Omega.{arith}
 use borrow.Author.Needs.{needs}
 use lib.IntN.{ℤ, pos}
-use lib.ListN.{length, getD}
+use lib.ListN.{getD}
 use mir.Facts.{toZ-ofZ}
 use mir.Syntax.{w64}
 use mir.Val.{toZ, ofZ}
@@ -12,21 +12,21 @@ use Rattle.calculus.specs.Model.{most-terms}
 use Rattle.model_types.specs.ModelStruct.{pad}
 use Rattle.model_types.specs.ZeroTestLaws.{zero-bits, nonzero-bits}
 use Rattle.model_slices.specs.HandedModels.{terms-of}
-use Rattle.model_slices.specs.HeldModels.{held, Room}
-use Rattle.model_slices.specs.HeldModelsLaws.{room-still}
-use Rattle.model_addition.specs.Merge.{Takes}
+use Rattle.model_slices.specs.HeldModels.{held, Room, Clear}
+use Rattle.model_slices.specs.HeldModelsLaws.{room-still, clear-more}
+use Rattle.model_addition.specs.Addition.{Sum-of}
 use Rattle.model_addition.specs.MergeLaws.{Merged, Turn}
-use Rattle.model_horner.specs.Held.{Sum-of}
-use Rattle.model_horner.specs.MergePassLaws.{first-few, second-few, merge-first, merge-fits, merge-turn}
-use Rattle.model_horner.specs.MergePassLaws.{merge-skip, merge-store, merge-many, merge-end}
-use Rattle.model_horner.proofs.merged.Statement.{statement}
-use Rattle.model_horner.proofs.merged.Tie as tie
+use Rattle.model_addition.specs.MergePassLaws.{first-few, second-few, merge-first, merge-fits, merge-turn}
+use Rattle.model_addition.specs.MergePassLaws.{merge-skip, merge-store, merge-many, merge-end}
+use Rattle.model_addition.proofs.merged.Statement.{statement}
+use Rattle.model_addition.proofs.merged.Tie as tie
 
 abbrev Inv-loop : tie.InvT-loop
 Inv-loop c keys1 coefficients1 d keys2 coefficients2 stored₀ out₀ count₀ i₀ j₀ stored out count i j =
     Room stored out × ((w : Sum-of c keys1 coefficients1 d keys2 coefficients2)
     → Merged (held (w .vars) c (w .radius1) keys1 coefficients1) (held (w .vars) d (w .radius2) keys2 coefficients2)
     (pad (terms-of count stored out)) count i j)
+    × (Clear 0 stored₀ out₀ → Clear count stored out)
 
 abbrev μ-loop : tie.MeasureT-loop
 μ-loop c keys1 coefficients1 d keys2 coefficients2 stored₀ out₀ count₀ i₀ j₀ stored out count i j = c + d - (i + j)
@@ -53,7 +53,7 @@ module _ (l : tie.At-loop Inv-loop μ-loop) where
   right = l .loop .inv .1 (begin .pre .0) .right
 
 loop-holds : tie.Need-loop-holds Inv-loop μ-loop
-loop-holds c = (c .before .before .before .pre .1, λ w. merge-first w _ _)
+loop-holds c = (c .before .before .before .pre .1, λ w. merge-first w _ _, λ z. z)
 
 add-loop : tie.Need-add-loop Inv-loop μ-loop
 add-loop c = omega (arith, left c, right c, few-first (begin c), few-second (begin c))
@@ -178,8 +178,11 @@ returns : tie.Need-returns Inv-loop μ-loop
 unfolding most-terms
 returns c =
     let n = taken (c .before) in
-    let l = at (c .before) in λ w.
-    merge-many w _ _ (l .loop .inv .1 w) _ (turned n w) (nonzero-bits _ (c .before .if1 .taken)) (c .if2 .taken) _ _
+    let l = at (c .before) in (
+      λ w. merge-many w _ _ (l .loop .inv .1 w) _ (turned n w) (nonzero-bits _ (c .before .if1 .taken)) (c .if2 .taken)
+          _ _,
+      λ h z. absurd (omega arith),
+    )
 
 mul-stored : tie.Need-mul-stored Inv-loop μ-loop
 mul-stored c = omega arith
@@ -210,6 +213,7 @@ loop-again c =
       λ w. merge-store w _ _ (l .loop .inv .1 w) _ (turned n w) (nonzero-bits _ (c .before .if1 .taken))
           (omega (arith, c .if2 .left)) (l .loop .inv .0)
           (toZ-ofZ (record { sfits = c .before .before .struct-told .given .1 .0 .1 })),
+      λ z. clear-more _ _ (l .loop .inv .2 z) (l .loop .inv .0) (omega (arith, c .if2 .left)),
     )
 
 loop-less-2 : tie.Need-loop-less-2 Inv-loop μ-loop
@@ -224,6 +228,7 @@ loop-again-2 c =
       l .loop .inv .0,
       λ w. merge-skip w _ _ (l .loop .inv .1 w) _ (turned n w)
           (zero-bits (record { sfits = c .before .struct-told .given .1 .0 .1 }) (c .if1 .left)),
+      l .loop .inv .2,
     )
 
 same-length-3 : tie.Need-same-length-3 Inv-loop μ-loop
@@ -237,7 +242,11 @@ same-length-4 c =
     let b = begin (c .before) .pre .1 .coefficients in search needs
 
 returns-2 : tie.Need-returns-2 Inv-loop μ-loop
-returns-2 c = λ w. merge-end w _ _ (c .before .loop .inv .1 w) (omega (arith, c .loop-test .left))
+returns-2 c =
+    let i = c .before .loop .inv in (
+      λ w. merge-end w _ _ (i .1 w) (omega (arith, c .loop-test .left)),
+      λ h. i .2,
+    )
 
 pub merged-spec : {M : Type 1} → statement M
 merged-spec =

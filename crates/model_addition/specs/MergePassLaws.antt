@@ -1,27 +1,31 @@
 -- The merge of two models that lie in slices: each turn is that of the merge of structs.
-use mathlib.Core.Path.{_≡_, sym, _∙_, ap, subst}
+use mathlib.Core.Path.{_≡_, refl, sym, _∙_, ap, ap₂, subst}
 use mathlib.Core.Bool.{true, false}
 use mathlib.Core.List.{List}
 use Prim.Native.Nat.{ℕ, _+_, _-_, _^_, _≤_, _<_, min}
 use native.Mathlib.Omega.{arith}
+use lib.Dec.{T}
 use lib.IntN.{ℤ, pos, natAbs}
-use lib.ListN.{length, getD, set}
+use lib.ListN.{getD, set}
 use Rattle.numbers.specs.FixedLaws.{span-fits}
-use Rattle.calculus.specs.Model.{most-degree, most-terms}
+use Rattle.calculus.specs.Model.{most-degree, most-terms, sound}
 use Rattle.calculus.specs.Terms.{is-nonzero}
+use Rattle.calculus.specs.Refusal.{at-place}
+use Rattle.calculus.specs.Operations.{add}
 use Rattle.model_types.specs.declared.Term.{Term}
 use Rattle.model_types.specs.declared.Model.{Model}
-use Rattle.model_types.specs.ModelStruct.{zero-term, pad, listed}
+use Rattle.model_types.specs.ModelStruct.{zero-term, view, pad, answer, listed}
 use Rattle.model_types.specs.ModelStructLaws.{limits}
+use Rattle.model_types.specs.PairedLaws.{length-paired}
 use Rattle.model_slices.specs.HandedModels.{terms-of}
 use Rattle.model_slices.specs.HeldModels.{held, Room}
-use Rattle.model_slices.specs.HeldModelsLaws.{pair, held-long, held-at, stored-more}
+use Rattle.model_slices.specs.HeldModelsLaws.{pair, held-long, held-at, stored-more, own-view}
 use Rattle.model_addition.specs.declared.Next.{Next}
+use Rattle.model_addition.specs.Addition.{Operands, Sum-of, Sum-in}
 use Rattle.model_addition.specs.Merge.{Takes}
 use Rattle.model_addition.specs.MergeLaws.{Mergeable, Merged, Turn, nothing-stored, turn, skip, store, too-many}
-use Rattle.model_addition.specs.AddedLaws.{Whole, coefficient-within, mergeable, answer-too-many}
-use Rattle.model_addition.specs.AddedLaws.{sum-packed, sum-answer}
-use Rattle.model_horner.specs.Held.{Sum-of, Sum-in}
+use Rattle.model_addition.specs.AddedLaws.{Whole, coefficient-within, radius-within, mergeable}
+use Rattle.model_addition.specs.AddedLaws.{answer-too-many, sum-packed, sum-answer}
 
 module _ {c d : ℕ} {ks ks₂ : List ℕ} {cs cs₂ : List ℤ} (w : Sum-of c ks cs d ks₂ cs₂) where
   abbrev a : Model
@@ -115,3 +119,48 @@ module _ {c d : ℕ} {ks ks₂ : List ℕ} {cs cs₂ : List ℤ} (w : Sum-of c k
       sum = λ l. sum-answer a b (w .operands) first-whole second-whole m h;
       many = λ l. absurd (omega (arith, m .few));
     }
+
+-- ---- two structs lend their arrays
+module _ {a b : Model} (s : Operands a b) (v : Room (a .keys) (a .coefficients)) (w : Room (b .keys) (b .coefficients))
+  where
+    -- they hold the models that these hold
+    first-view : view (held (a .n) (a .count) (a .radius) (a .keys) (a .coefficients)) ≡ view a
+    first-view = own-view a v (limits most-degree a (s .first) .few)
+
+    second-view : view (held (a .n) (b .count) (b .radius) (b .keys) (b .coefficients)) ≡ view b
+    second-view = ap (λ n. view (held n (b .count) (b .radius) (b .keys) (b .coefficients))) (s .vars)
+        ∙ own-view b w (limits most-degree b (s .second) .few)
+
+    pub lent-operands : Operands (held (a .n) (a .count) (a .radius) (a .keys) (a .coefficients))
+        (held (a .n) (b .count) (b .radius) (b .keys) (b .coefficients))
+    lent-operands = record {
+      first = subst (λ m. T (sound most-degree m)) (sym first-view) (s .first);
+      second = subst (λ m. T (sound most-degree m)) (sym second-view) (s .second);
+      vars = unfold held in refl;
+    }
+
+    abbrev pub lent-sum : Sum-of (a .count) (a .keys) (a .coefficients) (b .count) (b .keys) (b .coefficients)
+    lent-sum = record {
+      vars = a .n;
+      radius1 = a .radius;
+      radius2 = b .radius;
+      first-room = v;
+      second-room = w;
+      operands = lent-operands;
+    }
+
+    -- and have their sum
+    pub lent-answer : answer (at-place 0 (add (view (held (a .n) (a .count) (a .radius) (a .keys) (a .coefficients)))
+        (view (held (a .n) (b .count) (b .radius) (b .keys) (b .coefficients)))))
+        ≡ answer (at-place 0 (add (view a) (view b)))
+    lent-answer = ap₂ (λ x y. answer (at-place 0 (add x y))) first-view second-view
+
+    -- which has a radius of 64 bits
+    pub lent-radius : a .radius + b .radius < 2 ^ 64
+    unfolding most-terms
+    lent-radius = omega (
+      arith,
+      radius-within a (s .first) (length-paired _ _ (v .keys ∙ sym (v .coefficients)) ∙ v .keys),
+      radius-within b (s .second) (length-paired _ _ (w .keys ∙ sym (w .coefficients)) ∙ w .keys),
+      span-fits,
+    )
