@@ -1,5 +1,5 @@
 -- Laws that callers of the operations use, handed on from the crates that make them.
-pub use Rattle.model_soundness.specs.SoundPassLaws.{Passed, passed-first, passed-turn, passed-not, passed-end, many-not}
+pub use Rattle.model_soundness.specs.SoundPassLaws.{many-not}
 pub use Rattle.model_soundness.specs.SliceSoundLaws.{lent-own, handed-own}
 pub use Rattle.model_types.specs.ResultLaws.{sound-order, Holds, held-vars, held-view, held-sound, Got, got}
 pub use Rattle.model_keys.specs.KeyExponentLaws.{monomial-place}

@@ -266,9 +266,6 @@ pub use model_soundness::sound_slices;
 // The same for two arrays that are lent together, such as those of one struct.
 pub use model_soundness::sound_arrays;
 
-// Whether a term may stand in a model of n variables, n from 1 to 8, behind keys that are below `least`.
-pub use model_soundness::term_sound;
-
 // The exponent of variable i, 1 to 8, in a key.
 pub use model_keys::exponent_of;
 

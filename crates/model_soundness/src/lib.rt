@@ -13,7 +13,7 @@ use model_types::MOST_TERMS;
 use model_types::Model;
 
 // Whether a term may stand in a model where keys before it are below `least`.
-pub fn term_sound(n: u8, d: u8, least: u64, key: Key, coefficient: i64) -> bool
+fn term_sound(n: u8, d: u8, least: u64, key: Key, coefficient: i64) -> bool
     requires { ⌜ (1 ≤ n) × (n ≤ key-width) ⌝ }
     ensures { λ r. ⌜ r ≡ term-sound n d least key coefficient ⌝ }
 {

@@ -16,7 +16,7 @@ use Rattle.model.specs.OperationLaws.{lent-own, handed-own}
 use Rattle.format.specs.Bytes.{byte}
 use Rattle.format.specs.HeldBook.{Held-model, view-model}
 use Rattle.format.specs.Format.{term-length, read-model, model-length}
-use Rattle.format.specs.ReadLoopLaws.{byte-at, model-at-least, and-false}
+use Rattle.format.specs.ReadLoopLaws.{model-at-least, and-false}
 use Rattle.sheet_walk.specs.Walk.{record-sound, Walk, walk, models-walked}
 use Rattle.sheet_walk.specs.TermWalkLaws.{view-stored, model-at, length-at, many-terms, keys-whole}
 use Rattle.sheet_walk.specs.TermWalkLaws.{coefficients-whole}

@@ -1,5 +1,5 @@
 -- `model_at` reads the head of a record, and then term after term into two arrays.
-use mathlib.Core.Path.{_≡_, sym, subst}
+use mathlib.Core.Path.{_≡_}
 use mathlib.Core.List.{List}
 use Prim.Native.Nat.{ℕ, _+_, _*_, _-_, _≤_, _<_}
 use native.Mathlib.Omega.{arith}
@@ -9,7 +9,6 @@ use mir.Facts.{toZ-ofZ}
 use mir.Syntax.{w64}
 use mir.Val.{Fits, toZ, ofZ}
 use Rattle.calculus.specs.Model.{most-terms}
-use Rattle.model_types.specs.declared.Term.{Term}
 use Rattle.format.specs.Bytes.{byte}
 use Rattle.format.specs.Format.{term-length}
 use Rattle.sheet_walk.specs.TermWalkLaws.{Terms-so-far, terms-first, terms-turn, terms-end, length-at, one-inside}
