@@ -105,6 +105,8 @@ static void steps(void) {
         {1, HECHROUNG_UNIT / 4, 0},
         {1, 349525, 1},
     };
+    /* The input alone, as the program writes it. */
+    static const char lines[] = "radius 9\nrange -9 9\nintegral -18 18\nexact 0 0\n";
     struct hechroung_model input = hechroung_zero(1);
     struct hechroung_summary summary;
     uint8_t sheet[HECHROUNG_LONGEST_SHEET], bytes[HECHROUNG_LONGEST_RECORD];
@@ -124,7 +126,7 @@ static void steps(void) {
     SAME(place, 0u);
     SAME(hechroung_rewrite(sheet, length, again, length - 1, &again_length, NULL), HECHROUNG_SHORT_BUFFER);
     SAME(again_length, 0u);
-    SAME(hechroung_open(sheet, length - 1, &at, &place), HECHROUNG_BAD_OFFSET);
+    SAME(hechroung_open(sheet, length - 1, &at, &place), HECHROUNG_BAD_MARK);
     SAME(at, length - 1);
     SAME(hechroung_open(sheet, length, &at, NULL), HECHROUNG_ACCEPTED);
     SAME(hechroung_next(sheet, length, at, bytes, sizeof bytes, &record_length, &at), HECHROUNG_MODEL_RECORD);
@@ -138,7 +140,8 @@ static void steps(void) {
     SAME(record_length, 0u);
     SAME(i, at);
     SAME(hechroung_record(sheet, length, 2, bytes, sizeof bytes), 0u);
-    SAME(hechroung_print(sheet, length, bytes, 0), 31u);
+    SAME(hechroung_print(sheet, length, bytes, sizeof bytes), sizeof lines - 1);
+    SAME(memcmp(bytes, lines, sizeof lines - 1), 0);
 }
 
 /* A null pointer makes no call, and nothing is written. */
