@@ -56,7 +56,7 @@ ranked t = record { rank = rank-of (key key-width (t .exponents)); coefficient =
 unfoldable pub ranked-bytes : Ranked → List ℕ
 ranked-bytes t = u16-bytes (t .rank) ++ u32-bytes (bits (t .coefficient))
 
--- the bytes of terms, one behind the other
+-- the bytes of terms, one after the other
 abbrev pub terms-stored : Terms → List ℕ
 terms-stored q = join (map ranked-bytes (map ranked q))
 

@@ -25,7 +25,7 @@ unfolding
     A.stored A.read-ranked A.read-all A.require-ranks A.restored-term A.restored-model A.restored
 archives = tt
 
--- 7 + 2y³ + 5x in two variables: by key y³ comes before x, by degree behind it
+-- 7 + 2y³ + 5x in two variables: by key y³ comes before x, by degree after it
 unfoldable pub cubic : Model
 cubic = model 2 9 (at-key 2 0x0000 (pos 7) ∷ at-key 2 0x0300 (pos 2) ∷ at-key 2 0x1000 (pos 5) ∷ [])
 
@@ -117,7 +117,7 @@ pub refusal-rows
     -- 3 before 17
     × (restored (with-ranks 0 (9000 ∷ [])) 1 ≡ stopped bad-limits 0)
     × (restored (with-ranks 5 (9000 ∷ [])) 1 ≡ stopped bad-limits 0)
-    -- the last rank and the one behind it
+    -- the last rank and the one after it
     × (restored (with-ranks 4 (3875 ∷ [])) 1 ≡ done (model 4 0 (at-key 4 0xF000 (pos 1) ∷ [])))
     × (restored (with-ranks 4 (3876 ∷ [])) 1 ≡ stopped bad-rank 0)
     × (restored (with-ranks 4 (3875 ∷ 3876 ∷ [])) 2 ≡ stopped bad-rank 1)

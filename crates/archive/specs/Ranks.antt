@@ -58,7 +58,7 @@ key-at r = getD all-keys r 0
 unfoldable pub weight : ℕ → ℕ
 weight z = key-degree z * key-limit + z
 
--- each is a key of degree at most 15, without exponents behind the fourth, that is above the one before, in that order
+-- each is a key of degree at most 15, without exponents after the fourth, that is above the one before, in that order
 unfoldable pub keys-in-order : (least : ℕ) → List ℕ → Bool
 keys-in-order least [] = true
 keys-in-order least (z ∷ l) =

@@ -7,14 +7,14 @@ use lib.Dec.{leb}
 use Rattle.calculus.specs.Model.{Model}
 use Rattle.calculus.specs.Refusal.{Result}
 use Rattle.model_types.specs.ModelStruct.{verdict-number, verdict-place}
-use Rattle.model_slices.specs.HandedModels.{lent, misused, over}
+use Rattle.model_slices.specs.HandedModels.{borrowed, misused, over}
 use Rattle.archive.specs.Archive.{store, stored, restored}
 use Rattle.model_archive.specs.declared.Stored.{Stored}
 use Rattle.model_archive.specs.StoredStruct.{store-answer}
 
 -- whether the slices have every term that the count names, and room for the numbers
 unfoldable pub store-fits : (count keys coefficients numbers : ℕ) → Bool
-store-fits count keys coefficients numbers = lent count keys coefficients && leb 2 numbers
+store-fits count keys coefficients numbers = borrowed count keys coefficients && leb 2 numbers
 
 -- the number that a call returns, and its numbers
 pub record Stored-numbers : Type 0 where

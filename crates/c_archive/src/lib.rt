@@ -17,7 +17,7 @@ const NUMBERS: usize = 2;
 pub fn store_fits(count: usize, keys: usize, coefficients: usize, numbers: usize) -> bool
     ensures { λ r. ⌜ r ≡ store-fits count keys coefficients numbers ⌝ }
 {
-    if !model_slices::lent(count, keys, coefficients) {
+    if !model_slices::borrowed(count, keys, coefficients) {
         return false;
     }
     NUMBERS <= numbers

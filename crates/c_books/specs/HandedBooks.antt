@@ -36,7 +36,7 @@ step-at fs vs i = record {
 unfoldable pub step-places : (fields values : ℕ) → ℕ
 step-places fields values = min most-steps (min (fields / step-fields) values)
 
--- these, and zeros behind them
+-- these, and zeros after them
 unfoldable pub handed-steps : List ℕ → List ℤ → List Step
 handed-steps fs vs = padded no-step most-steps (table (step-at fs vs) (step-places (length fs) (length vs)))
 
@@ -55,7 +55,7 @@ unfoldable pub model-places : (ns counts radii keys coefficients : ℕ) → ℕ
 model-places ns counts radii keys coefficients =
     min most-models (min (min ns (min counts radii)) (min (keys / most-terms) (coefficients / most-terms)))
 
--- these, and zeros behind them
+-- these, and zeros after them
 unfoldable pub handed-models : (ns counts radii keys : List ℕ) → List ℤ → List Model
 handed-models ns cs rs ks zs = padded no-model most-models (table (model-at ns cs rs ks zs)
     (model-places (length ns) (length cs) (length rs) (length ks) (length zs)))

@@ -16,23 +16,24 @@ unfolding table
 length-table f zero = refl
 length-table f (suc n) = length-append (table f n) (f n ∷ []) ∙ omega (arith, length-table f n)
 
--- a turn of a loop that fills an array
+-- an iteration of a loop that fills an array
 pub table-more : {A : Type 0} (zeros : A) (size : ℕ) (f : ℕ → A) (i : ℕ) → i < size
     → set (padded zeros size (table f i)) i (f i) ≡ padded zeros size (table f (i + 1))
 unfolding table
 table-more zeros size f i h = padded-more zeros size (table f i) i (f i) (length-table f i) h ∙ rw (add-one i)
 
 -- ---- as many places as every slice has
-pub record Steps-lent (places fields values : ℕ) : Type 0 where
+pub record Steps-borrowed (places fields values : ℕ) : Type 0 where
   pub few : places ≤ 64
   pub fields-long : 4 * places ≤ fields
   pub values-long : places ≤ values
 
-pub steps-lent : (places fields values : ℕ) → places ≡ step-places fields values → Steps-lent places fields values
+pub steps-borrowed : (places fields values : ℕ) → places ≡ step-places fields values
+    → Steps-borrowed places fields values
 unfolding step-places most-steps
-steps-lent p f v e = record { few = omega arith; fields-long = omega arith; values-long = omega arith }
+steps-borrowed p f v e = record { few = omega arith; fields-long = omega arith; values-long = omega arith }
 
-pub record Models-lent (places ns counts radii keys coefficients : ℕ) : Type 0 where
+pub record Models-borrowed (places ns counts radii keys coefficients : ℕ) : Type 0 where
   pub few : places ≤ 16
   pub ns-long : places ≤ ns
   pub counts-long : places ≤ counts
@@ -40,11 +41,11 @@ pub record Models-lent (places ns counts radii keys coefficients : ℕ) : Type 0
   pub keys-long : 64 * places ≤ keys
   pub coefficients-long : 64 * places ≤ coefficients
 
-pub models-lent : (places ns counts radii keys coefficients : ℕ)
+pub models-borrowed : (places ns counts radii keys coefficients : ℕ)
     → places ≡ model-places ns counts radii keys coefficients
-    → Models-lent places ns counts radii keys coefficients
+    → Models-borrowed places ns counts radii keys coefficients
 unfolding model-places most-terms most-models
-models-lent p ns cs rs ks zs e = record {
+models-borrowed p ns cs rs ks zs e = record {
   few = omega arith;
   ns-long = omega arith;
   counts-long = omega arith;
@@ -53,10 +54,10 @@ models-lent p ns cs rs ks zs e = record {
   coefficients-long = omega arith;
 }
 
-pub models-lent-at : (k ns counts radii keys coefficients : ℕ) → k < model-places ns counts radii keys coefficients
-    → Models-lent (suc k) ns counts radii keys coefficients
+pub models-borrowed-at : (k ns counts radii keys coefficients : ℕ) → k < model-places ns counts radii keys coefficients
+    → Models-borrowed (suc k) ns counts radii keys coefficients
 unfolding model-places most-terms most-models
-models-lent-at k ns cs rs ks zs e = record {
+models-borrowed-at k ns cs rs ks zs e = record {
   few = omega arith;
   ns-long = omega arith;
   counts-long = omega arith;

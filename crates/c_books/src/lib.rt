@@ -21,7 +21,7 @@ pub fn step_places(fields: usize, values: usize) -> usize
     model_slices::least(sheet_book::MOST_STEPS, both)
 }
 
-// The steps that are handed over, and zeros behind them.
+// The steps that are handed over, and zeros after them.
 pub fn handed_steps(fields: &[u8], values: &[i64]) -> [Step; sheet_book::MOST_STEPS]
     ensures { λ r. ⌜ r ≡ handed-steps (now (fields .entry)) (now (values .entry)) ⌝ }
 {
@@ -87,7 +87,7 @@ pub fn model_at(
     model_slices::handed(n, count, radius, &keys[from..to], &coefficients[from..to])
 }
 
-// The models that are handed over, and zeros behind them.
+// The models that are handed over, and zeros after them.
 pub fn handed_models(
     ns: &[u8],
     counts: &[usize],

@@ -17,7 +17,7 @@ use Rattle.model_types.specs.declared.Answer.{Answer}
 use Rattle.model_types.specs.declared.Bounds.{Bounds}
 use Rattle.model_types.specs.declared.Integral.{Integral}
 use Rattle.model_types.specs.ModelStruct.{answer, integral-answer, verdict-number, verdict-place}
-use Rattle.model_slices.specs.HandedModels.{lent, misused, over, stored-keys, stored-coefficients, stored-numbers}
+use Rattle.model_slices.specs.HandedModels.{borrowed, misused, over, stored-keys, stored-coefficients, stored-numbers}
 
 -- ---- the calls by their codes
 -- whether a code names a call that answers with a model: as a sheet's steps 1 to 8 and 10, the antiderivative, but not
@@ -84,7 +84,7 @@ stored-answer a ks cs ns =
 
 -- whether the code is known and the slices are long enough
 unfoldable pub call-fits : (code count₁ keys₁ coefficients₁ count₂ keys₂ coefficients₂ : ℕ) (room : Bool) → Bool
-call-fits code c₁ k₁ z₁ c₂ k₂ z₂ room = call-known code && lent c₁ k₁ z₁ && lent c₂ k₂ z₂ && room
+call-fits code c₁ k₁ z₁ c₂ k₂ z₂ room = call-known code && borrowed c₁ k₁ z₁ && borrowed c₂ k₂ z₂ && room
 
 -- a call that fits is answered, any other returns 255 and changes nothing
 unfoldable pub called : (fits : Bool) → Result C.Model → List ℕ → List ℤ → List ℕ → Called
@@ -113,7 +113,7 @@ point-fits code point = cond (eqb code 3) (leb most-vars point) true
 -- whether the code is known and the slices are long enough
 unfoldable pub ends-call-fits : (code count keys coefficients point ends : ℕ) → Bool
 ends-call-fits code count keys coefficients point ends =
-    leb 1 code && leb code 3 && lent count keys coefficients && point-fits code point && leb 4 ends
+    leb 1 code && leb code 3 && borrowed count keys coefficients && point-fits code point && leb 4 ends
 
 -- a call that fits is answered, any other returns 255 and changes nothing
 unfoldable pub called-ends : (fits : Bool) → Result Op.Integral → List ℤ → Called-ends

@@ -16,7 +16,7 @@ use Rattle.calculus.specs.Operations.{whole-integral}
 use Rattle.calculus.specs.Calls.{call-range, call-integral, call-evaluate}
 use Rattle.calculus_laws.specs.TestLaws.{and-right}
 use Rattle.model_types.specs.ModelStruct.{bounds, integral-answer}
-use Rattle.model_slices.specs.HandedModels.{lent, answer-numbers, model-room}
+use Rattle.model_slices.specs.HandedModels.{borrowed, answer-numbers, model-room}
 use Rattle.model_slices.specs.HandedModelsLaws.{room-parts}
 use Rattle.c_calls.specs.CallCodes.{call-known, alone, ends-alone, ends-call, call-fits, ends-call-fits}
 use Rattle.c_calls.specs.CallCodes.{point-fits}
@@ -33,13 +33,13 @@ pub fits-room : (code c₁ k₁ z₁ c₂ k₂ z₂ k z n : ℕ) → call-fits c
 unfolding call-fits
 fits-room code c₁ k₁ z₁ c₂ k₂ z₂ k z n h =
     room-parts k z n
-    (and-right (call-known code && lent c₁ k₁ z₁ && lent c₂ k₂ z₂) (model-room k z n) (subst T (sym h) tt))
+    (and-right (call-known code && borrowed c₁ k₁ z₁ && borrowed c₂ k₂ z₂) (model-room k z n) (subst T (sym h) tt))
 
 pub fits-ends : (code c k z p e : ℕ) → ends-call-fits code c k z p e ≡ true → 4 ≤ e
 unfolding ends-call-fits
 fits-ends code c k z p e h =
     leb→le 4 e
-    (and-right (leb 1 code && leb code 3 && lent c k z && point-fits code p) (leb 4 e) (subst T (sym h) tt))
+    (and-right (leb 1 code && leb code 3 && borrowed c k z && point-fits code p) (leb 4 e) (subst T (sym h) tt))
 
 -- ---- two ends alone
 pub alone-answer : (a : Result Ends) → ends-alone (bounds a) ≡ integral-answer (alone a)

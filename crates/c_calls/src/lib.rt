@@ -188,10 +188,10 @@ pub fn call_fits(
     if !call_known(code) {
         return false;
     }
-    if !model_slices::lent(count1, keys1, coefficients1) {
+    if !model_slices::borrowed(count1, keys1, coefficients1) {
         return false;
     }
-    if !model_slices::lent(count2, keys2, coefficients2) {
+    if !model_slices::borrowed(count2, keys2, coefficients2) {
         return false;
     }
     room
@@ -224,7 +224,7 @@ pub fn ends_call_fits(
     if EVALUATE < code {
         return false;
     }
-    if !model_slices::lent(count, keys, coefficients) {
+    if !model_slices::borrowed(count, keys, coefficients) {
         return false;
     }
     if !point_fits(code, point) {

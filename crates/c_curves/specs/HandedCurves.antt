@@ -14,7 +14,7 @@ use Rattle.model_types.specs.declared.Bounds.{Bounds}
 use Rattle.model_types.specs.declared.CurveAnswer.{CurveAnswer}
 use Rattle.model_types.specs.ModelStruct.{bounds, verdict-number, verdict-place}
 use Rattle.model_types.specs.CurveStruct.{curve-answer}
-use Rattle.model_slices.specs.HandedModels.{lent, misused, over}
+use Rattle.model_slices.specs.HandedModels.{borrowed, misused, over}
 
 -- the curve that is handed over: the first sixteen of a slice of coefficients, and the radius
 unfoldable pub handed-curve : List ℤ → (radius : ℕ) → C.Curve
@@ -93,4 +93,4 @@ to-powers-fits coefficients room = leb places coefficients && room
 
 -- back: whether the model's slices have every place that its count names, and there is room for a curve
 unfoldable pub from-powers-fits : (count keys coefficients : ℕ) (room : Bool) → Bool
-from-powers-fits count keys coefficients room = lent count keys coefficients && room
+from-powers-fits count keys coefficients room = borrowed count keys coefficients && room

@@ -13,7 +13,7 @@ use Rattle.calculus_laws.specs.TestLaws.{and-left, and-right}
 use Rattle.chebyshev.specs.PowerRows.{places}
 use Rattle.model_types.specs.Arrays.{padded}
 use Rattle.model_types.specs.ArrayLaws.{take-more, padded-more}
-use Rattle.model_slices.specs.HandedModels.{lent, over, answer-numbers, model-room}
+use Rattle.model_slices.specs.HandedModels.{borrowed, over, answer-numbers, model-room}
 use Rattle.model_slices.specs.HandedModelsLaws.{over-more, room-parts}
 use Rattle.c_curves.specs.HandedCurves.{curve-numbers, curve-room, curve-fits, range-fits, to-powers-fits}
 use Rattle.c_curves.specs.HandedCurves.{from-powers-fits}
@@ -92,4 +92,4 @@ pub fits-from-powers : (count k z c n : ℕ) → from-powers-fits count k z (cur
     → (places ≤ c) × (curve-numbers ≤ n)
 unfolding from-powers-fits
 fits-from-powers count k z c n h =
-    curve-parts c n (and-right (lent count k z) (curve-room c n) (subst T (sym h) tt))
+    curve-parts c n (and-right (borrowed count k z) (curve-room c n) (subst T (sym h) tt))

@@ -142,7 +142,7 @@ pub fn to_powers_fits(coefficients: usize, room: bool) -> bool
 pub fn from_powers_fits(count: usize, keys: usize, coefficients: usize, room: bool) -> bool
     ensures { λ r. ⌜ r ≡ from-powers-fits count keys coefficients room ⌝ }
 {
-    if !model_slices::lent(count, keys, coefficients) {
+    if !model_slices::borrowed(count, keys, coefficients) {
         return false;
     }
     room

@@ -9,7 +9,7 @@ use Rattle.calculus.specs.Refusal.{Result}
 use Rattle.calculus.specs.Operations.{Ends}
 use Rattle.model_types.specs.declared.Bounds.{Bounds}
 use Rattle.model_types.specs.ModelStruct.{view, bounds, verdict-number, verdict-place}
-use Rattle.model_slices.specs.HandedModels.{handed, lent, misused, over}
+use Rattle.model_slices.specs.HandedModels.{handed, borrowed, misused, over}
 use Rattle.cuts.specs.Cuts.{call-cut-range}
 
 -- the call on a model that is handed over
@@ -34,7 +34,7 @@ stored-cut b es ns =
 
 -- whether the slices are long enough
 unfoldable pub cut-fits : (count keys coefficients ends numbers : ℕ) → Bool
-cut-fits count keys coefficients ends numbers = lent count keys coefficients && leb 2 ends && leb 1 numbers
+cut-fits count keys coefficients ends numbers = borrowed count keys coefficients && leb 2 ends && leb 1 numbers
 
 -- a call that fits is answered, any other returns 255 and changes nothing
 unfoldable pub called-cut : (fits : Bool) → Result Ends → List ℤ → List ℕ → Called-cut

@@ -17,7 +17,7 @@ const NUMBERS: usize = 1;
 pub fn cut_fits(count: usize, keys: usize, coefficients: usize, ends: usize, numbers: usize) -> bool
     ensures { λ r. ⌜ r ≡ cut-fits count keys coefficients ends numbers ⌝ }
 {
-    if !model_slices::lent(count, keys, coefficients) {
+    if !model_slices::borrowed(count, keys, coefficients) {
         return false;
     }
     if ends < ENDS {

@@ -6,7 +6,7 @@ use lib.Dec.{T}
 use lib.IntN.{ℤ}
 use Rattle.calculus.specs.Model.{Model}
 use Rattle.calculus.specs.Calls.{call-multiply}
-use Rattle.model_slices.specs.HandedModels.{lent}
+use Rattle.model_slices.specs.HandedModels.{borrowed}
 use Rattle.c_calls.specs.CallCodes.{model-call, call-known, call-fits}
 
 -- code 6 names the product
@@ -16,11 +16,11 @@ unfolding model-call
 product-code code d i v f g e = ap (λ c. model-call c d i v f g) e
 
 -- slices that fit have all places that the counts name
-pub fits-lent : (code c₁ k₁ z₁ c₂ k₂ z₂ : ℕ) (room : Bool) → call-fits code c₁ k₁ z₁ c₂ k₂ z₂ room ≡ true
-    → (lent c₁ k₁ z₁ ≡ true) × (lent c₂ k₂ z₂ ≡ true)
+pub fits-borrowed : (code c₁ k₁ z₁ c₂ k₂ z₂ : ℕ) (room : Bool) → call-fits code c₁ k₁ z₁ c₂ k₂ z₂ room ≡ true
+    → (borrowed c₁ k₁ z₁ ≡ true) × (borrowed c₂ k₂ z₂ ≡ true)
 unfolding call-fits
-fits-lent code c₁ k₁ z₁ c₂ k₂ z₂ room h =
-    parts (call-known code) (lent c₁ k₁ z₁) (lent c₂ k₂ z₂) room (subst T (sym h) tt)
+fits-borrowed code c₁ k₁ z₁ c₂ k₂ z₂ room h =
+    parts (call-known code) (borrowed c₁ k₁ z₁) (borrowed c₂ k₂ z₂) room (subst T (sym h) tt)
   where
     parts : (a b c d : Bool) → T (a && b && c && d) → (b ≡ true) × (c ≡ true)
     parts true true true d t = (refl, refl)

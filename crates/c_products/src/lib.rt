@@ -7,7 +7,7 @@ ghost use lib.ListN.{length};
 ghost use Rattle.calculus.specs.Calls.{«call-multiply»};
 ghost use Rattle.calculus.specs.Model.{«most-terms»};
 ghost use Rattle.model_types.specs.ModelStruct.{view, answer};
-ghost use Rattle.model_slices.specs.HandedModels.{handed, lent, over, «answer-numbers»};
+ghost use Rattle.model_slices.specs.HandedModels.{handed, borrowed, over, «answer-numbers»};
 ghost use Rattle.model.specs.OperationContracts.{«kept-accounted», «Kept-ready»};
 ghost use Rattle.c_calls.specs.CallCodes.{«called-state», «stored-answer»};
 use model_slices::Kept;
@@ -78,8 +78,8 @@ pub fn multiply(
     coefficients: &mut [i64],
     numbers: &mut [u64],
 ) -> u8
-    requires { ⌜ lent count1 (length (now keys1)) (length (now coefficients1)) ≡ true ⌝ }
-    requires { ⌜ lent count2 (length (now keys2)) (length (now coefficients2)) ≡ true ⌝ }
+    requires { ⌜ borrowed count1 (length (now keys1)) (length (now coefficients1)) ≡ true ⌝ }
+    requires { ⌜ borrowed count2 (length (now keys2)) (length (now coefficients2)) ≡ true ⌝ }
     requires { ⌜ (most-terms ≤ length (now keys)) × (most-terms ≤ length (now coefficients))
         × (answer-numbers ≤ length (now numbers)) ⌝ }
     ensures { λ r. ⌜ called-state r (now (keys .exit)) (now (coefficients .exit)) (now (numbers .exit))

@@ -1,4 +1,4 @@
--- The quotient of four models that are handed over one behind the other: f, g, h, w.
+-- The quotient of four models that are handed over one after the other: f, g, h, w.
 use mathlib.Core.Bool.{Bool, _&&_}
 use mathlib.Core.List.{List}
 use Prim.Native.Nat.{ℕ}

@@ -1,4 +1,4 @@
-// The quotient of four models that are handed over one behind the other: f, g, h, w.
+// The quotient of four models that are handed over one after the other: f, g, h, w.
 ghost use mathlib.Core.Path.{_≡_};
 ghost use Prim.Native.Nat.{_≤_};
 ghost use lib.ListN.{length};

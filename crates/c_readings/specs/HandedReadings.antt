@@ -12,7 +12,7 @@ use Rattle.model_types.specs.declared.Contradiction.the-variants.{None, At}
 use Rattle.model_types.specs.declared.Finding.{Finding}
 use Rattle.model_types.specs.ModelStruct.{verdict-number, verdict-place}
 use Rattle.model_readings.specs.ReadingStruct.{finding}
-use Rattle.model_slices.specs.HandedModels.{lent, misused, over}
+use Rattle.model_slices.specs.HandedModels.{borrowed, misused, over}
 use Rattle.c_calls.specs.CallCodes.{coordinate}
 
 -- ---- what is handed over
@@ -38,7 +38,7 @@ row-of ps ls hs = readings-from ps ls hs 0 (length ls)
 -- whether slices of these lengths hold a model and a row, and there is room for three numbers
 unfoldable pub readings-fit : (count keys coefficients points lows highs numbers : ℕ) → Bool
 readings-fit count keys coefficients points lows highs numbers =
-    lent count keys coefficients && leb lows (points / 8) && leb lows highs && leb 3 numbers
+    borrowed count keys coefficients && leb lows (points / 8) && leb lows highs && leb 3 numbers
 
 -- ---- what the slice holds at the end
 -- the number that the call returns, and its slice

@@ -15,9 +15,9 @@ use Rattle.model_types.specs.declared.Model.{Model}
 use Rattle.model_types.specs.declared.Finding.{Finding}
 use Rattle.model_types.specs.ModelStruct.{view}
 use Rattle.model_readings.specs.ReadingStruct.{view-reading, finding}
-use Rattle.model_readings.specs.RowTurns.{no-reading, turn-of, begun-of, turn-count, pass}
-use Rattle.model_readings.specs.RowTurnLaws.{pass-call}
-use Rattle.model_slices.specs.HandedModels.{lent, over}
+use Rattle.model_readings.specs.RowIterations.{no-reading, iteration-of, begun-of, iteration-count, pass}
+use Rattle.model_readings.specs.RowIterationLaws.{pass-call}
+use Rattle.model_slices.specs.HandedModels.{borrowed, over}
 use Rattle.c_readings.specs.HandedReadings.{reading-of, readings-from, row-of, readings-fit}
 
 module _ (ps ls hs : List ℤ) where
@@ -45,7 +45,7 @@ module _ (ps ls hs : List ℤ) where
 pub fits-numbers : (c k z p l h n : ℕ) → readings-fit c k z p l h n ≡ true → 3 ≤ n
 unfolding readings-fit
 fits-numbers c k z p l h n e =
-    leb→le 3 n (and-right (lent c k z && leb l (p / 8) && leb l h) (leb 3 n) (subst T (sym e) tt))
+    leb→le 3 n (and-right (borrowed c k z && leb l (p / 8) && leb l h) (leb 3 n) (subst T (sym e) tt))
 
 -- three stores
 pub over-three : {A : Type 0} (l : List A) (a b c : A) → 3 ≤ length l
@@ -56,24 +56,24 @@ over-three (x ∷ []) a b c h = absurd (omega arith)
 over-three (x ∷ y ∷ []) a b c h = absurd (omega arith)
 over-three (x ∷ y ∷ z ∷ l) a b c h = refl
 
--- a turn is at a reading below 1,024
+-- an iteration is at a reading below 1,024
 pub below-all : (n k : ℕ) → k < n % 257 * 4 → k % n < 1024
 below-all n k h = let m : k % n ≤ k = mod-le k n in omega arith
 
--- a turn with the reading that the slices hold is that of the row
-pub turn-at : (m : Model) (s : Finding) (k : ℕ) (ps ls hs : List ℤ) {s′ : Finding} {r : Reading}
-    → s′ ≡ turn-of m s k (length ls) r → r ≡ reading-of ps ls hs (k % length ls) → k % length ls < length ls
-    → s′ ≡ turn-of m s k (length (row-of ps ls hs))
+-- an iteration with the reading that the slices hold is that of the row
+pub iteration-at : (m : Model) (s : Finding) (k : ℕ) (ps ls hs : List ℤ) {s′ : Finding} {r : Reading}
+    → s′ ≡ iteration-of m s k (length ls) r → r ≡ reading-of ps ls hs (k % length ls) → k % length ls < length ls
+    → s′ ≡ iteration-of m s k (length (row-of ps ls hs))
     (getD (row-of ps ls hs) (k % length (row-of ps ls hs)) no-reading)
-turn-at m s k ps ls hs e f h =
-    e ∙ ap (turn-of m s k (length ls)) (f ∙ sym (row-at ps ls hs (k % length ls) h))
-    ∙ ap (λ n. turn-of m s k n (getD (row-of ps ls hs) (k % n) no-reading)) (sym (row-length ps ls hs))
+iteration-at m s k ps ls hs e f h =
+    e ∙ ap (iteration-of m s k (length ls)) (f ∙ sym (row-at ps ls hs (k % length ls) h))
+    ∙ ap (λ n. iteration-of m s k n (getD (row-of ps ls hs) (k % n) no-reading)) (sym (row-length ps ls hs))
 
--- all turns are the call
+-- all iterations are the call
 pub row-call : (m : Model) (ps ls hs : List ℤ)
     → pass m (row-of ps ls hs) (length ls % 257 * 4) 0 (begun-of m (length ls))
     ≡ finding (call-readings (view m) (map view-reading (row-of ps ls hs)))
-unfolding turn-count
+unfolding iteration-count
 row-call m ps ls hs =
     ap (λ n. pass m (row-of ps ls hs) (n % 257 * 4) 0 (begun-of m n)) (sym (row-length ps ls hs))
     ∙ pass-call m (row-of ps ls hs)

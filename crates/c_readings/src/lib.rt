@@ -35,7 +35,7 @@ pub fn readings_fit(
 ) -> bool
     ensures { λ r. ⌜ r ≡ readings-fit count keys coefficients points lows highs numbers ⌝ }
 {
-    if !model_slices::lent(count, keys, coefficients) {
+    if !model_slices::borrowed(count, keys, coefficients) {
         return false;
     }
     if points / COORDINATES < lows {
@@ -71,7 +71,7 @@ fn reading_of(points: &[i64], lows: &[i64], highs: &[i64], i: usize) -> Reading
     }
 }
 
-// The row held against m, by the turns of `model_readings::held_against`, which takes a slice of structs.
+// The row held against m, by the iterations of `model_readings::held_against`, which takes a slice of structs.
 fn row_held(m: Model, points: &[i64], lows: &[i64], highs: &[i64]) -> Finding
     ensures { λ r. ⌜ r ≡ finding (call-readings (view m)
         (map view-reading (row-of (now (points .entry)) (now (lows .entry)) (now (highs .entry))))) ⌝ }
@@ -84,7 +84,7 @@ fn row_held(m: Model, points: &[i64], lows: &[i64], highs: &[i64]) -> Finding
     while k < end {
         let i = k % n;
         let r = reading_of(points, lows, highs, i);
-        s = model_readings::turn(m, s, k, n, r);
+        s = model_readings::iteration(m, s, k, n, r);
         k = model_readings::following(s, k, end);
     }
     s

@@ -7,7 +7,7 @@ use Rattle.model_types.specs.declared.Shares.{Shares}
 use Rattle.sheet_book.specs.declared.Report.{Report}
 use Rattle.model_slices.specs.HandedModels.{over, model-room}
 
--- the four numbers of each row, one row behind the other
+-- the four numbers of each row, one row after the other
 unfoldable pub row-numbers : List Shares → List ℕ
 row-numbers [] = []
 row-numbers (s ∷ l) = s .carried ∷ s .rounding ∷ s .swept ∷ s .slack ∷ row-numbers l

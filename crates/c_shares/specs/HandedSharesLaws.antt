@@ -21,14 +21,14 @@ unfolding row-numbers
 row-length [] = refl
 row-length (s ∷ l) = omega (arith, row-length l)
 
-rows-behind : (l : List Shares) (s : Shares)
+rows-after : (l : List Shares) (s : Shares)
     → row-numbers (l ++ (s ∷ [])) ≡ row-numbers l ++ (s .carried ∷ s .rounding ∷ s .swept ∷ s .slack ∷ [])
 unfolding row-numbers
-rows-behind [] s = refl
-rows-behind (t ∷ l) s =
-    ap (λ (r : List ℕ). t .carried ∷ t .rounding ∷ t .swept ∷ t .slack ∷ r) (rows-behind l s)
+rows-after [] s = refl
+rows-after (t ∷ l) s =
+    ap (λ (r : List ℕ). t .carried ∷ t .rounding ∷ t .swept ∷ t .slack ∷ r) (rows-after l s)
 
--- four stores behind what was overwritten
+-- four stores after what was overwritten
 four-more : (l k : List ℕ) (i a b c e : ℕ) → length l ≡ i → i + 3 < length k
     → set (set (set (set (over l k) i a) (i + 1) b) (i + 2) c) (i + 3) e ≡ over (l ++ (a ∷ b ∷ c ∷ e ∷ [])) k
 four-more l k i a b c e n h =
@@ -55,7 +55,7 @@ four-more l k i a b c e n h =
 abbrev pub no-row : Shares
 no-row = record { carried = 0; rounding = 0; swept = 0; slack = 0 }
 
--- a turn of the loop that stores rows
+-- an iteration of the loop that stores rows
 pub rows-more : (rows : List Shares) (k : List ℕ) (i : ℕ) → i < length rows → 4 * i + 3 < length k
     → let s = getD rows i no-row in
     set (set (set (set (over (row-numbers (take i rows)) k) (4 * i) (s .carried)) (4 * i + 1) (s .rounding))
@@ -64,7 +64,7 @@ pub rows-more : (rows : List Shares) (k : List ℕ) (i : ℕ) → i < length row
 rows-more rows k i h w =
     four-more (row-numbers (take i rows)) k (4 * i) _ _ _ _
     (row-length (take i rows) ∙ ap (λ n. 4 * n) (length-take-le i rows (omega arith))) w
-    ∙ ap (λ r. over r k) (sym (ap row-numbers (take-more rows i no-row h) ∙ rows-behind (take i rows) _))
+    ∙ ap (λ r. over r k) (sym (ap row-numbers (take-more rows i no-row h) ∙ rows-after (take i rows) _))
 
 -- ---- room
 pub report-fits : (k z n e s : ℕ) → report-room k z n e s ≡ true

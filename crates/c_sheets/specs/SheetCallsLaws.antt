@@ -10,7 +10,7 @@ use Rattle.text.specs.Text.{laid}
 use Rattle.model_slices.specs.HandedModels.{over}
 use Rattle.model_slices.specs.HandedModelsLaws.{over-more}
 
--- a turn of the loop that copies
+-- an iteration of the loop that copies
 pub copied-more : (b o : List ℕ) (i : ℕ) → i < length b → i < length o
     → set (over (take i b) o) i (getD b i 0) ≡ over (take (i + 1) b) o
 copied-more b o i h l =

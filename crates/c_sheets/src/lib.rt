@@ -85,7 +85,7 @@ pub fn next_record(sheet: &[u8], at: usize, bytes: &mut [u8], numbers: &mut [u64
     }
     let kind = sheet::kind_from(sheet, at);
     let found = sheet::bytes_from(sheet, at);
-    let next = sheet::place_behind(sheet, at);
+    let next = sheet::place_after(sheet, at);
     copy(found, bytes);
     numbers[0] = found.len() as u64;
     numbers[1] = next as u64;

@@ -31,7 +31,7 @@ key-width = 8
 unfoldable pub key-limit : ℕ
 key-limit = 16 ^ key-width
 
--- up to so many variables keys are short: the exponents behind these are 0, and 16 bits hold the others
+-- up to so many variables keys are short: the exponents after these are 0, and 16 bits hold the others
 abbrev pub short-width : ℕ
 short-width = 4
 

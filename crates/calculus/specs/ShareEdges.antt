@@ -132,7 +132,7 @@ pub third-rows-stand : map (λ e. getD (shares-rows (e .book)) 2 no-shares) shar
 unfolding reports share-forms
 third-rows-stand = refl
 
--- each book reports its rows, with zeros behind them
+-- each book reports its rows, with zeros after them
 pub shares-stand :
     map (λ e. shares-rows (e .book)) share-edges ≡ map (λ e. all-rows (e .rows)) share-edges
 unfolding reports share-forms

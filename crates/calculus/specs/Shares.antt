@@ -103,7 +103,7 @@ run-shares book results (s ∷ l) =
     rows-of (run-step book (result-of book results) s)
     (λ m. step-shares book (result-of book results) s m ∷ run-shares book (results ++ (m ∷ [])) l)
 
--- 64 rows: zeros behind those that there are
+-- 64 rows: zeros after those that there are
 unfoldable pub all-rows : List Shares → List Shares
 all-rows l = l ++ replicate (most-steps - length l) no-shares
 

@@ -245,9 +245,9 @@ rows-front l i h = go l i h
     go (s ∷ k) zero h = refl
     go (s ∷ k) (suc i) h = go k i (omega arith)
 
-rows-behind : (l : List Shares) (i : ℕ) → length l ≤ i → getD (all-rows l) i no-shares ≡ no-shares
+rows-after : (l : List Shares) (i : ℕ) → length l ≤ i → getD (all-rows l) i no-shares ≡ no-shares
 unfolding all-rows
-rows-behind l i h = go l i h
+rows-after l i h = go l i h
   where
     zeros-at : (n i : ℕ) → getD (replicate n no-shares) i no-shares ≡ no-shares
     zeros-at zero i = refl
@@ -287,13 +287,13 @@ module _ (book : Book) (p : Passes book) where
   pub row-none : (i : ℕ) → length (results-before book) ≤ i → getD (shares-rows book) i no-shares ≡ no-shares
   unfolding results-before rows-sound
   row-none i h = ap (λ l. getD l i no-shares) rows-are
-      ∙ rows-behind (run-shares book [] (book .steps)) i (omega (arith, counted book [] (book .steps)))
+      ∙ rows-after (run-shares book [] (book .steps)) i (omega (arith, counted book [] (book .steps)))
 
 -- and all of a book that a test refuses
 pub no-rows : (book : Book) (r : Refusal) (i : ℕ) → tested book (done (rows-sound book)) ≡ stopped r i
     → (j : ℕ) → getD (shares-rows book) j no-shares ≡ no-shares
 unfolding shares-rows reported returned
-no-rows book r i e j = ap (λ t. getD (reported t) j no-shares) e ∙ rows-behind [] j (omega arith)
+no-rows book r i e j = ap (λ t. getD (reported t) j no-shares) e ∙ rows-after [] j (omega arith)
 
 -- ---- how many rows there are
 few-shares : (book : Book) (results : List Model) (l : List Step) → length (run-shares book results l) ≤ length l
@@ -309,7 +309,7 @@ few-shares book results (s ∷ l) =
     go k (accepted m) = let h = k m in omega arith
     go k (refused r) = omega arith
 
--- 64, where there are no more than that before zeros are put behind them
+-- 64, where there are no more than that before zeros are put after them
 pub length-rows : (l : List Shares) → length l ≤ most-steps → length (all-rows l) ≡ most-steps
 unfolding all-rows
 length-rows l h = simp (length-append, length-replicate) (omega arith)

@@ -35,16 +35,16 @@ done-same : {A : Type 0} {a b : A} → _≡_ {A = Result A} (done a) (done b) �
 done-same h = cc
 
 -- the last of a list is the one at its length less 1
-last-behind : {A : Type 0} (d a : A) (l : List A) → getD (a ∷ l) (length l) d ≡ last a l
+last-after : {A : Type 0} (d a : A) (l : List A) → getD (a ∷ l) (length l) d ≡ last a l
 unfolding last
-last-behind d a [] = refl
-last-behind d a (c ∷ l) = last-behind d c l
+last-after d a [] = refl
+last-after d a (c ∷ l) = last-after d c l
 
 last-at : {A : Type 0} (d : A) (l : List A) → 1 ≤ length l → getD l (length l - 1) d ≡ last d l
 unfolding last
 last-at d [] h = absurd (omega arith)
 last-at d (a ∷ l) h =
-    let e : suc (length l) - 1 ≡ length l = omega arith in ap (λ i. getD (a ∷ l) i d) e ∙ last-behind d a l
+    let e : suc (length l) - 1 ≡ length l = omega arith in ap (λ i. getD (a ∷ l) i d) e ∙ last-after d a l
 
 steps-stopped : (book : Book) (r : Refusal) (i : ℕ) → run-sound book ≡ stopped r i
     → run-steps book [] (book .steps) ≡ stopped r i

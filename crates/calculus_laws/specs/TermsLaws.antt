@@ -28,7 +28,7 @@ by-select P f t p = go (f (t .exponents) (t .coefficient))
     go true in-it out-of-it = in-it tt
     go false in-it out-of-it = out-of-it tt
 
--- a term is added to the first, put before it, or put in behind
+-- a term is added to the first, put before it, or put in after it
 pub by-insert : (P : Terms → Type 0) (t s : Term ℤ) (p : Terms)
     → (t .exponents ≡ s .exponents → P (term (t .coefficient +ℤ s .coefficient) (s .exponents) ∷ p))
     → (T (less (t .exponents) (s .exponents)) → P (t ∷ (s ∷ p)))
@@ -48,9 +48,9 @@ by-insert P t s p = go (same (t .exponents) (s .exponents)) (less (t .exponents)
           | true ↦ joined ∷ p
           | false ↦ elim c as (λ c. Terms) [ true ↦ t ∷ (s ∷ p) | false ↦ s ∷ insert t p ]
         ])
-    go true c e l g at before behind = at (e tt)
-    go false true e l g at before behind = before (l tt)
-    go false false e l g at before behind = behind (g tt tt)
+    go true c e l g at before after = at (e tt)
+    go false true e l g at before after = before (l tt)
+    go false false e l g at before after = after (g tt tt)
 
 -- ---- every
 module _ (f : List ℕ → ℤ → Bool) where

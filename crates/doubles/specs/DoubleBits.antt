@@ -24,7 +24,7 @@ fraction-field b = b % 2 ^ 52
 abbrev pub all-ones : ℕ → Bool
 all-ones b = eqb (exponent-field b) 2047
 
--- the digits: the fraction's field behind a leading 1, which numbers with an exponent's field of 0 (subnormal ones, and
+-- the digits: the fraction's field after a leading 1, which numbers with an exponent's field of 0 (subnormal ones, and
 -- zero) do not have
 abbrev pub digits : ℕ → ℕ
 digits b = cond (eqb (exponent-field b) 0) (fraction-field b) (2 ^ 52 + fraction-field b)
@@ -37,7 +37,7 @@ places b = exponent-field b - 1
 abbrev pub bias : ℕ
 bias = 1023
 
--- so many of the smallest double make 1: the least exponent is 1 - 1023, and 52 digits are behind the point
+-- so many of the smallest double make 1: the least exponent is 1 - 1023, and 52 digits are after the point
 abbrev pub smallest-in-one : ℕ
 smallest-in-one = 2 ^ (bias - 1 + 52)
 

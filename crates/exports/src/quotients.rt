@@ -8,7 +8,7 @@ ghost use Rattle.c_quotients.specs.HandedQuotients.{«quotient-fits», «handed
 use model_types::Key;
 
 // f / g, checked from a proposal h, w: the refusal's number, 0 without one, or MISUSED. The four models are handed over
-// one behind the other as a book's are; the answer's 64 keys and coefficients go into two slices, the refusal's place,
+// one after the other as a book's are; the answer's 64 keys and coefficients go into two slices, the refusal's place,
 // n, the count and the radius into the third.
 #[no_mangle]
 pub extern "C" fn hechroung_raw_divide(

@@ -72,7 +72,7 @@ module _ (s : List ℕ) (h : Held-book) (y : All-bytes s) (e : read s ≡ done h
   abbrev B : List (List ℕ)
   B = map step-bytes (h .steps)
 
-  -- the next record stands behind this one
+  -- the next record stands after this one
   pub next-place : (i : ℕ) → i < length (records s)
       → record-place s (suc i) ≡ record-place s i + length (getD (records s) i [])
   unfolding record-place join
@@ -87,7 +87,7 @@ module _ (s : List ℕ) (h : Held-book) (y : All-bytes s) (e : read s ≡ done h
   trailer-eight = ap length (ap trailer-of (sym (read-sheet s h e y)) ∙ trailer-back h (read-passes s h e))
       ∙ length-trailer h
 
-  -- behind the last the trailer
+  -- after the last the trailer
   pub last-place : record-place s (length (records s)) + trailer-length ≡ length s
   unfolding record-place
   last-place =

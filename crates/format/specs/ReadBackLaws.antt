@@ -121,7 +121,7 @@ model-is : (m : Held-model) (n e : ℕ) (ts : List Held-term) → n ≡ m .n →
     → record { n = n; radius = e; terms = ts } ≡ m
 model-is m n e ts p q r = rw (p, q, r)
 
--- the count stands behind the radius
+-- the count stands after the radius
 pub model-length-back : (n : ℕ) (m : Held-model) (r : List ℕ) → m .n ≡ n
     → model-length n (model-bytes m ++ r) ≡ length (model-bytes m)
 unfolding model-length model-bytes u32-bytes

@@ -269,7 +269,7 @@ module _ (s : List ℕ) (h : Held-book) (e : read s ≡ done h) where
   unfolding trailer-of shortest
   trailer-whole = simp length-drop (omega (arith, between-low shortest longest (length s) (test₁ .test)))
 
-  -- the trailer stands behind the steps
+  -- the trailer stands after the steps
   trailer-at : trailer-of s ≡ drop (step-length * t .steps) (drop (t .offset) s)
   unfolding trailer-of
   trailer-at = ap (λ i. drop i s) ends ∙ sym (drop-drop (step-length * t .steps) (t .offset) s)

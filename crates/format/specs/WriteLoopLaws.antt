@@ -1,4 +1,4 @@
--- Writing by loops that walk forward: records joined one by one, and stores behind one another.
+-- Writing by loops that walk forward: records joined one by one, and stores one after another.
 use mathlib.Core.Path.{_≡_, _∙_, ap}
 use mathlib.Core.List.{List, [], _∷_, _++_, map, append-nil, map-append}
 use Prim.Native.Nat.{ℕ, suc, _+_, _≤_, _<_}
@@ -17,7 +17,7 @@ join-more f l i x h =
     ∙ join-++ (map f (take i l)) (f (getD l i x) ∷ [])
     ∙ ap (λ r. join (map f (take i l)) ++ r) (append-nil (f (getD l i x)))
 
--- stores behind those that are made
+-- stores after those that are made
 pub sets-more : (s r buffer : List ℕ) (i j : ℕ) → j ≡ i + length s → sets (sets buffer i s) j r ≡ sets buffer i (s ++ r)
 sets-more [] r buffer i j e = ap (λ k. sets buffer k r) (let f : j ≡ i = omega arith in f)
 sets-more (x ∷ s) r buffer i j e = sets-more s r (set buffer i x) (suc i) j (omega arith)

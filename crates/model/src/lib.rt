@@ -259,11 +259,11 @@ pub fn quotient(d: u8, f: Model, g: Model, h: Model, w: Model) -> Answer
     }
 }
 
-// ---- for the layer above: operands that are known to be sound, and a lent table
+// ---- for the layer above: operands that are known to be sound, and a scratch table
 // Whether two slices hold a model by the rules, with degrees up to d.
 pub use model_soundness::sound_slices;
 
-// The same for two arrays that are lent together, such as those of one struct.
+// The same for two arrays that are borrowed together, such as those of one struct.
 pub use model_soundness::sound_arrays;
 
 // The exponent of variable i, 1 to 8, in a key.
@@ -299,20 +299,20 @@ pub use product_calls::multiply_slices;
 pub use product_calls::store_kept;
 
 // The answer of `multiply` with the shares of its radius, for two sound models in the same variables that lie in
-// slices. The table is lent, whatever is in it.
+// slices. The table is scratch, whatever is in it.
 pub use product_calls::multiplied_slices_accounted;
 
 // The answer of `substitute` with the shares of its radius, those of its last product and the radius of f, for two
-// sound models in the same variables and one of these. The table is lent.
+// sound models in the same variables and one of these. The table is scratch.
 pub use model_substitution::substituted_accounted;
 
-// The answer of `quotient`, for four sound models in the same variables. The table is lent.
+// The answer of `quotient`, for four sound models in the same variables. The table is scratch.
 pub use model_quotient::divided;
 
 // Any other operation's answer with the shares of its radius: all is carried.
 pub use model_types::all_carried;
 
-// How long a lent table's keys and sums are at the least, and how long its slots.
+// How long a scratch table's keys and sums are at the least, and how long its slots.
 pub use product_hash_table::SLOTS;
 pub use product_sums::PLACES;
 

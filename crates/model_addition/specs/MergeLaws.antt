@@ -1,4 +1,4 @@
--- The merge of two lists of terms in memory: one turn of its loop, and its end.
+-- The merge of two lists of terms in memory: one iteration of its loop, and its end.
 use mathlib.Core.Path.{_≡_, refl, sym, _∙_, ap, ap₂, subst}
 use mathlib.Core.Bool.{true, false}
 use mathlib.Core.List.{List, [], _∷_, _++_, map, append-assoc, append-nil}
@@ -31,7 +31,7 @@ pub record Rising (n c : ℕ) (ts : List Term) : Type 0 where
   pub fitting : T (every (λ k z. fits n most-degree k) (read n c ts))
   pub rises : T (rising (read n c ts))
 
--- t is next, and what comes behind rises from it
+-- t is next, and what comes after rises from it
 record Head (n c : ℕ) (ts : List Term) (i : ℕ) (t : Term) : Type 0 where
   next : drop i (read n c ts) ≡ view-term n t ∷ drop (i + 1) (read n c ts)
   key : T (key-fits key-width n (t .key))
@@ -47,15 +47,15 @@ module _ {n c : ℕ} {ts : List Term} (s : Rising n c ts) (i : ℕ) where
         (every-head (λ k z. fits n most-degree k) (view-term n t) (drop (i + 1) (read n c ts))
         (subst (λ p. T (every (λ k z. fits n most-degree k) p)) here
         (every-drop (λ k z. fits n most-degree k) i (read n c ts) (s .fitting))));
-    rises = behind;
-    above = rising-above (monomial-of n (t .key)) (drop (i + 1) (read n c ts)) behind;
+    rises = after;
+    above = rising-above (monomial-of n (t .key)) (drop (i + 1) (read n c ts)) after;
   }
     where
       here : drop i (read n c ts) ≡ view-term n t ∷ drop (i + 1) (read n c ts)
       here = rest-more n c ts (s .whole) i h ∙ ap (λ t. view-term n t ∷ drop (i + 1) (read n c ts)) e
 
-      behind : T (rising (view-term n t ∷ drop (i + 1) (read n c ts)))
-      behind = subst (λ p. T (rising p)) here (rising-drop i (read n c ts) (s .rises))
+      after : T (rising (view-term n t ∷ drop (i + 1) (read n c ts)))
+      after = subst (λ p. T (rising p)) here (rising-drop i (read n c ts) (s .rises))
 
   -- all that is left is above a key that is below the next one
   above-rest : (k : ℕ) → T (key-fits key-width n k) → (t : Term) → (i < c → Head n c ts i t) → (i < c → k < t .key)
@@ -91,7 +91,7 @@ module _ (a b : Model) where
   whole-sum = sum-terms p q
 
   -- what comes next, r, and the rest make up the sum of what was left
-  pub record Turn (i j : ℕ) (r : Next) : Type 0 where
+  pub record Iteration (i j : ℕ) (r : Next) : Type 0 where
     pub next : sum-terms (drop i p) (drop j q)
         ≡ unless-zero (view-term (a .n) (r .term)) ++ sum-terms (drop (r .i) p) (drop (r .j) q)
     pub key : T (key-fits key-width (a .n) (r .term .key))
@@ -109,7 +109,7 @@ module _ (a b : Model) where
     pub few : count ≤ most-terms
     pub sum : done ++ sum-terms (drop i p) (drop j q) ≡ whole-sum
 
-  -- before the first turn
+  -- before the first iteration
   pub nothing-stored : Merged (pad []) 0 0 0
   nothing-stored = record {
     left = omega arith;
@@ -123,14 +123,14 @@ module _ (a b : Model) where
 
   module _ (o : Mergeable a b) {out : List Term} {count i j : ℕ} (m : Merged out count i j) where
     -- x and y stand at the two places
-    pub turn : (x y : Term) → (i < a .count → getD (listed a) i zero-term ≡ x)
+    pub iteration : (x y : Term) → (i < a .count → getD (listed a) i zero-term ≡ x)
         → (j < b .count → getD (listed b) j zero-term ≡ y)
-        → (r : Next) → Takes i (a .count) x j (b .count) y r → Turn i j r
+        → (r : Next) → Takes i (a .count) x j (b .count) y r → Iteration i j r
     unfolding view-term
-    turn x y e f r t = go r t (λ h. head (o .first) i x (e h) h) (λ h. head (o .second) j y (f h) h)
+    iteration x y e f r t = go r t (λ h. head (o .first) i x (e h) h) (λ h. head (o .second) j y (f h) h)
       where
         go : (r : Next) → Takes i (a .count) x j (b .count) y r → (i < a .count → Head (a .n) (a .count) (listed a) i x)
-            → (j < b .count → Head (a .n) (b .count) (listed b) j y) → Turn i j r
+            → (j < b .count → Head (a .n) (b .count) (listed b) j y) → Iteration i j r
         go _ (from-first h k) u v = record {
           next = ap (λ l. sum-terms l (drop j q)) (u h .next)
               ∙ first-term (view-term (a .n) x) (drop (i + 1) p) (drop j q) (u h .above)
@@ -161,7 +161,7 @@ module _ (a b : Model) where
           right = omega arith;
         }
 
-    module _ (r : Next) (t : Turn i j r) where
+    module _ (r : Next) (t : Iteration i j r) where
       -- a zero is not stored
       pub skip : is-nonzero (r .term .coefficient) ≡ false → Merged out count (r .i) (r .j)
       unfolding view-term
@@ -204,7 +204,7 @@ module _ (a b : Model) where
         length-append (m .done) (view-term (a .n) (r .term) ∷ sum-terms (drop (r .i) p) (drop (r .j) q)),
       )
 
-    -- after the last turn
+    -- after the last iteration
     pub all-stored : a .count + b .count ≤ i + j → m .done ≡ whole-sum
     unfolding drop-zeros collect select
     all-stored h = sym (append-nil (m .done)) ∙ rw (

@@ -1,4 +1,4 @@
--- The merge of two models that lie in slices: each turn is that of the merge of structs.
+-- The merge of two models that lie in slices: each iteration is that of the merge of structs.
 use mathlib.Core.Path.{_≡_, refl, sym, _∙_, ap, ap₂, subst}
 use mathlib.Core.Bool.{true, false}
 use mathlib.Core.List.{List}
@@ -23,7 +23,8 @@ use Rattle.model_slices.specs.HeldModelsLaws.{pair, held-long, held-at, stored-
 use Rattle.model_addition.specs.declared.Next.{Next}
 use Rattle.model_addition.specs.Addition.{Operands, Sum-of, Sum-in}
 use Rattle.model_addition.specs.Merge.{Takes}
-use Rattle.model_addition.specs.MergeLaws.{Mergeable, Merged, Turn, nothing-stored, turn, skip, store, too-many}
+use Rattle.model_addition.specs.MergeLaws.{Mergeable, Merged, Iteration, nothing-stored, iteration, skip, store}
+use Rattle.model_addition.specs.MergeLaws.{too-many}
 use Rattle.model_addition.specs.AddedLaws.{Whole, coefficient-within, radius-within, mergeable}
 use Rattle.model_addition.specs.AddedLaws.{answer-too-many, sum-packed, sum-answer}
 
@@ -82,15 +83,15 @@ module _ {c d : ℕ} {ks ks₂ : List ℕ} {cs cs₂ : List ℤ} (w : Sum-of c k
     span-fits,
   )
 
-  -- ---- a turn
+  -- ---- an iteration
   module _ (ks₃ : List ℕ) (cs₃ : List ℤ) {count i j : ℕ} (m : Merged a b (pad (terms-of count ks₃ cs₃)) count i j) where
-    pub merge-turn : (p q : ℕ) → p ≡ min i (most-terms - 1) → q ≡ min j (most-terms - 1) → (r : Next)
+    pub merge-iteration : (p q : ℕ) → p ≡ min i (most-terms - 1) → q ≡ min j (most-terms - 1) → (r : Next)
         → Takes i c (pair (getD ks p 0) (getD cs p (pos 0))) j d (pair (getD ks₂ q 0) (getD cs₂ q (pos 0))) r
-        → Turn a b i j r
+        → Iteration a b i j r
     unfolding held
-    merge-turn p q e f r t = turn a b lists m _ _ (λ h. first-here i p e h) (λ h. second-here j q f h) r t
+    merge-iteration p q e f r t = iteration a b lists m _ _ (λ h. first-here i p e h) (λ h. second-here j q f h) r t
 
-    module _ (r : Next) (t : Turn a b i j r) where
+    module _ (r : Next) (t : Iteration a b i j r) where
       pub merge-skip : is-nonzero (r .term .coefficient) ≡ false
           → Merged a b (pad (terms-of count ks₃ cs₃)) count (r .i) (r .j)
       merge-skip z = skip a b lists m r t z
@@ -131,34 +132,35 @@ module _ {a b : Model} (s : Operands a b) (v : Room (a .keys) (a .coefficients))
     second-view = ap (λ n. view (held n (b .count) (b .radius) (b .keys) (b .coefficients))) (s .vars)
         ∙ own-view b w (limits most-degree b (s .second) .few)
 
-    pub lent-operands : Operands (held (a .n) (a .count) (a .radius) (a .keys) (a .coefficients))
+    pub borrowed-operands : Operands (held (a .n) (a .count) (a .radius) (a .keys) (a .coefficients))
         (held (a .n) (b .count) (b .radius) (b .keys) (b .coefficients))
-    lent-operands = record {
+    borrowed-operands = record {
       first = subst (λ m. T (sound most-degree m)) (sym first-view) (s .first);
       second = subst (λ m. T (sound most-degree m)) (sym second-view) (s .second);
       vars = unfold held in refl;
     }
 
-    abbrev pub lent-sum : Sum-of (a .count) (a .keys) (a .coefficients) (b .count) (b .keys) (b .coefficients)
-    lent-sum = record {
+    abbrev pub borrowed-sum : Sum-of (a .count) (a .keys) (a .coefficients) (b .count) (b .keys) (b .coefficients)
+    borrowed-sum = record {
       vars = a .n;
       radius1 = a .radius;
       radius2 = b .radius;
       first-room = v;
       second-room = w;
-      operands = lent-operands;
+      operands = borrowed-operands;
     }
 
     -- and have their sum
-    pub lent-answer : answer (at-place 0 (add (view (held (a .n) (a .count) (a .radius) (a .keys) (a .coefficients)))
+    pub borrowed-answer : answer (at-place 0
+        (add (view (held (a .n) (a .count) (a .radius) (a .keys) (a .coefficients)))
         (view (held (a .n) (b .count) (b .radius) (b .keys) (b .coefficients)))))
         ≡ answer (at-place 0 (add (view a) (view b)))
-    lent-answer = ap₂ (λ x y. answer (at-place 0 (add x y))) first-view second-view
+    borrowed-answer = ap₂ (λ x y. answer (at-place 0 (add x y))) first-view second-view
 
     -- which has a radius of 64 bits
-    pub lent-radius : a .radius + b .radius < 2 ^ 64
+    pub borrowed-radius : a .radius + b .radius < 2 ^ 64
     unfolding most-terms
-    lent-radius = omega (
+    borrowed-radius = omega (
       arith,
       radius-within a (s .first) (length-paired _ _ (v .keys ∙ sym (v .coefficients)) ∙ v .keys),
       radius-within b (s .second) (length-paired _ _ (w .keys ∙ sym (w .coefficients)) ∙ w .keys),

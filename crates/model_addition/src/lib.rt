@@ -84,7 +84,7 @@ pub fn take_next(i: usize, c: usize, x: Term, j: usize, d: usize, y: Term) -> Ne
 // ---- sums and differences
 // The terms of a + b go into two slices: one pass over both lists. The number of the terms, or 65 for any number above
 // 64. No coefficient wraps: each is a sum of at most two that are within the span limit. Where the slices held zeros
-// these stand behind the terms. The slices of a model have one lifetime, so that a struct can lend its two arrays.
+// these stand after the terms. The slices of a model have one lifetime, so that a struct can lend its two arrays.
 pub fn merged<'a, 'b>(
     c: usize,
     keys1: &'a [Key],

@@ -47,9 +47,9 @@ module _ {d i : ℕ} {f : Model} (s : Integrand d i f) (w : f .count ≤ length 
         read-within-span f (j + 1) w (omega arith),
       )
 
-      pub rounded-turn : {r : ℕ} → r ≡ sum + key-rounding d i (at f j .key) (at f j .coefficient)
+      pub rounded-iteration : {r : ℕ} → r ≡ sum + key-rounding d i (at f j .key) (at f j .coefficient)
           → Rounded d i f r (j + 1)
-      rounded-turn e = record { within = omega arith; summed = e ∙ next-sum }
+      rounded-iteration e = record { within = omega arith; summed = e ∙ next-sum }
 
     pub rounded-end : f .count ≤ j → sum ≡ growth-rounding d i (view f)
     rounded-end l =

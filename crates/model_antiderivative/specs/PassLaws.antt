@@ -1,4 +1,4 @@
--- The pass over the terms: one turn keeps or drops a term, and adds to the radius.
+-- The pass over the terms: one iteration keeps or drops a term, and adds to the radius.
 use mathlib.Core.Path.{_≡_, refl, sym, _∙_, ap, ap₂, subst}
 use mathlib.Core.Bool.{Bool, true, false, not}
 use mathlib.Core.List.{List, [], _∷_, _++_, map}

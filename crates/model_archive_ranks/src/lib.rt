@@ -3888,7 +3888,7 @@ const KEYS: [u16; 3876] = [
     61440,
 ];
 
-// The list, to be lent: a constant is laid out anew wherever it is used, so that a call with many ranks asks once.
+// The list, to be borrowed: a constant is laid out anew wherever it is used, so that a call with many ranks asks once.
 pub fn halves() -> [u16; RANKS]
     ensures { λ r. ⌜ r ≡ short-keys ⌝ }
 {

@@ -1,4 +1,4 @@
--- Loops over the sixteen coefficients: one turn more, and the end.
+-- Loops over the sixteen coefficients: one iteration more, and the end.
 use mathlib.Core.Path.{_≡_, refl, sym, _∙_, ap, ap₂}
 use mathlib.Core.List.{List, [], _∷_, _++_, map, append-nil}
 use Prim.Native.Nat.{ℕ, zero, suc, _+_, _-_, _^_, _≤_, _<_}
@@ -46,9 +46,9 @@ module _ (c : Curve) (w : length (c .coefficients) ≡ 16) where
   unfolding size
   summed-first = record { within = omega arith; sum = ap capped (omega arith) }
 
-  pub summed-turn : (total i next : ℕ) → Summed c total i → i < 16
+  pub summed-iteration : (total i next : ℕ) → Summed c total i → i < 16
       → next ≡ capped (total + natAbs (getD (c .coefficients) i (pos 0))) → Summed c next (i + 1)
-  summed-turn total i next h l e = record {
+  summed-iteration total i next h l e = record {
     within = omega arith;
     sum = ap capped e ∙ capped-more total _ _ (h .sum)
         ∙ ap capped (omega (
@@ -81,9 +81,9 @@ module _ (l : Row) (w : length l ≡ 16) where
   copied-length out i h = ap length (h .made) ∙ length-padded (pos 0) 16 (take i l)
       (omega (arith, h .within, length-take-le i l (omega (arith, h .within))))
 
-  pub copied-turn : (out : Row) (i : ℕ) (z : ℤ) → Copied l out i → i < 16 → z ≡ getD l i (pos 0)
+  pub copied-iteration : (out : Row) (i : ℕ) (z : ℤ) → Copied l out i → i < 16 → z ≡ getD l i (pos 0)
       → Copied l (set out i z) (i + 1)
-  copied-turn out i z h k e = record {
+  copied-iteration out i z h k e = record {
     within = omega arith;
     made = ap₂ (λ o z. set o i z) (h .made) e
         ∙ padded-more (pos 0) 16 (take i l) i (getD l i (pos 0)) (length-take-le i l (omega arith)) k

@@ -24,9 +24,9 @@ module _ (l : Row) (w : length l ≡ 16) where
   unfolding padded
   filled-first = record { within = omega arith; made = refl }
 
-  pub filled-turn : (out : Row) (i : ℕ) (z : ℤ) → Filled l out i → i < 16 → z ≡ getD l i (pos 0)
+  pub filled-iteration : (out : Row) (i : ℕ) (z : ℤ) → Filled l out i → i < 16 → z ≡ getD l i (pos 0)
       → Filled l (set out i z) (i + 1)
-  filled-turn out i z h k e = record {
+  filled-iteration out i z h k e = record {
     within = omega arith;
     made = ap₂ (λ o z. set o i z) (h .made) e
         ∙ padded-more (pos 0) 31 (take i l) i (getD l i (pos 0)) (length-take-le i l (omega arith)) (omega arith)

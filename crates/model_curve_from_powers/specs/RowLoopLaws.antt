@@ -97,10 +97,10 @@ module _ (m : Model) (s : T (M.sound most-degree (view m))) (w : m .count ≤ le
     )
 
     -- k is the exponent of the term's key
-    pub rowed-turn : (k : ℕ) → ((n : ℕ) → 1 ≤ n → exponent 0 (monomial-of n z) ≡ k) → k < 16
+    pub rowed-iteration : (k : ℕ) → ((n : ℕ) → 1 ≤ n → exponent 0 (monomial-of n z) ≡ k) → k < 16
         → (x : ℤ) → x ≡ c +ℤ getD out k (pos 0) → Rowed m (set out k x) (i - 1)
     unfolding row-of view-term
-    rowed-turn k g l x e =
+    rowed-iteration k g l x e =
         let q : i - 1 + 1 ≡ i = omega arith in
         record {
           within = omega (arith, h .within);

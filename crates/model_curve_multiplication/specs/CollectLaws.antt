@@ -163,8 +163,8 @@ module _ (i : ℕ) (a : ℤ) (g z₀ : Row) (h : i < 16) (w : length g ≡ 16)
           add-at-size (apart i k) v z,
         )
 
-        pub adding-turn : (y : ℤ) → y ≡ v +ℤ getD next (i + k) (pos 0) → Adding i a g z₀ (set next (i + k) y) k
-        adding-turn y q = record {
+        pub adding-iteration : (y : ℤ) → y ≡ v +ℤ getD next (i + k) (pos 0) → Adding i a g z₀ (set next (i + k) y) k
+        adding-iteration y q = record {
           most = omega (arith, c .most);
           made = ap (λ y. set next (i + k) y) q
               ∙ add-at-set (i + k) v next (omega (arith, inside, next-long))
@@ -223,8 +223,8 @@ module _ (f g : Row) (u : length f ≡ 16) (w : length g ≡ 16) (s : size f * s
           zeros-size 31,
         )
 
-    pub collecting-turn : (y : Row) → y ≡ products-of degree first 0 g z → Collecting f g y degree
-    collecting-turn y e = record {
+    pub collecting-iteration : (y : Row) → y ≡ products-of degree first 0 g z → Collecting f g y degree
+    collecting-iteration y e = record {
       most = omega (arith, c .most);
       made = e ∙ ap (λ z. products-of degree first 0 g z)
           (c .made ∙ ap (λ n. products-from n (drop n f) g (replicate 31 (pos 0))) (sym one-below)) ∙ one-more;

@@ -15,7 +15,7 @@ use Rattle.numbers.specs.NearestLaws.{left-le-abs}
 use Rattle.chebyshev.specs.Coefficients.{Row, size}
 use Rattle.chebyshev.specs.PowerRows.{places}
 use Rattle.chebyshev.specs.CurveOperations.{swept, residuals, rounded}
-use Rattle.model_curve_addition.specs.CurveLoopLaws.{Copied, copied-first, copied-length, copied-turn, copied-end}
+use Rattle.model_curve_addition.specs.CurveLoopLaws.{Copied, copied-first, copied-length, copied-iteration, copied-end}
 use Rattle.model_curve_range.specs.CurveRangeLaws.{size-drop, size-none, drop-le}
 
 -- ---- what is above degree 15
@@ -32,9 +32,9 @@ module _ (l : Row) (w : length l ≡ 31) where
     sum = sym (size-none l) ∙ ap (λ n. size (drop n l)) w;
   }
 
-  pub sweeping-turn : (total i x : ℕ) → Sweeping l total i → 16 < i → x ≡ natAbs (getD l (i - 1) (pos 0))
+  pub sweeping-iteration : (total i x : ℕ) → Sweeping l total i → 16 < i → x ≡ natAbs (getD l (i - 1) (pos 0))
       → Sweeping l (total + x) (i - 1)
-  sweeping-turn total i x h k e =
+  sweeping-iteration total i x h k e =
       let p : suc (i - 1) ≡ i = omega arith in
       record {
         within = omega (arith, h .within);
@@ -51,7 +51,7 @@ module _ (l : Row) (w : length l ≡ 31) where
   pub sweeping-room : (total i x : ℕ) → Sweeping l total i → 16 < i → x ≡ natAbs (getD l (i - 1) (pos 0))
       → total + x ≤ size l
   sweeping-room total i x h k e =
-      omega (arith, sweeping-turn total i x h k e .sum, drop-le l (i - 1))
+      omega (arith, sweeping-iteration total i x h k e .sum, drop-le l (i - 1))
 
   pub sweeping-end : (total i : ℕ) → Sweeping l total i → i ≤ 16 → total ≡ swept l
   unfolding swept places
@@ -127,10 +127,11 @@ module _ (l : Row) (w : length l ≡ 31) (d e : ℕ) (p : 0 < d) where
     rounding-length = copied-length (kept d l) kept-length out i (h .copied)
 
     module _ (k : i < 16) where
-      pub rounding-turn : (q : ℤ) (x : ℕ) → q ≡ nearest (getD l i (pos 0)) d → x ≡ natAbs (left d (getD l i (pos 0)))
+      pub rounding-iteration : (q : ℤ) (x : ℕ) → q ≡ nearest (getD l i (pos 0)) d
+          → x ≡ natAbs (left d (getD l i (pos 0)))
           → Rounding l d e (set out i q) (total + x) (i + 1)
-      rounding-turn q x a b = record {
-        copied = copied-turn (kept d l) kept-length out i q (h .copied) k
+      rounding-iteration q x a b = record {
+        copied = copied-iteration (kept d l) kept-length out i q (h .copied) k
             (a ∙ ap (λ z. nearest z d) (sym (getD-take 16 l i (pos 0) k))
             ∙ mapped-at (λ a. nearest a d) (take 16 l) i (omega (arith, length-take-le 16 l (omega (arith, w)))));
         sum = omega (

@@ -50,9 +50,9 @@ module _ (l : Row) (w : length l ≡ 16) where
     sum = sym (size-none l) ∙ ap (λ n. size (drop n l)) w;
   }
 
-  pub gathered-turn : (total i x : ℕ) → Gathered l total i → 1 < i → x ≡ natAbs (getD l (i - 1) (pos 0))
+  pub gathered-iteration : (total i x : ℕ) → Gathered l total i → 1 < i → x ≡ natAbs (getD l (i - 1) (pos 0))
       → Gathered l (total + x) (i - 1)
-  gathered-turn total i x h k e =
+  gathered-iteration total i x h k e =
       let p : suc (i - 1) ≡ i = omega arith in
       record {
         within = omega (arith, h .within);
@@ -69,7 +69,7 @@ module _ (l : Row) (w : length l ≡ 16) where
   pub gathered-room : (total i x : ℕ) → Gathered l total i → 1 < i → x ≡ natAbs (getD l (i - 1) (pos 0))
       → total + x ≤ size l
   gathered-room total i x h k e =
-      omega (arith, gathered-turn total i x h k e .sum, drop-le l (i - 1))
+      omega (arith, gathered-iteration total i x h k e .sum, drop-le l (i - 1))
 
   pub gathered-end : (total i : ℕ) → Gathered l total i → i ≤ 1 → total ≡ size (drop 1 l)
   gathered-end total i h k =

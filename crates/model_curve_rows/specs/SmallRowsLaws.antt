@@ -130,8 +130,8 @@ module _ (c : ℤ) (row t₀ : Row) (u : length t₀ ≡ 16) (w : length row ≡
       entry-le t₀ k,
     )
 
-    pub scaling-turn : (x : ℤ) → x ≡ c *ℤ getD row k (pos 0) +ℤ getD t k (pos 0) → Scaling c row t₀ (set t k x) k
-    scaling-turn x e = record {
+    pub scaling-iteration : (x : ℤ) → x ≡ c *ℤ getD row k (pos 0) +ℤ getD t k (pos 0) → Scaling c row t₀ (set t k x) k
+    scaling-iteration x e = record {
       most = omega (arith, h .most);
       made = ap₂ (λ l x. set l k x) at-hand
           (e ∙ ap (λ z. c *ℤ getD row k (pos 0) +ℤ z) there
@@ -239,8 +239,8 @@ module _ (cs : Row) (rows : List Row) (u : length cs ≡ 16) (s : size cs < 2 ^ 
     pub row-room : natAbs c * size row + size t < 2 ^ 63
     row-room = omega (arith, row-size, sizes, size-drop-le cs i, h .small, s)
 
-    pub combining-turn : (y : Row) → y ≡ sum (scale c row) t → Combining cs rows y i
-    combining-turn y e = record {
+    pub combining-iteration : (y : Row) → y ≡ sum (scale c row) t → Combining cs rows y i
+    combining-iteration y e = record {
       most = omega (arith, h .most);
       made = e ∙ ap (λ t. sum (scale c row) t)
           (h .made ∙ ap (λ n. combine (drop n cs) (drop n rows)) (sym one-below)) ∙ one-more;

@@ -1,4 +1,4 @@
--- The loops of conversion: one turn more, and the end.
+-- The loops of conversion: one iteration more, and the end.
 use mathlib.Core.Path.{_≡_, refl, sym, _∙_, ap, ap₂, subst}
 use mathlib.Core.Bool.{Bool, true, false, not}
 use mathlib.Core.List.{List, [], _∷_, _++_, map}

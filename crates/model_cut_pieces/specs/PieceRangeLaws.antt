@@ -24,7 +24,7 @@ use Rattle.model_types.specs.ModelStruct.{view, pack, answer, bounds, refusal, 
 use Rattle.model_types.specs.ModelStructLaws.{sound-vars, cause-refusal}
 use Rattle.model_types.specs.ResultLaws.{Holds, held-view, held-sound, held-vars, Got, got, then-is, sound-order}
 use Rattle.model_types.specs.ResultLaws.{sound-struct}
-use Rattle.product_room.specs.ProductTerms.{Lent-room}
+use Rattle.product_room.specs.ProductTerms.{Scratch-room}
 use Rattle.product_room.specs.ProductTermsLaws.{fewer-room}
 use Rattle.model_substitution.specs.Substitute.{Substitution}
 use Rattle.cuts.specs.Cuts.{piece, piece-range}
@@ -71,8 +71,8 @@ module _ {d v k : ℕ} {f : Model} (c : Cutting d v k f) {j : ℕ} (hj : j < 2 ^
         length-select (λ k c. is-nonzero c) (both-terms (f .n) v k j (c .first) (c .last) (c .depth) hj),
       )
 
-  pub piece-room : {slots keys : List ℕ} {sums : List ℤ} → Lent-room piece-products slots keys sums
-      → Lent-room (most-terms * g .count) slots keys sums
+  pub piece-room : {slots keys : List ℕ} {sums : List ℤ} → Scratch-room piece-products slots keys sums
+      → Scratch-room (most-terms * g .count) slots keys sums
   unfolding most-terms
   piece-room l = fewer-room l (omega (arith, piece-count))
 

@@ -4,7 +4,7 @@ ghost use Prim.Native.Nat.{_*_, _^_, _≤_, _<_};
 ghost use Rattle.calculus.specs.Key.{«key-width»};
 ghost use Rattle.calculus.specs.Refusal.{«at-place»};
 ghost use Rattle.product_hash_collect.specs.CollectorContracts.{«Free-table»};
-ghost use Rattle.product_room.specs.ProductTerms.{«Lent-room»};
+ghost use Rattle.product_room.specs.ProductTerms.{«Scratch-room»};
 ghost use Rattle.model_types.specs.ModelStruct.{view, pack, bounds};
 ghost use Rattle.cuts.specs.Cuts.{«most-depth», «half-width», «piece-middle», piece, «piece-range»};
 ghost use Rattle.model_cut_pieces.specs.Cutting.{Cutting, «piece-products»};
@@ -84,7 +84,7 @@ fn piece(n: u8, i: u8, k: u8, j: u64) -> Model
     }
 }
 
-// The range of f over piece j of variable i, with order d; a refusal has j as its place. The table is lent.
+// The range of f over piece j of variable i, with order d; a refusal has j as its place. The table is scratch.
 pub fn piece_range(
     d: u8,
     i: u8,
@@ -97,7 +97,7 @@ pub fn piece_range(
 ) -> Bounds
     requires { ⌜ Cutting d i k f ⌝ }
     requires { ⌜ j < 2 ^ k ⌝ }
-    requires { ⌜ Lent-room piece-products (now slots) (now keys) (now sums) ⌝ }
+    requires { ⌜ Scratch-room piece-products (now slots) (now keys) (now sums) ⌝ }
     ensures exact { λ r. ⌜ r ≡ bounds (at-place j (piece-range d i k (view f) j)) ⌝ }
     ensures table { λ r. ⌜ Free-table (now (slots .entry)) (now (keys .entry)) (now (sums .entry))
         (now (slots .exit)) (now (keys .exit)) (now (sums .exit)) ⌝ }

@@ -1,4 +1,4 @@
--- One turn of the loop over the pieces: what the ends cover so far, and what is still to come.
+-- One iteration of the loop over the pieces: what the ends cover so far, and what is still to come.
 use mathlib.Core.Path.{_≡_, refl, sym, _∙_, ap, ap₂}
 use Prim.Native.Nat.{ℕ, suc, _+_, _-_, _^_, _≤_, _<_}
 use native.Mathlib.Numerals.{add-one}
@@ -68,9 +68,9 @@ module _ (d i k : ℕ) (f : C.Model) where
     rest = sym (ap (λ r. r followed-by from-piece 1) (gives h w));
   }
 
-  -- ---- a turn
+  -- ---- an iteration
   module _ {j : ℕ} {low high : ℤ} (p : Covered j low high) (l : j < 2 ^ k) where
-    -- the next piece is taken in, and those behind it
+    -- the next piece is taken in, and those after it
     abbrev onward : Ends → R.Result Ends
     onward e = from-piece (j + 1) (hull (pair low high) e)
 
@@ -82,18 +82,18 @@ module _ (d i k : ℕ) (f : C.Model) where
         ∙ ap (λ n. at-piece j followed-by (λ e. hull-from d i k f n (2 ^ k - (j + 1)) (hull (pair low high) e)))
         (sym (add-one j))
 
-    pub turn-refused : {b : Bounds} {x : Refusal} {y : ℕ} → b ≡ bounds (at-piece j) → b .verdict ≡ Refused x y
+    pub iteration-refused : {b : Bounds} {x : Refusal} {y : ℕ} → b ≡ bounds (at-piece j) → b .verdict ≡ Refused x y
         → b ≡ bounds (cut-range d i k f)
     unfolding _followed-by_
-    turn-refused h w =
+    iteration-refused h w =
         let s = stops h w in
         h ∙ ap bounds (s .is
         ∙ sym (cut-stopped (sym (p .rest) ∙ more ∙ ap (λ r. r followed-by onward) (s .is))))
 
-    pub turn-accepted : {b : Bounds} → b ≡ bounds (at-piece j) → b .verdict ≡ Accepted
+    pub iteration-accepted : {b : Bounds} → b ≡ bounds (at-piece j) → b .verdict ≡ Accepted
         → Covered (j + 1) (smaller low (b .low)) (larger high (b .high))
     unfolding _followed-by_ hull
-    turn-accepted h w = record {
+    iteration-accepted h w = record {
       within = omega arith;
       rest = sym (ap (λ r. r followed-by onward) (gives h w)) ∙ sym more ∙ p .rest;
     }

@@ -1,7 +1,7 @@
 // The range of a model, narrower by cutting the box: one variable is cut into 2^k equal pieces. The call takes
 // anything, makes the tests in order, and answers two ends or the refusal with its place.
 ghost use mathlib.Core.Path.{_≡_};
-ghost use Rattle.product_room.specs.ProductTerms.{«Lent-room»};
+ghost use Rattle.product_room.specs.ProductTerms.{«Scratch-room»};
 ghost use Rattle.model_types.specs.ModelStruct.{view, bounds};
 ghost use Rattle.model_cut_pieces.specs.Cutting.{Cutting, «piece-products»};
 ghost use Rattle.cuts.specs.Cuts as Cut;
@@ -29,7 +29,7 @@ fn larger(a: i64, b: i64) -> i64
     if a <= b { b } else { a }
 }
 
-// The overlap of the undivided range with what the ranges of the pieces cover. The table is lent for all pieces.
+// The overlap of the undivided range with what the ranges of the pieces cover. The table is scratch for all pieces.
 fn cut(
     d: u8,
     i: u8,
@@ -40,7 +40,7 @@ fn cut(
     sums: &mut [i64],
 ) -> Bounds
     requires { ⌜ Cutting d i k f ⌝ }
-    requires { ⌜ Lent-room piece-products (now slots) (now keys) (now sums) ⌝ }
+    requires { ⌜ Scratch-room piece-products (now slots) (now keys) (now sums) ⌝ }
     ensures { λ r. ⌜ r ≡ bounds (cut-range d i k (view f)) ⌝ }
 {
     let whole = model_range::range_of(f);

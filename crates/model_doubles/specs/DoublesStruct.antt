@@ -1,4 +1,4 @@
--- The struct of four doubles as a curve, and a term behind those of a model.
+-- The struct of four doubles as a curve, and a term after those of a model.
 use mathlib.Core.List.{[], _∷_, _++_}
 use Prim.Native.Nat.{ℕ}
 use lib.IntN.{ℤ}
@@ -12,7 +12,7 @@ use Rattle.model_types.specs.declared.Doubles.{Doubles}
 abbrev pub delivered : Doubles → Delivery
 delivered d = record { c0 = d .c0; c1 = d .c1; c2 = d .c2; radius = d .radius }
 
--- one more term behind the others, unless its coefficient is 0
+-- one more term after the others, unless its coefficient is 0
 unfoldable pub with-term : (key : ℕ) → ℤ → C.Model → C.Model
 with-term z c m = record {
   vars = m .vars;

@@ -1,4 +1,4 @@
--- A term stored behind those of a packed model.
+-- A term stored after those of a packed model.
 use mathlib.Core.Path.{_≡_, refl, sym, _∙_, ap, subst}
 use mathlib.Core.Bool.{true, false, not}
 use mathlib.Core.List.{List, [], _∷_, _++_, map, append-nil}

@@ -166,7 +166,7 @@ const FIRST_POWER: Key = 1 << 28;
 
 const SECOND_POWER: Key = 2 << 28;
 
-// A term behind those of a model, unless its coefficient is 0.
+// A term after those of a model, unless its coefficient is 0.
 fn with_term(m: Model, key: Key, coefficient: i64) -> Model
     requires { ⌜ m .n ≡ 1 ⌝ }
     requires { ⌜ m .count < 64 ⌝ }

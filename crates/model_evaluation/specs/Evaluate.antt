@@ -30,31 +30,32 @@ pub record Putting (i : ℕ) (X : ℤ) (f : Model) : Type 0 where
   pub last : i ≤ f .n
   pub small : natAbs X ≤ U
 
--- a turn of Horner's rule: h times the constant X in n variables, then q added
-unfoldable pub put-turn : (n : ℕ) (X : ℤ) (h q : C.Model) → R.Answer C.Model
-put-turn n X h q = multiply most-degree h (constant n X) then (λ p. add p q)
+-- an iteration of Horner's rule: h times the constant X in n variables, then q added
+unfoldable pub put-iteration : (n : ℕ) (X : ℤ) (h q : C.Model) → R.Answer C.Model
+put-iteration n X h q = multiply most-degree h (constant n X) then (λ p. add p q)
 
 -- two sound models in the same variables, and a coordinate from -U to U
-pub record Turning (X : ℤ) (h q : Model) : Type 0 where
+pub record Iterating (X : ℤ) (h q : Model) : Type 0 where
   pub model : T (sound most-degree (view h))
   pub next : T (sound most-degree (view q))
   pub vars : h .n ≡ q .n
   pub small : natAbs X ≤ U
 
--- such a turn over models that lie in slices, radius 0 for the second
-pub record Turn-of (X : ℤ) (c radius : ℕ) (ks : List ℕ) (cs : List ℤ) (d : ℕ) (ks₂ : List ℕ) (cs₂ : List ℤ) : Type 0
+-- such an iteration over models that lie in slices, radius 0 for the second
+pub record Iteration-of (X : ℤ) (c radius : ℕ) (ks : List ℕ) (cs : List ℤ) (d : ℕ) (ks₂ : List ℕ)
+    (cs₂ : List ℤ) : Type 0
   where
     pub vars : ℕ
     pub first-room : Room ks cs
     pub second-room : Room ks₂ cs₂
-    pub turning : Turning X (held vars c radius ks cs) (held vars d 0 ks₂ cs₂)
+    pub iterating : Iterating X (held vars c radius ks cs) (held vars d 0 ks₂ cs₂)
 
--- what such a turn leaves in two slices
-abbrev pub Turned-in : (X : ℤ) (c radius : ℕ) → List ℕ → List ℤ → (d : ℕ) → List ℕ → List ℤ → Left → List ℕ → List ℤ
+-- what such an iteration leaves in two slices
+abbrev pub Iterated-in : (X : ℤ) (c radius : ℕ) → List ℕ → List ℤ → (d : ℕ) → List ℕ → List ℤ → Left → List ℕ → List ℤ
     → Type 0
-Turned-in X c radius ks cs d ks₂ cs₂ r ks₃ cs₃ = (w : Turn-of X c radius ks cs d ks₂ cs₂)
+Iterated-in X c radius ks cs d ks₂ cs₂ r ks₃ cs₃ = (w : Iteration-of X c radius ks cs d ks₂ cs₂)
     → Left-in (w .vars) r ks₃ cs₃ (answer (at-place 0
-    (put-turn (w .vars) X (view (held (w .vars) c radius ks cs)) (view (held (w .vars) d 0 ks₂ cs₂)))))
+    (put-iteration (w .vars) X (view (held (w .vars) c radius ks cs)) (view (held (w .vars) d 0 ks₂ cs₂)))))
 
 -- a sound model that lies in slices, one of its variables, and a coordinate from -U to U
 pub record Put-of (i : ℕ) (X : ℤ) (count radius : ℕ) (ks : List ℕ) (cs : List ℤ) : Type 0 where

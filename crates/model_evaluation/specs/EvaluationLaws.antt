@@ -1,4 +1,4 @@
--- Evaluation: one turn of the loop that puts in the coordinates, with each way out.
+-- Evaluation: one iteration of the loop that puts in the coordinates, with each way out.
 use mathlib.Core.Path.{_≡_, refl, sym, _∙_, ap, ap₂, subst}
 use mathlib.Core.Bool.{true}
 use mathlib.Core.List.{List, [], _∷_}
@@ -112,9 +112,9 @@ module _ {m : Model} {xs : List ℤ} (s : Evaluation m xs) (l : m .n ≤ length 
         put-is : a ≡ answer (at-place 0 put)
         put-is = e ∙ ap (λ n. answer (at-place 0 (substitute most-degree i (view h) (constant n X)))) (r .vars)
 
-        turn : put then others m xs (i + 1) ≡ others m xs 1 (view m)
+        iteration : put then others m xs (i + 1) ≡ others m xs 1 (view m)
         unfolding put-constants view
-        turn =
+        iteration =
             let q : i + 1 - 1 ≡ suc (i - 1) = omega (arith, r .first) in
             ap (λ n. substitute most-degree i (view h) (constant n X) then others m xs (i + 1)) (sym (r .vars))
             ∙ ap₂
@@ -128,7 +128,7 @@ module _ {m : Model} {xs : List ℤ} (s : Evaluation m xs) (l : m .n ≤ length 
             → record { low = pos 0; high = pos 0; verdict = a .verdict } ≡ bounds (at-place 0 (whole m xs))
         put-refused v = refused-ends (put then others m xs (i + 1)) (λ r. accepted (range r)) v
             (refused-then put (others m xs (i + 1)) v put-is)
-            ∙ ap (λ w. bounds (at-place 0 w)) (ends turn)
+            ∙ ap (λ w. bounds (at-place 0 w)) (ends iteration)
 
         pub put-accepted : a .verdict ≡ Accepted → Remaining m xs (i + 1) (a .model)
         put-accepted v = record {
@@ -136,7 +136,7 @@ module _ {m : Model} {xs : List ℤ} (s : Evaluation m xs) (l : m .n ≤ length 
           model = held-sound vars (omega arith) (g .holds);
           vars = held-vars (g .holds);
           rest = ap (others m xs (i + 1)) (held-view vars (omega arith) (g .holds))
-              ∙ sym (then-is (others m xs (i + 1)) (g .is)) ∙ turn;
+              ∙ sym (then-is (others m xs (i + 1)) (g .is)) ∙ iteration;
         }
           where
             g : Got (m .n) most-degree put (a .model)

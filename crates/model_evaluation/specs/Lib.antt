@@ -2,6 +2,6 @@ pub mod Evaluate
 pub mod EvaluateCallLaws
 pub mod ConstantLaws
 pub mod PutCoordinateLaws
-pub mod SliceTurnLaws
+pub mod SliceIterationLaws
 pub mod EvaluationLaws
 pub mod SliceEvaluationLaws

@@ -1,4 +1,4 @@
--- One coordinate put in by Horner's rule: each turn, with each way out.
+-- One coordinate put in by Horner's rule: each iteration, with each way out.
 use mathlib.Core.Path.{_≡_, refl, sym, _∙_, ap, ap₂, subst}
 use mathlib.Core.Bool.{true}
 use Prim.Native.Nat.{ℕ, zero, suc, _-_, _≤_, _<_}
@@ -29,21 +29,21 @@ use Rattle.model_addition.specs.Addition.{Operands}
 use Rattle.model_powers.specs.Powers.{In-variable}
 use Rattle.model_powers.specs.PowersLaws.{part-sound}
 use Rattle.model_scaling.specs.Scaling.{Scalable}
-use Rattle.model_evaluation.specs.Evaluate.{Putting, put-turn, Turning}
+use Rattle.model_evaluation.specs.Evaluate.{Putting, put-iteration, Iterating}
 use Rattle.model_evaluation.specs.ConstantLaws.{constant-in-box}
 
 -- a constant of that size is sound
 constant-is-sound : (n : ℕ) (X : ℤ) → natAbs X ≤ span-limit → Sound n most-degree (constant n X)
 constant-is-sound n X h = constant-sound n most-degree X h
 
--- ---- a turn
-module _ {X : ℤ} {h q : Model} (s : Turning X h q) where
+-- ---- an iteration
+module _ {X : ℤ} {h q : Model} (s : Iterating X h q) where
   vars : vars-sound (h .n) ≡ true
   unfolding view
   vars = sound-vars most-degree (view h) (s .model)
 
-  pub turn-scalable : Scalable X h
-  turn-scalable = record { model = s .model; small = s .small }
+  pub iteration-scalable : Scalable X h
+  iteration-scalable = record { model = s .model; small = s .small }
 
   constant-here : Sound (h .n) most-degree (constant (h .n) X)
   constant-here = constant-is-sound (h .n) X (omega (arith, s .small, U-within))
@@ -60,8 +60,8 @@ module _ {X : ℤ} {h q : Model} (s : Turning X h q) where
 
   module _ {r : Answer} (e : r ≡ answer (at-place 0 product)) where
     pub product-refused : {x : Refusal} {y : ℕ} → r .verdict ≡ Refused x y
-        → r ≡ answer (at-place 0 (put-turn (h .n) X (view h) (view q)))
-    unfolding put-turn
+        → r ≡ answer (at-place 0 (put-iteration (h .n) X (view h) (view q)))
+    unfolding put-iteration
     product-refused v = refused-then product plus v e
 
     module _ (t : r .verdict ≡ Accepted) where
@@ -73,8 +73,8 @@ module _ {X : ℤ} {h q : Model} (s : Turning X h q) where
       }
 
       pub sum-answer : {a : Answer} → a ≡ answer (at-place 0 (add (view (r .model)) (view q)))
-          → a ≡ answer (at-place 0 (put-turn (h .n) X (view h) (view q)))
-      unfolding put-turn
+          → a ≡ answer (at-place 0 (put-iteration (h .n) X (view h) (view q)))
+      unfolding put-iteration
       sum-answer z = taken-then vars (omega arith) product-sound e t plus z
 
 -- ---- the coordinate X in the place of variable i of f
@@ -100,11 +100,11 @@ module _ (i : ℕ) (X : ℤ) (f : Model) where
     pub holds : Holds (f .n) most-degree h model
     pub rest : down k model then wider ≡ whole
 
-  down-turn : (k : ℕ) (m : C.Model) → 0 < k
-      → down k m ≡ put-turn (f .n) X m (part i (k - 1) (view f)) then down (k - 1)
-  unfolding horner put-turn
-  down-turn zero m z = absurd (omega arith)
-  down-turn (suc k) m z = let e : suc k - 1 ≡ k = omega arith in rw e
+  down-iteration : (k : ℕ) (m : C.Model) → 0 < k
+      → down k m ≡ put-iteration (f .n) X m (part i (k - 1) (view f)) then down (k - 1)
+  unfolding horner put-iteration
+  down-iteration zero m z = absurd (omega arith)
+  down-iteration (suc k) m z = let e : suc k - 1 ≡ k = omega arith in rw e
 
 module _ {i : ℕ} {X : ℤ} {f : Model} (s : Putting i X f) where
   pub in-variable : In-variable i f
@@ -136,46 +136,46 @@ module _ {i : ℕ} {X : ℤ} {f : Model} (s : Putting i X f) where
     part-holds : Holds (f .n) most-degree q (part i (k - 1) (view f))
     part-holds = record { packed = t; sound = part-sound i (k - 1) (f .n) most-degree (view f) outer }
 
-    pub left-turn : Turning X h q
-    left-turn = record {
+    pub left-iteration : Iterating X h q
+    left-iteration = record {
       model = held-sound put-vars (omega arith) (l .holds);
       next = held-sound put-vars (omega arith) part-holds;
       vars = held-vars (l .holds) ∙ sym (held-vars part-holds);
       small = s .small;
     }
 
-    module _ (z : 0 < k) {r : Answer} (e : r ≡ answer (at-place 0 (put-turn (h .n) X (view h) (view q)))) where
-      abbrev turned : R.Answer C.Model
-      turned = put-turn (f .n) X (l .model) (part i (k - 1) (view f))
+    module _ (z : 0 < k) {r : Answer} (e : r ≡ answer (at-place 0 (put-iteration (h .n) X (view h) (view q)))) where
+      abbrev iterated : R.Answer C.Model
+      iterated = put-iteration (f .n) X (l .model) (part i (k - 1) (view f))
 
-      turned-is : r ≡ answer (at-place 0 turned)
-      turned-is = e ∙ ap (λ n. answer (at-place 0 (put-turn n X (view h) (view q)))) (held-vars (l .holds))
-          ∙ ap₂ (λ m p. answer (at-place 0 (put-turn (f .n) X m p)))
+      iterated-is : r ≡ answer (at-place 0 iterated)
+      iterated-is = e ∙ ap (λ n. answer (at-place 0 (put-iteration n X (view h) (view q)))) (held-vars (l .holds))
+          ∙ ap₂ (λ m p. answer (at-place 0 (put-iteration (f .n) X m p)))
           (held-view put-vars (omega arith) (l .holds)) (held-view put-vars (omega arith) part-holds)
 
-      rest : turned then down i X f (k - 1) then wider i X f ≡ whole i X f
-      rest = ap (λ a. a then wider i X f) (sym (down-turn i X f k (l .model) z)) ∙ l .rest
+      rest : iterated then down i X f (k - 1) then wider i X f ≡ whole i X f
+      rest = ap (λ a. a then wider i X f) (sym (down-iteration i X f k (l .model) z)) ∙ l .rest
 
-      pub turn-refused : {x : Refusal} {y : ℕ} → r .verdict ≡ Refused x y → r ≡ answer (at-place 0 (whole i X f))
-      turn-refused v = refused-then (turned then down i X f (k - 1)) (wider i X f) v
-          (refused-then turned (down i X f (k - 1)) v turned-is)
+      pub iteration-refused : {x : Refusal} {y : ℕ} → r .verdict ≡ Refused x y → r ≡ answer (at-place 0 (whole i X f))
+      iteration-refused v = refused-then (iterated then down i X f (k - 1)) (wider i X f) v
+          (refused-then iterated (down i X f (k - 1)) v iterated-is)
           ∙ ap (λ a. answer (at-place 0 a)) rest
 
-      turned-sound : If-accepted (Sound (f .n) most-degree) turned
-      unfolding put-turn
-      turned-sound = then-accepted (multiply-sound (f .n) most-degree (l .model) (g i X f) (l .holds .sound .0)
+      iterated-sound : If-accepted (Sound (f .n) most-degree) iterated
+      unfolding put-iteration
+      iterated-sound = then-accepted (multiply-sound (f .n) most-degree (l .model) (g i X f) (l .holds .sound .0)
           (inner .0))
           (λ p s. add-sound (f .n) most-degree p (part i (k - 1) (view f)) (s .0) (part-holds .sound .0))
 
-      pub turn-accepted : r .verdict ≡ Accepted → Left i X f (k - 1) (r .model)
-      turn-accepted v = record {
+      pub iteration-accepted : r .verdict ≡ Accepted → Left i X f (k - 1) (r .model)
+      iteration-accepted v = record {
         model = m .model;
         holds = m .holds;
         rest = ap (λ a. a then wider i X f) (sym (then-is (down i X f (k - 1)) (m .is))) ∙ rest;
       }
         where
-          m : Got (f .n) most-degree turned (r .model)
-          m = got turned-is v turned-sound
+          m : Got (f .n) most-degree iterated (r .model)
+          m = got iterated-is v iterated-sound
 
   -- ---- the last: the radius of f
   module _ {k : ℕ} {h : Model} (l : Left i X f k h) where

@@ -1,4 +1,4 @@
--- Evaluation over a model that lies in slices: the arrays of a struct, one turn with each way out, and the end.
+-- Evaluation over a model that lies in slices: the arrays of a struct, one iteration with each way out, and the end.
 use mathlib.Core.Path.{_≡_, refl, sym, _∙_, ap, subst}
 use mathlib.Core.List.{List, [], _∷_, map}
 use Prim.Native.Nat.{ℕ, zero, suc, _+_, _-_, _≤_, _<_}
@@ -73,7 +73,7 @@ module _ (m : Model) (r : Room (m .keys) (m .coefficients)) (few : m .count ≤ 
       → e ≡ bounds (at-place 0 (evaluate (take (m .n) xs) (view m)))
   held-end xs q = q ∙ ap (λ v. bounds (at-place 0 (evaluate (take (m .n) xs) v))) held-view
 
--- ---- a turn
+-- ---- an iteration
 module _ (n count₀ radius₀ : ℕ) (ks₀ : List ℕ) (cs₀ : List ℤ) {xs : List ℤ}
     (s : Evaluation (held n count₀ radius₀ ks₀ cs₀) xs) (l : n ≤ length xs) where
   abbrev m₀ : Model
@@ -106,16 +106,16 @@ module _ (n count₀ radius₀ : ℕ) (ks₀ : List ℕ) (cs₀ : List ℤ) {xs 
       module _ {a : Left} (ks₂ : List ℕ) (cs₂ : List ℤ)
           (q : Left-in n a ks₂ cs₂ (answer (at-place 0 (substitute most-degree i (view (held n count radius ks cs))
           (constant n X))))) where
-        pub turn-refused : {x : Refusal} {y : ℕ} → a .verdict ≡ Refused x y
+        pub iteration-refused : {x : Refusal} {y : ℕ} → a .verdict ≡ Refused x y
             → record { low = pos 0; high = pos 0; verdict = a .verdict }
             ≡ bounds (at-place 0 (evaluate (take n xs) (view m₀)))
         unfolding held
-        turn-refused v = ap (λ (v : Verdict). record { low = pos 0; high = pos 0; verdict = v }) (q .verdict)
+        iteration-refused v = ap (λ (v : Verdict). record { low = pos 0; high = pos 0; verdict = v }) (q .verdict)
             ∙ E.put-refused s inside r z refl (sym (q .verdict) ∙ v)
 
-        pub turn-accepted : a .verdict ≡ Accepted → Remaining m₀ xs (i + 1) (held n (a .count) (a .radius) ks₂ cs₂)
+        pub iteration-accepted : a .verdict ≡ Accepted → Remaining m₀ xs (i + 1) (held n (a .count) (a .radius) ks₂ cs₂)
         unfolding held
-        turn-accepted v = subst (Remaining m₀ xs (i + 1)) (sym (q .model v))
+        iteration-accepted v = subst (Remaining m₀ xs (i + 1)) (sym (q .model v))
             (E.put-accepted s inside r z refl (sym (q .verdict) ∙ v))
 
     -- ---- the end

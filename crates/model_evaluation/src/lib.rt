@@ -8,7 +8,7 @@ ghost use Rattle.calculus.specs.Operations as Op;
 ghost use Rattle.calculus.specs.Calls.{«call-evaluate»};
 ghost use Rattle.model_types.specs.ModelStruct.{view, bounds};
 ghost use Rattle.model_slices.specs.HeldModels.{Room};
-ghost use Rattle.model_evaluation.specs.Evaluate.{Evaluation, «Turn-of», «Turned-in», «Put-of», «Put-in»};
+ghost use Rattle.model_evaluation.specs.Evaluate.{Evaluation, «Iteration-of», «Iterated-in», «Put-of», «Put-in»};
 use model_horner::Passed;
 use model_limits::Left;
 use model_types::Bounds;
@@ -17,9 +17,9 @@ use model_types::Model;
 use model_types::Refusal;
 use model_types::Verdict;
 
-// One turn of Horner's rule: h times x, then q added. The product goes into the last two slices, the sum into the first
-// two, in which h lay.
-fn put_turn<'a>(
+// One iteration of Horner's rule: h times x, then q added. The product goes into the last two slices, the sum into the
+// first two, in which h lay.
+fn put_iteration<'a>(
     x: i64,
     c: usize,
     radius: u64,
@@ -31,9 +31,9 @@ fn put_turn<'a>(
     spare: &mut [Key],
     products: &mut [i64],
 ) -> Left
-    requires { ⌜ Turn-of x c radius (now keys) (now coefficients) d (now others) (now added) ⌝ }
+    requires { ⌜ Iteration-of x c radius (now keys) (now coefficients) d (now others) (now added) ⌝ }
     requires { ⌜ Room (now spare) (now products) ⌝ }
-    ensures { λ r. ⌜ Turned-in x c radius (now (keys .entry)) (now (coefficients .entry)) d (now (others .entry))
+    ensures { λ r. ⌜ Iterated-in x c radius (now (keys .entry)) (now (coefficients .entry)) d (now (others .entry))
         (now (added .entry)) r (now (keys .exit)) (now (coefficients .exit)) ⌝ }
 {
     let p: Passed = model_horner::scaled(x, c, radius, keys, coefficients, spare, products);
@@ -92,13 +92,13 @@ fn put_constant<'a>(
     while 0 < k {
         k -= 1;
         let d = model_powers::part(i, k, count, keys, coefficients, others, added);
-        let turn = put_turn(x, c, e, stored, out, d, others, added, spare, products);
-        let v = turn.verdict;
+        let iteration = put_iteration(x, c, e, stored, out, d, others, added, spare, products);
+        let v = iteration.verdict;
         let Verdict::Accepted = v else {
-            return turn;
+            return iteration;
         };
-        c = turn.count;
-        e = turn.radius;
+        c = iteration.count;
+        e = iteration.radius;
     }
     model_limits::limited_slices(c, fixed::capped_sum(e, radius), out)
 }

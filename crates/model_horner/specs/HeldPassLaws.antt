@@ -1,4 +1,4 @@
--- The passes of Horner's rule over a model that lies in slices: each turn is that of the pass over a struct.
+-- The passes of Horner's rule over a model that lies in slices: each iteration is that of the pass over a struct.
 use mathlib.Core.Path.{_≡_, sym, _∙_, ap, subst}
 use mathlib.Core.Bool.{not}
 use mathlib.Core.List.{List}

@@ -1,5 +1,5 @@
 // The product with a coordinate in Horner's rule, on models that lie in slices of 64 places, and the copy of what is
-// left. Behind the terms that a count names any numbers may stand.
+// left. After the terms that a count names any numbers may stand.
 ghost use mathlib.Core.Path.{_≡_};
 ghost use Prim.Native.Nat.{ℕ, _≤_};
 ghost use Rattle.model_types.specs.ModelStruct.{view, pack};

@@ -19,7 +19,7 @@ digit-bits zero = refl
 digit-bits (suc w) = NatL.pow-suc 16 w ∙ ap (λ x. x * 16) (digit-bits w) ∙ sym (pow-add 2 (4 * w) 4)
     ∙ ap (λ i. 2 ^ i) (omega arith)
 
--- a digit: what stands before the bits behind it, without what stands before the digit
+-- a digit: what stands before the bits after it, without what stands before the digit
 digit-shifted : (w j z : ℕ) → j < w → z < 16 ^ w → exponent j (decode 16 w w z) ≡ z / 2 ^ (4 * (w - suc j)) % 16
 unfolding exponent decode
 digit-shifted zero j z h b = absurd (omega arith)

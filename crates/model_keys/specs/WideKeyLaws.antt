@@ -14,7 +14,7 @@ use Rattle.model_keys.specs.Keys.{wide-base, wide-width, degree-base, wi
 use Rattle.model_keys.specs.Keys.{wide-exponents, narrowed}
 use Rattle.model_keys.specs.KeyDegreeLaws.{degree-below}
 
--- ---- zeros behind the last exponent
+-- ---- zeros after the last exponent
 encode-padded : (base w : ℕ) (k : List ℕ) (j : ℕ) → encode base w (k ++ zeros j) ≡ encode base w k
 unfolding encode
 encode-padded base w [] j = encode-constant base w (zeros j) (degree-zeros j)
@@ -34,7 +34,7 @@ below-more : (base more : ℕ) (k : List ℕ) → base ≤ more → Below base k
 below-more base more [] l b = tt
 below-more base more (e ∷ k) l b = (omega (arith, b .0), below-more base more k l (b .1))
 
--- the first v digits: the exponents, and zeros behind them
+-- the first v digits: the exponents, and zeros after them
 decode-padded : (base w v : ℕ) (k : List ℕ) → 0 < base → Below base k → length k ≤ v → v ≤ w
     → decode base w v (encode base w k) ≡ k ++ zeros (v - length k)
 decode-padded base w v k h b l m =

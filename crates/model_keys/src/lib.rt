@@ -14,8 +14,8 @@ ghost use Rattle.model_keys.specs.Keys.{widened, «wide-exponents», «w
 pub type Key = u32;
 
 // ---- one exponent
-// How many bits stand behind the exponent of variable i.
-fn behind(i: u8) -> u32
+// How many bits stand after the exponent of variable i.
+fn bits_after(i: u8) -> u32
     requires { ⌜ i ≤ key-width ⌝ }
     ensures { λ r. ⌜ r ≡ 4 * (key-width - i) ⌝ }
 {
@@ -27,7 +27,7 @@ pub fn exponent_of(key: Key, i: u8) -> u32
     requires { ⌜ Slot i ⌝ }
     ensures { λ r. ⌜ r ≡ key-exponent i key ⌝ }
 {
-    let bits = behind(i);
+    let bits = bits_after(i);
     (key >> bits) % 16
 }
 
@@ -36,7 +36,7 @@ pub fn without(key: Key, i: u8) -> Key
     requires { ⌜ Slot i ⌝ }
     ensures { λ r. ⌜ r ≡ key-without i key ⌝ }
 {
-    let bits = behind(i);
+    let bits = bits_after(i);
     let exponent = (key >> bits) % 16;
     key - (exponent << bits)
 }
@@ -46,7 +46,7 @@ pub fn raised(key: Key, i: u8) -> Key
     requires { ⌜ Raisable i key ⌝ }
     ensures { λ r. ⌜ r ≡ key-raised i key ⌝ }
 {
-    let bits = behind(i);
+    let bits = bits_after(i);
     let one = 1 << bits;
     key + one
 }
@@ -74,13 +74,13 @@ pub fn first_exponent(key: Key) -> usize
 }
 
 // ---- all exponents
-// Whether the exponents of variables above n are 0. Of eight variables no bit is behind, and nothing is asked: a
+// Whether the exponents of variables above n are 0. Of eight variables no bit comes after, and nothing is asked: a
 // question here would be asked of every term.
 pub fn key_fits(n: u8, key: Key) -> bool
     requires { ⌜ Slot n ⌝ }
     ensures { λ r. ⌜ r ≡ key-fits key-width n key ⌝ }
 {
-    let bits = behind(n);
+    let bits = bits_after(n);
     let others = (1 << bits) - 1;
     key & others == 0
 }

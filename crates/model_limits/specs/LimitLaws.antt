@@ -58,9 +58,9 @@ module _ (m : Model) (w : m .count ≤ length (listed m)) where
   unfolding size sum-over
   summed-first = record { within = omega arith; sum = ap capped (omega arith) }
 
-  pub summed-turn : (total i next : ℕ) → Summed m total i → i < m .count
+  pub summed-iteration : (total i next : ℕ) → Summed m total i → i < m .count
       → next ≡ capped (total + natAbs (getD (listed m) i zero-term .coefficient)) → Summed m next (i + 1)
-  summed-turn total i next h l e = record {
+  summed-iteration total i next h l e = record {
     within = omega arith;
     sum = ap capped e ∙ capped-more total _ _ (h .sum)
         ∙ ap capped (omega (arith, size-more (m .n) i (listed m) (omega arith)));

@@ -1,4 +1,4 @@
--- The span of a model that lies in slices: each turn is that of the sum over its struct.
+-- The span of a model that lies in slices: each iteration is that of the sum over its struct.
 use mathlib.Core.Path.{_≡_, sym, _∙_, ap}
 use mathlib.Core.List.{List}
 use Prim.Native.Nat.{ℕ, _+_, _≤_, _<_}
@@ -22,10 +22,11 @@ module _ (n count radius : ℕ) (ks : List ℕ) (cs : List ℤ) (room : Room ks 
   unfolding held
   span-first = L.summed-first spanned (held-whole n count radius ks cs room few)
 
-  pub span-turn : (total i next : ℕ) → L.Summed spanned total i → i < count
+  pub span-iteration : (total i next : ℕ) → L.Summed spanned total i → i < count
       → next ≡ capped (total + natAbs (getD cs i (pos 0))) → L.Summed spanned next (i + 1)
   unfolding held
-  span-turn total i next h l e = L.summed-turn spanned (held-whole n count radius ks cs room few) total i next h l
+  span-iteration total i next h l e = L.summed-iteration spanned
+      (held-whole n count radius ks cs room few) total i next h l
       (e ∙ ap (λ (t : Term). capped (total + natAbs (t .coefficient)))
       (sym (held-at n count radius ks cs room few i l)))
 

@@ -1,5 +1,5 @@
-// The product of two models, in what is lent or in room of its own: the arrays of both are lent to the product of
-// models in slices. (Keys are copied before: `&` of two fields of one struct is not covered by the borrow checker where
+// The product of two models, in scratch memory or in room of its own: the product of models in slices
+// borrows the arrays of both. (Keys are copied before: `&` of two fields of one struct is not covered by the borrow checker where
 // the callee takes them at two lifetimes.)
 ghost use mathlib.Core.Path.{_≡_};
 ghost use Prim.Native.Nat.{_*_};
@@ -9,15 +9,16 @@ ghost use Rattle.calculus.specs.Shares.{«product-shares»};
 ghost use Rattle.model_types.specs.ModelStruct.{view, answer};
 ghost use Rattle.model_types.specs.SharesStruct.{accounted};
 ghost use Rattle.product_hash_collect.specs.CollectorContracts.{«Free-table»};
-ghost use Rattle.product_room.specs.ProductTerms.{«Lent-room»};
+ghost use Rattle.product_room.specs.ProductTerms.{«Scratch-room»};
 ghost use Rattle.product_answer.specs.ProductFactors.{Factors};
 use model_types::Accounted;
 use model_types::Answer;
 use model_types::Model;
 
-// ---- in what is lent
-// f times g at order d with the shares of its radius, in a grid where the monomials are few, or else in a table. What
-// is lent serves for both, whatever is in it, and need not be larger than a table for the products of their terms.
+// ---- in scratch memory
+// f times g at order d with the shares of its radius, in a grid where the monomials are few, or else in a table. The
+// scratch memory serves for both, whatever is in it, and need not be larger than a table for the products of their
+// terms.
 pub fn multiplied_accounted(
     d: u8,
     f: Model,
@@ -27,7 +28,7 @@ pub fn multiplied_accounted(
     sums: &mut [i64],
 ) -> Accounted
     requires { ⌜ Factors d f g ⌝ }
-    requires { ⌜ Lent-room (f .count * g .count) (now slots) (now keys) (now sums) ⌝ }
+    requires { ⌜ Scratch-room (f .count * g .count) (now slots) (now keys) (now sums) ⌝ }
     ensures exact { λ r. ⌜ r ≡ accounted (multiply d (view f) (view g)) (λ m. product-shares d (view f) (view g)) ⌝ }
     ensures table { λ r. ⌜ Free-table (now (slots .entry)) (now (keys .entry)) (now (sums .entry))
         (now (slots .exit)) (now (keys .exit)) (now (sums .exit)) ⌝ }
@@ -51,7 +52,7 @@ pub fn multiplied_accounted(
     )
 }
 
-// f times g at order d, in a grid or a table that is lent.
+// f times g at order d, in a scratch grid or table.
 pub fn multiplied(
     d: u8,
     f: Model,
@@ -61,7 +62,7 @@ pub fn multiplied(
     sums: &mut [i64],
 ) -> Answer
     requires { ⌜ Factors d f g ⌝ }
-    requires { ⌜ Lent-room (f .count * g .count) (now slots) (now keys) (now sums) ⌝ }
+    requires { ⌜ Scratch-room (f .count * g .count) (now slots) (now keys) (now sums) ⌝ }
     ensures exact { λ r. ⌜ r ≡ answer (at-place 0 (multiply d (view f) (view g))) ⌝ }
     ensures table { λ r. ⌜ Free-table (now (slots .entry)) (now (keys .entry)) (now (sums .entry))
         (now (slots .exit)) (now (keys .exit)) (now (sums .exit)) ⌝ }
@@ -71,7 +72,7 @@ pub fn multiplied(
 }
 
 // ---- in room of its own
-// f times g at order d, without a grid or table that is lent.
+// f times g at order d, without a scratch grid or table.
 pub fn multiplied_alone(d: u8, f: Model, g: Model) -> Answer
     requires { ⌜ Factors d f g ⌝ }
     ensures { λ r. ⌜ r ≡ answer (at-place 0 (multiply d (view f) (view g))) ⌝ }

@@ -1,4 +1,4 @@
--- The passes over a model that lies in slices: each turn is that of the pass over its struct.
+-- The passes over a model that lies in slices: each iteration is that of the pass over its struct.
 use mathlib.Core.Path.{_≡_, sym, _∙_, ap, subst}
 use mathlib.Core.List.{List}
 use Prim.Native.Nat.{ℕ, _+_, _≤_, _<_, max}
@@ -37,10 +37,10 @@ module _ {i count : ℕ} {ks : List ℕ} (w : Keys-of i count ks) where
   unfolding held
   largest-first = P.largest-first (w .variable) keys-whole
 
-  pub largest-turn : {largest j more : ℕ} → P.Largest i keyed largest j → j < count
+  pub largest-iteration : {largest j more : ℕ} → P.Largest i keyed largest j → j < count
       → more ≡ max largest (key-exponent i (getD ks j 0)) → P.Largest i keyed more (j + 1)
   unfolding held
-  largest-turn {largest = largest} {j = j} l h e = P.largest-turn (w .variable) keys-whole l h
+  largest-iteration {largest = largest} {j = j} l h e = P.largest-iteration (w .variable) keys-whole l h
       (e ∙ ap (λ (t : Term). max largest (key-exponent i (t .key)))
       (sym (held-at (w .vars) count (w .radius) ks (w .coefficients) (w .room) keys-few j h)))
 
@@ -100,24 +100,24 @@ module _ {i total : ℕ} {ks : List ℕ} {cs : List ℤ} (w : Part-of i total ks
 -- ---- a struct lends its arrays
 module _ {i : ℕ} {f : Model} (s : In-variable i f) (room : Room (f .keys) (f .coefficients)) where
   -- they hold the model that it holds
-  pub lent-view : view (held (f .n) (f .count) (f .radius) (f .keys) (f .coefficients)) ≡ view f
-  lent-view = own-view f room (limits most-degree f (s .model) .few)
+  pub borrowed-view : view (held (f .n) (f .count) (f .radius) (f .keys) (f .coefficients)) ≡ view f
+  borrowed-view = own-view f room (limits most-degree f (s .model) .few)
 
-  pub lent-variable : In-variable i (held (f .n) (f .count) (f .radius) (f .keys) (f .coefficients))
-  lent-variable = record {
-    model = subst (λ m. T (sound most-degree m)) (sym lent-view) (s .model);
+  pub borrowed-variable : In-variable i (held (f .n) (f .count) (f .radius) (f .keys) (f .coefficients))
+  borrowed-variable = record {
+    model = subst (λ m. T (sound most-degree m)) (sym borrowed-view) (s .model);
     first = s .first;
     last = unfold held in s .last;
   }
 
-  abbrev pub lent-keys : Keys-of i (f .count) (f .keys)
-  lent-keys = record {
+  abbrev pub borrowed-keys : Keys-of i (f .count) (f .keys)
+  borrowed-keys = record {
     vars = f .n;
     radius = f .radius;
     coefficients = f .coefficients;
     room = room;
-    variable = lent-variable;
+    variable = borrowed-variable;
   }
 
-  abbrev pub lent-part : Part-of i (f .count) (f .keys) (f .coefficients)
-  lent-part = record { vars = f .n; radius = f .radius; room = room; variable = lent-variable }
+  abbrev pub borrowed-part : Part-of i (f .count) (f .keys) (f .coefficients)
+  borrowed-part = record { vars = f .n; radius = f .radius; room = room; variable = borrowed-variable }

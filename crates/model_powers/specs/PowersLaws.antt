@@ -1,4 +1,5 @@
--- The largest exponent of a variable, and the terms of one of its powers: one turn of each loop over a model's terms.
+-- The largest exponent of a variable, and the terms of one of its powers: one iteration of each loop over a model's
+-- terms.
 use mathlib.Core.Path.{_≡_, refl, sym, _∙_, ap, ap₂, subst}
 use mathlib.Core.Bool.{Bool}
 use mathlib.Core.List.{List, [], _∷_, _++_, map, map-append}
@@ -132,9 +133,9 @@ module _ {i : ℕ} {f : Model} (s : In-variable i f) (w : f .count ≤ length (l
   largest-first = record { within = omega arith; found = refl }
 
   module _ {largest j : ℕ} (l : Largest i f largest j) where
-    pub largest-turn : (h : j < f .count) {more : ℕ} → more ≡ max largest (key-exponent i (key-at j h))
+    pub largest-iteration : (h : j < f .count) {more : ℕ} → more ≡ max largest (key-exponent i (key-at j h))
         → Largest i f more (j + 1)
-    largest-turn h e = record {
+    largest-iteration h e = record {
       within = omega arith;
       found = e ∙ ap₂ max (l .found) (sym (exponent-at j h)) ∙ sym (largest-snoc i (before i f j) (next i f j))
           ∙ ap (largest-exponent i) (sym (read-more (f .n) j (listed f) (omega arith)));

@@ -33,7 +33,7 @@ pub fn largest_exponent(i: u8, count: usize, keys: &[Key]) -> u32
 }
 
 // What multiplies the k-th power of variable i goes into two slices; the number of its terms. Where the slices held
-// zeros these stand behind its terms. The model's slices have one lifetime, so that a struct can lend its two arrays.
+// zeros these stand after its terms. The model's slices have one lifetime, so that a struct can lend its two arrays.
 pub fn part<'a>(
     i: u8,
     k: u32,

@@ -6,7 +6,7 @@ ghost use Rattle.calculus.specs.Model.{«one-model»};
 ghost use Rattle.calculus.specs.Refusal.{«at-place»};
 ghost use Rattle.calculus.specs.Operations.{bare, defect, deviation};
 ghost use Rattle.model_types.specs.ModelStruct.{view, pack, answer};
-ghost use Rattle.product_hash_collect.specs.CollectorContracts.{«Lent-table», «Free-table»};
+ghost use Rattle.product_hash_collect.specs.CollectorContracts.{«Scratch-table», «Free-table»};
 ghost use Rattle.model_multiplication.specs.Factors.{Factors};
 ghost use Rattle.model_proposal.specs.Proposal.{Proposal, Gap, gap};
 use model_types::Answer;
@@ -32,7 +32,7 @@ fn one(n: u8) -> Model
     one
 }
 
-// g × h - f, h without its radius. The table is lent for the product.
+// g × h - f, h without its radius. The table is scratch for the product.
 fn gap(
     d: u8,
     f: Model,
@@ -43,7 +43,7 @@ fn gap(
     sums: &mut [i64],
 ) -> Answer
     requires { ⌜ Gap d f g h ⌝ }
-    requires { ⌜ Lent-table (now slots) (now keys) (now sums) ⌝ }
+    requires { ⌜ Scratch-table (now slots) (now keys) (now sums) ⌝ }
     ensures exact { λ r. ⌜ r ≡ answer (at-place 0 (gap d (view f) (view g) (view h))) ⌝ }
     ensures table { λ r. ⌜ Free-table (now (slots .entry)) (now (keys .entry)) (now (sums .entry))
         (now (slots .exit)) (now (keys .exit)) (now (sums .exit)) ⌝ }
@@ -57,7 +57,7 @@ fn gap(
     difference
 }
 
-// w × (g × h - f), h and w without their radii. The table is lent for the products.
+// w × (g × h - f), h and w without their radii. The table is scratch for the products.
 pub fn defect(
     d: u8,
     f: Model,
@@ -69,7 +69,7 @@ pub fn defect(
     sums: &mut [i64],
 ) -> Answer
     requires { ⌜ Proposal d f g h w ⌝ }
-    requires { ⌜ Lent-table (now slots) (now keys) (now sums) ⌝ }
+    requires { ⌜ Scratch-table (now slots) (now keys) (now sums) ⌝ }
     ensures exact { λ r. ⌜ r ≡ answer (at-place 0 (defect d (view f) (view g) (view h) (view w))) ⌝ }
     ensures table { λ r. ⌜ Free-table (now (slots .entry)) (now (keys .entry)) (now (sums .entry))
         (now (slots .exit)) (now (keys .exit)) (now (sums .exit)) ⌝ }
@@ -83,7 +83,7 @@ pub fn defect(
     form
 }
 
-// 1 - w × g, w without its radius. The table is lent for the product. The model of 1 is made first: made behind the
+// 1 - w × g, w without its radius. The table is scratch for the product. The model of 1 is made first: made after the
 // product it was compiled into the place of the copy of w, and all copies of w were then cut into single terms.
 pub fn deviation(
     d: u8,
@@ -94,7 +94,7 @@ pub fn deviation(
     sums: &mut [i64],
 ) -> Answer
     requires { ⌜ Factors d w g ⌝ }
-    requires { ⌜ Lent-table (now slots) (now keys) (now sums) ⌝ }
+    requires { ⌜ Scratch-table (now slots) (now keys) (now sums) ⌝ }
     ensures exact { λ r. ⌜ r ≡ answer (at-place 0 (deviation d (view g) (view w))) ⌝ }
     ensures table { λ r. ⌜ Free-table (now (slots .entry)) (now (keys .entry)) (now (sums .entry))
         (now (slots .exit)) (now (keys .exit)) (now (sums .exit)) ⌝ }

@@ -93,7 +93,7 @@ module _ (h : C.Model) (beta mu : ℕ) where
       ∙ ap (λ c. answer (at-place 0 c)) (certified-radius l)
 
 -- ---- the terms with another radius, and zeros stored from the last place down to the count
--- a zero more behind what is there
+-- a zero more after what is there
 padded-zero : (l : List Term) → length l < most-terms → pad (l ++ (zero-term ∷ [])) ≡ pad l
 unfolding padded
 padded-zero l h =
@@ -118,9 +118,9 @@ module _ (l : List Term) (w : length l ≡ most-terms) where
       ∙ pad-more (take i l) i zero-term k h
       ∙ padded-zero (take i l) (omega (arith, k))
 
-  pub zeroed-turn : (i : ℕ) (out : List Term) → 0 < i → i ≤ most-terms → out ≡ pad (take i l)
+  pub zeroed-iteration : (i : ℕ) (out : List Term) → 0 < i → i ≤ most-terms → out ≡ pad (take i l)
       → set out (i - 1) zero-term ≡ pad (take (i - 1) l)
-  zeroed-turn i out g h o =
+  zeroed-iteration i out g h o =
       let e : i ≡ i - 1 + 1 = omega arith in
       ap (λ p. set p (i - 1) zero-term) (o ∙ ap (λ j. pad (take j l)) e) ∙ zeroed-at (i - 1) (omega arith)
 

@@ -7,7 +7,7 @@ ghost use Rattle.calculus.specs.Model.{«most-degree», sound};
 ghost use Rattle.calculus.specs.Refusal.{«at-place»};
 ghost use Rattle.calculus.specs.Operations.{«largest-value», certified, quotient};
 ghost use Rattle.model_types.specs.ModelStruct.{view, pack, answer};
-ghost use Rattle.product_hash_collect.specs.CollectorContracts.{«Lent-table», «Free-table»};
+ghost use Rattle.product_hash_collect.specs.CollectorContracts.{«Scratch-table», «Free-table»};
 ghost use Rattle.model_proposal.specs.Proposal.{Proposal};
 ghost use Rattle.model_quotient.specs.Certificate.{«with-radius», judged, Judged};
 use model_types::Answer;
@@ -66,7 +66,7 @@ fn certified(h: Model, beta: u64, mu: u64) -> Answer
     model_limits::limited(with_radius(h, radius))
 }
 
-// The second form, and what it certifies where the first one's beta is known. The table is lent for the product.
+// The second form, and what it certifies where the first one's beta is known. The table is scratch for the product.
 fn judged(
     d: u8,
     g: Model,
@@ -78,7 +78,7 @@ fn judged(
     sums: &mut [i64],
 ) -> Answer
     requires { ⌜ Judged d g h w beta ⌝ }
-    requires { ⌜ Lent-table (now slots) (now keys) (now sums) ⌝ }
+    requires { ⌜ Scratch-table (now slots) (now keys) (now sums) ⌝ }
     ensures exact { λ r. ⌜ r ≡ answer (at-place 0 (judged d (view g) (view h) (view w) beta)) ⌝ }
     ensures table { λ r. ⌜ Free-table (now (slots .entry)) (now (keys .entry)) (now (sums .entry))
         (now (slots .exit)) (now (keys .exit)) (now (sums .exit)) ⌝ }
@@ -94,7 +94,7 @@ fn judged(
 }
 
 // f / g at order d, checked from the proposal h, w: the polynomial of h with the radius that the two forms certify.
-// The table is lent for all products.
+// The table is scratch for all products.
 pub fn divided(
     d: u8,
     f: Model,
@@ -106,7 +106,7 @@ pub fn divided(
     sums: &mut [i64],
 ) -> Answer
     requires { ⌜ Proposal d f g h w ⌝ }
-    requires { ⌜ Lent-table (now slots) (now keys) (now sums) ⌝ }
+    requires { ⌜ Scratch-table (now slots) (now keys) (now sums) ⌝ }
     ensures exact { λ r. ⌜ r ≡ answer (at-place 0 (quotient d (view f) (view g) (view h) (view w))) ⌝ }
     ensures table { λ r. ⌜ Free-table (now (slots .entry)) (now (keys .entry)) (now (sums .entry))
         (now (slots .exit)) (now (keys .exit)) (now (sums .exit)) ⌝ }

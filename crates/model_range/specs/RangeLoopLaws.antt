@@ -20,7 +20,7 @@ use Rattle.model_types.specs.declared.Model.{Model}
 use Rattle.model_types.specs.declared.Term.{Term}
 use Rattle.model_types.specs.ModelStruct.{zero-term, view, view-term, listed}
 use Rattle.model_types.specs.ModelStructLaws.{read, limits, key-fits-at, Summed, summed-first, summed-end}
-use Rattle.model_types.specs.ModelStructLaws.{summed-turn, sum-room, sum-select-le, read-within-span}
+use Rattle.model_types.specs.ModelStructLaws.{summed-iteration, sum-room, sum-select-le, read-within-span}
 use Rattle.model_range.specs.KeyRange.{key-steady, key-fall, key-rise}
 
 -- the sums over the first i terms
@@ -93,24 +93,24 @@ module _ (m : Model) (h : T (sound most-degree (view m))) (w : m .count ≤ leng
         read-within-span m (m .count) w (omega arith),
       )
 
-      pub counted-turn : (z' : ℤ) (b' a' : ℕ) → z' ≡ z +ℤ key-steady (at .key) (at .coefficient)
+      pub counted-iteration : (z' : ℤ) (b' a' : ℕ) → z' ≡ z +ℤ key-steady (at .key) (at .coefficient)
           → b' ≡ b + key-fall (at .key) (at .coefficient) → a' ≡ a + key-rise (at .key) (at .coefficient)
           → Counted m z' b' a' (i + 1)
       unfolding key-steady key-fall key-rise can-fall can-rise view-term
-      counted-turn z' b' a' ez eb ea = record {
-        in-middle = summed-turn ℤ-addition _ _ m w z i (s .in-middle) l z'
+      counted-iteration z' b' a' ez eb ea = record {
+        in-middle = summed-iteration ℤ-addition _ _ m w z i (s .in-middle) l z'
             (ez ∙ ap (λ t. z +ℤ if-ℤ t (at .coefficient)) (sym constant-key));
-        in-below = summed-turn ℕ-addition _ _ m w b i (s .in-below) l b'
+        in-below = summed-iteration ℕ-addition _ _ m w b i (s .in-below) l b'
             (eb ∙ ap₂ (λ t e. b + if-so ℕ-addition (not t && not (e && leZ (pos 0) (at .coefficient)))
             (natAbs (at .coefficient))) (sym constant-key) (sym even-key));
-        in-above = summed-turn ℕ-addition _ _ m w a i (s .in-above) l a'
+        in-above = summed-iteration ℕ-addition _ _ m w a i (s .in-above) l a'
             (ea ∙ ap₂ (λ t e. a + if-so ℕ-addition (not t && not (e && leZ (at .coefficient) (pos 0)))
             (natAbs (at .coefficient))) (sym constant-key) (sym even-key));
       }
 
       -- so what is below and above with this term is within the span too
       pub fall-room : b + key-fall (at .key) (at .coefficient) ≤ span (view m)
-      fall-room = omega (arith, sizes-small can-fall _ (i + 1) (counted-turn _ _ _ refl refl refl .in-below))
+      fall-room = omega (arith, sizes-small can-fall _ (i + 1) (counted-iteration _ _ _ refl refl refl .in-below))
 
       pub rise-room : a + key-rise (at .key) (at .coefficient) ≤ span (view m)
-      rise-room = omega (arith, sizes-small can-rise _ (i + 1) (counted-turn _ _ _ refl refl refl .in-above))
+      rise-room = omega (arith, sizes-small can-rise _ (i + 1) (counted-iteration _ _ _ refl refl refl .in-above))

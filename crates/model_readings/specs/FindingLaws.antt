@@ -1,4 +1,4 @@
--- What each way out of a turn finds.
+-- What each way out of an iteration finds.
 use mathlib.Core.Path.{_≡_, refl, sym, _∙_, ap, ap₂, subst}
 use mathlib.Core.Bool.{Bool, true, false, _||_}
 use mathlib.Core.List.{List, [], _∷_}
@@ -35,8 +35,8 @@ use Rattle.model_types.specs.ModelStruct.{view, refusal, cause, bounds}
 use Rattle.model_types.specs.ModelStructLaws.{cause-refusal}
 use Rattle.model_call_tests.specs.Admission.{at-point}
 use Rattle.model_readings.specs.ReadingStruct.{view-reading, finding}
-use Rattle.model_readings.specs.RowTurns.{check-order, check-unused, check-within, judged, check, after}
-use Rattle.model_readings.specs.RowTurns.{turn-of, begun-of}
+use Rattle.model_readings.specs.RowIterations.{check-order, check-unused, check-within, judged, check, after}
+use Rattle.model_readings.specs.RowIterations.{iteration-of, begun-of}
 
 -- ---- the tests of one reading
 module _ (i : ℕ) (r : R.Reading) where

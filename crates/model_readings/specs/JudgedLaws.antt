@@ -17,7 +17,7 @@ use Rattle.model_types.specs.declared.Verdict.the-variants.{Accepted, Refused}
 use Rattle.model_types.specs.ModelStruct.{refusal, cause, bounds}
 use Rattle.model_types.specs.ModelStructLaws.{cause-refusal}
 use Rattle.model_readings.specs.ReadingStruct.{finding}
-use Rattle.model_readings.specs.RowTurns.{judged}
+use Rattle.model_readings.specs.RowIterations.{judged}
 
 -- ---- what a struct of two ends says of the result that it is
 -- 1 for a refusal

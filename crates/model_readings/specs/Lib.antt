@@ -1,6 +1,6 @@
 pub mod ReadingStruct
-pub mod RowTurns
+pub mod RowIterations
 pub mod RowPassLaws
 pub mod FindingLaws
 pub mod JudgedLaws
-pub mod RowTurnLaws
+pub mod RowIterationLaws

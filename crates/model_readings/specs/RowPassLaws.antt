@@ -14,8 +14,8 @@ use Rattle.model_types.specs.declared.Refusal.{Refusal}
 use Rattle.model_types.specs.declared.Verdict.the-variants.{Accepted, Refused}
 use Rattle.model_types.specs.ModelStruct.{view}
 use Rattle.model_readings.specs.ReadingStruct.{view-reading, finding}
-use Rattle.model_readings.specs.RowTurns.{no-reading, check, no-contradiction, no-refusal, undecided, after}
-use Rattle.model_readings.specs.RowTurns.{turn-of, next-turn, turn-count, pass}
+use Rattle.model_readings.specs.RowIterations.{no-reading, check, no-contradiction, no-refusal, undecided, after}
+use Rattle.model_readings.specs.RowIterations.{iteration-of, next-iteration, iteration-count, pass}
 
 -- ---- whether something is found
 module _ (s : Finding) where
@@ -31,51 +31,51 @@ module _ (s : Finding) where
   unfolding undecided no-contradiction no-refusal
   not-yet e f = sym (ap₂ (λ c v. no-contradiction c && no-refusal v) e f)
 
--- ---- one turn
+-- ---- one iteration
 -- what was found stays, otherwise what is found next
 module _ (m : Model) (s : Finding) (k n : ℕ) (r : Reading) where
-  pub found-stays : undecided s ≡ false → turn-of m s k n r ≡ s
-  unfolding turn-of after
+  pub found-stays : undecided s ≡ false → iteration-of m s k n r ≡ s
+  unfolding iteration-of after
   found-stays d = ap (λ b. elim b as (λ b. Finding) [
     | true ↦ finding (check (k / max n 1) (k % max n 1) (view m) (view-reading r))
     | false ↦ s
   ]) d
 
   pub found-next : undecided s ≡ true
-      → finding (check (k / max n 1) (k % max n 1) (view m) (view-reading r)) ≡ turn-of m s k n r
-  unfolding turn-of after
+      → finding (check (k / max n 1) (k % max n 1) (view m) (view-reading r)) ≡ iteration-of m s k n r
+  unfolding iteration-of after
   found-next d = sym (ap (λ b. elim b as (λ b. Finding) [
     | true ↦ finding (check (k / max n 1) (k % max n 1) (view m) (view-reading r))
     | false ↦ s
   ]) d)
 
--- the turn behind it
+-- the iteration after it
 module _ (s : Finding) (k end : ℕ) where
-  pub next-none : undecided s ≡ false → end ≡ next-turn s k end
-  unfolding next-turn
+  pub next-none : undecided s ≡ false → end ≡ next-iteration s k end
+  unfolding next-iteration
   next-none d = sym (ap (λ b. elim b as (λ b. ℕ) [ true ↦ min (suc k) end | false ↦ end ]) d)
 
-  next : undecided s ≡ true → min (suc k) end ≡ next-turn s k end
-  unfolding next-turn
+  next : undecided s ≡ true → min (suc k) end ≡ next-iteration s k end
+  unfolding next-iteration
   next d = sym (ap (λ b. elim b as (λ b. ℕ) [ true ↦ min (suc k) end | false ↦ end ]) d)
 
-  pub next-one : undecided s ≡ true → k < end → k + 1 ≡ next-turn s k end
+  pub next-one : undecided s ≡ true → k < end → k + 1 ≡ next-iteration s k end
   next-one d l = let q : k + 1 ≡ min (suc k) end = omega arith in q ∙ next d
 
-  pub next-last : undecided s ≡ true → end ≤ k → end ≡ next-turn s k end
+  pub next-last : undecided s ≡ true → end ≤ k → end ≡ next-iteration s k end
   next-last d l = let q : end ≡ min (suc k) end = omega arith in q ∙ next d
 
 -- ---- the pass
--- one turn leaves what the whole pass will give
+-- one iteration leaves what the whole pass will give
 one-more : (m : Model) (ys : List Reading) (end k : ℕ) (s s′ all : Finding) → k < end
-    → s′ ≡ turn-of m s k (length ys) (getD ys (k % length ys) no-reading)
+    → s′ ≡ iteration-of m s k (length ys) (getD ys (k % length ys) no-reading)
     → pass m ys (end - k) k s ≡ all → pass m ys (end - suc k) (suc k) s′ ≡ all
 unfolding pass
 one-more m ys end k s s′ all l e h =
     let a : end - k ≡ suc (end - suc k) = omega arith in
     ap (pass m ys (end - suc k) (suc k)) e ∙ sym (ap (λ j. pass m ys j k s) a) ∙ h
 
--- what is found stays in all turns that follow
+-- what is found stays in all iterations that follow
 stays : (m : Model) (ys : List Reading) (j k : ℕ) (s : Finding) → undecided s ≡ false → pass m ys j k s ≡ s
 unfolding pass
 stays m ys zero k s d = refl
@@ -83,9 +83,9 @@ stays m ys (suc j) k s d = ap (pass m ys j (suc k)) (found-stays m s k _ _ d) �
 
 -- so those can be left out
 pub kept : (m : Model) (ys : List Reading) (end k : ℕ) (s s′ all : Finding) (k′ : ℕ) → k < end
-    → s′ ≡ turn-of m s k (length ys) (getD ys (k % length ys) no-reading) → k′ ≡ next-turn s′ k end
+    → s′ ≡ iteration-of m s k (length ys) (getD ys (k % length ys) no-reading) → k′ ≡ next-iteration s′ k end
     → pass m ys (end - k) k s ≡ all → pass m ys (end - k′) k′ s′ ≡ all
-unfolding next-turn
+unfolding next-iteration
 kept m ys end k s s′ all k′ l e f h = go (undecided s′) refl f
   where
     after-it : pass m ys (end - suc k) (suc k) s′ ≡ all
@@ -96,16 +96,16 @@ kept m ys end k s s′ all k′ l e f h = go (undecided s′) refl f
     go true d f = let q : k′ ≡ suc k = omega arith in ap (λ i. pass m ys (end - i) i s′) q ∙ after-it
     go false d f = stays m ys (end - k′) k′ s′ d ∙ sym (stays m ys (end - suc k) (suc k) s′ d) ∙ after-it
 
-pub next-later : (s : Finding) (k end k′ : ℕ) → k < end → k′ ≡ next-turn s k end → k < k′
-unfolding next-turn
+pub next-later : (s : Finding) (k end k′ : ℕ) → k < end → k′ ≡ next-iteration s k end → k < k′
+unfolding next-iteration
 next-later s k end k′ l f = go (undecided s) f
   where
     go : (b : Bool) → k′ ≡ elim b as (λ b. ℕ) [ true ↦ min (suc k) end | false ↦ end ] → k < k′
     go true f = omega arith
     go false f = omega arith
 
-pub next-within : (s : Finding) (k end k′ : ℕ) → k′ ≡ next-turn s k end → k′ ≤ end
-unfolding next-turn
+pub next-within : (s : Finding) (k end k′ : ℕ) → k′ ≡ next-iteration s k end → k′ ≤ end
+unfolding next-iteration
 next-within s k end k′ f = go (undecided s) f
   where
     go : (b : Bool) → k′ ≡ elim b as (λ b. ℕ) [ true ↦ min (suc k) end | false ↦ end ] → k′ ≤ end
@@ -113,7 +113,7 @@ next-within s k end k′ f = go (undecided s) f
     go false f = omega arith
 
 -- fewer are left
-pub nearer : (s : Finding) (k end k′ : ℕ) → k < end → k′ ≡ next-turn s k end → end - k′ < end - k
+pub nearer : (s : Finding) (k end k′ : ℕ) → k < end → k′ ≡ next-iteration s k end → end - k′ < end - k
 nearer s k end k′ l f = let a = next-later s k end k′ l f in omega arith
 
 -- at the end the state is the answer
@@ -122,7 +122,7 @@ pub ended : (m : Model) (ys : List Reading) (end k : ℕ) (s all : Finding) → 
 unfolding pass
 ended m ys end k s all l h = let a : end - k ≡ 0 = omega arith in sym (ap (λ j. pass m ys j k s) a) ∙ h
 
--- there are turns only where there are readings
+-- there are iterations only where there are readings
 pub some-readings : (n k : ℕ) → k < n % 257 * 4 → 0 < n
 some-readings zero k h = absurd (omega arith)
 some-readings (suc n) k h = omega arith
@@ -130,8 +130,8 @@ some-readings (suc n) k h = omega arith
 pub within-row : (n k : ℕ) → k < n % 257 * 4 → k % n < n
 within-row n k h = NatL.mod-lt k (some-readings n k h)
 
-pub count-is : (n : ℕ) → turn-count n ≡ n % 257 * 4
-unfolding turn-count
+pub count-is : (n : ℕ) → iteration-count n ≡ n % 257 * 4
+unfolding iteration-count
 count-is n = refl
 
 pub few-fits : (n : ℕ) → n % 257 < 2 ^ 64
@@ -140,7 +140,7 @@ few-fits n = omega arith
 pub end-fits : (n : ℕ) → n % 257 * 4 < 2 ^ 64
 end-fits n = omega arith
 
--- before the first turn
+-- before the first iteration
 pub begins : (m : Model) (ys : List Reading) (end : ℕ) (s s′ : Finding) → s ≡ s′
     → pass m ys (end - 0) 0 s ≡ pass m ys end 0 s′
 begins m ys end s s′ e =

@@ -1,5 +1,5 @@
-// Readings of the bench held against a model: which of them contradicts it first. One thin function walks over the lent
-// slice; what it does at each turn stands in the functions before it.
+// Readings of the bench held against a model: which of them contradicts it first. One thin function walks over the
+// borrowed slice; what it does at each iteration stands in the functions before it.
 ghost use mathlib.Core.Path.{_≡_};
 ghost use mathlib.Core.List.{map};
 ghost use mathlib.Core.Option.{none, some};
@@ -11,8 +11,9 @@ ghost use Rattle.calculus.specs.Calls.{«call-evaluate»};
 ghost use Rattle.readings.specs.Readings.{«call-readings»};
 ghost use Rattle.model_types.specs.ModelStruct.{view, cause, bounds};
 ghost use Rattle.model_readings.specs.ReadingStruct.{«view-reading», finding};
-ghost use Rattle.model_readings.specs.RowTurns.{«check-order», «check-unused», «check-within», judged, check};
-ghost use Rattle.model_readings.specs.RowTurns.{undecided, «begun-of», «turn-of», «next-turn»};
+ghost use Rattle.model_readings.specs.RowIterations.{«check-order», «check-unused», «check-within», judged};
+ghost use Rattle.model_readings.specs.RowIterations.{check};
+ghost use Rattle.model_readings.specs.RowIterations.{undecided, «begun-of», «iteration-of», «next-iteration»};
 use model_types::Bounds;
 use model_types::Contradiction;
 use model_types::Finding;
@@ -54,7 +55,7 @@ fn refused_at(refusal: Refusal, place: usize) -> Finding
     }
 }
 
-// Before the first turn: 15 for a row of more than 256 readings, then 5.
+// Before the first iteration: 15 for a row of more than 256 readings, then 5.
 pub fn begun(m: Model, n: usize) -> Finding
     ensures { λ t. ⌜ t ≡ begun-of m n ⌝ }
 {
@@ -176,10 +177,10 @@ fn undecided(s: Finding) -> bool
     true
 }
 
-// Turn k over a row of n readings, at reading r. There are four for each: all readings are tested for 15, then all for
-// 6, then all for 9, then all are evaluated.
-pub fn turn(m: Model, s: Finding, k: usize, n: usize, r: Reading) -> Finding
-    ensures { λ t. ⌜ t ≡ turn-of m s k n r ⌝ }
+// Iteration k over a row of n readings, at reading r. There are four for each: all readings are tested for 15, then all
+// for 6, then all for 9, then all are evaluated.
+pub fn iteration(m: Model, s: Finding, k: usize, n: usize, r: Reading) -> Finding
+    ensures { λ t. ⌜ t ≡ iteration-of m s k n r ⌝ }
 {
     if !undecided(s) {
         return s;
@@ -188,9 +189,9 @@ pub fn turn(m: Model, s: Finding, k: usize, n: usize, r: Reading) -> Finding
     checked(m, k / d, k % d, r)
 }
 
-// The turn behind turn k: with something found there is none.
+// The iteration after iteration k: with something found there is none.
 pub fn following(s: Finding, k: usize, end: usize) -> usize
-    ensures { λ t. ⌜ t ≡ next-turn s k end ⌝ }
+    ensures { λ t. ⌜ t ≡ next-iteration s k end ⌝ }
 {
     if !undecided(s) {
         return end;
@@ -209,13 +210,13 @@ pub fn held_against(rows: &[Reading], m: Model) -> Finding
     ensures { λ t. ⌜ t ≡ finding (call-readings (view m) (map view-reading (now (rows .entry)))) ⌝ }
 {
     let n = rows.len();
-    // A row that is too long is refused before its first turn: any few turns do.
+    // A row that is too long is refused before its first iteration: any few iterations do.
     let few = n % 257;
     let end = few * 4;
     let mut s = begun(m, n);
     let mut k = 0usize;
     while k < end {
-        s = turn(m, s, k, n, rows[k % n]);
+        s = iteration(m, s, k, n, rows[k % n]);
         k = following(s, k, end);
     }
     s

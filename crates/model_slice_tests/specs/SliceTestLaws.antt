@@ -9,14 +9,14 @@ use lib.IntN.{ℤ}
 use lib.ListN.{length}
 use Rattle.calculus.specs.Model.{most-terms, sound}
 use Rattle.model_types.specs.ModelStruct.{view}
-use Rattle.model_slices.specs.HandedModels.{handed, lent}
-use Rattle.model_soundness.specs.SliceSoundLaws.{lent-places, slices-many-not}
+use Rattle.model_slices.specs.HandedModels.{handed, borrowed}
+use Rattle.model_soundness.specs.SliceSoundLaws.{borrowed-places, slices-many-not}
 
 -- ---- the slices of a sound model have all its places
 module _ (d n count radius : ℕ) (ks : List ℕ) (cs : List ℤ) where
-  pub slices-places : lent count (length ks) (length cs) ≡ true → T (sound d (view (handed n count radius ks cs)))
+  pub slices-places : borrowed count (length ks) (length cs) ≡ true → T (sound d (view (handed n count radius ks cs)))
       → (count ≤ length ks) × (count ≤ length cs)
-  slices-places h t = lent-places count (length ks) (length cs) h (few (leb count most-terms) refl)
+  slices-places h t = borrowed-places count (length ks) (length cs) h (few (leb count most-terms) refl)
     where
       few : (b : Bool) → leb count most-terms ≡ b → count ≤ most-terms
       few true e = leb→le count most-terms (subst T (sym e) tt)

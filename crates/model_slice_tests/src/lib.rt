@@ -3,7 +3,7 @@ ghost use mathlib.Core.Bool.{true};
 ghost use mathlib.Core.Path.{_≡_};
 ghost use lib.ListN.{length};
 ghost use Rattle.model_types.specs.ModelStruct.{view, verdict};
-ghost use Rattle.model_slices.specs.HandedModels.{handed, lent};
+ghost use Rattle.model_slices.specs.HandedModels.{handed, borrowed};
 ghost use Rattle.model_call_tests.specs.Admission.{ordered};
 use model_types::Key;
 use model_types::Refusal;
@@ -23,8 +23,8 @@ pub fn ordered(
     keys2: &[Key],
     coefficients2: &[i64],
 ) -> Verdict
-    requires { ⌜ lent count1 (length (now keys1)) (length (now coefficients1)) ≡ true ⌝ }
-    requires { ⌜ lent count2 (length (now keys2)) (length (now coefficients2)) ≡ true ⌝ }
+    requires { ⌜ borrowed count1 (length (now keys1)) (length (now coefficients1)) ≡ true ⌝ }
+    requires { ⌜ borrowed count2 (length (now keys2)) (length (now coefficients2)) ≡ true ⌝ }
     ensures { λ r. ⌜ r ≡ verdict
         (ordered d (view (handed n1 count1 radius1 (now (keys1 .entry)) (now (coefficients1 .entry))))
         (view (handed n2 count2 radius2 (now (keys2 .entry)) (now (coefficients2 .entry))))) ⌝ }

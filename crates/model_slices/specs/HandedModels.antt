@@ -23,8 +23,8 @@ unfoldable pub handed : (n count radius : ℕ) → List ℕ → List ℤ → Mod
 handed n count radius ks cs = of-terms n count radius (pad (terms-of most-terms ks cs))
 
 -- whether slices of these lengths have every place that a count names
-unfoldable pub lent : (count keys coefficients : ℕ) → Bool
-lent count keys coefficients = leb (min count most-terms) keys && leb (min count most-terms) coefficients
+unfoldable pub borrowed : (count keys coefficients : ℕ) → Bool
+borrowed count keys coefficients = leb (min count most-terms) keys && leb (min count most-terms) coefficients
 
 -- the number that a call returns where a slice is too short or a code unknown
 abbrev pub misused : ℕ

@@ -36,7 +36,7 @@ length-terms (suc i) [] cs h l = absurd (omega arith)
 length-terms (suc i) (k ∷ ks) [] h l = absurd (omega arith)
 length-terms (suc i) (k ∷ ks) (c ∷ cs) h l = ap suc (length-terms i ks cs (omega arith) (omega arith))
 
--- a turn of a loop that builds a model
+-- an iteration of a loop that builds a model
 pub handed-more : (i : ℕ) (ks : List ℕ) (cs : List ℤ) → i < length ks → i < length cs → i < most-terms
     → set (pad (terms-of i ks cs)) i (record { key = getD ks i 0; coefficient = getD cs i (pos 0) })
     ≡ pad (terms-of (i + 1) ks cs)
@@ -58,22 +58,22 @@ terms-end zero (suc n) (k ∷ ks) (c ∷ cs) e = absurd (omega arith)
 terms-end (suc i) (suc n) (k ∷ ks) (c ∷ cs) e =
     ap (λ (r : List Term). record { key = k; coefficient = c } ∷ r) (terms-end i n ks cs (omega arith))
 
--- places that are looked at hold what they hold, whether zeros stand behind or nothing
+-- places that are looked at hold what they hold, whether zeros stand after them or nothing
 first-zeros : (c n : ℕ) → places c (replicate n zero-term) ≡ places c []
 unfolding first-places
 first-zeros zero n = refl
 first-zeros (suc c) zero = refl
 first-zeros (suc c) (suc n) = ap (λ (r : List Term). zero-term ∷ r) (first-zeros c n)
 
-first-behind : (c n : ℕ) (l : List Term) → places c (l ++ replicate n zero-term) ≡ places c l
+first-after : (c n : ℕ) (l : List Term) → places c (l ++ replicate n zero-term) ≡ places c l
 unfolding first-places
-first-behind zero n l = refl
-first-behind (suc c) n [] = first-zeros (suc c) n
-first-behind (suc c) n (x ∷ l) = ap (λ (r : List Term). x ∷ r) (first-behind c n l)
+first-after zero n l = refl
+first-after (suc c) n [] = first-zeros (suc c) n
+first-after (suc c) n (x ∷ l) = ap (λ (r : List Term). x ∷ r) (first-after c n l)
 
 first-pad : (c : ℕ) (l : List Term) → places c (pad l) ≡ places c l
 unfolding padded
-first-pad c l = first-behind c (most-terms - length l) l
+first-pad c l = first-after c (most-terms - length l) l
 
 -- so terms beyond a count may be left out
 first-terms : (c i n : ℕ) (ks : List ℕ) (cs : List ℤ) → i ≡ min (min c n) (min (length ks) (length cs))
@@ -119,7 +119,7 @@ taken-view n c e i ks cs h =
 
 -- ---- a slice overwritten
 module _ {A : Type 0} (d : A) where
-  -- a store behind what was overwritten
+  -- a store after what was overwritten
   pub over-more : (l k : List A) (i : ℕ) (x : A) → length l ≡ i → i < length k
       → set (over l k) i x ≡ over (l ++ (x ∷ [])) k
   unfolding over
@@ -127,7 +127,7 @@ module _ {A : Type 0} (d : A) where
       let n : length (l ++ (x ∷ [])) ≡ suc i = length-append l (x ∷ []) ∙ omega arith in
       rw (e, n, drop-cons k i d h, set-at l (getD k i d) (drop (suc i) k) x i e, append-assoc)
 
-  -- a turn of the loop that stores an array
+  -- an iteration of the loop that stores an array
   pub stored-more : (l k : List A) (i : ℕ) → i < length l → i < length k
       → set (over (take i l) k) i (getD l i d) ≡ over (take (i + 1) l) k
   stored-more l k i h w =

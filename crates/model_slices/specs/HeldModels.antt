@@ -1,4 +1,4 @@
--- Models that lie in slices of 64 places. Behind the terms that a count names any numbers may stand.
+-- Models that lie in slices of 64 places. After the terms that a count names any numbers may stand.
 use mathlib.Core.Path.{_≡_}
 use mathlib.Core.List.{List}
 use Prim.Native.Nat.{ℕ}
@@ -9,7 +9,7 @@ use Rattle.model_types.specs.ModelStruct.{pad, of-terms}
 use Rattle.model_types.specs.PairedLaws.{Listed}
 use Rattle.model_slices.specs.HandedModels.{terms-of}
 
--- the struct of a model that lies in slices: the terms that its count names, and zeros behind them
+-- the struct of a model that lies in slices: the terms that its count names, and zeros after them
 unfoldable pub held : (n count radius : ℕ) → List ℕ → List ℤ → Model
 held n count radius ks cs = of-terms n count radius (pad (terms-of count ks cs))
 
@@ -18,6 +18,6 @@ pub record Room (ks : List ℕ) (cs : List ℤ) : Type 0 where
   pub keys : length ks ≡ 64
   pub coefficients : length cs ≡ 64
 
--- zeros do stand behind the terms that the count names: the arrays of a struct
+-- zeros do stand after the terms that the count names: the arrays of a struct
 abbrev pub Clear : (count : ℕ) → List ℕ → List ℤ → Type 0
 Clear count ks cs = Listed ks cs (pad (terms-of count ks cs))

@@ -49,7 +49,7 @@ pair-at (suc n) i (k ∷ ks) [] h l m = absurd (omega arith)
 pair-at (suc n) zero (k ∷ ks) (c ∷ cs) h l m = refl
 pair-at (suc n) (suc i) (k ∷ ks) (c ∷ cs) h l m = pair-at n i ks cs (omega arith) (omega arith) (omega arith)
 
--- a store behind them
+-- a store after them
 terms-before : (n : ℕ) (ks : List ℕ) (cs : List ℤ) (k : ℕ) (c : ℤ)
     → terms-of n (set ks n k) (set cs n c) ≡ terms-of n ks cs
 unfolding terms-of
@@ -102,7 +102,7 @@ room-still {ks = ks} {cs = cs} i k c r = record {
   coefficients = length-set cs i c ∙ r .coefficients;
 }
 
--- a term copied behind others
+-- a term copied after others
 pub copied-more : (i : ℕ) (ks ks₂ : List ℕ) (cs cs₂ : List ℤ) → i < length ks → i < length cs → Room ks₂ cs₂ → i < 64
     → terms-of i ks₂ cs₂ ≡ terms-of i ks cs
     → terms-of (i + 1) (set ks₂ i (getD ks i 0)) (set cs₂ i (getD cs i (pos 0))) ≡ terms-of (i + 1) ks cs
@@ -156,7 +156,7 @@ module _ (m : Model) (room : Room (m .keys) (m .coefficients)) (few : m .count �
       ∙ sym (view-is m (omega (arith, long, room .keys)))
 
 -- ---- arrays for a struct
--- one more term leaves zeros behind it
+-- one more term leaves zeros after it
 pub clear-more : {count : ℕ} {ks : List ℕ} {cs : List ℤ} (k : ℕ) (c : ℤ) → Clear count ks cs → Room ks cs
     → count < most-terms → Clear (count + 1) (set ks count k) (set cs count c)
 clear-more {count = count} {ks = ks} {cs = cs} k c h r l = listed-next h count k c (stored-more count ks cs k c r l)

@@ -5,7 +5,7 @@ ghost use Prim.Native.Nat.{_≤_, min};
 ghost use lib.ListN.{length, take};
 ghost use Rattle.calculus.specs.Model.{«most-terms»};
 ghost use Rattle.model_types.specs.ModelStruct.{view, «verdict-number», «verdict-place»};
-ghost use Rattle.model_slices.specs.HandedModels.{handed, lent, over};
+ghost use Rattle.model_slices.specs.HandedModels.{handed, borrowed, over};
 ghost use Rattle.model_slices.specs.HandedModels.{«answer-numbers», «model-room»};
 ghost use Rattle.model_slices.specs.HandedModels.{«stored-keys», «stored-coefficients», «stored-numbers»};
 use model_types::Key;
@@ -35,8 +35,8 @@ pub fn least(a: usize, b: usize) -> usize
 }
 
 // Whether slices of these lengths have every place that a count names. A count above 64 names 64 places.
-pub fn lent(count: usize, keys: usize, coefficients: usize) -> bool
-    ensures { λ r. ⌜ r ≡ lent count keys coefficients ⌝ }
+pub fn borrowed(count: usize, keys: usize, coefficients: usize) -> bool
+    ensures { λ r. ⌜ r ≡ borrowed count keys coefficients ⌝ }
 {
     let named = least(count, model_types::MOST_TERMS);
     if keys < named {
@@ -46,8 +46,8 @@ pub fn lent(count: usize, keys: usize, coefficients: usize) -> bool
 }
 
 // ---- terms copied
-// The first keys of a slice go into another. (Keys and coefficients each have a function: those of a struct can be lent
-// to one only at one lifetime, which a caller's two slices do not have.)
+// The first keys of a slice go into another. (Keys and coefficients each have a function: one for both could borrow
+// those of a struct only at one lifetime, and a caller's two slices have two.)
 pub fn copy_keys(count: usize, keys: &[Key], out: &mut [Key])
     requires { ⌜ (count ≤ length (now keys)) × (count ≤ length (now out)) ⌝ }
     ensures { λ r. ⌜ now (out .exit) ≡ over (take count (now (keys .entry))) (now (out .entry)) ⌝ }
@@ -92,7 +92,7 @@ pub fn handed(n: u8, count: usize, radius: u64, keys: &[Key], coefficients: &[i6
     }
 }
 
-// The same model to every call: only the places that its count names are copied, and zeros stand behind them.
+// The same model to every call: only the places that its count names are copied, and zeros stand after them.
 pub fn taken(n: u8, count: usize, radius: u64, keys: &[Key], coefficients: &[i64]) -> Model
     ensures { λ r. ⌜ view r ≡ view (handed n count radius (now (keys .entry)) (now (coefficients .entry))) ⌝ }
 {

@@ -18,22 +18,23 @@ use Rattle.model_types.specs.declared.Model.{Model}
 use Rattle.model_types.specs.Arrays.{padded}
 use Rattle.model_types.specs.ModelStruct.{zero-term, paired, pad, view, listed, of-terms, term-sound}
 use Rattle.model_types.specs.PairedLaws.{length-paired, listed-own, listed-struct}
-use Rattle.model_slices.specs.HandedModels.{terms-of, handed, lent}
+use Rattle.model_slices.specs.HandedModels.{terms-of, handed, borrowed}
 use Rattle.model_slices.specs.HandedModelsLaws.{listed-handed}
-use Rattle.model_soundness.specs.SoundPassLaws.{Passed, vars-not, many-not, passed-first, passed-end, passed-turn}
+use Rattle.model_soundness.specs.SoundPassLaws.{Passed, vars-not, many-not, passed-first, passed-end}
+use Rattle.model_soundness.specs.SoundPassLaws.{passed-iteration}
 use Rattle.model_soundness.specs.SoundPassLaws.{passed-not}
 
 -- ---- the places that a count names
-pub lent-places : (count k z : ℕ) → lent count k z ≡ true → count ≤ most-terms → (count ≤ k) × (count ≤ z)
-unfolding lent
-lent-places count k z h f =
+pub scratch-places : (count k z : ℕ) → borrowed count k z ≡ true → count ≤ most-terms → (count ≤ k) × (count ≤ z)
+unfolding borrowed
+scratch-places count k z h f =
     let named = leb (min count most-terms) k in
     let t = subst T (sym h) tt in
     let l = leb→le (min count most-terms) k (and-left named _ t) in
     let m = leb→le (min count most-terms) z (and-right named _ t) in
     (omega arith, omega arith)
 
--- ---- the terms of two slices, and zeros behind them
+-- ---- the terms of two slices, and zeros after them
 at-place : (n i : ℕ) (ks : List ℕ) (cs : List ℤ) (l : List Term) → i < n → i < length ks → i < length cs
     → getD (terms-of n ks cs ++ l) i zero-term ≡ record { key = getD ks i 0; coefficient = getD cs i (pos 0) }
 unfolding terms-of
@@ -82,13 +83,13 @@ module _ (d n count radius : ℕ) (ks : List ℕ) (cs : List ℤ) where
         small-here : getD (listed held) i zero-term .key < key-limit
         small-here = subst (λ (t : Term). t .key < key-limit) (sym here) small
 
-        pub slices-turn : term-sound n d least (getD ks i 0) (getD cs i (pos 0)) ≡ true
+        pub slices-iteration : term-sound n d least (getD ks i 0) (getD cs i (pos 0)) ≡ true
             → (next : ℕ) → next ≡ capped (total + natAbs (getD cs i (pos 0)))
             → Passed d held next (getD ks i 0 + 1) (i + 1)
         unfolding handed
-        slices-turn t next e =
+        slices-iteration t next e =
             subst (λ (x : Term). Passed d held next (x .key + 1) (i + 1)) here
-            (passed-turn d held v f long total least i h l small-here
+            (passed-iteration d held v f long total least i h l small-here
             (subst (λ (x : Term). term-sound n d least (x .key) (x .coefficient) ≡ true) (sym here) t) next
             (subst (λ (x : Term). next ≡ capped (total + natAbs (x .coefficient))) (sym here) e))
 
@@ -112,9 +113,9 @@ pad-all l e =
     ap (λ (n : ℕ). l ++ replicate n zero-term) none ∙ append-nil l
 
 -- have every place that a count may name
-pub lent-own : (count k z : ℕ) → k ≡ most-terms → z ≡ most-terms → lent count k z ≡ true
-unfolding lent
-lent-own count k z e f =
+pub borrowed-own : (count k z : ℕ) → k ≡ most-terms → z ≡ most-terms → borrowed count k z ≡ true
+unfolding borrowed
+borrowed-own count k z e f =
     rw (le-leb (min count most-terms) k (omega arith), le-leb (min count most-terms) z (omega arith))
 
 -- and handed over they are the struct again

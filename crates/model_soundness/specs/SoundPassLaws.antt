@@ -147,7 +147,7 @@ module _ (d : ℕ) (m : Model) where
           all-pass l = h .rest ∙ ap (rest-sound (m .n) d (h .last)) (rest-end (m .n) (m .count) (listed m) w i l)
               ∙ rest-nil (m .n) d (h .last)
 
-      -- a turn, for a key of 32 bits
+      -- an iteration, for a key of 32 bits
       module _ (l : i < m .count) (small : getD (listed m) i zero-term .key < key-limit) where
         abbrev key-at : ℕ
         key-at = getD (listed m) i zero-term .key
@@ -155,15 +155,15 @@ module _ (d : ℕ) (m : Model) where
         abbrev coefficient-at : ℤ
         coefficient-at = getD (listed m) i zero-term .coefficient
 
-        abbrev behind : Bool
-        behind = rest-sound (m .n) d (monomial-of (m .n) key-at) (drop (i + 1) terms)
+        abbrev after : Bool
+        after = rest-sound (m .n) d (monomial-of (m .n) key-at) (drop (i + 1) terms)
 
-        -- its test, and the rest behind it
-        passed-rest : rest-sound (m .n) d [] terms ≡ term-sound (m .n) d least key-at coefficient-at && behind
+        -- its test, and the rest after it
+        passed-rest : rest-sound (m .n) d [] terms ≡ term-sound (m .n) d least key-at coefficient-at && after
         unfolding view-term term-sound
         passed-rest = h .rest ∙ ap (rest-sound (m .n) d (h .last)) (rest-more (m .n) (m .count) (listed m) w i l)
             ∙ rest-cons (m .n) d (h .last) _ _
-            ∙ ap (λ b. b && behind)
+            ∙ ap (λ b. b && after)
             (ap (λ b. b && is-nonzero coefficient-at && less (h .last) (monomial-of (m .n) key-at))
             (fits-monomial (m .n) d key-at (vars-range (m .n) v .1) small)
             ∙ by-key (is-nonzero coefficient-at) (leb least key-at) (key-fits key-width (m .n) key-at) _ _
@@ -176,12 +176,12 @@ module _ (d : ℕ) (m : Model) where
             and-right before (key-fits key-width (m .n) key-at)
             (and-left (before && key-fits key-width (m .n) key-at) (leb (key-degree key-at) d) (subst T (sym t) tt))
 
-        pub passed-turn : term-sound (m .n) d least key-at coefficient-at ≡ true
+        pub passed-iteration : term-sound (m .n) d least key-at coefficient-at ≡ true
             → (next : ℕ) → next ≡ capped (total + natAbs coefficient-at) → Passed next (key-at + 1) (i + 1)
-        passed-turn t next e = record {
+        passed-iteration t next e = record {
           within = omega arith;
           last = monomial-of (m .n) key-at;
-          rest = passed-rest ∙ ap (λ b. b && behind) t;
+          rest = passed-rest ∙ ap (λ b. b && after) t;
           above = λ z g. less-monomials (m .n) key-at z (vars-range (m .n) v .1) (fits-at t) g
               ∙ ap (λ j. leb j z) (sym (add-one key-at));
           sum = ap capped e ∙ capped-more total _ (natAbs coefficient-at) (h .sum)
@@ -190,4 +190,4 @@ module _ (d : ℕ) (m : Model) where
 
         pub passed-not : term-sound (m .n) d least key-at coefficient-at ≡ false → sound d (view m) ≡ false
         passed-not t = by-terms v f w
-            ∙ ap (λ b. b && leb (size terms + m .radius) span-limit) (passed-rest ∙ ap (λ b. b && behind) t)
+            ∙ ap (λ b. b && leb (size terms + m .radius) span-limit) (passed-rest ∙ ap (λ b. b && after) t)

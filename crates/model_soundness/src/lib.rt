@@ -7,7 +7,7 @@ ghost use lib.ListN.{length};
 ghost use Rattle.calculus.specs.Key.{«key-width»};
 ghost use Rattle.calculus.specs.Model.{sound};
 ghost use Rattle.model_types.specs.ModelStruct.{view, «term-sound»};
-ghost use Rattle.model_slices.specs.HandedModels.{handed, lent};
+ghost use Rattle.model_slices.specs.HandedModels.{handed, borrowed};
 use model_keys::Key;
 use model_types::MOST_TERMS;
 use model_types::Model;
@@ -39,7 +39,7 @@ pub fn sound_slices(
     coefficients: &[i64],
     d: u8,
 ) -> bool
-    requires { ⌜ lent count (length (now keys)) (length (now coefficients)) ≡ true ⌝ }
+    requires { ⌜ borrowed count (length (now keys)) (length (now coefficients)) ≡ true ⌝ }
     ensures { λ r. ⌜ r ≡ sound d (view (handed n count radius (now (keys .entry)) (now (coefficients .entry)))) ⌝ }
 {
     if !model_types::vars_sound(n) {
@@ -73,7 +73,7 @@ pub fn sound_arrays<'a>(
     coefficients: &'a [i64],
     d: u8,
 ) -> bool
-    requires { ⌜ lent count (length (now keys)) (length (now coefficients)) ≡ true ⌝ }
+    requires { ⌜ borrowed count (length (now keys)) (length (now coefficients)) ≡ true ⌝ }
     ensures { λ r. ⌜ r ≡ sound d (view (handed n count radius (now (keys .entry)) (now (coefficients .entry)))) ⌝ }
 {
     sound_slices(n, count, radius, keys, coefficients, d)

@@ -1,4 +1,4 @@
--- Horner's rule: one turn of its loop, with each way out.
+-- Horner's rule: one iteration of its loop, with each way out.
 use mathlib.Core.Path.{_≡_, refl, sym, _∙_, ap, ap₂, subst}
 use mathlib.Core.Bool.{true, false}
 use Prim.Native.Nat.{ℕ, zero, suc, _-_, _^_, _≤_, _<_}
@@ -27,8 +27,8 @@ use Rattle.model_types.specs.ModelStructLaws.{sound-vars}
 use Rattle.model_limits.specs.Limits.{Packed}
 use Rattle.product_answer.specs.ErrorLaws.{error-fits}
 use Rattle.model_powers.specs.PowersLaws.{part-sound}
-use Rattle.model_substitution.specs.Substitute.{horner-turn, Turn, Substitution}
-use Rattle.model_substitution.specs.TurnLaws.{refused-accounted, accepted-shares, turn-sound}
+use Rattle.model_substitution.specs.Substitute.{horner-iteration, Iteration, Substitution}
+use Rattle.model_substitution.specs.IterationLaws.{refused-accounted, accepted-shares, iteration-sound}
 use Rattle.model_types.specs.ResultLaws.{Holds, held-view, held-sound, held-vars, Got, got, then-is}
 
 -- ---- g in the place of variable i of f
@@ -63,20 +63,20 @@ module _ (d i : ℕ) (f g : Model) where
     pub fits : shares .carried < 2 ^ 63
     pub shares-rest : shares-down k model shares ≡ all-shares
 
-  -- a turn, and what follows it
-  down-turn : (k : ℕ) (m : C.Model) → 0 < k
-      → down k m ≡ horner-turn d m (view g) (part i (k - 1) (view f)) then down (k - 1)
-  unfolding horner horner-turn
-  down-turn zero m z = absurd (omega arith)
-  down-turn (suc k) m z = let e : suc k - 1 ≡ k = omega arith in rw e
+  -- an iteration, and what follows it
+  down-iteration : (k : ℕ) (m : C.Model) → 0 < k
+      → down k m ≡ horner-iteration d m (view g) (part i (k - 1) (view f)) then down (k - 1)
+  unfolding horner horner-iteration
+  down-iteration zero m z = absurd (omega arith)
+  down-iteration (suc k) m z = let e : suc k - 1 ≡ k = omega arith in rw e
 
-  shares-turn : (k : ℕ) (m : C.Model) (s : S.Shares) → 0 < k
+  shares-iteration : (k : ℕ) (m : C.Model) (s : S.Shares) → 0 < k
       → horner-shares d i (view f) (view g) k m s
-      ≡ shares-of (horner-turn d m (view g) (part i (k - 1) (view f)))
+      ≡ shares-of (horner-iteration d m (view g) (part i (k - 1) (view f)))
       (λ q. horner-shares d i (view f) (view g) (k - 1) q (product-shares d m (view g)))
-  unfolding horner-shares horner-turn
-  shares-turn zero m s z = absurd (omega arith)
-  shares-turn (suc k) m s z = let e : suc k - 1 ≡ k = omega arith in rw e
+  unfolding horner-shares horner-iteration
+  shares-iteration zero m s z = absurd (omega arith)
+  shares-iteration (suc k) m s z = let e : suc k - 1 ≡ k = omega arith in rw e
 
   -- the range of g leaves the box
   outside-is : range-in-box (view g) ≡ false → whole ≡ refused leaves-box
@@ -134,8 +134,8 @@ module _ {d i : ℕ} {f g : Model} (s : Substitution d i f g) where
     part-holds : Holds (f .n) d q (part i (k - 1) (view f))
     part-holds = record { packed = t; sound = part-sound i (k - 1) (f .n) d (view f) outer }
 
-    pub left-turn : Turn d h g q
-    left-turn = record {
+    pub left-iteration : Iteration d h g q
+    left-iteration = record {
       factors = record {
         order = s .order;
         first = held-sound vars (s .order) (l .holds);
@@ -147,43 +147,44 @@ module _ {d i : ℕ} {f g : Model} (s : Substitution d i f g) where
     }
 
     module _ (z : 0 < k) {r : Accounted}
-        (e : r ≡ accounted (horner-turn d (view h) (view g) (view q)) (λ m. product-shares d (view h) (view g))) where
-      abbrev turned : R.Answer C.Model
-      turned = horner-turn d (l .model) (view g) (part i (k - 1) (view f))
+        (e : r ≡ accounted (horner-iteration d (view h) (view g) (view q))
+        (λ m. product-shares d (view h) (view g))) where
+      abbrev iterated : R.Answer C.Model
+      iterated = horner-iteration d (l .model) (view g) (part i (k - 1) (view f))
 
       abbrev made : S.Shares
       made = product-shares d (l .model) (view g)
 
-      turned-is : r ≡ accounted turned (λ m. made)
-      turned-is = e
-          ∙ ap₂ (λ m p. accounted (horner-turn d m (view g) p) (λ n. product-shares d m (view g)))
+      iterated-is : r ≡ accounted iterated (λ m. made)
+      iterated-is = e
+          ∙ ap₂ (λ m p. accounted (horner-iteration d m (view g) p) (λ n. product-shares d m (view g)))
           (held-view vars (s .order) (l .holds)) (held-view vars (s .order) part-holds)
 
-      rest : turned then down d i f g (k - 1) then wider d i f g ≡ whole d i f g
-      rest = ap (λ a. a then wider d i f g) (sym (down-turn d i f g k (l .model) z)) ∙ l .rest
+      rest : iterated then down d i f g (k - 1) then wider d i f g ≡ whole d i f g
+      rest = ap (λ a. a then wider d i f g) (sym (down-iteration d i f g k (l .model) z)) ∙ l .rest
 
-      pub turn-refused : {x : Refusal} {y : ℕ} → r .answer .verdict ≡ Refused x y
+      pub iteration-refused : {x : Refusal} {y : ℕ} → r .answer .verdict ≡ Refused x y
           → r ≡ accounted (whole d i f g) (λ m. all-shares d i f g)
-      turn-refused v =
-          refused-accounted (turned then down d i f g (k - 1)) (λ m. made) (λ m. all-shares d i f g) (wider d i f g) v
-          (refused-accounted turned (λ m. made) (λ m. made) (down d i f g (k - 1)) v turned-is)
+      iteration-refused v =
+          refused-accounted (iterated then down d i f g (k - 1)) (λ m. made) (λ m. all-shares d i f g) (wider d i f g) v
+          (refused-accounted iterated (λ m. made) (λ m. made) (down d i f g (k - 1)) v iterated-is)
           ∙ ap (λ a. accounted a (λ m. all-shares d i f g)) rest
 
-      pub turn-accepted : r .answer .verdict ≡ Accepted → Left d i f g (k - 1) (r .answer .model) (r .shares)
-      turn-accepted v = record {
+      pub iteration-accepted : r .answer .verdict ≡ Accepted → Left d i f g (k - 1) (r .answer .model) (r .shares)
+      iteration-accepted v = record {
         model = m .model;
         holds = m .holds;
         rest = ap (λ a. a then wider d i f g) (sym (then-is (down d i f g (k - 1)) (m .is))) ∙ rest;
         shares = made;
-        stored = accepted-shares turned made turned-is (m .is);
+        stored = accepted-shares iterated made iterated-is (m .is);
         fits = made-fits;
-        shares-rest = ap (carrying (view f .radius)) (sym (shares-turn d i f g k (l .model) (l .shares) z
+        shares-rest = ap (carrying (view f .radius)) (sym (shares-iteration d i f g k (l .model) (l .shares) z
             ∙ led (λ q. horner-shares d i (view f) (view g) (k - 1) q made) (m .is))) ∙ l .shares-rest;
       }
         where
-          m : Got (f .n) d turned (r .answer .model)
-          m = got (accounted-answer turned (λ m. made) turned-is) v
-              (turn-sound (f .n) d (l .model) (view g) _ (l .holds .sound .0) (inner .0) (part-holds .sound .0))
+          m : Got (f .n) d iterated (r .answer .model)
+          m = got (accounted-answer iterated (λ m. made) iterated-is) v
+              (iteration-sound (f .n) d (l .model) (view g) _ (l .holds .sound .0) (inner .0) (part-holds .sound .0))
 
           made-fits : made .carried < 2 ^ 63
           made-fits = carried-fits d (l .model) (view g) (l .holds .sound .1 .small-span) (inner .1 .small-span)

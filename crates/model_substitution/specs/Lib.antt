@@ -1,4 +1,4 @@
 pub mod Substitute
-pub mod TurnLaws
+pub mod IterationLaws
 pub mod HornerLaws
 pub mod SubstitutionRoomLaws

@@ -1,4 +1,4 @@
--- A turn of Horner's rule, and what it and a substitution ask.
+-- An iteration of Horner's rule, and what it and a substitution ask.
 use mathlib.Core.Path.{_≡_}
 use Prim.Native.Nat.{ℕ, _≤_}
 use lib.Dec.{T}
@@ -12,11 +12,11 @@ use Rattle.model_types.specs.ModelStruct.{view}
 use Rattle.model_multiplication.specs.Factors.{Factors}
 
 -- h times g with order d, then q added
-unfoldable pub horner-turn : (d : ℕ) (h g q : C.Model) → R.Answer C.Model
-horner-turn d h g q = multiply d h g then (λ p. add p q)
+unfoldable pub horner-iteration : (d : ℕ) (h g q : C.Model) → R.Answer C.Model
+horner-iteration d h g q = multiply d h g then (λ p. add p q)
 
 -- two factors at order d, and what is added, sound for it and in the same variables
-pub record Turn (d : ℕ) (h g q : Model) : Type 0 where
+pub record Iteration (d : ℕ) (h g q : Model) : Type 0 where
   pub factors : Factors d h g
   pub next : T (sound d (view q))
   pub vars : h .n ≡ q .n

@@ -1,5 +1,5 @@
--- What is lent for a substitution has room for each turn of Horner's rule, where g is multiplied by a model of at most
--- 64 terms; and what is lent for any product has room for a substitution.
+-- The scratch memory for a substitution has room for each iteration of Horner's rule, where g is multiplied by a model
+-- of at most 64 terms; and the scratch memory for any product has room for a substitution.
 use Prim.Native.Nat.{ℕ, _*_}
 use native.Mathlib.Nat as NatL
 use native.Mathlib.Omega.{arith}
@@ -8,17 +8,18 @@ use lib.IntN.{ℤ}
 use Rattle.calculus.specs.Model.{most-terms}
 use Rattle.model_types.specs.declared.Model.{Model}
 use Rattle.model_types.specs.ModelStructLaws.{limits}
-use Rattle.product_hash_collect.specs.CollectorContracts.{Lent-table}
-use Rattle.product_room.specs.ProductTerms.{Lent-room}
-use Rattle.product_room.specs.ProductTermsLaws.{lent-room, fewer-room}
-use Rattle.model_substitution.specs.Substitute.{Turn, Substitution}
+use Rattle.product_hash_collect.specs.CollectorContracts.{Scratch-table}
+use Rattle.product_room.specs.ProductTerms.{Scratch-room}
+use Rattle.product_room.specs.ProductTermsLaws.{scratch-room, fewer-room}
+use Rattle.model_substitution.specs.Substitute.{Iteration, Substitution}
 
 module _ {slots keys : List ℕ} {sums : List ℤ} where
-  pub turn-room : {d : ℕ} {h g q : Model} → Turn d h g q → Lent-room (most-terms * g .count) slots keys sums
-      → Lent-room (h .count * g .count) slots keys sums
-  turn-room s t = fewer-room t (NatL.mul-le-mul (limits _ _ (s .factors .first) .few) (omega arith))
+  pub iteration-room : {d : ℕ} {h g q : Model} → Iteration d h g q
+      → Scratch-room (most-terms * g .count) slots keys sums
+      → Scratch-room (h .count * g .count) slots keys sums
+  iteration-room s t = fewer-room t (NatL.mul-le-mul (limits _ _ (s .factors .first) .few) (omega arith))
 
-  pub substitution-room : {d i : ℕ} {f g : Model} → Substitution d i f g → Lent-table slots keys sums
-      → Lent-room (most-terms * g .count) slots keys sums
+  pub substitution-room : {d i : ℕ} {f g : Model} → Substitution d i f g → Scratch-table slots keys sums
+      → Scratch-room (most-terms * g .count) slots keys sums
   unfolding most-terms
-  substitution-room s t = let few = limits _ _ (s .inner) .few in lent-room t (omega (arith, few))
+  substitution-room s t = let few = limits _ _ (s .inner) .few in scratch-room t (omega (arith, few))

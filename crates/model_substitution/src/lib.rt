@@ -10,8 +10,8 @@ ghost use Rattle.calculus.specs.Shares.{«product-shares», carrying, «substit
 ghost use Rattle.model_types.specs.ModelStruct.{view, answer};
 ghost use Rattle.model_types.specs.SharesStruct.{«stored-shares», accounted};
 ghost use Rattle.product_hash_collect.specs.CollectorContracts.{«Free-table»};
-ghost use Rattle.product_room.specs.ProductTerms.{«Lent-room»};
-ghost use Rattle.model_substitution.specs.Substitute.{«horner-turn», Turn, Substitution};
+ghost use Rattle.product_room.specs.ProductTerms.{«Scratch-room»};
+ghost use Rattle.model_substitution.specs.Substitute.{«horner-iteration», Iteration, Substitution};
 use model_types::Accounted;
 use model_types::Answer;
 use model_types::Model;
@@ -34,9 +34,9 @@ fn carrying(e: u64, s: Shares) -> Shares
     }
 }
 
-// One turn of Horner's rule: h times g with order d, then q added, with the shares of the product, whose radius the sum
-// keeps. The table is lent for the product.
-fn horner_turn(
+// One iteration of Horner's rule: h times g with order d, then q added, with the shares of the product, whose radius
+// the sum keeps. The table is scratch for the product.
+fn horner_iteration(
     d: u8,
     h: Model,
     g: Model,
@@ -45,9 +45,9 @@ fn horner_turn(
     keys: &mut [u64],
     sums: &mut [i64],
 ) -> Accounted
-    requires { ⌜ Turn d h g q ⌝ }
-    requires { ⌜ Lent-room (most-terms * g .count) (now slots) (now keys) (now sums) ⌝ }
-    ensures exact { λ r. ⌜ r ≡ accounted (horner-turn d (view h) (view g) (view q))
+    requires { ⌜ Iteration d h g q ⌝ }
+    requires { ⌜ Scratch-room (most-terms * g .count) (now slots) (now keys) (now sums) ⌝ }
+    ensures exact { λ r. ⌜ r ≡ accounted (horner-iteration d (view h) (view g) (view q))
         (λ m. product-shares d (view h) (view g)) ⌝ }
     ensures table { λ r. ⌜ Free-table (now (slots .entry)) (now (keys .entry)) (now (sums .entry))
         (now (slots .exit)) (now (keys .exit)) (now (sums .exit)) ⌝ }
@@ -68,8 +68,8 @@ fn horner_turn(
 }
 
 // g in the place of variable i of f, with order d: Horner's rule from the highest power down, with the shares of its
-// last product and the radius of f. The table is lent for all products, in each of which g is multiplied by a model of
-// no more terms than any has.
+// last product and the radius of f. The table is scratch for all products, in each of which g is multiplied by a model
+// of no more terms than any has.
 pub fn substituted_accounted(
     d: u8,
     i: u8,
@@ -80,7 +80,7 @@ pub fn substituted_accounted(
     sums: &mut [i64],
 ) -> Accounted
     requires { ⌜ Substitution d i f g ⌝ }
-    requires { ⌜ Lent-room (most-terms * g .count) (now slots) (now keys) (now sums) ⌝ }
+    requires { ⌜ Scratch-room (most-terms * g .count) (now slots) (now keys) (now sums) ⌝ }
     ensures exact { λ r. ⌜ r ≡ accounted (substitute d i (view f) (view g))
         (λ m. substitute-shares d i (view f) (view g)) ⌝ }
     ensures table { λ r. ⌜ Free-table (now (slots .entry)) (now (keys .entry)) (now (sums .entry))
@@ -98,14 +98,22 @@ pub fn substituted_accounted(
     let mut last = Shares::ZERO;
     while 0 < k {
         k -= 1;
-        let turn = horner_turn(d, h, g, model_powers::part_of(f, i, k), slots, keys, sums);
-        let sum = turn.answer;
+        let iteration = horner_iteration(
+            d,
+            h,
+            g,
+            model_powers::part_of(f, i, k),
+            slots,
+            keys,
+            sums,
+        );
+        let sum = iteration.answer;
         let v = sum.verdict;
         let Verdict::Accepted = v else {
-            return turn;
+            return iteration;
         };
         h = sum.model;
-        last = turn.shares;
+        last = iteration.shares;
     }
     let all = carrying(f.radius, last);
     let answer = model_limits::widened(h, f.radius);
@@ -117,7 +125,7 @@ pub fn substituted_accounted(
     }
 }
 
-// g in the place of variable i of f, with order d. The table is lent for all products.
+// g in the place of variable i of f, with order d. The table is scratch for all products.
 pub fn substituted(
     d: u8,
     i: u8,
@@ -128,7 +136,7 @@ pub fn substituted(
     sums: &mut [i64],
 ) -> Answer
     requires { ⌜ Substitution d i f g ⌝ }
-    requires { ⌜ Lent-room (most-terms * g .count) (now slots) (now keys) (now sums) ⌝ }
+    requires { ⌜ Scratch-room (most-terms * g .count) (now slots) (now keys) (now sums) ⌝ }
     ensures exact { λ r. ⌜ r ≡ answer (at-place 0 (substitute d i (view f) (view g))) ⌝ }
     ensures table { λ r. ⌜ Free-table (now (slots .entry)) (now (keys .entry)) (now (sums .entry))
         (now (slots .exit)) (now (keys .exit)) (now (sums .exit)) ⌝ }

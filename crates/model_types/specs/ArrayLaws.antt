@@ -1,4 +1,4 @@
--- Laws of arrays with a count: what is looked at and what is stored behind it.
+-- Laws of arrays with a count: what is looked at and what is stored after it.
 use mathlib.Core.Path.{_≡_, refl, _∙_, ap}
 use mathlib.Core.List.{List, [], _∷_, _++_, append-assoc}
 use Prim.Native.Nat.{ℕ, zero, suc, _+_, _-_, _≤_, _<_}
@@ -27,7 +27,7 @@ module _ {A : Type 0} (zeros : A) where
   length-first (suc c) [] = ap suc (length-first c [])
   length-first (suc c) (x ∷ l) = ap suc (length-first c l)
 
-  -- ---- zeros behind
+  -- ---- zeros after the entries
   -- zeros, one of them taken off
   one-off : (n : ℕ) → 0 < n → replicate n zeros ≡ zeros ∷ replicate (n - 1) zeros
   one-off zero h = absurd (omega arith)
@@ -40,7 +40,7 @@ module _ {A : Type 0} (zeros : A) where
   set-zeros (suc n) (suc i) = ap (λ l. zeros ∷ l) (set-zeros n i)
 
   module _ (size : ℕ) where
-    -- a store behind what is there
+    -- a store after what is there
     pub padded-more : (l : List A) (i : ℕ) (x : A) → length l ≡ i → i < size
         → set (padded zeros size l) i x ≡ padded zeros size (l ++ (x ∷ []))
     unfolding padded

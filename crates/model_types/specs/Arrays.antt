@@ -1,4 +1,4 @@
--- Arrays with a count: the entries that are looked at, and zeros behind them.
+-- Arrays with a count: the entries that are looked at, and zeros after them.
 use mathlib.Core.List.{List, [], _∷_, _++_}
 use Prim.Native.Nat.{ℕ, zero, suc, _-_}
 use lib.ListN.{length, replicate}

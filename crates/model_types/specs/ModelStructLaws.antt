@@ -1,4 +1,4 @@
--- Laws of models in memory: what views and packed models say of each other, and one turn of a loop over terms.
+-- Laws of models in memory: what views and packed models say of each other, and one iteration of a loop over terms.
 use mathlib.Core.Path.{_≡_, refl, sym, _∙_, ap, ap₂, subst}
 use mathlib.Core.Bool.{Bool, true, false, not, _&&_}
 use mathlib.Core.List.{List, [], _∷_, _++_, map, append-nil, map-append}
@@ -62,7 +62,7 @@ select-out f p t h = select-++ f p (t ∷ []) ∙ ap (λ l. select f p ++ l)
     (by-select (λ q. q ≡ []) f t [] (λ y. absurd (T-not (f (t .exponents) (t .coefficient)) h y)) (λ n. refl))
     ∙ append-nil (select f p)
 
--- ---- a store behind the terms
+-- ---- a store after the terms
 pub pad-more : (ts : List Term) (i : ℕ) (t : Term) → length ts ≡ i → i < most-terms
     → set (pad ts) i t ≡ pad (ts ++ (t ∷ []))
 pad-more = padded-more zero-term most-terms
@@ -238,26 +238,26 @@ module _ (n c : ℕ) (ts : List Term) (w : c ≤ length ts) where
   pub rest-end : (i : ℕ) → c ≤ i → drop i (read n c ts) ≡ []
   rest-end i h = drop-of-length-le (read n c ts) {i = i} (omega (arith, length-read n c ts w))
 
--- ---- a store of one more term behind packed ones
+-- ---- a store of one more term after packed ones
 pub packed-more : (p : Terms) (i : ℕ) (t : P.Term ℤ) → length p ≡ i → i < most-terms
     → set (pad (map pack-term p)) i (pack-term t) ≡ pad (map pack-term (p ++ (t ∷ [])))
 packed-more p i t e h = pad-more (map pack-term p) i (pack-term t) (length-map p pack-term ∙ e) h
     ∙ ap pad (sym (map-append pack-term p (t ∷ [])))
 
--- a turn of a loop that maps: the next term's image goes to the next place
-pub map-turn : (f : P.Term ℤ → P.Term ℤ) (n i : ℕ) (ts out : List Term) (t : Term) → i < length ts → i < most-terms
+-- an iteration of a loop that maps: the next term's image goes to the next place
+pub map-iteration : (f : P.Term ℤ → P.Term ℤ) (n i : ℕ) (ts out : List Term) (t : Term) → i < length ts → i < most-terms
     → out ≡ pad (map pack-term (map f (read n i ts))) → t ≡ pack-term (f (term-at n i ts))
     → set out i t ≡ pad (map pack-term (map f (read n (i + 1) ts)))
-map-turn f n i ts out t h k o e = ap₂ (λ l s. set l i s) o e
+map-iteration f n i ts out t h k o e = ap₂ (λ l s. set l i s) o e
     ∙ packed-more (map f (read n i ts)) i _ (length-map (read n i ts) f ∙ length-read n i ts (omega arith)) k
     ∙ ap (λ p. pad (map pack-term p)) (sym (map-more n i ts h f))
 
--- a turn of a loop that selects: a term that passes goes behind those before it
-pub select-turn : (f : List ℕ → ℤ → Bool) (n i j : ℕ) (ts out : List Term) → i < length ts → j < most-terms
+-- an iteration of a loop that selects: a term that passes goes after those before it
+pub select-iteration : (f : List ℕ → ℤ → Bool) (n i j : ℕ) (ts out : List Term) → i < length ts → j < most-terms
     → T (f (term-at n i ts .exponents) (term-at n i ts .coefficient))
     → j ≡ length (select f (read n i ts)) → out ≡ pad (map pack-term (select f (read n i ts)))
     → set out j (pack-term (term-at n i ts)) ≡ pad (map pack-term (select f (read n (i + 1) ts)))
-select-turn f n i j ts out h k t c o = ap (λ l. set l j (pack-term (term-at n i ts))) o
+select-iteration f n i j ts out h k t c o = ap (λ l. set l j (pack-term (term-at n i ts))) o
     ∙ packed-more (select f (read n i ts)) j (term-at n i ts) (sym c) k
     ∙ ap (λ p. pad (map pack-term p)) (sym (select-more n i ts h f t))
 
@@ -300,12 +300,12 @@ module _ {A : Type 0} (N : Addition A) (g : List ℕ → ℤ → A) (f : List �
       }
 
       -- either, told by what is added: the summand, or nothing where it does not pass
-      pub summed-turn : (next : A)
+      pub summed-iteration : (next : A)
           → next ≡ N .plus total (if-so N (f (summand .exponents) (summand .coefficient))
           (g (summand .exponents) (summand .coefficient)))
           → Summed N g f m next (i + 1)
       unfolding if-so
-      summed-turn next e = go (f (summand .exponents) (summand .coefficient)) refl e
+      summed-iteration next e = go (f (summand .exponents) (summand .coefficient)) refl e
         where
           go : (b : Bool) → f (summand .exponents) (summand .coefficient) ≡ b
               → next ≡ N .plus total (if-so N b (g (summand .exponents) (summand .coefficient)))

@@ -19,7 +19,7 @@ use Rattle.model_types.specs.declared.Model.{Model}
 use Rattle.model_types.specs.ModelStruct.{zero-term, view-term, view, pack-term, pad, pack}
 use Rattle.calculus_laws.specs.MonomialKeyLaws.{constant-monomial}
 use Rattle.model_types.specs.ModelStructLaws.{pack-view-term, read, length-read, term-at, view-is, read-within-span}
-use Rattle.model_types.specs.ModelStructLaws.{select-more, select-same, select-turn, sum-select-le, size-more}
+use Rattle.model_types.specs.ModelStructLaws.{select-more, select-same, select-iteration, sum-select-le, size-more}
 use Rattle.model_types.specs.ModelStruct.{listed, of-terms}
 
 -- the test by key and size
@@ -114,7 +114,7 @@ module _ (t : ℕ) (m : Model) where
         swept-keep s k = record {
           within = omega arith;
           stored = ap (set out count) (sym (pack-view-term (m .n) at width small))
-              ∙ select-turn large (m .n) i count (listed m) out (omega arith) (omega (arith, swept-room)) stays
+              ∙ select-iteration large (m .n) i count (listed m) out (omega arith) (omega (arith, swept-room)) stays
               (h .counted) (h .stored);
           counted = omega (
             arith,

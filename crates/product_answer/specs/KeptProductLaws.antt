@@ -54,11 +54,11 @@ module _ (keys : List ℕ) (cs : List ℤ) where
     unfolding terms size sum-over
     spanned-first = ap capped (omega arith)
 
-    pub spanned-turn : (total i next : ℕ) → i < length keys → i < length cs
+    pub spanned-iteration : (total i next : ℕ) → i < length keys → i < length cs
         → capped total ≡ capped (size (terms i keys cs) + radius)
         → next ≡ capped (total + natAbs (getD cs i (pos 0)))
         → capped next ≡ capped (size (terms (i + 1) keys cs) + radius)
-    spanned-turn total i next h l e n =
+    spanned-iteration total i next h l e n =
         ap capped n ∙ capped-more total _ _ e ∙ ap capped (omega (arith, size-more i h l))
 
     pub spanned-end : (total i count : ℕ) → i ≡ count → capped total ≡ capped (size (terms i keys cs) + radius)

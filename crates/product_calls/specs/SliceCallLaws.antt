@@ -22,7 +22,7 @@ use Rattle.model_types.specs.declared.Verdict.the-variants.{Accepted, Refused}
 use Rattle.model_types.specs.ModelStruct.{view, verdict, answer}
 use Rattle.model_types.specs.ModelStructLaws.{refusal-cause}
 use Rattle.model_types.specs.SharesStruct.{accounted}
-use Rattle.model_slices.specs.HandedModels.{handed, lent}
+use Rattle.model_slices.specs.HandedModels.{handed, borrowed}
 use Rattle.model_call_tests.specs.Admission.{ordered}
 use Rattle.model_call_tests.specs.AdmissionLaws.{ordered-passed, goes-on, is-refused}
 use Rattle.model_slice_tests.specs.SliceTestLaws.{slices-places}
@@ -60,7 +60,7 @@ module _ (d n₁ c₁ e₁ : ℕ) (ks₁ : List ℕ) (cs₁ : List ℤ) (n₂ c�
         }
 
     -- the slices have all places
-    pub slices-long : lent c₁ (length ks₁) (length cs₁) ≡ true → lent c₂ (length ks₂) (length cs₂) ≡ true
+    pub slices-long : borrowed c₁ (length ks₁) (length cs₁) ≡ true → borrowed c₂ (length ks₂) (length cs₂) ≡ true
         → ((c₁ ≤ length ks₁) × (c₁ ≤ length cs₁)) × ((c₂ ≤ length ks₂) × (c₂ ≤ length cs₂))
     slices-long l m =
         let p = ordered-passed d _ _ passed in

@@ -5,7 +5,7 @@ ghost use mathlib.Core.Path.{_≡_};
 ghost use lib.ListN.{length};
 ghost use Rattle.calculus.specs.Calls.{«call-multiply»};
 ghost use Rattle.model_types.specs.ModelStruct.{view, answer};
-ghost use Rattle.model_slices.specs.HandedModels.{handed, lent};
+ghost use Rattle.model_slices.specs.HandedModels.{handed, borrowed};
 ghost use Rattle.product_room.specs.ProductTerms.{«Kept-room»};
 ghost use Rattle.product_answer.specs.KeptProduct.{«kept-accounted», «Kept-ready»};
 use model_slices::Kept;
@@ -36,8 +36,8 @@ pub fn multiply_slices(
     kept: &mut [u64],
     coefficients: &mut [i64],
 ) -> Kept
-    requires { ⌜ lent count1 (length (now keys1)) (length (now coefficients1)) ≡ true ⌝ }
-    requires { ⌜ lent count2 (length (now keys2)) (length (now coefficients2)) ≡ true ⌝ }
+    requires { ⌜ borrowed count1 (length (now keys1)) (length (now coefficients1)) ≡ true ⌝ }
+    requires { ⌜ borrowed count2 (length (now keys2)) (length (now coefficients2)) ≡ true ⌝ }
     requires { ⌜ Kept-room (now kept) (now coefficients) ⌝ }
     ensures exact { λ r. ⌜ kept-accounted n1 r (now (kept .exit)) (now (coefficients .exit)) .answer
         ≡ answer (call-multiply d

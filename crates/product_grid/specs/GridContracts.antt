@@ -6,7 +6,7 @@ use lib.IntN.{ℤ, pos}
 use lib.ListN.{length, getD}
 use Rattle.calculus.specs.Terms.{size}
 use Rattle.calculus.specs.Model.{most-terms}
-use Rattle.product_sums.specs.TermArrays.{terms, lent-places}
+use Rattle.product_sums.specs.TermArrays.{terms, scratch-places}
 use Rattle.product_grid_index.specs.declared.Sides.{Sides}
 use Rattle.product_grid_index.specs.Grid.{Narrow, place, Gridded}
 use Rattle.product_grid_index.specs.DigitLaws.{Digits}
@@ -28,7 +28,7 @@ pub record Grid-ready (s : Sides) (ka : List ℕ) (ca : List ℤ) (na : ℕ) (kb
   pub places : (i j : ℕ) → i < na → j < nb
       → place s (getD ka i 0) + place s (getD kb j 0) ≡ place s (getD ka i 0 + getD kb j 0)
   pub small : size (terms na ka ca) * size (terms nb kb cb) < 2 ^ 63
-  pub few-places : s .size ≤ lent-places
+  pub few-places : s .size ≤ scratch-places
   pub sums-room : s .size ≤ length sums
   pub kept-room : most-terms < length kept
   pub coefficients-room : most-terms < length coefficients

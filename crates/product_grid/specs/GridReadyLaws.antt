@@ -9,7 +9,7 @@ use lib.ListN.{length, getD, replicate, length-replicate, getD-replicate, List·
 use Rattle.algebra.specs.IntegerRing.{ℤR}
 use Rattle.polynomial.specs.Polynomial.{product}
 use Rattle.calculus.specs.Terms.{Terms, size}
-use Rattle.product_sums.specs.TermArrays.{terms, lent-places}
+use Rattle.product_sums.specs.TermArrays.{terms, scratch-places}
 use Rattle.product_sums.specs.declared.Gathered.{Gathered}
 use Rattle.product_sums.specs.ProductSums.{Product-gathered}
 use Rattle.product_sums.specs.ProductsLaws.{size-product}
@@ -75,13 +75,13 @@ module _ {s : Sides} {ka : List ℕ} {ca : List ℤ} {na : ℕ} {kb : List ℕ} 
   unfoldable pub all-fit : Zeros (s .size) sums → (ia ib : List ℕ) → na ≤ length ia → nb ≤ length ib
       → ((i : ℕ) → i < na → getD ia i 0 ≡ word s (getD ka i 0))
       → ((j : ℕ) → j < nb → getD ib j 0 ≡ word s (getD kb j 0))
-      → All-fit sums (replicate lent-places 0) ca ia na cb ib nb
+      → All-fit sums (replicate scratch-places 0) ca ia na cb ib nb
   all-fit z ia ib la lb pa pb = record {
     sides = s;
     ka = ka;
     kb = kb;
     zeros = z;
-    short = fresh-short lent-places;
+    short = fresh-short scratch-places;
     few-places = omega (arith, q .few-places);
     sums-room = q .sums-room;
     degrees-room = rw length-replicate (q .few-places);
@@ -122,7 +122,7 @@ module _ {s : Sides} {ka : List ℕ} {ca : List ℤ} {na : ℕ} {kb : List ℕ} 
 
     -- once it is filled
     module _ (filled : List ℤ) (degrees : List ℕ) (f : Summed-up s p filled degrees)
-        (long : length filled ≡ length sums) (wide : length degrees ≡ lent-places) where
+        (long : length filled ≡ length sums) (wide : length degrees ≡ scratch-places) where
       pub scan-ready : Scan-ready filled degrees (s .first) (s .second) (s .third) (s .fourth) (a + b)
       scan-ready = record {
         places = omega (arith, q .whole, q .sums-room, long);

@@ -37,14 +37,14 @@ rises-append : (d e l : ℕ) (p q : Terms) → Rises d l p → Rises e d q → R
 rises-append d e _ _ q (none l g) s = rises-lower e l d q g s
 rises-append d e _ _ q (more l x z p g r) s = more l x z (p ++ q) g (rises-append d e (x + 1) p q r s)
 
--- parts one behind the other, each from its own key on
-rises-turns : (key : ℕ → ℕ) (part : ℕ → Terms) (n : ℕ)
+-- parts one after the other, each from its own key on
+rises-in-turn : (key : ℕ → ℕ) (part : ℕ → Terms) (n : ℕ)
     → ((i : ℕ) → i < n → Rises (key (suc i)) (key i) (part i)) → Rises (key n) (key 0) (in-turn part n)
 unfolding in-turn
-rises-turns key part zero f = none (key 0) (omega arith)
-rises-turns key part (suc n) f =
+rises-in-turn key part zero f = none (key 0) (omega arith)
+rises-in-turn key part (suc n) f =
     rises-append (key n) (key (suc n)) (key 0) (in-turn part n) (part n)
-    (rises-turns key part n (λ i h. f i (omega arith))) (f n (omega arith))
+    (rises-in-turn key part n (λ i h. f i (omega arith))) (f n (omega arith))
 
 rising-after : (end k : ℕ) (p : Terms) → Rises end (k + 1) p → T (rising-from (k ∷ []) p)
 unfolding rising-from
@@ -61,14 +61,14 @@ module _ (sums : List ℤ) (degrees : List ℕ) (short : (i : ℕ) → getD degr
   row-rises : (at n key : ℕ) → Rises (key + fourth-step * n) key (row-terms sums degrees at n key)
   row-rises at n key =
       rises-lower _ key _ _ (omega arith)
-      (rises-turns (λ i. key + fourth-step * i) _ n
+      (rises-in-turn (λ i. key + fourth-step * i) _ n
       (λ i h. more _ _ _ _ (omega arith) (none _ (omega (arith, short (at + i))))))
 
   line-rises : (fourth at n key left : ℕ) → left < 127
       → Rises (key + third-step * n) key (line-terms sums degrees fourth at n key left)
   line-rises fourth at n key left l =
       rises-lower _ key _ _ (omega arith)
-      (rises-turns (λ i. key + third-step * i) _ n
+      (rises-in-turn (λ i. key + third-step * i) _ n
       (λ i h.
       rises-higher _ _ _ _ (omega (arith, steps-left fourth (left - i)))
       (row-rises ((at + i) * fourth) (steps-within fourth (left - i)) (key + third-step * i))))
@@ -77,7 +77,7 @@ module _ (sums : List ℤ) (degrees : List ℕ) (short : (i : ℕ) → getD degr
       → Rises (key + second-step * n) key (plane-terms sums degrees third fourth at n key left)
   plane-rises third fourth at n key left l =
       rises-lower _ key _ _ (omega arith)
-      (rises-turns (λ i. key + second-step * i) _ n
+      (rises-in-turn (λ i. key + second-step * i) _ n
       (λ i h.
       rises-higher _ _ _ _ (omega (arith, steps-left third (left - i)))
       (line-rises fourth ((at + i) * third) (steps-within third (left - i)) (key + second-step * i) (left - i)
@@ -87,7 +87,7 @@ module _ (sums : List ℤ) (degrees : List ℕ) (short : (i : ℕ) → getD degr
       → T (rising (grid-terms sums degrees first second third fourth most))
   grid-rises first second third fourth most l =
       rises-rising _ _ _
-      (rises-turns (λ i. first-step * i) _ (steps-within first most)
+      (rises-in-turn (λ i. first-step * i) _ (steps-within first most)
       (λ i h.
       rises-higher _ _ _ _ (omega (arith, steps-left second (most - i)))
       (plane-rises third fourth (i * second) (steps-within second (most - i)) (first-step * i) (most - i)
@@ -102,12 +102,12 @@ pub keyed-append : (P : ℕ → ℤ → Type 0) (p q : Terms) → Keyed P p → 
 keyed-append P _ q none b = b
 keyed-append P _ q (more x z p h a) b = more x z (p ++ q) h (keyed-append P p q a b)
 
-keyed-turns : (P : ℕ → ℤ → Type 0) (part : ℕ → Terms) (n : ℕ) → ((i : ℕ) → i < n → Keyed P (part i))
+keyed-in-turn : (P : ℕ → ℤ → Type 0) (part : ℕ → Terms) (n : ℕ) → ((i : ℕ) → i < n → Keyed P (part i))
     → Keyed P (in-turn part n)
 unfolding in-turn
-keyed-turns P part zero f = none
-keyed-turns P part (suc n) f =
-    keyed-append P (in-turn part n) (part n) (keyed-turns P part n (λ i h. f i (omega arith))) (f n (omega arith))
+keyed-in-turn P part zero f = none
+keyed-in-turn P part (suc n) f =
+    keyed-append P (in-turn part n) (part n) (keyed-in-turn P part n (λ i h. f i (omega arith))) (f n (omega arith))
 
 -- ---- a monomial that stands among terms
 pub data Among (k : List ℕ) : Terms → Type 0 where
@@ -122,12 +122,12 @@ among-right : (k : List ℕ) (p q : Terms) → Among k q → Among k (p ++ q)
 among-right k [] q a = a
 among-right k (t ∷ p) q a = later t (p ++ q) (among-right k p q a)
 
-among-turns : (k : List ℕ) (part : ℕ → Terms) (n i : ℕ) → i < n → Among k (part i) → Among k (in-turn part n)
+among-in-turn : (k : List ℕ) (part : ℕ → Terms) (n i : ℕ) → i < n → Among k (part i) → Among k (in-turn part n)
 unfolding in-turn
-among-turns k part zero i h a = absurd (omega arith)
-among-turns k part (suc n) i h a = elim (ℕ-discrete i n) [
+among-in-turn k part zero i h a = absurd (omega arith)
+among-in-turn k part (suc n) i h a = elim (ℕ-discrete i n) [
   | yes c ↦ among-right k (in-turn part n) (part n) (rw c at a)
-  | no c ↦ among-left k (in-turn part n) (part n) (among-turns k part n i (omega arith) a)
+  | no c ↦ among-left k (in-turn part n) (part n) (among-in-turn k part n i (omega arith) a)
 ]
 
 pub among-absent : (k : List ℕ) (p : Terms) → Among k p → T (absent k p) → ⊥
@@ -159,12 +159,13 @@ module _ (sums : List ℤ) (degrees : List ℕ) (first second third fourth most 
       P (key-of a b c d + getD degrees i 0) (getD sums i (pos 0)))
       → Keyed P (grid-terms sums degrees first second third fourth most)
   grid-keyed P f =
-      keyed-turns P _ _ (λ a ha. keyed-turns P _ _ (λ b hb. keyed-turns P _ _ (λ c hc. keyed-turns P _ _ (λ d hd.
+      keyed-in-turn P _ _ (λ a ha. keyed-in-turn P _ _
+      (λ b hb. keyed-in-turn P _ _ (λ c hc. keyed-in-turn P _ _ (λ d hd.
       more _ _ _ (f a b c d (record { in-first = ha; in-second = hb; in-third = hc; in-fourth = hd })) none))))
 
   pub grid-among : (x a b c d : ℕ) → Seen first second third fourth most a b c d
       → x ≡ key-of a b c d + getD degrees (((a * second + b) * third + c) * fourth + d) 0
       → Among (x ∷ []) (grid-terms sums degrees first second third fourth most)
   grid-among x a b c d s e =
-      among-turns _ _ _ a (s .in-first) (among-turns _ _ _ b (s .in-second) (among-turns _ _ _ c (s .in-third)
-      (among-turns _ _ _ d (s .in-fourth) (here _ _ _ (ap (λ k. k ∷ []) e)))))
+      among-in-turn _ _ _ a (s .in-first) (among-in-turn _ _ _ b (s .in-second) (among-in-turn _ _ _ c (s .in-third)
+      (among-in-turn _ _ _ d (s .in-fourth) (here _ _ _ (ap (λ k. k ∷ []) e)))))

@@ -51,7 +51,7 @@ pub fn gathered_empty(
     )
 }
 
-// The same in a grid that is lent, whatever is in it.
+// The same in a scratch grid, whatever is in it.
 pub fn gathered(
     s: Sides,
     d: u64,

@@ -214,7 +214,7 @@ module _ (firsts seconds : Terms) (i : ℕ) (t : Term ℤ) (e : take (suc i) fir
 
 -- the row of term i: what it asks, once the rows before it are added
 module _ {zeros : List ℤ} {marks : List ℕ} {ca : List ℤ} {ia : List ℕ} {na : ℕ} {cb : List ℤ} {ib : List ℕ} {nb : ℕ}
-    (w : All-fit zeros marks ca ia na cb ib nb) (i : ℕ) (turn : i < na) (sums : List ℤ) (degrees : List ℕ) where
+    (w : All-fit zeros marks ca ia na cb ib nb) (i : ℕ) (iteration : i < na) (sums : List ℤ) (degrees : List ℕ) where
   abbrev firsts : Terms
   firsts = terms na (w .ka) ca
 
@@ -227,8 +227,8 @@ module _ {zeros : List ℤ} {marks : List ℕ} {ca : List ℤ} {ia : List ℕ} {
   pub next-first : take (suc i) (terms na (w .ka) ca) ≡ take i (terms na (w .ka) ca) ++ (here ∷ [])
   next-first =
       let long = terms-length na (w .ka) ca (w .first-keys) (w .first-coefficients) in
-      take-suc firsts i none (omega (arith, turn))
-      ∙ ap (λ t. take i firsts ++ (t ∷ [])) (terms-at na (w .ka) ca i turn (w .first-keys) (w .first-coefficients))
+      take-suc firsts i none (omega (arith, iteration))
+      ∙ ap (λ t. take i firsts ++ (t ∷ [])) (terms-at na (w .ka) ca i iteration (w .first-keys) (w .first-coefficients))
 
   unfoldable pub row-fits : Filled (w .sides) [] (product ℤR (take i (terms na (w .ka) ca)) (terms nb (w .kb) cb))
       sums degrees
@@ -244,8 +244,8 @@ module _ {zeros : List ℤ} {marks : List ℕ} {ca : List ℤ} {ia : List ℕ} {
     keys-long = w .second-keys;
     coefficients-long = w .second-coefficients;
     words-long = w .second-words;
-    gridded = λ j h. w .gridded i j turn h;
-    words = λ j h. w .words i j turn h;
+    gridded = λ j h. w .gridded i j iteration h;
+    words = λ j h. w .words i j iteration h;
     marked = f .marked;
     small = λ j h. omega (arith, f .grown j h, products-most firsts seconds i here next-first, w .small);
   }

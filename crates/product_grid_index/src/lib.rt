@@ -20,7 +20,7 @@ const FOURTH: u64 = 1 << 36;
 
 const DIGIT: u64 = 1 << 7;
 
-// What stands behind the first four exponents begins with the degree, a byte.
+// What stands after the first four exponents begins with the degree, a byte.
 const DEGREE: u64 = 1 << 8;
 
 // Where there are other exponents, a grid counts as having so many places more, which is too many.

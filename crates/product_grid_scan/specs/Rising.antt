@@ -11,7 +11,7 @@ use Rattle.product_sums.specs.declared.Gathered.{Gathered}
 use Rattle.product_sums.specs.Kept.{wide-kept, wide-rounding, wide-swept, counted}
 
 -- ---- the sums in a grid, variable by variable
--- the first n parts, one behind the other
+-- the first n parts, one after the other
 unfoldable pub in-turn : (part : ℕ → Terms) (n : ℕ) → Terms
 in-turn part zero = []
 in-turn part (suc n) = in-turn part n ++ part n
@@ -109,14 +109,14 @@ pub record Scan-ready (sums : List ℤ) (degrees : List ℕ) (first second third
   pub small : size (grid-terms sums degrees first second third fourth most) < 2 ^ 63
 
 -- ---- what is promised
--- what is kept of q stands behind the n that were kept, unless there are too many
+-- what is kept of q stands after the n that were kept, unless there are too many
 pub record Part (d : ℕ) (q : Terms) (n : ℕ) (kept-before : List ℕ) (coefficients-before : List ℤ)
     (kept : List ℕ) (coefficients : List ℤ) (r : Gathered) : Type 0 where
   pub from : n ≤ r .count
   pub most : r .count ≤ most-terms + 1
   pub few : r .count ≤ most-terms → r .count ≡ n + length (wide-kept d q)
   pub many : most-terms < r .count → most-terms < n + length (wide-kept d q)
-  pub behind : r .count ≤ most-terms
+  pub following : r .count ≤ most-terms
       → terms (r .count) kept coefficients ≡ terms n kept-before coefficients-before ++ wide-kept d q
   pub rounding : r .rounding ≡ wide-rounding d q
   pub swept : r .swept ≡ wide-swept d q

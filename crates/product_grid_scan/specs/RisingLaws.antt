@@ -1,4 +1,4 @@
--- What is kept of parts, one behind the other, and how large it can be.
+-- What is kept of parts, one after the other, and how large it can be.
 use mathlib.Core.Path.{_≡_, refl, sym, _∙_, ap}
 use mathlib.Core.Bool.{Bool, not}
 use mathlib.Core.List.{List, [], _∷_, _++_, append-nil, append-assoc}
@@ -33,16 +33,16 @@ module _ (part : ℕ → Terms) where
   unfolding in-turn
   size-more i = size-append (in-turn part i) (part i)
 
-  pub size-turns : (i n : ℕ) → i ≤ n → size (in-turn part i) ≤ size (in-turn part n)
-  size-turns i zero h = let e : i ≡ 0 = omega arith in rw e (omega arith)
-  size-turns i (suc n) h = elim (decLt i (suc n)) [
-    | yes l ↦ omega (arith, size-turns i n (omega arith), size-more n)
+  pub size-in-turn : (i n : ℕ) → i ≤ n → size (in-turn part i) ≤ size (in-turn part n)
+  size-in-turn i zero h = let e : i ≡ 0 = omega arith in rw e (omega arith)
+  size-in-turn i (suc n) h = elim (decLt i (suc n)) [
+    | yes l ↦ omega (arith, size-in-turn i n (omega arith), size-more n)
     | no l ↦ let e : i ≡ suc n = omega arith in rw e (omega arith)
   ]
 
   -- one of them
-  pub size-turn : (i n : ℕ) → i < n → size (part i) ≤ size (in-turn part n)
-  size-turn i n h = omega (arith, size-turns (suc i) n (omega arith), size-more i)
+  pub size-in-turn-step : (i n : ℕ) → i < n → size (part i) ≤ size (in-turn part n)
+  size-in-turn-step i n h = omega (arith, size-in-turn (suc i) n (omega arith), size-more i)
 
 module _ (d : ℕ) (q : Terms) where
   pub rounding-within : wide-rounding d q ≤ size q
@@ -90,7 +90,7 @@ next-side a m n side h l =
 
 -- of a line
 module _ (sums : List ℤ) (degrees : List ℕ) (fourth at n key left : ℕ)
-    (h : Line-ready sums degrees fourth at n key left) (i : ℕ) (turn : i < n) where
+    (h : Line-ready sums degrees fourth at n key left) (i : ℕ) (iteration : i < n) where
   pub row-ready : Row-ready sums degrees ((at + i) * fourth) (steps-within fourth (left - i)) (key + third-step * i)
   row-ready =
       let m = steps-within fourth (left - i) in
@@ -101,20 +101,20 @@ module _ (sums : List ℤ) (degrees : List ℕ) (fourth at n key left : ℕ)
         places = omega (arith, next, h .places);
         marks = omega (arith, next, h .marks);
         bare = omega (arith, h .bare);
-        keys = omega (arith, few, h .keys, h .low, turn);
+        keys = omega (arith, few, h .keys, h .low, iteration);
         small =
             omega (
               arith,
-              size-turn (λ j.
+              size-in-turn-step (λ j.
                   row-terms sums degrees ((at + j) * fourth) (steps-within fourth (left - j))
-                  (key + third-step * j)) i n turn,
+                  (key + third-step * j)) i n iteration,
               h .small,
             );
       }
 
 -- of a plane
 module _ (sums : List ℤ) (degrees : List ℕ) (third fourth at n key left : ℕ)
-    (h : Plane-ready sums degrees third fourth at n key left) (i : ℕ) (turn : i < n) where
+    (h : Plane-ready sums degrees third fourth at n key left) (i : ℕ) (iteration : i < n) where
   pub line-ready : Line-ready sums degrees fourth ((at + i) * third) (steps-within third (left - i))
       (key + second-step * i) (left - i)
   line-ready =
@@ -129,30 +129,30 @@ module _ (sums : List ℤ) (degrees : List ℕ) (third fourth at n key left : �
         marks = omega (arith, inside, h .marks);
         bare = omega (arith, h .bare);
         below = omega (arith, next, short);
-        keys = omega (arith, few, h .keys, h .low, turn);
+        keys = omega (arith, few, h .keys, h .low, iteration);
         few = few;
         low = omega (arith, h .low);
         small =
             omega (
               arith,
-              size-turn (λ j.
+              size-in-turn-step (λ j.
                   line-terms sums degrees fourth ((at + j) * third) (steps-within third (left - j))
-                  (key + second-step * j) (left - j)) i n turn,
+                  (key + second-step * j) (left - j)) i n iteration,
               h .small,
             );
       }
 
 -- of a grid
 module _ (sums : List ℤ) (degrees : List ℕ) (first second third fourth most : ℕ)
-    (h : Scan-ready sums degrees first second third fourth most) (i : ℕ) (turn : i < steps-within first most) where
+    (h : Scan-ready sums degrees first second third fourth most) (i : ℕ) (iteration : i < steps-within first most) where
   pub plane-ready : Plane-ready sums degrees third fourth (i * second) (steps-within second (most - i)) (first-step * i)
       (most - i)
   plane-ready =
       let m = steps-within second (most - i) in
       let few : m ≤ most - i + 1 = steps-left second (most - i) in
-      let last : i ≤ most = omega (arith, turn, steps-left first most) in
+      let last : i ≤ most = omega (arith, iteration, steps-left first most) in
       let next : i * second + m ≤ first * second =
-      next-side i m first second (omega (arith, turn, steps-side first most)) (steps-side second (most - i)) in
+      next-side i m first second (omega (arith, iteration, steps-side first most)) (steps-side second (most - i)) in
       let near : i * second + m ≤ 2 ^ 7 * second =
       next-side i m (2 ^ 7) second (omega (arith, last, h .low)) (steps-side second (most - i)) in
       let inside : (i * second + m) * third * fourth ≤ first * second * third * fourth =
@@ -169,9 +169,9 @@ module _ (sums : List ℤ) (degrees : List ℕ) (first second third fourth most 
         small =
             omega (
               arith,
-              size-turn (λ j.
+              size-in-turn-step (λ j.
                   plane-terms sums degrees third fourth (j * second) (steps-within second (most - j)) (first-step * j)
-                  (most - j)) i (steps-within first most) turn,
+                  (most - j)) i (steps-within first most) iteration,
               h .small,
             );
       }
@@ -185,12 +185,12 @@ part-none d n kept coefficients h = record {
   most = h .taken;
   few = λ g. rw (kept-none d) (omega arith);
   many = λ g. omega arith;
-  behind = λ g. rw (kept-none d) (sym (append-nil _));
+  following = λ g. rw (kept-none d) (sym (append-nil _));
   rounding = sym (rounding-none d);
   swept = sym (swept-none d);
 }
 
--- one sum of which nothing is kept, or that comes too late, or that is put behind the others
+-- one sum of which nothing is kept, or that comes too late, or that is put after the others
 module _ (d : ℕ) (q : Terms) (n : ℕ) (kept : List ℕ) (coefficients : List ℤ) (h : Room n kept coefficients)
     (rounding swept : ℕ) (a : rounding ≡ wide-rounding d q) (b : swept ≡ wide-swept d q) where
   pub part-nothing : wide-kept d q ≡ []
@@ -200,7 +200,7 @@ module _ (d : ℕ) (q : Terms) (n : ℕ) (kept : List ℕ) (coefficients : List 
     most = h .taken;
     few = λ g. rw e (omega arith);
     many = λ g. omega arith;
-    behind = λ g. rw e (sym (append-nil _));
+    following = λ g. rw e (sym (append-nil _));
     rounding = a;
     swept = b;
   }
@@ -212,7 +212,7 @@ module _ (d : ℕ) (q : Terms) (n : ℕ) (kept : List ℕ) (coefficients : List 
     most = h .taken;
     few = λ g. absurd (omega arith);
     many = λ g. omega arith;
-    behind = λ g. absurd (omega arith);
+    following = λ g. absurd (omega arith);
     rounding = a;
     swept = b;
   }
@@ -225,14 +225,14 @@ module _ (d : ℕ) (q : Terms) (n : ℕ) (kept : List ℕ) (coefficients : List 
     most = omega arith;
     few = λ g. rw e (omega arith);
     many = λ g. rw e (omega arith);
-    behind = λ g.
+    following = λ g.
         rw (e, add-one)
         (terms-push n kept coefficients key c (omega (arith, h .kept-room)) (omega (arith, h .coefficients-room)));
     rounding = a;
     swept = b;
   }
 
--- one behind another
+-- one after another
 module _ (d : ℕ) (p q : Terms) (n : ℕ) (kept₀ kept₁ kept₂ : List ℕ) (coefficients₀ coefficients₁ coefficients₂ : List ℤ)
     (r s : Gathered) (x : Part d p n kept₀ coefficients₀ kept₁ coefficients₁ r)
     (y : Part d q (r .count) kept₁ coefficients₁ kept₂ coefficients₂ s) where
@@ -249,10 +249,10 @@ module _ (d : ℕ) (p q : Terms) (n : ℕ) (kept₀ kept₁ kept₂ : List ℕ) 
       | yes l ↦ omega (arith, x .many l, long)
       | no l ↦ omega (arith, x .few (omega arith), y .many g, long)
     ];
-    behind = λ g.
+    following = λ g.
         let h = y .from in
-        y .behind g
-        ∙ ap (λ (t : Terms). t ++ wide-kept d q) (x .behind (omega arith))
+        y .following g
+        ∙ ap (λ (t : Terms). t ++ wide-kept d q) (x .following (omega arith))
         ∙ append-assoc (terms n kept₀ coefficients₀) (wide-kept d p) (wide-kept d q)
         ∙ ap (λ (t : Terms). terms n kept₀ coefficients₀ ++ t) (sym (kept-append d p q));
     rounding = omega (arith, x .rounding, y .rounding, rounding-append d p q);
@@ -278,7 +278,7 @@ module _ (d : ℕ) (zs : Terms) (kept₀ kept : List ℕ) (coefficients₀ coeff
       record {
         answered =
             rw (← n, ← x .rounding, ← x .swept) (sym (counted-few (r .count) (r .rounding) (r .swept) h));
-        terms = λ few. x .behind h;
+        terms = λ few. x .following h;
       }
 
 -- ---- the parts of a loop
@@ -312,7 +312,7 @@ module _ (part : ℕ → Terms) (n d from : ℕ) (kept₀ : List ℕ) (coefficie
     }
 
     -- one more
-    module _ (turn : i < n) (kept₁ : List ℕ) (coefficients₁ : List ℤ) (r : Gathered)
+    module _ (iteration : i < n) (kept₁ : List ℕ) (coefficients₁ : List ℤ) (r : Gathered)
         (p : Part d (part i) count kept coefficients kept₁ coefficients₁ r) where
       after : Part d (in-turn part (suc i)) from kept₀ coefficients₀ kept₁ coefficients₁
           (record { count = r .count; rounding = rounding + r .rounding; swept = swept + r .swept })
@@ -327,7 +327,7 @@ module _ (part : ℕ → Terms) (n d from : ℕ) (kept₀ : List ℕ) (coefficie
             arith,
             after .rounding,
             rounding-within d (in-turn part (suc i)),
-            size-turns part (suc i) n (omega arith),
+            size-in-turn part (suc i) n (omega arith),
           )
 
       pub held-swept : swept + r .swept ≤ size (in-turn part n)
@@ -336,7 +336,7 @@ module _ (part : ℕ → Terms) (n d from : ℕ) (kept₀ : List ℕ) (coefficie
             arith,
             after .swept,
             swept-within d (in-turn part (suc i)),
-            size-turns part (suc i) n (omega arith),
+            size-in-turn part (suc i) n (omega arith),
           )
 
       pub held-more : length kept₁ ≡ length kept → length coefficients₁ ≡ length coefficients

@@ -23,7 +23,7 @@ const THIRD: u64 = 1 << 43;
 const FOURTH: u64 = 1 << 36;
 
 // ---- one sum
-// The sum z of one monomial, by its key without a degree and the degree: rounded and put behind the n that are kept, or
+// The sum z of one monomial, by its key without a degree and the degree: rounded and put after the n that are kept, or
 // swept. A sum of 0 is rounded to 0 and leaves nothing, so nobody asks for it. Once there are too many, no more is put
 // anywhere.
 fn push(

@@ -9,7 +9,7 @@ use Rattle.calculus.specs.Terms.{Terms, every, size}
 use Rattle.calculus.specs.Model.{Model, most-terms, most-degree, fits}
 use Rattle.model_keys.specs.Keys.{wide-width}
 use Rattle.product_hash_slots.specs.Slots.{Told, home-slots}
-use Rattle.product_sums.specs.TermArrays.{terms, lent-places}
+use Rattle.product_sums.specs.TermArrays.{terms, scratch-places}
 use Rattle.product_hash_table.specs.Table.{entries, most-entries, Table}
 use Rattle.product_sums.specs.Wide.{wide-terms}
 use Rattle.product_sums.specs.ProductSums.{accumulated-all}
@@ -83,11 +83,11 @@ pub record Empty-table (products room : ℕ) (slots keys : List ℕ) (sums : Lis
   pub keys-room : room < length keys
   pub sums-room : room < length sums
 
--- what is lent for any product: a table, whatever is in it
-pub record Lent-table (slots keys : List ℕ) (sums : List ℤ) : Type 0 where
+-- the scratch memory for any product: a table, whatever is in it
+pub record Scratch-table (slots keys : List ℕ) (sums : List ℤ) : Type 0 where
   pub slots-room : home-slots + 2 * most-entries < length slots
-  pub keys-room : lent-places ≤ length keys
-  pub sums-room : lent-places ≤ length sums
+  pub keys-room : scratch-places ≤ length keys
+  pub sums-room : scratch-places ≤ length sums
 
 -- what comes back of it: the content is left free, and each slice keeps its length
 pub record Free-table (slots-before keys-before : List ℕ) (sums-before : List ℤ)

@@ -3,7 +3,7 @@ ghost use Prim.Native.Nat.{_*_};
 ghost use Rattle.product_sums.specs.TermArrays.{terms};
 ghost use Rattle.product_sums.specs.ProductSums.{«Product-gathered»};
 ghost use Rattle.product_hash_collect.specs.CollectorContracts.{«Held-factors», «Empty-table»};
-ghost use Rattle.product_room.specs.ProductTerms.{«Lent-room», «Kept-room»};
+ghost use Rattle.product_room.specs.ProductTerms.{«Scratch-room», «Kept-room»};
 use product_sums::Gathered;
 
 // What order d keeps, in a table whose slots are empty, with room for so many products.
@@ -33,8 +33,8 @@ pub fn in_table(
     product_hash_gather::gather(keys, sums, n, d, kept, coefficients)
 }
 
-// The same in a table that is lent, whatever is in it. Only as many slots as the products ask are emptied.
-pub fn in_lent_table(
+// The same in a scratch table, whatever is in it. Only as many slots as the products ask are emptied.
+pub fn in_scratch_table(
     d: u64,
     ka: &[u64],
     ca: &[i64],
@@ -49,7 +49,7 @@ pub fn in_lent_table(
     coefficients: &mut [i64],
 ) -> Gathered
     requires { ⌜ Held-factors (now ka) (now ca) na (now kb) (now cb) nb ⌝ }
-    requires { ⌜ Lent-room (na * nb) (now slots) (now keys) (now sums) ⌝ }
+    requires { ⌜ Scratch-room (na * nb) (now slots) (now keys) (now sums) ⌝ }
     requires { ⌜ Kept-room (now kept) (now coefficients) ⌝ }
     ensures { λ r. ⌜ Product-gathered d na (now (ka .entry)) (now (ca .entry))
         nb (now (kb .entry)) (now (cb .entry)) (now (kept .exit)) (now (coefficients .exit)) r ⌝ }

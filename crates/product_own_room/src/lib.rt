@@ -2,7 +2,7 @@
 // zeros where it is declared, so each size has a function.
 ghost use mathlib.Core.Path.{_≡_};
 ghost use Prim.Native.Nat.{_*_, _≤_};
-ghost use Rattle.product_sums.specs.TermArrays.{terms, «lent-places»};
+ghost use Rattle.product_sums.specs.TermArrays.{terms, «scratch-places»};
 ghost use Rattle.product_sums.specs.ProductSums.{«Product-gathered»};
 ghost use Rattle.product_hash_collect.specs.CollectorContracts.{«Held-factors»};
 ghost use Rattle.product_grid_index.specs.Grid.{extents, «sides-for»};
@@ -213,7 +213,7 @@ pub fn in_large_grid(
 ) -> Gathered
     requires { ⌜ Held-factors (now ka) (now ca) na (now kb) (now cb) nb ⌝ }
     requires { ⌜ s ≡ sides-for (extents na (now ka)) (extents nb (now kb)) ⌝ }
-    requires { ⌜ s .size ≤ lent-places ⌝ }
+    requires { ⌜ s .size ≤ scratch-places ⌝ }
     requires { ⌜ Kept-room (now kept) (now coefficients) ⌝ }
     ensures { λ r. ⌜ Product-gathered d na (now (ka .entry)) (now (ca .entry))
         nb (now (kb .entry)) (now (cb .entry)) (now (kept .exit)) (now (coefficients .exit)) r ⌝ }

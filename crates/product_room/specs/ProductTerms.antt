@@ -1,4 +1,4 @@
--- What is lent for a product of two lists of terms, and the sizes of the smaller tables and of the smaller grid.
+-- The scratch memory for a product of two lists of terms, and the sizes of the smaller tables and of the smaller grid.
 use mathlib.Core.List.{List}
 use Prim.Native.Nat.{ℕ, _*_, _<_}
 use lib.IntN.{ℤ}
@@ -21,8 +21,8 @@ fewest-products = 32
 abbrev pub few-places : ℕ
 few-places = 2401
 
--- what is lent for so many products: a table, whatever is in it
-pub record Lent-room (products : ℕ) (slots keys : List ℕ) (sums : List ℤ) : Type 0 where
+-- the scratch memory for so many products: a table, whatever is in it
+pub record Scratch-room (products : ℕ) (slots keys : List ℕ) (sums : List ℤ) : Type 0 where
   pub slots-room : 6 * products < length slots
   pub keys-room : products < length keys
   pub sums-room : products < length sums

@@ -10,11 +10,12 @@ use lib.ListN.{length, getD, replicate, length-replicate, getD-replicate, List·
 use Rattle.calculus.specs.Terms.{Terms}
 use Rattle.calculus.specs.Model.{most-terms, most-degree}
 use Rattle.product_hash_table.specs.Table.{entries, most-entries}
-use Rattle.product_sums.specs.TermArrays.{lent-places}
+use Rattle.product_sums.specs.TermArrays.{scratch-places}
 use Rattle.product_sums.specs.declared.Gathered.{Gathered}
 use Rattle.product_sums.specs.Kept.{Gathering}
 use Rattle.product_sums.specs.ProductSums.{accumulated-all}
-use Rattle.product_hash_collect.specs.CollectorContracts.{Collected, Held-factors, Empty-table, Lent-table, Free-table}
+use Rattle.product_hash_collect.specs.CollectorContracts.{Collected, Held-factors, Empty-table, Scratch-table}
+use Rattle.product_hash_collect.specs.CollectorContracts.{Free-table}
 use Rattle.product_hash_collect.specs.FactorArrayLaws.{monomial-at, first-key, first-monomial, second-key}
 use Rattle.product_hash_collect.specs.FactorArrayLaws.{second-monomial}
 use Rattle.product_hash_collect.specs.FactorArrayLaws.{factors-size}
@@ -26,7 +27,7 @@ use Rattle.product_grid_index.specs.GridLaws.{sides-narrow, extents-low, extent
 use Rattle.product_grid_index.specs.GridPlaceLaws.{place-plus, product-gridded}
 use Rattle.product_grid_index.specs.GridDigitLaws.{sides-whole, sides-others}
 use Rattle.product_grid.specs.GridContracts.{Grid-ready}
-use Rattle.product_room.specs.ProductTerms.{Lent-room, Kept-room}
+use Rattle.product_room.specs.ProductTerms.{Scratch-room, Kept-room}
 
 -- ---- what is collected in a table is gathered
 pub collected-gathering : {homes most n d : ℕ} {q : Terms} {slots keys : List ℕ} {sums : List ℤ}
@@ -54,20 +55,20 @@ zeros-empty products room e l = record {
   sums-room = rw length-replicate (omega arith);
 }
 
--- ---- what is lent
+-- ---- scratch memory
 module _ {slots keys : List ℕ} {sums : List ℤ} where
   -- for any product, serves for so many products of two terms
-  pub lent-room : {products : ℕ} → Lent-table slots keys sums → products ≤ most-entries
-      → Lent-room products slots keys sums
-  lent-room t l = record {
+  pub scratch-room : {products : ℕ} → Scratch-table slots keys sums → products ≤ most-entries
+      → Scratch-room products slots keys sums
+  scratch-room t l = record {
     slots-room = omega (arith, l, t .slots-room);
     keys-room = omega (arith, l, t .keys-room);
     sums-room = omega (arith, l, t .sums-room);
   }
 
-  module _ {products : ℕ} (t : Lent-room products slots keys sums) where
+  module _ {products : ℕ} (t : Scratch-room products slots keys sums) where
     -- for so many products, serves for fewer
-    pub fewer-room : {fewer : ℕ} → fewer ≤ products → Lent-room fewer slots keys sums
+    pub fewer-room : {fewer : ℕ} → fewer ≤ products → Scratch-room fewer slots keys sums
     fewer-room l = record {
       slots-room = omega (arith, l, t .slots-room);
       keys-room = omega (arith, l, t .keys-room);
@@ -76,7 +77,7 @@ module _ {slots keys : List ℕ} {sums : List ℤ} where
 
     -- and still does when it comes back
     pub free-room : {slots′ keys′ : List ℕ} {sums′ : List ℤ} → Free-table slots keys sums slots′ keys′ sums′
-        → Lent-room products slots′ keys′ sums′
+        → Scratch-room products slots′ keys′ sums′
     free-room f = record {
       slots-room = omega (arith, f .slots-length, t .slots-room);
       keys-room = omega (arith, f .keys-length, t .keys-room);
@@ -110,7 +111,7 @@ module _ {ka : List ℕ} {ca : List ℤ} {na : ℕ} {kb : List ℕ} {cb : List �
   second-low = extents-low nb kb (λ i l. parts-low (second-parts i l) (omega arith) (omega arith))
 
   -- where it is not too large
-  module _ (s : Sides) (w : s ≡ sides-for (extents na ka) (extents nb kb)) (few : s .size ≤ lent-places) where
+  module _ (s : Sides) (w : s ≡ sides-for (extents na ka) (extents nb kb)) (few : s .size ≤ scratch-places) where
     no-others : (extents na ka .others ≡ 0) × (extents nb kb .others ≡ 0)
     no-others = sides-others (extents na ka) (extents nb kb) (omega (arith, few, ap (λ (t : Sides). t .size) w))
 

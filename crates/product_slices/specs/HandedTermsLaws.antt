@@ -1,4 +1,4 @@
--- A model that lies in slices: what stands at a place, and one turn of the loop that unpacks its terms.
+-- A model that lies in slices: what stands at a place, and one iteration of the loop that unpacks its terms.
 use mathlib.Core.Path.{_≡_, refl, sym, _∙_, ap, ap₂}
 use mathlib.Core.List.{List, [], _∷_, _++_}
 use Prim.Native.Nat.{ℕ, zero, suc, _+_, _^_, _≤_, _<_}
@@ -117,10 +117,10 @@ module _ {count : ℕ} {ks : List ℕ} {cs : List ℤ} (w : Handed count ks cs) 
       size-one = size-more (model .n) i (listed model) inside
           ∙ ap (λ (t : Term). size (read (model .n) i (listed model)) + natAbs (t .coefficient)) at
 
-      pub handed-turn : i < length wides → getD ks i 0 < key-limit
+      pub handed-iteration : i < length wides → getD ks i 0 < key-limit
           → Unpacking model cs (set wides i (widened (getD ks i 0))) (total + natAbs (getD cs i (pos 0))) (i + 1)
       unfolding wide handed
-      handed-turn lw small =
+      handed-iteration lw small =
           let k = getD ks i 0 in
           let c = getD cs i (pos 0) in
           record {

@@ -1,4 +1,4 @@
--- The places of a model in a slice: zeros behind its terms.
+-- The places of a model in a slice: zeros after its terms.
 use mathlib.Core.List.{List, _++_}
 use Prim.Native.Nat.{ℕ, _-_}
 use lib.ListN.{take, replicate}

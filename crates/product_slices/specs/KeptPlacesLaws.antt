@@ -1,4 +1,4 @@
--- The places of a model in slices: one turn of each loop that stores, and all of them.
+-- The places of a model in slices: one iteration of each loop that stores, and all of them.
 use mathlib.Core.Path.{_≡_, refl, sym, _∙_, ap}
 use mathlib.Core.List.{List, [], _∷_, _++_, map, append-assoc, append-nil}
 use Prim.Native.Nat.{ℕ, zero, suc, _+_, _-_, _≤_, _<_}
@@ -46,11 +46,11 @@ module _ {A : Type 0} (z : A) where
         (append-assoc (take from k) (replicate (i - from) z) (z ∷ [])
         ∙ ap (λ r. take from k ++ r) (one-more (i - from) ∙ ap (λ j. replicate j z) n))
 
-  -- zeros behind what was stored
-  pub zeroed-behind : (from before : ℕ) (l k : List A) → length l ≡ from → from ≤ before
+  -- zeros after what was stored
+  pub zeroed-after : (from before : ℕ) (l k : List A) → length l ≡ from → from ≤ before
       → zeroed z from before (over l k) ≡ over (padded z before l) k
   unfolding zeroed over padded
-  zeroed-behind from before l k e h =
+  zeroed-after from before l k e h =
       let m = l ++ replicate (before - from) z in
       let long : length m ≡ before = length-append l (replicate (before - from) z)
       ∙ omega (arith, length-replicate (before - from) z) in
@@ -92,7 +92,7 @@ module _ (k : Kept) (kept : List ℕ) (cs : List ℤ) (w : Kept-ready k kept cs)
         ≡ over (map f (pad (map narrowed-term (terms stored kept cs)))) to
     unfolding images
     all-stored =
-        zeroed-behind (f zero-term) stored most-terms (images kept cs f stored) to
+        zeroed-after (f zero-term) stored most-terms (images kept cs f stored) to
         (images-long kept cs f stored (stored-ready .keys-long) (stored-ready .coefficients-long)) (stored-ready .few)
         ∙ ap (λ l. over l to) (sym (map-padded f most-terms (map narrowed-term (terms stored kept cs))))
 

@@ -11,7 +11,7 @@ ghost use Rattle.model_types.specs.ModelStruct.{view};
 ghost use Rattle.model_types.specs.SharesStruct.{accounted};
 ghost use Rattle.model_slices.specs.HandedModels.{handed, «stored-keys», «stored-coefficients»};
 ghost use Rattle.product_hash_collect.specs.CollectorContracts.{«Free-table»};
-ghost use Rattle.product_room.specs.ProductTerms.{«Lent-room», «Kept-room»};
+ghost use Rattle.product_room.specs.ProductTerms.{«Scratch-room», «Kept-room»};
 ghost use Rattle.product_answer.specs.ProductFactors.{Factors, Unpacked};
 ghost use Rattle.product_slices.specs.HandedTerms.{Handed};
 ghost use Rattle.product_answer.specs.KeptProduct.{«kept-model», «kept-accounted», «Kept-ready»};
@@ -43,8 +43,9 @@ fn unpack(count: usize, keys: &[Key], coefficients: &[i64], wide: &mut [u64]) ->
 }
 
 // ---- the product
-// The product of two sound models in n variables at order d, each in slices that may be longer than its count. What is
-// lent serves as a grid or as a table, whatever is in it, and the terms that are kept go into the last two arrays.
+// The product of two sound models in n variables at order d, each in slices that may be longer than its count. The
+// scratch memory serves as a grid or as a table, whatever is in it, and the terms that are kept go into the last two
+// arrays.
 pub fn multiplied_slices(
     d: u8,
     n: u8,
@@ -66,7 +67,7 @@ pub fn multiplied_slices(
         (handed n count2 radius2 (now keys2) (now coefficients2)) ⌝ }
     requires { ⌜ (count1 ≤ length (now keys1)) × (count1 ≤ length (now coefficients1)) ⌝ }
     requires { ⌜ (count2 ≤ length (now keys2)) × (count2 ≤ length (now coefficients2)) ⌝ }
-    requires { ⌜ Lent-room (count1 * count2) (now slots) (now keys) (now sums) ⌝ }
+    requires { ⌜ Scratch-room (count1 * count2) (now slots) (now keys) (now sums) ⌝ }
     requires { ⌜ Kept-room (now kept) (now coefficients) ⌝ }
     ensures exact { λ k. ⌜ kept-accounted n k (now (kept .exit)) (now (coefficients .exit))
         ≡ accounted (multiply d
@@ -83,7 +84,7 @@ pub fn multiplied_slices(
     let mut kb = [0u64; model_types::MOST_TERMS];
     let a = unpack(count1, keys1, coefficients1, &mut ka);
     let b = unpack(count2, keys2, coefficients2, &mut kb);
-    let r = product_terms::kept_lent(
+    let r = product_terms::kept_in_scratch(
         d as u64,
         &ka,
         coefficients1,
@@ -100,7 +101,7 @@ pub fn multiplied_slices(
     product_answer::kept_answer(n, a, radius1, b, radius2, r, kept, coefficients)
 }
 
-// The same without anything lent for the products.
+// The same without scratch memory for the products.
 pub fn multiplied_slices_alone(
     d: u8,
     n: u8,
@@ -147,8 +148,8 @@ pub fn multiplied_slices_alone(
     product_answer::kept_answer(n, a, radius1, b, radius2, r, kept, coefficients)
 }
 
-// The product of two sound models in slices as a struct, with the shares of its radius. What is lent serves as a grid
-// or as a table, whatever is in it.
+// The product of two sound models in slices as a struct, with the shares of its radius. The scratch memory serves as a
+// grid or as a table, whatever is in it.
 pub fn multiplied_slices_accounted(
     d: u8,
     n: u8,
@@ -168,7 +169,7 @@ pub fn multiplied_slices_accounted(
         (handed n count2 radius2 (now keys2) (now coefficients2)) ⌝ }
     requires { ⌜ (count1 ≤ length (now keys1)) × (count1 ≤ length (now coefficients1)) ⌝ }
     requires { ⌜ (count2 ≤ length (now keys2)) × (count2 ≤ length (now coefficients2)) ⌝ }
-    requires { ⌜ Lent-room (count1 * count2) (now slots) (now keys) (now sums) ⌝ }
+    requires { ⌜ Scratch-room (count1 * count2) (now slots) (now keys) (now sums) ⌝ }
     ensures exact { λ r. ⌜ r ≡ accounted (multiply d
         (view (handed n count1 radius1 (now (keys1 .entry)) (now (coefficients1 .entry))))
         (view (handed n count2 radius2 (now (keys2 .entry)) (now (coefficients2 .entry)))))
@@ -226,7 +227,7 @@ fn store_zeros(from: usize, keys: &mut [Key], coefficients: &mut [i64])
     }
 }
 
-// All 64 places of an answer's model go into two slices: zeros stand behind its terms, and beside a refusal.
+// All 64 places of an answer's model go into two slices: zeros stand after its terms, and beside a refusal.
 pub fn store_kept(
     k: Kept,
     kept: &[u64],

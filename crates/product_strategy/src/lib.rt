@@ -3,7 +3,7 @@ ghost use mathlib.Core.Path.{_≡_};
 ghost use mathlib.Core.Bool.{true};
 ghost use Prim.Native.Nat.{_≤_};
 ghost use Rattle.product_hash_table.specs.Table.{«most-entries»};
-ghost use Rattle.product_sums.specs.TermArrays.{«lent-places»};
+ghost use Rattle.product_sums.specs.TermArrays.{«scratch-places»};
 ghost use Rattle.product_hash_collect.specs.CollectorContracts.{«Held-factors»};
 ghost use Rattle.product_grid_index.specs.Grid.{extents, «sides-for»};
 use product_grid_index::Sides;
@@ -23,10 +23,10 @@ pub fn grid_for(ka: &[u64], ca: &[i64], na: usize, kb: &[u64], cb: &[i64], nb: u
 }
 
 // Whether a grid of so many places is to be used for so many products, where there are so many places for sums; for
-// degrees there are as many as are ever lent.
+// degrees there are as many as there ever are in scratch memory.
 pub fn in_grid(size: usize, products: usize, sums: usize) -> bool
     requires { ⌜ products ≤ most-entries ⌝ }
-    ensures { λ r. ⌜ (r ≡ true → (size ≤ sums) × (size ≤ lent-places)) ⌝ }
+    ensures { λ r. ⌜ (r ≡ true → (size ≤ sums) × (size ≤ scratch-places)) ⌝ }
 {
     if sums < size {
         return false;

@@ -20,7 +20,7 @@ use Rattle.calculus.specs.Terms.{distinct}
 use Rattle.calculus_laws.specs.LoopLaws.{add-at, distinct-add-at, coefficient-add-at, distinct-snoc}
 use Rattle.product_sums.specs.TermArrays.{none, accumulated}
 
--- ---- by cases: the monomial is the first term's, or is looked for behind it
+-- ---- by cases: the monomial is the first term's, or is looked for after it
 by-accumulated : (P : Terms → Type 0) (t s : Term ℤ) (p : Terms)
     → (t .exponents ≡ s .exponents → P (term (t .coefficient +ℤ s .coefficient) (s .exponents) ∷ p))
     → (T (not (same (t .exponents) (s .exponents))) → P (s ∷ accumulated t p)) → P (accumulated t (s ∷ p))
@@ -33,8 +33,8 @@ by-accumulated P t s p = go (same (t .exponents) (s .exponents)) (same-ok (t .ex
     go : (b : Bool) → (T b → t .exponents ≡ s .exponents) → (t .exponents ≡ s .exponents → P (joined ∷ p))
         → (T (not b) → P (s ∷ accumulated t p))
         → P (elim b as (λ b. Terms) [ true ↦ joined ∷ p | false ↦ s ∷ accumulated t p ])
-    go true e here behind = here (e tt)
-    go false e here behind = behind tt
+    go true e here after = here (e tt)
+    go false e here after = after tt
 
 -- ---- where a monomial stands
 module _ (k : List ℕ) where
@@ -71,7 +71,7 @@ standing k (s ∷ p) = go (same k (s .exponents)) (same-ok k (s .exponents)) (λ
     go false f g (at i l e) = at (suc i) (omega arith) e
     go false f g (nowhere h) = nowhere (unfold absent in every-cons _ s p (g tt) h)
 
--- ---- a term is added at its place, or put behind the others
+-- ---- a term is added at its place, or put after the others
 module _ (t : Term ℤ) where
   pub accumulated-at : (p : Terms) (i : ℕ) → T (distinct p) → i < length p → t .exponents ≡ getD p i none .exponents
       → accumulated t p ≡ add-at i (t .coefficient) p

@@ -26,7 +26,7 @@ terms-at (suc n) (k ∷ keys) [] i p h l = absurd (omega arith)
 terms-at (suc n) (k ∷ keys) (z ∷ sums) zero p h l = refl
 terms-at (suc n) (k ∷ keys) (z ∷ sums) (suc i) p h l = terms-at n keys sums i (omega arith) (omega arith) (omega arith)
 
--- a store among them, behind them, and one that makes them one more
+-- a store among them, after them, and one that makes them one more
 pub terms-set : (n : ℕ) (keys : List ℕ) (sums : List ℤ) (i k : ℕ) (z : ℤ) → i < n → n ≤ length keys → n ≤ length sums
     → terms n (set keys i k) (set sums i z) ≡ set (terms n keys sums) i (at-key k z)
 unfolding terms
@@ -37,12 +37,12 @@ terms-set (suc n) (x ∷ keys) (y ∷ sums) zero k z p h l = refl
 terms-set (suc n) (x ∷ keys) (y ∷ sums) (suc i) k z p h l =
     ap (λ (r : Terms). at-key x y ∷ r) (terms-set n keys sums i k z (omega arith) (omega arith) (omega arith))
 
-pub terms-behind : (n : ℕ) (keys : List ℕ) (sums : List ℤ) (z : ℤ) → terms n keys (set sums n z) ≡ terms n keys sums
+pub terms-after : (n : ℕ) (keys : List ℕ) (sums : List ℤ) (z : ℤ) → terms n keys (set sums n z) ≡ terms n keys sums
 unfolding terms
-terms-behind zero keys sums z = refl
-terms-behind (suc n) [] sums z = refl
-terms-behind (suc n) (x ∷ keys) [] z = refl
-terms-behind (suc n) (x ∷ keys) (y ∷ sums) z = ap (λ (r : Terms). at-key x y ∷ r) (terms-behind n keys sums z)
+terms-after zero keys sums z = refl
+terms-after (suc n) [] sums z = refl
+terms-after (suc n) (x ∷ keys) [] z = refl
+terms-after (suc n) (x ∷ keys) (y ∷ sums) z = ap (λ (r : Terms). at-key x y ∷ r) (terms-after n keys sums z)
 
 pub terms-push : (n : ℕ) (keys : List ℕ) (sums : List ℤ) (k : ℕ) (z : ℤ) → n < length keys → n < length sums
     → terms (suc n) (set keys n k) (set sums n z) ≡ terms n keys sums ++ (at-key k z ∷ [])

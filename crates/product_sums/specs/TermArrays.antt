@@ -22,7 +22,7 @@ terms (suc n) [] sums = []
 terms (suc n) (k ∷ keys) [] = []
 terms (suc n) (k ∷ keys) (z ∷ sums) = at-key k z ∷ terms n keys sums
 
--- t added to the term of its monomial, or put behind the others where that is new
+-- t added to the term of its monomial, or put after the others where that is new
 unfoldable pub accumulated : Term ℤ → Terms → Terms
 accumulated t [] = t ∷ []
 accumulated t (s ∷ p) = elim (same (t .exponents) (s .exponents)) [
@@ -30,6 +30,6 @@ accumulated t (s ∷ p) = elim (same (t .exponents) (s .exponents)) [
   | false ↦ s ∷ accumulated t p
 ]
 
--- the places of keys and of sums that are lent: entries from place 1 on, or a grid
-abbrev pub lent-places : ℕ
-lent-places = 6561
+-- the places of keys and of sums in scratch memory: entries from place 1 on, or a grid
+abbrev pub scratch-places : ℕ
+scratch-places = 6561

@@ -1,10 +1,10 @@
 // What an order keeps of all products of two lists of terms held by wide keys: they are summed in a grid where the
-// monomials are few, else in a table, in what is lent or in room of its own.
+// monomials are few, else in a table, in scratch memory or in room of its own.
 ghost use Prim.Native.Nat.{_*_};
 ghost use Rattle.product_sums.specs.TermArrays.{terms};
 ghost use Rattle.product_sums.specs.ProductSums.{«Product-gathered»};
 ghost use Rattle.product_hash_collect.specs.CollectorContracts.{«Held-factors», «Free-table»};
-ghost use Rattle.product_room.specs.ProductTerms.{«Lent-room», «Kept-room»};
+ghost use Rattle.product_room.specs.ProductTerms.{«Scratch-room», «Kept-room»};
 use product_grid_index::Sides;
 use product_sums::Gathered;
 
@@ -12,8 +12,8 @@ use product_sums::Gathered;
 const GRID_FROM: usize = 256;
 
 // The terms that order d keeps of the products of each of the first na terms with each of the first nb, rising, with
-// the two shares of what it loses. What is lent serves as a grid or as a table, whatever is in it.
-pub fn kept_lent(
+// the two shares of what it loses. The scratch memory serves as a grid or as a table, whatever is in it.
+pub fn kept_in_scratch(
     d: u64,
     ka: &[u64],
     ca: &[i64],
@@ -28,7 +28,7 @@ pub fn kept_lent(
     coefficients: &mut [i64],
 ) -> Gathered
     requires { ⌜ Held-factors (now ka) (now ca) na (now kb) (now cb) nb ⌝ }
-    requires { ⌜ Lent-room (na * nb) (now slots) (now keys) (now sums) ⌝ }
+    requires { ⌜ Scratch-room (na * nb) (now slots) (now keys) (now sums) ⌝ }
     requires { ⌜ Kept-room (now kept) (now coefficients) ⌝ }
     ensures exact { λ r. ⌜ Product-gathered d na (now (ka .entry)) (now (ca .entry))
         nb (now (kb .entry)) (now (cb .entry)) (now (kept .exit)) (now (coefficients .exit)) r ⌝ }
@@ -37,7 +37,7 @@ pub fn kept_lent(
 {
     let products = na * nb;
     if products <= GRID_FROM {
-        return product_in_table::in_lent_table(
+        return product_in_table::in_scratch_table(
             d,
             ka,
             ca,
@@ -56,7 +56,7 @@ pub fn kept_lent(
     if product_strategy::in_grid(s.size, products, sums.len()) {
         return product_grid::gathered(s, d, ka, ca, na, kb, cb, nb, sums, kept, coefficients);
     }
-    product_in_table::in_lent_table(
+    product_in_table::in_scratch_table(
         d,
         ka,
         ca,
@@ -72,7 +72,7 @@ pub fn kept_lent(
     )
 }
 
-// The same terms and shares, without anything lent.
+// The same terms and shares, without scratch memory.
 pub fn kept_alone(
     d: u64,
     ka: &[u64],

@@ -30,8 +30,8 @@ use Rattle.renaming.specs.RenamedAnswerLaws.{rename-answer}
 use Rattle.renaming.specs.RenamedModelLaws.{canonical-in-order, selected-size}
 use Rattle.renaming.specs.RenamedOperationLaws.{small-symmetric}
 use Rattle.renaming.specs.RenamedProductLaws.{rounding-renamed, swept-renamed, carried-renamed, error-renamed}
-use Rattle.renaming.specs.RenamedSubstituteLaws.{largest-exponent-renamed, part-renamed, turn-renamed}
-use Rattle.renaming.specs.RenamedSubstituteLaws.{turn-canonical}
+use Rattle.renaming.specs.RenamedSubstituteLaws.{largest-exponent-renamed, part-renamed, iteration-renamed}
+use Rattle.renaming.specs.RenamedSubstituteLaws.{iteration-canonical}
 use Rattle.renaming.specs.RenamedAntiderivativeLaws.{growth-rounding-renamed, growth-swept-renamed}
 use Rattle.renaming.specs.RenamedTestLaws.{renamed-passes}
 use Rattle.renaming.specs.RenamedRunLaws.{result-of-renamed, step-renamed, map-snoc}
@@ -63,9 +63,9 @@ module _ {n : ℕ} (ρ : Reordering n) where
     unfolding horner-shares
     horner-shares-renamed zero h s c = refl
     horner-shares-renamed (suc k) h s c =
-        ap₂ shares-of (turn-renamed ρ i inside d f g hf hg k h c) refl
+        ap₂ shares-of (iteration-renamed ρ i inside d f g hf hg k h c) refl
         ∙ shares-of-renamed {P = Canonical n d} (Op.multiply d h g then (λ p. Op.add p (part i k f))) _ _
-        (turn-canonical ρ i inside d f g hf hg k h c)
+        (iteration-canonical ρ i inside d f g hf hg k h c)
         (λ q cq. horner-shares-renamed k q _ cq ∙ ap (horner-shares d i f g k q)
         (product-shares-renamed d h g (canonical-in-order c) (canonical-in-order hg)))
 

@@ -1,4 +1,5 @@
--- Substitution for a renamed variable in a renamed model gives the renamed answer: Horner's scheme turn by turn.
+-- Substitution for a renamed variable in a renamed model gives the renamed answer: Horner's scheme iteration by
+-- iteration.
 use mathlib.Core.Path.{_≡_, refl, sym, _∙_, ap, ap₂}
 use mathlib.Core.Bool.{Bool}
 use mathlib.Core.List.{List}
@@ -92,20 +93,20 @@ module _ {n : ℕ} (ρ : Reordering n) where
       sum-with-part k p c = ap (add (rename-model ρ p)) (part-renamed d k f hf)
           ∙ add-renamed ρ p (part i k f) (canonical-in-order c) (canonical-in-order (part-canonical n d i k f hf))
 
-      -- one turn
-      pub turn-renamed : (k : ℕ) (h : Model) → Canonical n d h
+      -- one iteration
+      pub iteration-renamed : (k : ℕ) (h : Model) → Canonical n d h
           → (multiply d (rename-model ρ h) (rename-model ρ g)
           then (λ p. add p (part (rename-variable ρ i) k (rename-model ρ f))))
           ≡ rename-answer ρ (multiply d h g then (λ p. add p (part i k f)))
-      turn-renamed k h c =
+      iteration-renamed k h c =
           ap (λ a. a then (λ p. add p (part (rename-variable ρ i) k (rename-model ρ f)))) (product-of h c)
           ∙ then-renamed ρ {P = Sound n d} (multiply d h g) (λ p. add p (part i k f)) _ (multiply-sound n d h g c hg)
           (λ p s. sum-with-part k p (s .0))
 
       -- and what it gives
-      pub turn-canonical : (k : ℕ) (h : Model) → Canonical n d h
+      pub iteration-canonical : (k : ℕ) (h : Model) → Canonical n d h
           → If-accepted (Canonical n d) (multiply d h g then (λ p. add p (part i k f)))
-      turn-canonical k h c = then-accepted (multiply-sound n d h g c hg)
+      iteration-canonical k h c = then-accepted (multiply-sound n d h g c hg)
           (λ p s. weaken (λ r t. t .0) (add-sound n d p (part i k f) (s .0) (part-canonical n d i k f hf)))
 
       horner-renamed : (k : ℕ) (h : Model) → Canonical n d h
@@ -114,9 +115,10 @@ module _ {n : ℕ} (ρ : Reordering n) where
       unfolding horner
       horner-renamed zero h c = unfold rename-answer in refl
       horner-renamed (suc k) h c =
-          ap (λ a. a then horner d (rename-variable ρ i) (rename-model ρ f) (rename-model ρ g) k) (turn-renamed k h c)
+          ap (λ a. a then horner d (rename-variable ρ i) (rename-model ρ f) (rename-model ρ g) k)
+          (iteration-renamed k h c)
           ∙ then-renamed ρ {P = Canonical n d} (multiply d h g then (λ p. add p (part i k f))) (horner d i f g k) _
-          (turn-canonical k h c) (λ m s. horner-renamed k m s)
+          (iteration-canonical k h c) (λ m s. horner-renamed k m s)
 
       -- ---- the whole
       pub substitute-renamed : substitute d (rename-variable ρ i) (rename-model ρ f) (rename-model ρ g)

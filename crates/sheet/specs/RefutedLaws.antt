@@ -44,7 +44,7 @@ use Rattle.sheet_book.specs.declared.Summary.{Summary}
 use Rattle.sheet_book.specs.SummaryStruct.{stored-ends, stored-exact, ends-of, exact-of, summary-of}
 use Rattle.sheet_book.specs.SummaryStruct.{refused-summary, run-answer}
 use Rattle.sheet_book.specs.SummaryStructLaws.{answer-number}
-use Rattle.sheet_turn_laws.specs.RunLaws.{in-limits-of}
+use Rattle.sheet_run_laws.specs.RunLaws.{in-limits-of}
 use Rattle.sheet.specs.Sheet.{Encloses}
 use Rattle.sheet.specs.SheetLaws.{exact-result}
 use Rattle.sheet.specs.Refuted.{Program, are-bytes, Exact-program, Enclosing, model-by, Accepted-sheet, book-of}

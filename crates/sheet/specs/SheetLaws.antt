@@ -42,9 +42,9 @@ use Rattle.sheet_book.specs.SummaryStructLaws.{summary-back}
 use Rattle.sheet.specs.Sheet.{run-held, rows-held, Encloses, Encloses-book}
 use Rattle.model.specs.OperationLaws.{sound-order}
 use Rattle.sheet_running.specs.declared.Ran.{Ran}
-use Rattle.sheet_turn_laws.specs.LastResult.{last-result}
+use Rattle.sheet_run_laws.specs.LastResult.{last-result}
 use Rattle.sheet_running.specs.Running.{ran}
-use Rattle.sheet_turn_laws.specs.RunLaws.{in-limits-of}
+use Rattle.sheet_run_laws.specs.RunLaws.{in-limits-of}
 
 -- ---- the result of a held book that passes is sound
 module _ (h : Held-book) (p : Held-passes h) (s : B.Summary) (e : run-sound (view-book h) ≡ done s) where

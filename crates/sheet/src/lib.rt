@@ -31,7 +31,7 @@ pub use sheet_records::Records;
 // ---- reading, writing and stepping: made in rooms of their own
 // A sheet's book, or the first refusal of tests 1 to 6 in their order, with a book of zeros.
 pub use sheet_reader::read;
-// A book's sheet at the start of a lent buffer, its length answered; tests 3, 5, 6 and 11 come first, and a refused
+// A book's sheet at the start of a borrowed buffer, its length answered; tests 3, 5, 6 and 11 come first, and a refused
 // write changes no byte.
 pub use sheet_writer::write;
 // Tests 1 to 6, and the sheet at its first record: `next` hands out one record after the other, after the last none.
@@ -44,7 +44,7 @@ pub use sheet_records::record_count;
 pub use sheet_records::bytes_from;
 pub use sheet_records::kind_from;
 pub use sheet_records::opened_at;
-pub use sheet_records::place_behind;
+pub use sheet_records::place_after;
 
 // ---- the run
 

@@ -58,16 +58,16 @@ module _ {A : Type 0} {ok : ℕ → A → Bool} {l : List A} {i : ℕ} (w : Walk
   cut x h = ap (first-failing i ok) (drop-cons l i x h)
 
   -- one that passes leaves it to the rest
-  pub walked-turn : (x : A) → i < length l → ok i (getD l i x) ≡ true → Walked ok l (i + 1)
+  pub walked-iteration : (x : A) → i < length l → ok i (getD l i x) ≡ true → Walked ok l (i + 1)
   unfolding first-failing
-  walked-turn x h e = record { within = omega arith; rest = w .rest ∙ cut x h ∙ rw (e, add-one) }
+  walked-iteration x h e = record { within = omega arith; rest = w .rest ∙ cut x h ∙ rw (e, add-one) }
 
   -- one that fails is the first
   pub walked-found : (x : A) → i < length l → ok i (getD l i x) ≡ false → i ≡ first-failing 0 ok l
   unfolding first-failing
   walked-found x h e = sym (w .rest ∙ cut x h ∙ rw e)
 
-  -- behind the last
+  -- after the last
   pub walked-end : length l ≤ i → i ≡ first-failing 0 ok l
   unfolding first-failing
   walked-end h = sym (w .rest ∙ ap (first-failing i ok) (drop-of-length-le l {i = i} h))

@@ -16,7 +16,7 @@ use Rattle.sheet_book.specs.declared.Book.{Book}
 use Rattle.sheet_book.specs.BookStruct.{no-model, no-step, held-model, held-step, held-book}
 use Rattle.sheet_book.specs.CodeLaws.{model-by-code, step-by-code}
 use Rattle.sheet_book.specs.Failing.{first-failing}
-use Rattle.sheet_book.specs.FailingLaws.{Walked, walked-turn, walked-found, walked-end}
+use Rattle.sheet_book.specs.FailingLaws.{Walked, walked-iteration, walked-found, walked-end}
 use Rattle.sheet_book.specs.FailingLaws.{held, length-held, held-at, outline-book}
 use Rattle.sheet_book_tests.specs.Unsound.{first-unsound-model, first-unsound-step}
 
@@ -30,14 +30,14 @@ module _ {A B : Type 0} (zeros : A) (f : A → B) (c : ℕ) (l : List A) (ok : �
   inside h = let k = length-held zeros f c l in omega arith
 
   -- one that passes leaves it to the rest
-  pub place-turn : i < c → ok i (f (getD l i x)) ≡ true → Walked ok (held zeros f c l) (i + 1)
-  place-turn h e = walked-turn w (f x) (inside h) (here h true e)
+  pub place-iteration : i < c → ok i (f (getD l i x)) ≡ true → Walked ok (held zeros f c l) (i + 1)
+  place-iteration h e = walked-iteration w (f x) (inside h) (here h true e)
 
   -- one that fails is the first
   pub place-found : i < c → ok i (f (getD l i x)) ≡ false → i ≡ first-failing 0 ok (held zeros f c l)
   place-found h e = walked-found w (f x) (inside h) (here h false e)
 
-  -- behind the last
+  -- after the last
   pub place-end : c ≤ i → i ≡ first-failing 0 ok (held zeros f c l)
   place-end h = walked-end w (let k = length-held zeros f c l in omega arith)
 
@@ -77,8 +77,8 @@ module _ (b : Book) (k : ℕ) (fits : b .«model_count» ≤ length (b .models))
     unfolding first-unsound-model held-book
     models-unsound h = place-found no-model held-model _ _ _ k fits w x l (by-rules false h)
 
-    pub models-turn : eqb (m .n) (b .n) && sound (b .d) (view m) ≡ true → Models-walked b (k + 1)
-    models-turn h = place-turn no-model held-model _ _ _ k fits w x l (by-rules true h)
+    pub models-iteration : eqb (m .n) (b .n) && sound (b .d) (view m) ≡ true → Models-walked b (k + 1)
+    models-iteration h = place-iteration no-model held-model _ _ _ k fits w x l (by-rules true h)
 
 -- ---- the loop over its steps
 abbrev pub Steps-walked : Book → (k : ℕ) → Type 0
@@ -100,5 +100,5 @@ module _ (b : Book) (k : ℕ) (fits : b .«step_count» ≤ length (b .steps)) (
     unfolding first-unsound-step held-book
     steps-bad q = place-found no-step held-step _ _ _ k fits w s l (by-fields false q)
 
-    pub steps-turn : t ≡ true → Steps-walked b (k + 1)
-    steps-turn q = place-turn no-step held-step _ _ _ k fits w s l (by-fields true q)
+    pub steps-iteration : t ≡ true → Steps-walked b (k + 1)
+    steps-iteration q = place-iteration no-step held-step _ _ _ k fits w s l (by-fields true q)

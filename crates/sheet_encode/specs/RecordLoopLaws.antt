@@ -1,4 +1,4 @@
--- A loop that puts records one behind the other into a buffer: what it has put after i of them.
+-- A loop that puts records one after the other into a buffer: what it has put after i of them.
 use mathlib.Core.Path.{_≡_, refl, sym, _∙_, ap}
 use mathlib.Core.List.{List, [], _++_, map, map-append}
 use Prim.Native.Nat.{ℕ, _+_, _≤_, _<_}
@@ -73,9 +73,9 @@ module _ {A : Type 0} (f : A → List ℕ) (l : List A) (entry : List ℕ) (at :
         ap (λ z. length (f z)) e,
       )
 
-      pub put-turn : (new : List ℕ) (next : ℕ) → new ≡ sets buffer place (f y) → next ≡ place + length (f y)
+      pub put-iteration : (new : List ℕ) (next : ℕ) → new ≡ sets buffer place (f y) → next ≡ place + length (f y)
           → Put f l entry at new next (i + 1)
-      put-turn new next b n = record {
+      put-iteration new next b n = record {
         within = omega arith;
         place-is = omega (arith, p .place-is, length-more f l i x h, ap (λ z. length (f z)) e);
         buffer-is = b ∙ ap (λ z. sets buffer place (f z)) (sym e)

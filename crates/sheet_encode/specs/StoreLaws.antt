@@ -1,4 +1,4 @@
--- The stores of one record, one behind the other, are the bytes of the record.
+-- The stores of one record, one after the other, are the bytes of the record.
 use mathlib.Core.Path.{_≡_}
 use mathlib.Core.List.{List, map}
 use Prim.Native.Nat.{ℕ, suc, _+_}

@@ -1,4 +1,4 @@
--- The stores of the trailer, one behind the other, are its bytes.
+-- The stores of the trailer, one after the other, are its bytes.
 use mathlib.Core.Path.{_≡_}
 use mathlib.Core.List.{List}
 use Prim.Native.Nat.{ℕ, suc, _+_}

@@ -1,5 +1,5 @@
-// A sheet put into a lent buffer, one function for each part: its records, their fields one behind the other, numbers
-// little-endian; and its sections, all models, all steps and the trailer.
+// A sheet put into a borrowed buffer, one function for each part: its records, their fields one after the other,
+// numbers little-endian; and its sections, all models, all steps and the trailer.
 ghost use mathlib.Core.Path.{_≡_};
 ghost use Prim.Native.Nat.{_+_, _*_, _^_, _<_, _≤_};
 ghost use mathlib.Core.List.{map};

@@ -131,7 +131,7 @@ module _ (s : List ℕ) (h : Held-book) (y : All-bytes s) (e : read s ≡ done h
       let c = ap (record-place s) n in
       omega (arith, none-left s (record-place s (length (records s) + k)) (omega arith))
 
-  -- from the place of a record a step leads to that of the next, and from behind the last nowhere
+  -- from the place of a record a step leads to that of the next, and from the place after the last nowhere
   next-here : (i : ℕ) → next-at s (record-place s i) ≡ record-place s (suc i)
   next-here i = go (order i (length (records s)))
     where

@@ -1,4 +1,4 @@
--- What the loops over models and steps keep of what they read: one law for the start, a turn and the end.
+-- What the loops over models and steps keep of what they read: one law for the start, an iteration and the end.
 use mathlib.Core.Path.{_≡_, refl, sym, _∙_, ap, ap₂}
 use mathlib.Core.List.{List, [], _∷_, _++_, map, map-append}
 use Prim.Native.Nat.{ℕ, _+_, _-_, _≤_, _<_}
@@ -19,7 +19,7 @@ use Rattle.sheet_book.specs.Failing.{first-failing}
 use Rattle.sheet_book.specs.ZeroLaws.{no-model-packed}
 use Rattle.sheet_walk.specs.Walk.{Walk, walk, steps-walked}
 use Rattle.sheet_walk.specs.TermWalkLaws.{model-at}
-use Rattle.sheet_walk.specs.ModelWalkLaws.{Models-so-far, Ends, walk-place, walk-behind, models-first}
+use Rattle.sheet_walk.specs.ModelWalkLaws.{Models-so-far, Ends, walk-place, walk-after, models-first}
 use Rattle.sheet_walk.specs.StepWalkLaws.{Steps-so-far, steps-first, steps-here, steps-inside}
 use Rattle.sheet_read_walk.specs.declared.ModelsRead.{ModelsRead}
 use Rattle.sheet_read_walk.specs.declared.StepsRead.{StepsRead}
@@ -65,7 +65,7 @@ module _ (s : List ℕ) (n d count : ℕ) (models : List Model) (at k : ℕ) (h 
       h .stored ∙ sym (ap (λ (w : Walk). padded no-model most-models (map stored-model (w .passed))) f) in
       ap₂ (λ p e. record { place = p; end = e; models = models })
       (walk-place s n d count (h .before) at k (h .so-far) f)
-      (walk-behind s n d count (h .before) at k (h .so-far) f)
+      (walk-after s n d count (h .before) at k (h .so-far) f)
       ∙ ap (λ l. record {
         place = length (walk n d [] count s .passed);
         end = length s - length (walk n d [] count s .left);

@@ -1,4 +1,4 @@
 -- Definitions: what the walks that keep the records answer.
 pub mod KeptRecords
--- Laws: what they keep, turn by turn.
+-- Laws: what they keep, iteration by iteration.
 pub mod KeptLaws

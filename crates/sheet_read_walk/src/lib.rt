@@ -9,7 +9,7 @@ ghost use Rattle.sheet_read_walk.specs.KeptRecords.{«models-read», «s
 use model_types::Model;
 use sheet_book::Step;
 
-// How far the records of models go: the number of the first faulty one or that of all, the place behind the others, and
+// How far the records of models go: the number of the first faulty one or that of all, the place after the others, and
 // these.
 pub struct ModelsRead {
     pub place: usize,

@@ -61,7 +61,7 @@ fn read_records(sheet: &[u8], t: Trailer) -> Read
     if place < count {
         return refuse(Refusal::BadModel, place);
     }
-    // bytes are left behind the last model
+    // bytes are left after the last model
     if w.end < offset {
         return refuse(Refusal::BadModel, count);
     }

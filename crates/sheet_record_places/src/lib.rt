@@ -63,7 +63,7 @@ pub fn length_at(s: &[u8], at: usize) -> usize
     size
 }
 
-// Where the record behind it stands: the place itself where there is none.
+// Where the record after it stands: the place itself where there is none.
 pub fn next_at(s: &[u8], at: usize) -> usize
     ensures { λ r. ⌜ r ≡ next-at (now (s .entry)) at ⌝ }
 {

@@ -93,7 +93,7 @@ pub fn bytes_from(sheet: &[u8], at: usize) -> &[u8]
 }
 
 // The place of the next.
-pub fn place_behind(sheet: &[u8], at: usize) -> usize
+pub fn place_after(sheet: &[u8], at: usize) -> usize
     ensures { λ r. ⌜ r ≡ next-at (now (sheet .entry)) at ⌝ }
 {
     let mut records = Records { sheet, at };

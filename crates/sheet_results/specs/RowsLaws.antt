@@ -96,7 +96,7 @@ unfolding first-rows
 length-rows l zero = refl
 length-rows l (suc n) = length-append (first-rows l n) (row-at l n ∷ []) ∙ omega (arith, length-rows l n)
 
--- a turn of the loop that builds them
+-- an iteration of the loop that builds them
 pub rows-more : (zeros : Shares) (l : List ℕ) (i : ℕ) → i < 64
     → set (padded zeros 64 (first-rows l i)) i (row-at l i) ≡ padded zeros 64 (first-rows l (i + 1))
 unfolding first-rows

@@ -21,7 +21,7 @@ const MOST_STEPS: usize = 64;
 // The numbers of a row.
 const ROW: usize = 4;
 
-// The model at a place: only the terms that its count names are copied, and zeros stand behind them.
+// The model at a place: only the terms that its count names are copied, and zeros stand after them.
 pub fn result(
     n: u8,
     j: usize,

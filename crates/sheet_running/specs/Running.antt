@@ -4,7 +4,7 @@ use Rattle.calculus.specs.Book.{Book}
 use Rattle.calculus.specs.Shares.{all-rows, rows-sound}
 use Rattle.model_types.specs.ModelStruct.{answer}
 use Rattle.model_types.specs.SharesStruct.{stored-shares}
-use Rattle.sheet_turn_laws.specs.LastResult.{last-result}
+use Rattle.sheet_run_laws.specs.LastResult.{last-result}
 use Rattle.sheet_running.specs.declared.Ran.{Ran}
 
 -- as an answer, with 64 rows

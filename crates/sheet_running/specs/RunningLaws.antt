@@ -16,10 +16,10 @@ use Rattle.sheet_book.specs.declared.Book.{Book}
 use Rattle.sheet_book.specs.BookStruct.{held-book}
 use Rattle.sheet_results.specs.Results.{Results, result, first-rows}
 use Rattle.sheet_step_answers.specs.Answers.{accepted-answer}
-use Rattle.sheet_turn_laws.specs.declared.Stop.{Stop}
-use Rattle.sheet_turn_laws.specs.Run.{most-entries, Ended, Stopped}
-use Rattle.sheet_turn_laws.specs.RunLaws.{rows-are}
-use Rattle.sheet_turn_laws.specs.MemoryLaws.{run-ended}
+use Rattle.sheet_run_laws.specs.declared.Stop.{Stop}
+use Rattle.sheet_run_laws.specs.Run.{most-entries, Ended, Stopped}
+use Rattle.sheet_run_laws.specs.RunLaws.{rows-are}
+use Rattle.sheet_run_laws.specs.MemoryLaws.{run-ended}
 use Rattle.sheet_running.specs.declared.Ran.{Ran}
 use Rattle.sheet_running.specs.Running.{ran}
 

@@ -10,7 +10,7 @@ use model_types::Verdict;
 use sheet_book::Book;
 
 // What the steps lead to: the last result, or the refusal of a step; and the rows of the steps before that one, with
-// zeros behind them.
+// zeros after them.
 pub struct Ran {
     pub answer: Answer,
     pub shares: [Shares; sheet_book::MOST_STEPS],
@@ -22,7 +22,7 @@ const ALL_TERMS: usize = model_types::MOST_TERMS * sheet_book::MOST_STEPS;
 const ALL_ROWS: usize = 4 * sheet_book::MOST_STEPS;
 
 // The last result of a book that passed the tests, and the rows. The first step that is refused ends the run, with the
-// refusal and its number; its row and those behind it stay zeros.
+// refusal and its number; its row and those after it stay zeros.
 pub fn last_result(b: Book) -> Ran
     requires { ⌜ Held-passes (held-book b) ⌝ }
     ensures { λ r. ⌜ r ≡ ran (view-book (held-book b)) ⌝ }
@@ -34,7 +34,7 @@ pub fn last_result(b: Book) -> Ran
     let mut counts = [0usize; sheet_book::MOST_STEPS];
     let mut radii = [0u64; sheet_book::MOST_STEPS];
     let mut rows = [0u64; ALL_ROWS];
-    let t = sheet_turns::run(
+    let t = sheet_run::run(
         b,
         &mut keys,
         &mut coefficients,

@@ -10,7 +10,7 @@ ghost use Rattle.calculus.specs.Shares.{«all-carried»};
 ghost use Rattle.calculus.specs.Book.{«most-models»};
 ghost use Rattle.model_types.specs.ModelStruct.{view, answer};
 ghost use Rattle.model_types.specs.SharesStruct.{accounted};
-ghost use Rattle.model.specs.OperationContracts.{«Lent-table», «Free-table»};
+ghost use Rattle.model.specs.OperationContracts.{«Scratch-table», «Free-table»};
 ghost use Rattle.sheet_book.specs.BookStruct.{«held-step»};
 ghost use Rattle.sheet_steps.specs.Steps.{«step-answer», «step-row», «Step-ready», «Direct-ready»};
 use model_types::Accounted;
@@ -57,7 +57,7 @@ fn direct_answer(n: u8, s: Step, f: Model, g: Model) -> Answer
 
 // What a step gives that names no model and at most two results, a product apart, with the results that a and b name,
 // and where its radius came from. A result that the code does not name may be any sound one. A substitution uses the
-// table that is lent.
+// scratch table.
 pub fn step_answer(
     n: u8,
     d: u8,
@@ -69,7 +69,7 @@ pub fn step_answer(
     sums: &mut [i64],
 ) -> Accounted
     requires { ⌜ Step-ready n d (held-step s) f g ⌝ }
-    requires { ⌜ (held-step s .code ≡ 7 → Lent-table (now slots) (now keys) (now sums)) ⌝ }
+    requires { ⌜ (held-step s .code ≡ 7 → Scratch-table (now slots) (now keys) (now sums)) ⌝ }
     ensures exact { λ r. ⌜ ((m : C.Model) → r ≡ accounted (step-answer n d (held-step s) m (view f) (view g))
         (step-row n d (held-step s) m (view f) (view g))) ⌝ }
     ensures table { λ r. ⌜ Free-table (now (slots .entry)) (now (keys .entry)) (now (sums .entry))

@@ -75,7 +75,7 @@ fn records_tested(sheet: &[u8], t: Trailer) -> Verdict
     if place < count {
         return Verdict::Refused(Refusal::BadModel, place);
     }
-    // bytes are left behind the last model
+    // bytes are left after the last model
     if w.end < offset {
         return Verdict::Refused(Refusal::BadModel, count);
     }

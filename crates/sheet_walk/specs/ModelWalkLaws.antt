@@ -1,4 +1,4 @@
--- The loop over models: what it holds, and one law for its start, a turn, each way out and its end.
+-- The loop over models: what it holds, and one law for its start, an iteration, each way out and its end.
 use mathlib.Core.Path.{_≡_, refl, sym, _∙_, ap, ap₂}
 use mathlib.Core.Bool.{true, false}
 use mathlib.Core.List.{List, [], _∷_, _++_}
@@ -11,8 +11,8 @@ use borrow.Author.Tests.{le-leb, lt-leb}
 use Rattle.calculus.specs.Model.{most-terms, sound}
 use Rattle.model_types.specs.declared.Model.{Model}
 use Rattle.model_types.specs.ModelStruct.{view}
-use Rattle.model_slices.specs.HandedModels.{handed, lent}
-use Rattle.model.specs.OperationLaws.{lent-own, handed-own}
+use Rattle.model_slices.specs.HandedModels.{handed, borrowed}
+use Rattle.model.specs.OperationLaws.{borrowed-own, handed-own}
 use Rattle.format.specs.Bytes.{byte}
 use Rattle.format.specs.HeldBook.{Held-model, view-model}
 use Rattle.format.specs.Format.{term-length, read-model, model-length}
@@ -64,8 +64,8 @@ module _ (s : List ℕ) (n at : ℕ) (few : byte (at + 4) s ≤ most-terms) (m :
   coefficients-all : length (m .coefficients) ≡ most-terms
   coefficients-all = ap (λ (x : Model). length (x .coefficients)) e ∙ coefficients-whole s n at few
 
-  pub model-lent : lent (m .count) (length (m .keys)) (length (m .coefficients)) ≡ true
-  model-lent = lent-own _ _ _ keys-all coefficients-all
+  pub model-borrowed : borrowed (m .count) (length (m .keys)) (length (m .coefficients)) ≡ true
+  model-borrowed = borrowed-own _ _ _ keys-all coefficients-all
 
   pub model-handed : handed (m .n) (m .count) (m .radius) (m .keys) (m .coefficients) ≡ model-at n at s
   model-handed = handed-own m keys-all coefficients-all ∙ e
@@ -127,23 +127,23 @@ module _ (s : List ℕ) (n d count : ℕ) (before : List Held-model) (at k : ℕ
   pub models-unsound : sound d (view (model-at n at s)) ≡ false → Ends
   models-unsound f = stop (unsound n d at s f)
 
-  -- behind the last
+  -- after the last
   pub models-end : count ≤ k → Ends
   models-end l =
       let e : count - k ≡ 0 = omega arith in
       sym (h .rest) ∙ ap (λ c. walk n d before c (drop at s)) e ∙ walk-end n d before (drop at s)
 
-  -- a turn
-  pub models-turn : k < count → (total : ℕ) → total ≡ byte (at + 4) s → 5 + term-length n * total ≤ length s - at
+  -- an iteration
+  pub models-iteration : k < count → (total : ℕ) → total ≡ byte (at + 4) s → 5 + term-length n * total ≤ length s - at
       → sound d (view (model-at n at s)) ≡ true
       → Models-so-far s n d count (before ++ (read-model n (drop at s) ∷ [])) (at + (5 + term-length n * total)) (k + 1)
-  models-turn l total t room f = record {
+  models-iteration l total t room f = record {
     number = omega (arith, length-append before (read ∷ []), h .number);
     most = omega arith;
     within = omega (arith, room, h .within);
     rest =
         let c : count - k ≡ suc (count - (k + 1)) = omega arith in
-        ap (λ r. walk n d (before ++ (read ∷ [])) (count - (k + 1)) r) behind
+        ap (λ r. walk n d (before ++ (read ∷ [])) (count - (k + 1)) r) after
         ∙ sym (walk-on n d before (count - (k + 1)) (drop at s) (record-passes n d at s total t room f))
         ∙ ap (λ j. walk n d before j (drop at s)) (sym c) ∙ h .rest;
   }
@@ -154,15 +154,15 @@ module _ (s : List ℕ) (n d count : ℕ) (before : List Held-model) (at k : ℕ
       next : at + (5 + term-length n * total) ≡ at + model-length n (drop at s)
       next = omega (arith, length-at s n at, ap (λ c. term-length n * c) t)
 
-      behind : drop (at + (5 + term-length n * total)) s ≡ drop (model-length n (drop at s)) (drop at s)
-      behind = ap (λ j. drop j s) next ∙ sym (drop-drop (model-length n (drop at s)) at s)
+      after : drop (at + (5 + term-length n * total)) s ≡ drop (model-length n (drop at s)) (drop at s)
+      after = ap (λ j. drop j s) next ∙ sym (drop-drop (model-length n (drop at s)) at s)
 
   -- how far the walk goes where it ends
   pub walk-place : Ends → k ≡ length (walk n d [] count s .passed)
   walk-place f = sym (ap (λ (w : Walk). length (w .passed)) f ∙ h .number)
 
-  pub walk-behind : Ends → at ≡ length s - length (walk n d [] count s .left)
-  walk-behind f =
+  pub walk-after : Ends → at ≡ length s - length (walk n d [] count s .left)
+  walk-after f =
       let e : length s - (length s - at) ≡ at = omega (arith, h .within) in
       sym (ap (λ (w : Walk). length s - length (w .left)) f ∙ ap (λ j. length s - j) (length-drop at s) ∙ e)
 
@@ -177,4 +177,4 @@ module _ (s : List ℕ) (n d count at k : ℕ) (h : Models-passed s n d count at
       → record { place = k; end = at } ≡ models-walked n d count s
   unfolding models-walked
   models-answer f = ap₂ (λ p e. record { place = p; end = e })
-      (walk-place s n d count (h .before) at k (h .so-far) f) (walk-behind s n d count (h .before) at k (h .so-far) f)
+      (walk-place s n d count (h .before) at k (h .so-far) f) (walk-after s n d count (h .before) at k (h .so-far) f)

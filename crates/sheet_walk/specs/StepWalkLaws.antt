@@ -1,4 +1,4 @@
--- The loop over steps: what it holds, and one law for its start, a turn, its way out and its end.
+-- The loop over steps: what it holds, and one law for its start, an iteration, its way out and its end.
 use mathlib.Core.Path.{_≡_, sym, _∙_, ap}
 use mathlib.Core.Bool.{Bool, true, false}
 use mathlib.Core.List.{List}
@@ -14,7 +14,7 @@ use Rattle.format.specs.WriteBackLaws.{length-read-steps}
 use Rattle.sheet_book.specs.declared.Step.{Step}
 use Rattle.sheet_book.specs.BookStruct.{held-step, stored-step}
 use Rattle.sheet_book.specs.BookStructLaws.{held-stored-step}
-use Rattle.sheet_book.specs.FailingLaws.{Walked, walked-first, walked-turn, walked-found, walked-end}
+use Rattle.sheet_book.specs.FailingLaws.{Walked, walked-first, walked-iteration, walked-found, walked-end}
 use Rattle.sheet_walk.specs.Walk.{steps-walked}
 
 -- ---- before step k
@@ -58,8 +58,8 @@ module _ (s : List ℕ) (offset n m count at k : ℕ) (h : Steps-so-far s offset
     unfolding steps-walked
     steps-bad t = walked-found (h .walked) read steps-inside (tested false t)
 
-    pub steps-turn : fields-sound n m k (held-step step) ≡ true → Steps-so-far s offset n m count (at + 8) (k + 1)
-    steps-turn t = record {
+    pub steps-iteration : fields-sound n m k (held-step step) ≡ true → Steps-so-far s offset n m count (at + 8) (k + 1)
+    steps-iteration t = record {
       placed = omega (arith, h .placed);
-      walked = walked-turn (h .walked) read steps-inside (tested true t);
+      walked = walked-iteration (h .walked) read steps-inside (tested true t);
     }

@@ -1,5 +1,5 @@
--- The loop over a record's terms: what it holds, and one law for its start, a turn and its end; and what the struct of
--- the record's model has.
+-- The loop over a record's terms: what it holds, and one law for its start, an iteration and its end; and what the
+-- struct of the record's model has.
 use mathlib.Core.Path.{_≡_, refl, sym, _∙_, ap, ap₂, subst}
 use mathlib.Core.Bool.{false}
 use mathlib.Core.List.{List, [], _∷_, _++_, map, map-append}
@@ -123,9 +123,9 @@ module _ (s : List ℕ) (n at : ℕ) where
             ∙ sym (map-append stored-term (take i ts) (getD ts i some-term ∷ []))
             ∙ ap (map stored-term) (sym (take-more ts i some-term inside))))
 
-        pub terms-turn : (z : ℤ) → z ≡ t .coefficient
+        pub terms-iteration : (z : ℤ) → z ≡ t .coefficient
             → Terms-so-far s n at (set keys i (t .key)) (set coefficients i z) (place + term-length n) (i + 1)
-        terms-turn z c = record {
+        terms-iteration z c = record {
           within = omega arith;
           placed = omega (arith, h .placed, one-more (term-length n) i);
           kept = kept-more z c;

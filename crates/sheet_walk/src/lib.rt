@@ -11,13 +11,13 @@ ghost use Rattle.sheet_walk.specs.Walk.{«models-walked», «steps-walke
 use model_types::Key;
 use model_types::Model;
 
-// How far the records of models go: the number of the first faulty one or that of all, and the place behind the others.
+// How far the records of models go: the number of the first faulty one or that of all, and the place after the others.
 pub struct ModelsWalked {
     pub place: usize,
     pub end: usize,
 }
 
-// The model of the record at a place. Zeros stand behind its terms.
+// The model of the record at a place. Zeros stand after its terms.
 pub fn model_at(s: &[u8], at: usize, n: u8) -> Model
     requires { ⌜ (at + model-length n (drop at (now s)) ≤ length (now s)) × (byte (at + 4) (now s) ≤ most-terms) ⌝ }
     ensures { λ r. ⌜ r ≡ stored-model (read-model n (drop at (now (s .entry)))) ⌝ }

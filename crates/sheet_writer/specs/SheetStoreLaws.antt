@@ -1,4 +1,4 @@
--- The sections of a sheet, one put behind the other from the start of a buffer on, are the sheet; the rest stays.
+-- The sections of a sheet, one put after the other from the start of a buffer on, are the sheet; the rest stays.
 use mathlib.Core.Path.{_≡_, refl, _∙_, ap}
 use mathlib.Core.List.{List, _++_, map, append-assoc}
 use Prim.Native.Nat.{ℕ, _+_, _*_, _≤_}

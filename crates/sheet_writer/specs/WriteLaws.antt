@@ -53,7 +53,7 @@ module _ (h : Held-book) (entry : List ℕ) where
       ∙ ap (λ t. require-at 0 t short-buffer (done (sheet-bytes h))) (lt-leb (length (sheet-bytes h)) (length entry) l)
       ∙ unfold require-at in refl)
 
-  -- it is long enough: models, steps and the trailer are put, each behind the one before
+  -- it is long enough: models, steps and the trailer are put, each after the one before
   pub long-enough : Held-passes h → (offset end : ℕ) (first second exit : List ℕ) → offset ≡ length (models-bytes h)
       → end ≡ offset + step-length * length (h .steps) → end + trailer-length ≤ length entry
       → first ≡ sets entry 0 (models-bytes h) → second ≡ sets first offset (join (map step-bytes (h .steps)))

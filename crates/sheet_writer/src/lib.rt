@@ -1,4 +1,5 @@
-// Writing a book into a lent buffer as a sheet: tests 3, 5, 6 and 11 come first, so a refused write changes no byte.
+// Writing a book into a borrowed buffer as a sheet: tests 3, 5, 6 and 11 come first, so a refused write changes no
+// byte.
 ghost use mathlib.Core.Path.{_≡_};
 ghost use Rattle.format.specs.Format.{write, written};
 ghost use Rattle.sheet_book.specs.BookStruct.{«held-book», «write-answer»};

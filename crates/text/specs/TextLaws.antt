@@ -1,4 +1,4 @@
--- Laws of text in a lent buffer: what a text that is put from the start leaves.
+-- Laws of text in a borrowed buffer: what a text that is put from the start leaves.
 use mathlib.Core.Path.{_≡_, refl, sym, _∙_, ap}
 use mathlib.Core.List.{List, [], _∷_, _++_}
 use Prim.Native.Nat.{ℕ, suc, _≤_}
@@ -13,16 +13,16 @@ sets-out : (a l : List ℕ) (i : ℕ) → length l ≤ i → sets l i a ≡ l
 sets-out [] l i h = refl
 sets-out (x ∷ a) l i h = ap (λ k. sets k (suc i) a) (set-out l i x h) ∙ sets-out a l (suc i) (omega arith)
 
-sets-behind : (a l : List ℕ) (i x : ℕ) → sets (x ∷ l) (suc i) a ≡ x ∷ sets l i a
-sets-behind [] l i x = refl
-sets-behind (y ∷ a) l i x = sets-behind a (set l i y) (suc i) x
+sets-after : (a l : List ℕ) (i x : ℕ) → sets (x ∷ l) (suc i) a ≡ x ∷ sets l i a
+sets-after [] l i x = refl
+sets-after (y ∷ a) l i x = sets-after a (set l i y) (suc i) x
 
 -- ---- a text from the start
 sets-laid : (t l : List ℕ) → sets l 0 t ≡ laid t l
 unfolding laid
 sets-laid [] l = ap (λ k. k ++ l) (sym (take-nil (length l)))
 sets-laid (a ∷ t) [] = sets-out t [] 1 (omega arith)
-sets-laid (a ∷ t) (x ∷ l) = sets-behind t l 0 a ∙ ap (λ k. a ∷ k) (sets-laid t l)
+sets-laid (a ∷ t) (x ∷ l) = sets-after t l 0 a ∙ ap (λ k. a ∷ k) (sets-laid t l)
 
 -- a buffer that is long enough begins with the whole text, and the rest of it stays
 pub laid-whole : (t l : List ℕ) → length t ≤ length l → laid t l ≡ t ++ drop (length t) l

@@ -1,4 +1,4 @@
-// The program's lines, made of a sheet and written into a lent buffer.
+// The program's lines, made of a sheet and written into a borrowed buffer.
 ghost use mathlib.Core.Path.{_≡_};
 ghost use lib.Dec.{T};
 ghost use lib.ListN.{length};

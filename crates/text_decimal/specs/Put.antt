@@ -1,4 +1,4 @@
--- Bytes put into a lent buffer from a place on, and the numbers that are put.
+-- Bytes put into a borrowed buffer from a place on, and the numbers that are put.
 use mathlib.Core.Path.{_≡_}
 use mathlib.Core.List.{List, _++_}
 use Prim.Native.Nat.{ℕ, _+_, _^_, _<_}
@@ -12,14 +12,14 @@ pub record Put (before : List ℕ) (at : ℕ) (bytes after : List ℕ) (next : �
   pub stored : after ≡ sets before at bytes
   pub counted : next ≡ at + length bytes
 
--- the place behind the bytes is a number of the machine
+-- the place after the bytes is a number of the machine
 pub record Room (at : ℕ) (bytes : List ℕ) : Type 0 where
   pub fits : at + length bytes < 2 ^ 64
 
--- a natural number behind a space
+-- a natural number after a space
 unfoldable pub natural : ℕ → List ℕ
 natural x = text " " ++ decimal x
 
--- an integer behind a space
+-- an integer after a space
 unfoldable pub integer : ℤ → List ℕ
 integer z = text " " ++ signed-decimal z

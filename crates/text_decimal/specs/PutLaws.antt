@@ -1,4 +1,4 @@
--- Laws of bytes in a lent buffer: puts behind one another, room for them, and a number by its sign.
+-- Laws of bytes in a borrowed buffer: puts one after another, room for them, and a number by its sign.
 use mathlib.Core.Path.{_≡_, refl, sym, _∙_, ap}
 use mathlib.Core.List.{List, [], _∷_, _++_}
 use Prim.Native.Nat.{ℕ, _+_, _≤_, _<_}
@@ -24,7 +24,7 @@ pub put-out : {l : List ℕ} {at b : ℕ} → length l ≤ at → Put l at (b �
 put-out {l} {at} {b} h = record { stored = sym (set-out l at b h); counted = refl }
 
 infixl 20 _then-put_
--- one behind the other
+-- one after the other
 pub _then-put_ : {l m k : List ℕ} {i j r : ℕ} {a b : List ℕ} → Put l i a m j → Put m j b k r → Put l i (a ++ b) k r
 _then-put_ {l} {m} {k} {i} {j} {r} {a} {b} p q = record {
   stored = q .stored ∙ ap (λ s. sets s j b) (p .stored) ∙ sets-more a b l i j (p .counted);
@@ -35,7 +35,7 @@ _then-put_ {l} {m} {k} {i} {j} {r} {a} {b} p q = record {
 pub put-as : {l m : List ℕ} {i j : ℕ} {a b : List ℕ} → a ≡ b → Put l i a m j → Put l i b m j
 put-as {l} {m} {i} {j} e p = rw e at p
 
--- behind the first bytes of a list the next one
+-- after the first bytes of a list the next one
 pub put-next : {l m k : List ℕ} {i j r : ℕ} (s : List ℕ) (n : ℕ) → n < length s → Put l i (take n s) m j
     → Put m j (getD s n 0 ∷ []) k r → Put l i (take (n + 1) s) k r
 put-next s n h p q = rw (add-one, take-suc s n 0) (p then-put q)
@@ -44,13 +44,13 @@ put-next s n h p q = rw (add-one, take-suc s n 0) (p then-put q)
 pub put-length : {l m : List ℕ} {i j : ℕ} {a : List ℕ} → Put l i a m j → length m ≡ length l
 put-length {l} {i = i} {a = a} p = ap length (p .stored) ∙ length-sets l i a
 
--- ---- room for what comes first, and for what comes behind it
+-- ---- room for what comes first, and for what comes after it
 module _ {at : ℕ} (a b : List ℕ) (r : Room at (a ++ b)) where
   pub room-before : Room at a
   room-before = record { fits = omega (arith, r .fits, length-append a b) }
 
-  pub room-behind : {l m : List ℕ} {next : ℕ} → Put l at a m next → Room next b
-  room-behind p = record { fits = omega (arith, r .fits, length-append a b, p .counted) }
+  pub room-after : {l m : List ℕ} {next : ℕ} → Put l at a m next → Room next b
+  room-after p = record { fits = omega (arith, r .fits, length-append a b, p .counted) }
 
 -- ---- a number and its sign
 pub integer-negative : (z : ℤ) → z ≡ negsuc (mag z) → integer z ≡ text " -" ++ decimal (natAbs z)

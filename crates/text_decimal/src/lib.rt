@@ -1,11 +1,11 @@
-// Bytes and decimal numbers, put into a lent buffer.
+// Bytes and decimal numbers, put into a borrowed buffer.
 ghost use mathlib.Core.Path.{_≡_};
 ghost use mathlib.Core.List.{_∷_, []};
 ghost use Prim.Native.Nat.{_+_, _<_};
 ghost use Rattle.format.specs.Lines.{decimal};
 ghost use Rattle.text_decimal.specs.Put.{Put, Room, natural, integer};
 
-// Every function below puts its bytes where the buffer has room for them and answers the place behind them, also where
+// Every function below puts its bytes where the buffer has room for them and answers the place after them, also where
 // that is past the buffer's end.
 
 // One byte.
@@ -13,12 +13,12 @@ pub fn put_byte(out: &mut [u8], at: usize, byte: u8) -> usize
     requires { ⌜ Room at (byte ∷ []) ⌝ }
     ensures { λ r. ⌜ Put (now (out .entry)) at (byte ∷ []) (now (out .exit)) r ⌝ }
 {
-    let behind = at + 1;
+    let after = at + 1;
     if at < out.len() {
         out[at] = byte;
-        return behind;
+        return after;
     }
-    behind
+    after
 }
 
 // Bytes that stand somewhere else.

@@ -1,4 +1,4 @@
--- The lines as pieces that are put one behind another, and loops that put one piece a turn.
+-- The lines as pieces that are put one after another, and loops that put one piece in each iteration.
 use mathlib.Core.Path.{_≡_, refl, sym, _∙_, ap, ap₂}
 use mathlib.Core.Bool.{true, false}
 use borrow.Author.Tests.{le-leb, lt-leb}

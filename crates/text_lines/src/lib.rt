@@ -1,4 +1,4 @@
-// The program's lines, put into a lent buffer one by one.
+// The program's lines, put into a borrowed buffer one by one.
 ghost use mathlib.Core.List.{map};
 ghost use lib.Dec.{T};
 ghost use Rattle.calculus.specs.Key.{«monomial-of»};
@@ -15,7 +15,7 @@ use model_types::Model;
 // Up to so many variables there is an exact integral.
 const MOST_EXACT: u8 = 4;
 
-// Every function below puts its bytes where the buffer has room for them and answers the place behind them, also where
+// Every function below puts its bytes where the buffer has room for them and answers the place after them, also where
 // that is past the buffer's end.
 
 // The n exponents of a key.

@@ -9,14 +9,14 @@ use Rattle.model_types.specs.Arrays.{padded}
 use Rattle.sheet_book.specs.BookStruct.{no-model}
 use Rattle.sheet_book.specs.ZeroLaws.{no-model-packed}
 use Rattle.c_books.specs.HandedBooks.{table, model-at, handed-models}
-use Rattle.c_books.specs.HandedBooksLaws.{Models-lent, models-lent, table-more}
+use Rattle.c_books.specs.HandedBooksLaws.{Models-borrowed, models-borrowed, table-more}
 use Rattle.c_books.proofs.handed_models.Statement.{statement}
 use Rattle.c_books.proofs.handed_models.Tie as tie
 
 abbrev Inv-loop : tie.InvT-loop
 Inv-loop ns counts radii keys coefficients places out₀ k₀ out k =
     (k ≤ places) × (out ≡ padded no-model most-models (table (model-at ns counts radii keys coefficients) k))
-    × Models-lent places (length ns) (length counts) (length radii) (length keys) (length coefficients)
+    × Models-borrowed places (length ns) (length counts) (length radii) (length keys) (length coefficients)
 
 abbrev μ-loop : tie.MeasureT-loop
 μ-loop ns counts radii keys coefficients places out₀ k₀ out k = places - k
@@ -32,7 +32,7 @@ unfolding padded table most-models
 loop-holds c = (
   omega arith,
   ap (replicate 16) (c .without-terms .ensures ∙ no-model-packed),
-  models-lent _ _ _ _ _ _ (c .before .model-places .ensures),
+  models-borrowed _ _ _ _ _ _ (c .before .model-places .ensures),
 )
 
 model-at-requires : tie.Need-model-at-requires Inv-loop μ-loop

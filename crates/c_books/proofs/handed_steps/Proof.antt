@@ -12,14 +12,14 @@ use Rattle.calculus.specs.Book.{most-steps}
 use Rattle.model_types.specs.Arrays.{padded}
 use Rattle.sheet_book.specs.BookStruct.{no-step}
 use Rattle.c_books.specs.HandedBooks.{table, step-at, handed-steps}
-use Rattle.c_books.specs.HandedBooksLaws.{Steps-lent, steps-lent, table-more}
+use Rattle.c_books.specs.HandedBooksLaws.{Steps-borrowed, steps-borrowed, table-more}
 use Rattle.c_books.proofs.handed_steps.Statement.{statement}
 use Rattle.c_books.proofs.handed_steps.Tie as tie
 
 abbrev Inv-loop : tie.InvT-loop
 Inv-loop fields values places out₀ i₀ out i =
     (i ≤ places) × (out ≡ padded no-step most-steps (table (step-at fields values) i))
-    × Steps-lent places (length fields) (length values)
+    × Steps-borrowed places (length fields) (length values)
 
 abbrev μ-loop : tie.MeasureT-loop
 μ-loop fields values places out₀ i₀ out i = places - i
@@ -29,7 +29,7 @@ step-places-requires c κs = search needs
 
 loop-holds : tie.Need-loop-holds Inv-loop μ-loop
 unfolding padded table most-steps
-loop-holds c = (omega arith, refl, steps-lent _ _ _ (c .step-places .ensures))
+loop-holds c = (omega arith, refl, steps-borrowed _ _ _ (c .step-places .ensures))
 
 mul-at : tie.Need-mul-at Inv-loop μ-loop
 mul-at c = search needs

@@ -6,14 +6,14 @@ use borrow.Author.Needs.{needs}
 use lib.ListN.{length}
 use Rattle.calculus.specs.Model.{most-terms}
 use Rattle.c_books.specs.HandedBooks.{entries-of, model-at}
-use Rattle.c_books.specs.HandedBooksLaws.{Models-lent, models-lent-at}
+use Rattle.c_books.specs.HandedBooksLaws.{Models-borrowed, models-borrowed-at}
 use Rattle.c_books.proofs.model_at.Statement.{statement}
 use Rattle.c_books.proofs.model_at.Tie as tie
 
 -- all slices have the place
-has : (c : tie.Start) → Models-lent (suc (c .args .k)) (length (c .args .ns .now)) (length (c .args .counts .now))
+has : (c : tie.Start) → Models-borrowed (suc (c .args .k)) (length (c .args .ns .now)) (length (c .args .counts .now))
     (length (c .args .radii .now)) (length (c .args .keys .now)) (length (c .args .coefficients .now))
-has c = models-lent-at _ _ _ _ _ _ (c .pre)
+has c = models-borrowed-at _ _ _ _ _ _ (c .pre)
 
 shared-slice-read-n : tie.Need-shared-slice-read-n
 shared-slice-read-n c = omega (arith, has (c .before .before .before .before .before) .ns-long)

@@ -13,8 +13,8 @@ returns : tie.Need-returns
 unfolding call-fits
 returns c = rw (sym (c .before .call-known .ensures) ∙ not-true _ (c .if1 .taken))
 
-lent-requires : tie.Need-lent-requires
-lent-requires c κs = search needs
+borrowed-requires : tie.Need-borrowed-requires
+borrowed-requires c κs = search needs
 
 returns-2 : tie.Need-returns-2
 unfolding call-fits
@@ -22,11 +22,11 @@ returns-2 c =
     let k = c .before .before in
     rw (
       sym (k .before .call-known .ensures) ∙ not-false _ (k .if1 .left),
-      sym (c .before .lent .ensures) ∙ not-true _ (c .if2 .taken),
+      sym (c .before .borrowed .ensures) ∙ not-true _ (c .if2 .taken),
     )
 
-lent-requires-2 : tie.Need-lent-requires-2
-lent-requires-2 c κs = search needs
+borrowed-requires-2 : tie.Need-borrowed-requires-2
+borrowed-requires-2 c κs = search needs
 
 returns-3 : tie.Need-returns-3
 unfolding call-fits
@@ -35,8 +35,8 @@ returns-3 c =
     let k = l .before .before in
     rw (
       sym (k .before .call-known .ensures) ∙ not-false _ (k .if1 .left),
-      sym (l .before .lent .ensures) ∙ not-false _ (l .if2 .left),
-      sym (c .before .lent2 .ensures) ∙ not-true _ (c .if3 .taken),
+      sym (l .before .borrowed .ensures) ∙ not-false _ (l .if2 .left),
+      sym (c .before .borrowed2 .ensures) ∙ not-true _ (c .if3 .taken),
     )
 
 returns-4 : tie.Need-returns-4
@@ -46,11 +46,11 @@ returns-4 c =
     let k = l .before .before in
     rw (
       sym (k .before .call-known .ensures) ∙ not-false _ (k .if1 .left),
-      sym (l .before .lent .ensures) ∙ not-false _ (l .if2 .left),
-      sym (c .before .lent2 .ensures) ∙ not-false _ (c .if3 .left),
+      sym (l .before .borrowed .ensures) ∙ not-false _ (l .if2 .left),
+      sym (c .before .borrowed2 .ensures) ∙ not-false _ (c .if3 .left),
     )
 
 pub call-fits-spec : {M : Type 1} → statement M
 call-fits-spec =
     tie.close
-    (tie.spec call-known-requires returns lent-requires returns-2 lent-requires-2 returns-3 returns-4)
+    (tie.spec call-known-requires returns borrowed-requires returns-2 borrowed-requires-2 returns-3 returns-4)

@@ -14,8 +14,8 @@ returns-2 : tie.Need-returns-2
 unfolding ends-call-fits
 returns-2 c = rw (le-leb 1 _ (c .before .if1 .left), lt-leb _ 3 (c .if2 .taken))
 
-lent-requires : tie.Need-lent-requires
-lent-requires c κs = search needs
+borrowed-requires : tie.Need-borrowed-requires
+borrowed-requires c κs = search needs
 
 returns-3 : tie.Need-returns-3
 unfolding ends-call-fits
@@ -24,7 +24,7 @@ returns-3 c =
     rw (
       le-leb 1 _ (e .before .if1 .left),
       le-leb _ 3 (e .if2 .left),
-      sym (c .before .lent .ensures) ∙ not-true _ (c .if3 .taken),
+      sym (c .before .borrowed .ensures) ∙ not-true _ (c .if3 .taken),
     )
 
 point-fits-requires : tie.Need-point-fits-requires
@@ -38,7 +38,7 @@ returns-4 c =
     rw (
       le-leb 1 _ (e .before .if1 .left),
       le-leb _ 3 (e .if2 .left),
-      sym (l .before .lent .ensures) ∙ not-false _ (l .if3 .left),
+      sym (l .before .borrowed .ensures) ∙ not-false _ (l .if3 .left),
       sym (c .before .point-fits .ensures) ∙ not-true _ (c .if4 .taken),
     )
 
@@ -50,11 +50,11 @@ returns-5 c =
     rw (
       le-leb 1 _ (e .before .if1 .left),
       le-leb _ 3 (e .if2 .left),
-      sym (l .before .lent .ensures) ∙ not-false _ (l .if3 .left),
+      sym (l .before .borrowed .ensures) ∙ not-false _ (l .if3 .left),
       sym (c .before .point-fits .ensures) ∙ not-false _ (c .if4 .left),
     )
 
 pub ends-call-fits-spec : {M : Type 1} → statement M
 ends-call-fits-spec =
     tie.close
-    (tie.spec returns returns-2 lent-requires returns-3 point-fits-requires returns-4 returns-5)
+    (tie.spec returns returns-2 borrowed-requires returns-3 point-fits-requires returns-4 returns-5)

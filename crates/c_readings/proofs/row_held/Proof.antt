@@ -1,11 +1,11 @@
--- `row_held` takes the turns of a row of structs, with a reading made from the slices at each.
+-- `row_held` makes the iterations of a row of structs, with a reading made from the slices at each.
 use mathlib.Core.Path.{_≡_, _∙_}
 use Prim.Native.Nat.{_-_}
 use borrow.Author.Needs.{needs}
-use Rattle.model_readings.specs.RowTurns.{begun-of, pass}
+use Rattle.model_readings.specs.RowIterations.{begun-of, pass}
 use Rattle.model_readings.specs.RowPassLaws.{kept, nearer, ended, begins, within-row, some-readings, end-fits}
 use Rattle.c_readings.specs.HandedReadings.{row-of}
-use Rattle.c_readings.specs.HandedReadingsLaws.{below-all, turn-at, row-call}
+use Rattle.c_readings.specs.HandedReadingsLaws.{below-all, iteration-at, row-call}
 use Rattle.c_readings.proofs.row_held.Statement.{statement}
 use Rattle.c_readings.proofs.row_held.Tie as tie
 
@@ -31,8 +31,8 @@ rem-i c = some-readings _ _ (c .loop-test .taken)
 reading-of-requires : tie.Need-reading-of-requires Inv-loop μ-loop
 reading-of-requires c κs = below-all _ _ (c .loop-test .taken)
 
-turn-requires : tie.Need-turn-requires Inv-loop μ-loop
-turn-requires c κs = search needs
+iteration-requires : tie.Need-iteration-requires Inv-loop μ-loop
+iteration-requires c κs = search needs
 
 following-requires : tie.Need-following-requires Inv-loop μ-loop
 following-requires c κs = search needs
@@ -46,7 +46,7 @@ loop-again c =
     let r = t .before in
     let l = r .before in
     kept _ _ _ _ _ _ _ _ (l .loop-test .taken)
-    (turn-at _ _ _ _ _ _ (t .turn .ensures) (r .reading-of .ensures) (within-row _ _ (l .loop-test .taken)))
+    (iteration-at _ _ _ _ _ _ (t .iteration .ensures) (r .reading-of .ensures) (within-row _ _ (l .loop-test .taken)))
     (c .following .ensures) (l .before .loop .inv)
 
 returns : tie.Need-returns Inv-loop μ-loop
@@ -66,7 +66,7 @@ row-held-spec =
     loop-holds
     rem-i
     reading-of-requires
-    turn-requires
+    iteration-requires
     following-requires
     loop-less
     loop-again

@@ -16,8 +16,8 @@ kind-from-requires c κs = search needs
 bytes-from-requires : tie.Need-bytes-from-requires
 bytes-from-requires c κs = search needs
 
-place-behind-requires : tie.Need-place-behind-requires
-place-behind-requires c κs = search needs
+place-after-requires : tie.Need-place-after-requires
+place-after-requires c κs = search needs
 
 copy-requires : tie.Need-copy-requires
 copy-requires c κs = search needs
@@ -51,7 +51,7 @@ returns-2 c =
       k .kind-from .ensures,
       d .copy .ensures,
       b .bytes-from .ensures,
-      p .place-behind .ensures,
+      p .place-after .ensures,
       over-two (s .args .numbers .now) _ _ room,
       le-leb 2 _ room,
     )
@@ -63,7 +63,7 @@ next-record-spec =
     returns
     kind-from-requires
     bytes-from-requires
-    place-behind-requires
+    place-after-requires
     copy-requires
     slice-write-numbers
     slice-write-numbers-2

@@ -12,7 +12,7 @@ use Rattle.model_slices.specs.HandedModels.{terms-of}
 use Rattle.model_slices.specs.HeldModels.{held, Room}
 use Rattle.model_slices.specs.HeldModelsLaws.{clear-struct}
 use Rattle.model_limits.specs.Limits.{Packed}
-use Rattle.model_addition.specs.MergePassLaws.{lent-sum, lent-answer, lent-radius}
+use Rattle.model_addition.specs.MergePassLaws.{borrowed-sum, borrowed-answer, borrowed-radius}
 use Rattle.model_addition.proofs.added.Statement.{statement}
 use Rattle.model_addition.proofs.added.Tie as tie
 
@@ -29,14 +29,14 @@ slice-aggregate-merged c = search needs
 slice-aggregate-merged-2 : tie.Need-slice-aggregate-merged-2
 slice-aggregate-merged-2 c = search needs
 
--- the beginning, before all that is lent
+-- the beginning, before all borrows
 abbrev start : tie.After-coefficients → tie.Start
 start c = c .before .before .before .before .before .before .before .before .before .before .before .before
 
 merged-requires : tie.Need-merged-requires
 merged-requires c κs =
     let s = start c in
-    (lent-sum (s .pre) (first-room s) (second-room s), record { keys = refl; coefficients = refl })
+    (borrowed-sum (s .pre) (first-room s) (second-room s), record { keys = refl; coefficients = refl })
 
 refuse-requires : tie.Need-refuse-requires
 refuse-requires c κs = search needs
@@ -47,14 +47,14 @@ returns c =
     let m = c .before .before .before .before in
     let s = start (m .before) in
     c .refuse .ensures
-    ∙ sym (m .merged .ensures .0 (lent-sum (s .pre) (first-room s) (second-room s)) .many
+    ∙ sym (m .merged .ensures .0 (borrowed-sum (s .pre) (first-room s) (second-room s)) .many
     (omega (arith, c .before .if1 .taken)))
-    ∙ lent-answer (s .pre) (first-room s) (second-room s)
+    ∙ borrowed-answer (s .pre) (first-room s) (second-room s)
 
 add-radius : tie.Need-add-radius
 add-radius c =
     let s = start (c .before .before .before .before) in
-    record { fits = lent-radius (s .pre) (first-room s) (second-room s) }
+    record { fits = borrowed-radius (s .pre) (first-room s) (second-room s) }
 
 limited-requires : tie.Need-limited-requires
 unfolding padded most-terms terms-of held
@@ -64,7 +64,7 @@ limited-requires c κs =
     let few : m .merged .result ≤ 64 = omega (arith, c .if1 .left) in
     subst Packed
     (sym (clear-struct _ _ (m .merged .ensures .1 few (record { keys-are = refl; coefficients-are = refl }))))
-    (m .merged .ensures .0 (lent-sum (s .pre) (first-room s) (second-room s)) .packed few)
+    (m .merged .ensures .0 (borrowed-sum (s .pre) (first-room s) (second-room s)) .packed few)
 
 returns-2 : tie.Need-returns-2
 unfolding padded most-terms terms-of held
@@ -75,8 +75,8 @@ returns-2 c =
     c .limited .ensures
     ∙ ap (λ v. answer (at-place 0 (limited (view v))))
     (clear-struct _ _ (m .merged .ensures .1 few (record { keys-are = refl; coefficients-are = refl })))
-    ∙ m .merged .ensures .0 (lent-sum (s .pre) (first-room s) (second-room s)) .sum few
-    ∙ lent-answer (s .pre) (first-room s) (second-room s)
+    ∙ m .merged .ensures .0 (borrowed-sum (s .pre) (first-room s) (second-room s)) .sum few
+    ∙ borrowed-answer (s .pre) (first-room s) (second-room s)
 
 pub added-spec : {M : Type 1} → statement M
 added-spec =

@@ -15,8 +15,8 @@ use Rattle.model_slices.specs.HandedModels.{terms-of}
 use Rattle.model_slices.specs.HeldModels.{held, Room, Clear}
 use Rattle.model_slices.specs.HeldModelsLaws.{room-still, clear-more}
 use Rattle.model_addition.specs.Addition.{Sum-of}
-use Rattle.model_addition.specs.MergeLaws.{Merged, Turn}
-use Rattle.model_addition.specs.MergePassLaws.{first-few, second-few, merge-first, merge-fits, merge-turn}
+use Rattle.model_addition.specs.MergeLaws.{Merged, Iteration}
+use Rattle.model_addition.specs.MergePassLaws.{first-few, second-few, merge-first, merge-fits, merge-iteration}
 use Rattle.model_addition.specs.MergePassLaws.{merge-skip, merge-store, merge-many, merge-end}
 use Rattle.model_addition.proofs.merged.Statement.{statement}
 use Rattle.model_addition.proofs.merged.Tie as tie
@@ -77,8 +77,8 @@ module _ (c : tie.After-place2 Inv-loop μ-loop) where
   unfolding most-terms
   second-place = omega (arith, c .place2 .ensures)
 
-  abbrev turn-start : tie.Start Inv-loop μ-loop
-  turn-start = begin (c .before .before .before)
+  abbrev iteration-start : tie.Start Inv-loop μ-loop
+  iteration-start = begin (c .before .before .before)
 
 mul-key1 : tie.Need-mul-key1 Inv-loop μ-loop
 mul-key1 c = omega (arith, first-place c)
@@ -86,7 +86,7 @@ mul-key1 c = omega (arith, first-place c)
 shared-slice-read-key1 : tie.Need-shared-slice-read-key1 Inv-loop μ-loop
 shared-slice-read-key1 c =
     let p = c .before in
-    omega (arith, first-place p, turn-start p .pre .0 .first-room .keys)
+    omega (arith, first-place p, iteration-start p .pre .0 .first-room .keys)
 
 mul-c1 : tie.Need-mul-c1 Inv-loop μ-loop
 mul-c1 c = omega (arith, first-place (c .before))
@@ -94,7 +94,7 @@ mul-c1 c = omega (arith, first-place (c .before))
 shared-slice-copy-out-c1 : tie.Need-shared-slice-copy-out-c1 Inv-loop μ-loop
 shared-slice-copy-out-c1 c =
     let p = c .before in
-    omega (arith, first-place p, turn-start p .pre .0 .first-room .coefficients)
+    omega (arith, first-place p, iteration-start p .pre .0 .first-room .coefficients)
 
 mul-key2 : tie.Need-mul-key2 Inv-loop μ-loop
 mul-key2 c = omega (arith, second-place (c .before .before))
@@ -102,7 +102,7 @@ mul-key2 c = omega (arith, second-place (c .before .before))
 shared-slice-read-key2 : tie.Need-shared-slice-read-key2 Inv-loop μ-loop
 shared-slice-read-key2 c =
     let p = c .before .before .before in
-    omega (arith, second-place p, turn-start p .pre .0 .second-room .keys)
+    omega (arith, second-place p, iteration-start p .pre .0 .second-room .keys)
 
 mul-c2 : tie.Need-mul-c2 Inv-loop μ-loop
 mul-c2 c = omega (arith, second-place (c .before .before .before))
@@ -110,7 +110,7 @@ mul-c2 c = omega (arith, second-place (c .before .before .before))
 shared-slice-copy-out-c2 : tie.Need-shared-slice-copy-out-c2 Inv-loop μ-loop
 shared-slice-copy-out-c2 c =
     let p = c .before .before .before in
-    omega (arith, second-place p, turn-start p .pre .0 .second-room .coefficients)
+    omega (arith, second-place p, iteration-start p .pre .0 .second-room .coefficients)
 
 -- ---- the terms that are read
 module _ (c : tie.After-c2 Inv-loop μ-loop) where
@@ -148,12 +148,12 @@ turned : (c : tie.After-take-next Inv-loop μ-loop)
     → let s = start (c .before) in
     (w : Sum-of (s .args .c) (s .args .keys1 .now) (s .args .coefficients1 .now) (s .args .d) (s .args .keys2 .now)
     (s .args .coefficients2 .now))
-    → Turn (held (w .vars) (s .args .c) (w .radius1) (s .args .keys1 .now) (s .args .coefficients1 .now))
+    → Iteration (held (w .vars) (s .args .c) (w .radius1) (s .args .keys1 .now) (s .args .coefficients1 .now))
     (held (w .vars) (s .args .d) (w .radius2) (s .args .keys2 .now) (s .args .coefficients2 .now))
     (loop (c .before) .loop .i) (loop (c .before) .loop .j) (c .take-next .result)
 turned c w =
     let t = c .before in
-    merge-turn w _ _ (loop t .loop .inv .1 w) _ _ (placed t .before .place .ensures) (placed t .place2 .ensures) _
+    merge-iteration w _ _ (loop t .loop .inv .1 w) _ _ (placed t .before .place .ensures) (placed t .place2 .ensures) _
     (rw (first-back t, second-back t) at (c .take-next .ensures))
 
 -- ---- it is stored, or one too many

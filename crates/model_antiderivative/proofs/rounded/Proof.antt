@@ -16,7 +16,7 @@ use Rattle.model_types.specs.ModelStructLaws.{limits}
 use Rattle.model_types.specs.PairedLaws.{length-paired, key-at, coefficient-at}
 use Rattle.model_antiderivative.specs.Antiderivatives.{key-rounding}
 use Rattle.model_antiderivative.specs.PassLaws.{known, slot}
-use Rattle.model_antiderivative.specs.GrowthShareLaws.{Rounded, rounded-first, rounded-within, rounded-turn}
+use Rattle.model_antiderivative.specs.GrowthShareLaws.{Rounded, rounded-first, rounded-within, rounded-iteration}
 use Rattle.model_antiderivative.specs.GrowthShareLaws.{rounded-end}
 use Rattle.model_antiderivative.proofs.rounded.Statement.{statement}
 use Rattle.model_antiderivative.proofs.rounded.Tie as tie
@@ -115,7 +115,7 @@ loop-less c = omega arith
 loop-again : tie.Need-loop-again Inv-loop μ-loop
 loop-again c =
     let t = c .before in
-    rounded-turn (start t .pre) (long (start t)) (place t .loop .inv) (inside t) (next c)
+    rounded-iteration (start t .pre) (long (start t)) (place t .loop .inv) (inside t) (next c)
 
 returns : tie.Need-returns Inv-loop μ-loop
 returns c =

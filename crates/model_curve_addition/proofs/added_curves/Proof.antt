@@ -12,7 +12,8 @@ use Rattle.fixed.specs.MachineLaws.{answered}
 use Rattle.chebyshev.specs.Coefficients.{sum}
 use Rattle.chebyshev.specs.RowLengthLaws.{sum-length}
 use Rattle.chebyshev.specs.CurveOperations.{added}
-use Rattle.model_curve_addition.specs.CurveLoopLaws.{Copied, copied-first, copied-length, copied-turn, copied-end}
+use Rattle.model_curve_addition.specs.CurveLoopLaws.{Copied, copied-first, copied-length, copied-iteration}
+use Rattle.model_curve_addition.specs.CurveLoopLaws.{copied-end}
 use Rattle.model_curve_addition.specs.CurveLoopLaws.{added-at, entry-small, radius-small}
 use Rattle.model_curve_addition.proofs.added_curves.Statement.{statement}
 use Rattle.model_curve_addition.proofs.added_curves.Tie as tie
@@ -90,7 +91,7 @@ loop-again c =
     let b = c .before in
     let a = b .before in
     let l = a .before .before in
-    copied-turn _ (summed (l .before)) _ _ _ (l .loop .inv) (a .before .loop-test .taken)
+    copied-iteration _ (summed (l .before)) _ _ _ (l .loop .inv) (a .before .loop-test .taken)
     (answered (c .sum .ok) (c .sum .ensures) ∙ ap₂ _+ℤ_ (first-back a) (second-back b)
     ∙ added-at (l .before .args .t1 .coefficients) (l .before .args .t2 .coefficients) (l .loop .i) (same (l .before)))
 

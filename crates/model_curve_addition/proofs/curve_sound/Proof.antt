@@ -9,7 +9,7 @@ use mir.Facts.{toZ-ofZ}
 use mir.Syntax.{w64}
 use mir.Val.{toZ, ofZ}
 use Rattle.numbers.specs.Fixed.{capped}
-use Rattle.model_curve_addition.specs.CurveLoopLaws.{Summed, summed-first, summed-turn, summed-end}
+use Rattle.model_curve_addition.specs.CurveLoopLaws.{Summed, summed-first, summed-iteration, summed-end}
 use Rattle.model_curve_addition.proofs.curve_sound.Statement.{statement}
 use Rattle.model_curve_addition.proofs.curve_sound.Tie as tie
 
@@ -53,7 +53,7 @@ loop-again : tie.Need-loop-again Inv-loop μ-loop
 loop-again c =
     let a = c .before .before in
     let l = a .before .before in
-    summed-turn _ (whole (l .before)) _ _ _ (l .loop .inv) (a .before .loop-test .taken)
+    summed-iteration _ (whole (l .before)) _ _ _ (l .loop .inv) (a .before .loop-test .taken)
     (c .capped-sum .ensures ∙ ap (λ x. capped (l .loop .total + x))
     (c .before .magnitude .ensures ∙ ap natAbs (read-back a)))
 

@@ -11,7 +11,8 @@ use mir.Syntax.{w64}
 use mir.Val.{toZ, ofZ}
 use Rattle.fixed.specs.MachineLaws.{answered}
 use Rattle.chebyshev.specs.CurveOperations.{negate}
-use Rattle.model_curve_addition.specs.CurveLoopLaws.{Copied, copied-first, copied-length, copied-turn, copied-end}
+use Rattle.model_curve_addition.specs.CurveLoopLaws.{Copied, copied-first, copied-length, copied-iteration}
+use Rattle.model_curve_addition.specs.CurveLoopLaws.{copied-end}
 use Rattle.model_curve_addition.specs.CurveLoopLaws.{negated-at, entry-small}
 use Rattle.model_curve_addition.proofs.turned_curve.Statement.{statement}
 use Rattle.model_curve_addition.proofs.turned_curve.Tie as tie
@@ -66,7 +67,7 @@ loop-again : tie.Need-loop-again Inv-loop μ-loop
 loop-again c =
     let a = c .before in
     let l = a .before .before in
-    copied-turn _ (turned (l .before)) _ _ _ (l .loop .inv) (a .before .loop-test .taken)
+    copied-iteration _ (turned (l .before)) _ _ _ (l .loop .inv) (a .before .loop-test .taken)
     (answered (c .negated .ok) (c .negated .ensures) ∙ ap negℤ (read-back a)
     ∙ negated-at (l .before .args .t1 .coefficients) (l .loop .i))
 

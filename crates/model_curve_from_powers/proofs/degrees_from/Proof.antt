@@ -16,7 +16,7 @@ use Rattle.chebyshev.specs.Tables.{power-table}
 use Rattle.model_types.specs.Arrays.{padded}
 use Rattle.model_curve_rows.specs.SmallRows.{rows-small}
 use Rattle.model_curve_rows.specs.SmallRowsLaws.{power-fits}
-use Rattle.model_curve_from_powers.specs.FillLaws.{Filled, filled-first, filled-turn, filled-end}
+use Rattle.model_curve_from_powers.specs.FillLaws.{Filled, filled-first, filled-iteration, filled-end}
 use Rattle.model_curve_from_powers.proofs.degrees_from.Statement.{statement}
 use Rattle.model_curve_from_powers.proofs.degrees_from.Tie as tie
 
@@ -70,7 +70,7 @@ loop-less c = omega (arith, c .before .loop-test .taken)
 loop-again : tie.Need-loop-again Inv-loop μ-loop
 loop-again c =
     let l = c .before .before in
-    filled-turn _ (long (l .before)) _ _ _ (l .loop .inv) (c .before .loop-test .taken)
+    filled-iteration _ (long (l .before)) _ _ _ (l .loop .inv) (c .before .loop-test .taken)
     (toZ-ofZ (record { sfits = c .z .given }))
 
 returns : tie.Need-returns Inv-loop μ-loop

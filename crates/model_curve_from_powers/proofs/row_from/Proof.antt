@@ -16,7 +16,7 @@ use Rattle.model_types.specs.declared.Term.{Term}
 use Rattle.model_types.specs.ModelStruct.{zero-term, listed}
 use Rattle.model_types.specs.ModelStructLaws.{Limits, limits}
 use Rattle.model_types.specs.PairedLaws.{length-paired, key-at, coefficient-at}
-use Rattle.model_curve_from_powers.specs.RowLoopLaws.{Rowed, rowed-first, rowed-turn, rowed-end, rowed-room}
+use Rattle.model_curve_from_powers.specs.RowLoopLaws.{Rowed, rowed-first, rowed-iteration, rowed-end, rowed-room}
 use Rattle.model_curve_from_powers.proofs.row_from.Statement.{statement}
 use Rattle.model_curve_from_powers.proofs.row_from.Tie as tie
 
@@ -130,7 +130,7 @@ loop-again c =
     let t = c .before .before in
     let k = t .before in
     let s = start t in
-    rowed-turn _ (s .pre) (long s) _ _ (place t .loop .inv) (more t) _ (power-is t)
+    rowed-iteration _ (s .pre) (long s) _ _ (place t .loop .inv) (more t) _ (power-is t)
     (k .first-exponent .ensures .0) _
     (answered (c .sum .ok) (c .sum .ensures ∙ ap₂ _+ℤ_ (read-back t) (there-is (c .before))))
 

@@ -10,7 +10,7 @@ use mir.Syntax.{w64}
 use mir.Val.{toZ, ofZ}
 use Rattle.fixed.specs.MachineLaws.{answered}
 use Rattle.chebyshev.specs.Coefficients.{Row, size, products-of}
-use Rattle.model_curve_multiplication.specs.CollectLaws.{Adding, adding-first, adding-turn, adding-end}
+use Rattle.model_curve_multiplication.specs.CollectLaws.{Adding, adding-first, adding-iteration, adding-end}
 use Rattle.model_curve_multiplication.specs.CollectLaws.{inside, product-room, near-inside, near-room, far-room}
 use Rattle.model_curve_multiplication.proofs.add_products.Statement.{statement}
 use Rattle.model_curve_multiplication.proofs.add_products.Tie as tie
@@ -90,22 +90,22 @@ apart-requires : tie.Need-apart-requires Inv-loop μ-loop
 apart-requires c κs = search needs
 
 module _ (c : tie.After-product Inv-loop μ-loop) where
-  abbrev turn : tie.In-loop Inv-loop μ-loop
-  turn = c .before .before
+  abbrev iteration : tie.In-loop Inv-loop μ-loop
+  iteration = c .before .before
 
   abbrev v : ℤ
-  v = A (start turn) *ℤ B turn
+  v = A (start iteration) *ℤ B iteration
 
   v-is : toZ w64 (ofZ w64 (c .product .result)) ≡ v
   v-is = answered (c .product .ok)
-      (c .product .ensures ∙ ap (λ z. A (start turn) *ℤ z) (second-is (c .before)))
+      (c .product .ensures ∙ ap (λ z. A (start iteration) *ℤ z) (second-is (c .before)))
 
 add-far : tie.Need-add-far Inv-loop μ-loop
-add-far c = let t = turn (c .before) in omega (arith, low (start t), within t)
+add-far c = let t = iteration (c .before) in omega (arith, low (start t), within t)
 
 near-in : (c : tie.After-apart Inv-loop μ-loop) → c .apart .result < 31
 near-in c =
-    let t = turn (c .before) in
+    let t = iteration (c .before) in
     let s = start t in
     near-inside _ _ _ _ (low s) (whole s) (small s) _ _ (place t .loop .inv) (t .loop-test .taken) _
     (c .apart .ensures)
@@ -118,13 +118,13 @@ element-copy-out-sum c = near-in c
 
 near-is : (c : tie.After-sum-arg Inv-loop μ-loop)
     → let a = c .before in
-    let z = getD (place (turn (a .before)) .loop .z) (a .apart .result) (pos 0) in toZ w64 (ofZ w64 z) ≡ z
+    let z = getD (place (iteration (a .before)) .loop .z) (a .apart .result) (pos 0) in toZ w64 (ofZ w64 z) ≡ z
 near-is c = toZ-ofZ (record { sfits = c .sum-arg .given })
 
 sum-requires : tie.Need-sum-requires Inv-loop μ-loop
 sum-requires c κs =
     let p = c .before .before in
-    let t = turn p in
+    let t = iteration p in
     let s = start t in
     rw (v-is p, near-is c)
     (near-room _ _ _ _ (low s) (whole s) (small s) _ _ (place t .loop .inv) (t .loop-test .taken) _
@@ -133,7 +133,7 @@ sum-requires c κs =
 x-is : (c : tie.After-sum Inv-loop μ-loop)
     → let a = c .before .before in
     toZ w64 (ofZ w64 (c .sum .result))
-    ≡ v (a .before) +ℤ getD (place (turn (a .before)) .loop .z) (a .apart .result) (pos 0)
+    ≡ v (a .before) +ℤ getD (place (iteration (a .before)) .loop .z) (a .apart .result) (pos 0)
 x-is c = answered (c .sum .ok)
     (c .sum .ensures ∙ ap₂ _+ℤ_ (v-is (c .before .before .before)) (near-is (c .before)))
 
@@ -147,15 +147,15 @@ far-in : (c : tie.In-loop Inv-loop μ-loop) → start c .args .i + degree c < 31
 far-in c = omega (arith, low (start c), within c)
 
 mul-sum-2 : tie.Need-mul-sum-2 Inv-loop μ-loop
-mul-sum-2 c = omega (arith, far-in (turn (c .before .before .before)))
+mul-sum-2 c = omega (arith, far-in (iteration (c .before .before .before)))
 
 element-copy-out-sum-2 : tie.Need-element-copy-out-sum-2 Inv-loop μ-loop
-element-copy-out-sum-2 c = far-in (turn (c .before .before .before))
+element-copy-out-sum-2 c = far-in (iteration (c .before .before .before))
 
 far-is : (c : tie.After-sum-arg2 Inv-loop μ-loop)
     → let x = c .before in
     let a = x .before .before in
-    let t = turn (a .before) in
+    let t = iteration (a .before) in
     let z = getD (set (place t .loop .z) (a .apart .result) (toZ w64 (ofZ w64 (x .sum .result))))
     (start t .args .i + degree t) (pos 0) in
     toZ w64 (ofZ w64 z) ≡ z
@@ -165,29 +165,29 @@ sum-requires-2 : tie.Need-sum-requires-2 Inv-loop μ-loop
 sum-requires-2 c κs =
     let x = c .before in
     let a = x .before .before in
-    let t = turn (a .before) in
+    let t = iteration (a .before) in
     let s = start t in
     rw (v-is (a .before), far-is c)
     (far-room _ _ _ _ (low s) (whole s) (small s) _ _ (place t .loop .inv) (t .loop-test .taken) _
     (a .apart .ensures) _ (x-is x))
 
 mul-y : tie.Need-mul-y Inv-loop μ-loop
-mul-y c = omega (arith, far-in (turn (c .before .before .before .before .before)))
+mul-y c = omega (arith, far-in (iteration (c .before .before .before .before .before)))
 
 element-set-from-y : tie.Need-element-set-from-y Inv-loop μ-loop
-element-set-from-y c = far-in (turn (c .before .before .before .before .before))
+element-set-from-y c = far-in (iteration (c .before .before .before .before .before))
 
 loop-less : tie.Need-loop-less Inv-loop μ-loop
-loop-less c = let t = turn (c .before .before .before .before .before) in omega (arith, t .loop-test .taken)
+loop-less c = let t = iteration (c .before .before .before .before .before) in omega (arith, t .loop-test .taken)
 
 loop-again : tie.Need-loop-again Inv-loop μ-loop
 loop-again c =
     let b = c .before in
     let x = b .before in
     let a = x .before .before in
-    let t = turn (a .before) in
+    let t = iteration (a .before) in
     let s = start t in
-    adding-turn _ _ _ _ (low s) (whole s) (small s) _ _ (place t .loop .inv) (t .loop-test .taken) _
+    adding-iteration _ _ _ _ (low s) (whole s) (small s) _ _ (place t .loop .inv) (t .loop-test .taken) _
     (a .apart .ensures) _ (x-is x) _
     (answered (c .sum2 .ok) (c .sum2 .ensures ∙ ap₂ _+ℤ_ (v-is (a .before)) (far-is b)))
 

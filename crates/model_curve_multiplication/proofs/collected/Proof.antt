@@ -10,7 +10,7 @@ use mir.Syntax.{w64}
 use mir.Val.{toZ, ofZ}
 use Rattle.chebyshev.specs.Coefficients.{Row, size, products-of}
 use Rattle.chebyshev.specs.CurveOperations.{products}
-use Rattle.model_curve_multiplication.specs.CollectLaws.{Collecting, collecting-first, collecting-turn}
+use Rattle.model_curve_multiplication.specs.CollectLaws.{Collecting, collecting-first, collecting-iteration}
 use Rattle.model_curve_multiplication.specs.CollectLaws.{collecting-end, collecting-room, sizes-product}
 use Rattle.model_curve_multiplication.proofs.collected.Statement.{statement}
 use Rattle.model_curve_multiplication.proofs.collected.Tie as tie
@@ -82,7 +82,7 @@ loop-again : tie.Need-loop-again Inv-loop μ-loop
 loop-again c =
     let a = c .before .before .before .before in
     let t = a .before in
-    collecting-turn _ _ (first-whole (start t)) (second-whole (start t)) (small (start t)) _ _ (place t .loop .inv)
+    collecting-iteration _ _ (first-whole (start t)) (second-whole (start t)) (small (start t)) _ _ (place t .loop .inv)
     (t .loop-test .taken) _
     (c .add-products .ensures
     ∙ ap (λ z. products-of (place t .loop .i - 1) z 0 (G (start t)) (place t .loop .z)) (first-is a))

@@ -14,7 +14,7 @@ use Rattle.chebyshev.specs.Coefficients.{Row, size}
 use Rattle.chebyshev.specs.CurveOperations.{swept, rounded}
 use Rattle.model_types.specs.CurveStruct.{pack-curve}
 use Rattle.model_curve_multiplication.specs.CollectLaws.{entry-le}
-use Rattle.model_curve_multiplication.specs.RoundLaws.{Rounding, rounding-first, rounding-turn, rounding-end}
+use Rattle.model_curve_multiplication.specs.RoundLaws.{Rounding, rounding-first, rounding-iteration, rounding-end}
 use Rattle.model_curve_multiplication.specs.RoundLaws.{rounding-length}
 use Rattle.model_curve_multiplication.specs.RoundLaws.{rounding-small, swept-le}
 use Rattle.model_curve_multiplication.proofs.rounded_degrees.Statement.{statement}
@@ -87,23 +87,23 @@ left-is c =
     let t = c .before .before in
     c .left-of .ensures ∙ ap (λ z. natAbs (z -ℤ nearest z (start t .args .d) *ℤ pos (start t .args .d))) (at-is t)
 
-turned : (c : tie.After-left-of Inv-loop μ-loop)
+iterated : (c : tie.After-left-of Inv-loop μ-loop)
     → let l = place (c .before .before) in
     let s = start (c .before .before) in
     Rounding (s .args .t1 .places) (s .args .d) (s .args .e)
     (set (l .loop .out) (l .loop .i) (toZ w64 (ofZ w64 (c .before .nearest-divided .result))))
     (l .loop .total + c .left-of .result)
     (l .loop .i + 1)
-turned c =
+iterated c =
     let t = c .before .before in
     let s = start t in
-    rounding-turn _ (whole s) _ _ (s .pre .1 .0) _ _ _ (place t .loop .inv) (inside t) _ _ (q-is (c .before))
+    rounding-iteration _ (whole s) _ _ (s .pre .1 .0) _ _ _ (place t .loop .inv) (inside t) _ _ (q-is (c .before))
     (left-is c)
 
 add-total-2 : tie.Need-add-total-2 Inv-loop μ-loop
 add-total-2 c =
     let s = start (c .before .before) in
-    omega (arith, rounding-small _ (whole s) _ _ (s .pre .1 .0) _ _ _ (turned c), s .pre .0)
+    omega (arith, rounding-small _ (whole s) _ _ (s .pre .1 .0) _ _ _ (iterated c), s .pre .0)
 
 mul-out : tie.Need-mul-out Inv-loop μ-loop
 mul-out c = omega (arith, inside (c .before .before))
@@ -118,7 +118,7 @@ loop-less : tie.Need-loop-less Inv-loop μ-loop
 loop-less c = omega (arith, inside (c .before .before))
 
 loop-again : tie.Need-loop-again Inv-loop μ-loop
-loop-again c = turned c
+loop-again c = iterated c
 
 divided-up-requires : tie.Need-divided-up-requires Inv-loop μ-loop
 divided-up-requires c κs = c .before .before .before .pre .1 .0

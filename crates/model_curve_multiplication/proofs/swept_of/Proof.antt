@@ -8,7 +8,8 @@ use lib.ListN.{length, getD, drop}
 use mir.Facts.{toZ-ofZ}
 use mir.Syntax.{w64}
 use mir.Val.{toZ, ofZ}
-use Rattle.model_curve_multiplication.specs.RoundLaws.{Sweeping, sweeping-first, sweeping-turn, sweeping-room}
+use Rattle.model_curve_multiplication.specs.RoundLaws.{Sweeping, sweeping-first, sweeping-iteration}
+use Rattle.model_curve_multiplication.specs.RoundLaws.{sweeping-room}
 use Rattle.model_curve_multiplication.specs.RoundLaws.{sweeping-end}
 use Rattle.model_curve_multiplication.proofs.swept_of.Statement.{statement}
 use Rattle.model_curve_multiplication.proofs.swept_of.Tie as tie
@@ -63,7 +64,7 @@ loop-less c = let l = c .before .before .before in omega (arith, l .loop .inv .a
 loop-again : tie.Need-loop-again Inv-loop μ-loop
 loop-again c =
     let l = c .before .before .before in
-    sweeping-turn _ (whole (l .before)) _ _ _ (l .loop .inv) (c .before .before .loop-test .taken) (size-is c)
+    sweeping-iteration _ (whole (l .before)) _ _ _ (l .loop .inv) (c .before .before .loop-test .taken) (size-is c)
 
 returns : tie.Need-returns Inv-loop μ-loop
 returns c =

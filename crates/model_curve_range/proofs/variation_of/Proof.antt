@@ -10,7 +10,7 @@ use mir.Syntax.{w64}
 use mir.Val.{toZ, ofZ}
 use Rattle.chebyshev.specs.CurveOperations.{variation}
 use Rattle.model_types.specs.CurveStruct.{view-curve}
-use Rattle.model_curve_range.specs.CurveRangeLaws.{Gathered, gathered-first, gathered-turn, gathered-room}
+use Rattle.model_curve_range.specs.CurveRangeLaws.{Gathered, gathered-first, gathered-iteration, gathered-room}
 use Rattle.model_curve_range.specs.CurveRangeLaws.{gathered-end, sizes-small, drop-le}
 use Rattle.model_curve_range.proofs.variation_of.Statement.{statement}
 use Rattle.model_curve_range.proofs.variation_of.Tie as tie
@@ -65,7 +65,7 @@ loop-less c = let l = c .before .before .before in omega (arith, l .loop .inv .a
 loop-again : tie.Need-loop-again Inv-loop μ-loop
 loop-again c =
     let l = c .before .before .before in
-    gathered-turn _ (whole (l .before)) _ _ _ (l .loop .inv) (c .before .before .loop-test .taken) (size-is c)
+    gathered-iteration _ (whole (l .before)) _ _ _ (l .loop .inv) (c .before .before .loop-test .taken) (size-is c)
 
 total-is : (c : tie.After-loop Inv-loop μ-loop)
     → c .before .loop .total + c .before .before .args .t1 .radius

@@ -10,7 +10,7 @@ use mir.Syntax.{w64}
 use mir.Val.{toZ, ofZ}
 use Rattle.fixed.specs.MachineLaws.{answered}
 use Rattle.chebyshev.specs.Coefficients.{Row, sum, scale, size}
-use Rattle.model_curve_rows.specs.SmallRowsLaws.{Scaling, scaling-first, scaling-turn, scaling-end}
+use Rattle.model_curve_rows.specs.SmallRowsLaws.{Scaling, scaling-first, scaling-iteration, scaling-end}
 use Rattle.model_curve_rows.specs.SmallRowsLaws.{place-inside, part-room, sum-room}
 use Rattle.model_curve_rows.proofs.add_scaled.Statement.{statement}
 use Rattle.model_curve_rows.proofs.add_scaled.Tie as tie
@@ -81,46 +81,46 @@ product-requires c κs =
     (part-room _ _ _ (long s) (whole s) (small s) _ _ (place t .loop .inv) (t .loop-test .taken))
 
 module _ (c : tie.After-product Inv-loop μ-loop) where
-  abbrev turn : tie.In-loop Inv-loop μ-loop
-  turn = c .before .before
+  abbrev iteration : tie.In-loop Inv-loop μ-loop
+  iteration = c .before .before
 
-  part-is : toZ w64 (ofZ w64 (c .product .result)) ≡ C (start turn) *ℤ B turn
+  part-is : toZ w64 (ofZ w64 (c .product .result)) ≡ C (start iteration) *ℤ B iteration
   part-is = answered (c .product .ok)
-      (c .product .ensures ∙ ap (λ z. C (start turn) *ℤ z) (second-is (c .before)))
+      (c .product .ensures ∙ ap (λ z. C (start iteration) *ℤ z) (second-is (c .before)))
 
 mul-sum : tie.Need-mul-sum Inv-loop μ-loop
-mul-sum c = omega (arith, within (turn c))
+mul-sum c = omega (arith, within (iteration c))
 
 element-copy-out-sum : tie.Need-element-copy-out-sum Inv-loop μ-loop
-element-copy-out-sum c = within (turn c)
+element-copy-out-sum c = within (iteration c)
 
 there-is : (c : tie.After-sum-arg Inv-loop μ-loop)
-    → let p = place (turn (c .before)) in
+    → let p = place (iteration (c .before)) in
     let z = getD (p .loop .total) (p .loop .j - 1) (pos 0) in toZ w64 (ofZ w64 z) ≡ z
 there-is c = toZ-ofZ (record { sfits = c .sum-arg .given })
 
 sum-requires : tie.Need-sum-requires Inv-loop μ-loop
 sum-requires c κs =
-    let t = turn (c .before) in
+    let t = iteration (c .before) in
     let s = start t in
     rw (part-is (c .before), there-is c)
     (sum-room _ _ _ (long s) (whole s) (small s) _ _ (place t .loop .inv) (t .loop-test .taken))
 
 mul-x : tie.Need-mul-x Inv-loop μ-loop
-mul-x c = omega (arith, within (turn (c .before .before)))
+mul-x c = omega (arith, within (iteration (c .before .before)))
 
 element-set-from-x : tie.Need-element-set-from-x Inv-loop μ-loop
-element-set-from-x c = within (turn (c .before .before))
+element-set-from-x c = within (iteration (c .before .before))
 
 loop-less : tie.Need-loop-less Inv-loop μ-loop
-loop-less c = let t = turn (c .before .before) in omega (arith, t .loop-test .taken)
+loop-less c = let t = iteration (c .before .before) in omega (arith, t .loop-test .taken)
 
 loop-again : tie.Need-loop-again Inv-loop μ-loop
 loop-again c =
     let p = c .before .before in
-    let t = turn p in
+    let t = iteration p in
     let s = start t in
-    scaling-turn _ _ _ (long s) (whole s) (small s) _ _ (place t .loop .inv) (t .loop-test .taken) _
+    scaling-iteration _ _ _ (long s) (whole s) (small s) _ _ (place t .loop .inv) (t .loop-test .taken) _
     (answered (c .sum .ok) (c .sum .ensures ∙ ap₂ _+ℤ_ (part-is p) (there-is (c .before))))
 
 returns : tie.Need-returns Inv-loop μ-loop

@@ -11,7 +11,7 @@ use mir.Syntax.{w64}
 use mir.Val.{toZ, ofZ}
 use Rattle.chebyshev.specs.Coefficients.{Row, sum, scale, size}
 use Rattle.model_curve_rows.specs.SmallRows.{rows-small}
-use Rattle.model_curve_rows.specs.SmallRowsLaws.{Combining, combining-first, combining-turn, combining-end}
+use Rattle.model_curve_rows.specs.SmallRowsLaws.{Combining, combining-first, combining-iteration, combining-end}
 use Rattle.model_curve_rows.specs.SmallRowsLaws.{row-inside, row-long, row-room}
 use Rattle.model_curve_rows.proofs.combine_rows.Statement.{statement}
 use Rattle.model_curve_rows.proofs.combine_rows.Tie as tie
@@ -87,7 +87,7 @@ loop-again c =
     let a = c .before .before .before in
     let t = a .before in
     let s = start t in
-    combining-turn _ _ (whole s) (small s) (fit s) _ _ (place t .loop .inv) (t .loop-test .taken) _
+    combining-iteration _ _ (whole s) (small s) (fit s) _ _ (place t .loop .inv) (t .loop-test .taken) _
     (c .add-scaled .ensures
     ∙ ap (λ z. sum (scale z (getD (s .args .rows .now) (place t .loop .k - 1) [])) (place t .loop .total)) (c-is a))
 

@@ -15,7 +15,8 @@ use Rattle.model_types.specs.ResultLaws.{sound-order}
 use Rattle.product_room.specs.ProductTermsLaws.{free-room}
 use Rattle.cuts.specs.Cuts.{smaller, larger, most-depth}
 use Rattle.model_cut_pieces.specs.PieceStructLaws.{few-pieces}
-use Rattle.model_cuts.specs.CoveredLaws.{Covered, first-refused, first-accepted, turn-refused, turn-accepted}
+use Rattle.model_cuts.specs.CoveredLaws.{Covered, first-refused, first-accepted, iteration-refused}
+use Rattle.model_cuts.specs.CoveredLaws.{iteration-accepted}
 use Rattle.model_cuts.specs.CoveredLaws.{covered-end}
 use Rattle.model_cuts.proofs.cut.Statement.{statement}
 use Rattle.model_cuts.proofs.cut.Tie as tie
@@ -28,7 +29,7 @@ Inv-loop d i k f slots₀ keys₀ sums₀ whole pieces low₀ high₀ j₀ slots
 abbrev μ-loop : tie.MeasureT-loop
 μ-loop d i k f slots₀ keys₀ sums₀ whole pieces low₀ high₀ j₀ slots keys sums low high j = pieces - j
 
--- behind the first piece
+-- after the first piece
 module _ (c : tie.After-piece-range Inv-loop μ-loop) where
   abbrev start : tie.Start Inv-loop μ-loop
   start = c .before .before .before .before .before .before .before
@@ -62,13 +63,13 @@ module _ (c : tie.At-loop Inv-loop μ-loop) where
   sums-kept : length (c .loop .sums) ≡ length (entry .args .sums .now)
   sums-kept = c .loop .inv .3 ∙ sums-long first
 
--- behind the piece of a turn
+-- after the piece of an iteration
 module _ (c : tie.After-piece-range2 Inv-loop μ-loop) where
-  abbrev turn : tie.At-loop Inv-loop μ-loop
-  turn = c .before .before .before .before .before
+  abbrev iteration : tie.At-loop Inv-loop μ-loop
+  iteration = c .before .before .before .before .before
 
-  inside : turn .loop .j < 2 ^ entry turn .args .k
-  inside = omega (arith, c .before .before .before .before .loop-test .taken, count-is turn)
+  inside : iteration .loop .j < 2 ^ entry iteration .args .k
+  inside = omega (arith, c .before .before .before .before .loop-test .taken, count-is iteration)
 
 range-of-requires : tie.Need-range-of-requires Inv-loop μ-loop
 range-of-requires c κs =
@@ -144,23 +145,23 @@ enum-told-4 c = search needs
 same-length-4 : tie.Need-same-length-4 Inv-loop μ-loop
 same-length-4 c =
     let p = c .before .before .before .before .before .before .before in
-    p .piece-range2 .kept .1 .1 .1 .1 .1 .0 ∙ slots-kept (turn p)
+    p .piece-range2 .kept .1 .1 .1 .1 .1 .0 ∙ slots-kept (iteration p)
 
 same-length-5 : tie.Need-same-length-5 Inv-loop μ-loop
 same-length-5 c =
     let p = c .before .before .before .before .before .before .before in
-    p .piece-range2 .kept .1 .1 .1 .1 .1 .1 .0 ∙ keys-kept (turn p)
+    p .piece-range2 .kept .1 .1 .1 .1 .1 .1 .0 ∙ keys-kept (iteration p)
 
 same-length-6 : tie.Need-same-length-6 Inv-loop μ-loop
 same-length-6 c =
     let p = c .before .before .before .before .before .before .before in
-    p .piece-range2 .kept .1 .1 .1 .1 .1 .1 .1 .0 ∙ sums-kept (turn p)
+    p .piece-range2 .kept .1 .1 .1 .1 .1 .1 .1 .0 ∙ sums-kept (iteration p)
 
 returns-2 : tie.Need-returns-2 Inv-loop μ-loop
 returns-2 c =
     let p = c .before .before .before .before .before .before .before in
-    let s = entry (turn p) in
-    turn-refused (s .args .d) (s .args .i) (s .args .k) (view (s .args .f)) (turn p .loop .inv .0) (inside p)
+    let s = entry (iteration p) in
+    iteration-refused (s .args .d) (s .args .i) (s .args .k) (view (s .args .f)) (iteration p .loop .inv .0) (inside p)
     (p .piece-range2 .ensures .0) (c .enum-told4 .given .1)
 
 smaller-requires : tie.Need-smaller-requires Inv-loop μ-loop
@@ -172,21 +173,21 @@ larger-requires c κs = search needs
 add-j : tie.Need-add-j Inv-loop μ-loop
 add-j c =
     let p = c .before .before .before .before .before .before .before .before .before .before .before in
-    let s = entry (turn p) in
+    let s = entry (iteration p) in
     omega (arith, inside p, few-pieces (s .args .k) (s .pre .0 .depth))
 
 loop-less : tie.Need-loop-less Inv-loop μ-loop
 loop-less c =
     let p = c .before .before .before .before .before .before .before .before .before .before .before in
-    omega (arith, inside p, count-is (turn p))
+    omega (arith, inside p, count-is (iteration p))
 
 loop-again : tie.Need-loop-again Inv-loop μ-loop
 loop-again c =
     let p = c .before .before .before .before .before .before .before .before .before .before .before in
-    let l = turn p in
+    let l = iteration p in
     let s = entry l in
     let told = c .before .before .before .before .enum-told3 .given .1 in
-    let h = turn-accepted (s .args .d) (s .args .i) (s .args .k) (view (s .args .f)) (l .loop .inv .0) (inside p)
+    let h = iteration-accepted (s .args .d) (s .args .i) (s .args .k) (view (s .args .f)) (l .loop .inv .0) (inside p)
     (p .piece-range2 .ensures .0) told in
     let low = c .before .before .smaller in
     let high = c .larger in

@@ -1,4 +1,4 @@
--- `model_of` puts the three terms one behind the other.
+-- `model_of` puts the three terms one after the other.
 use mathlib.Core.Path.{_≡_, refl, _∙_, ap}
 use Prim.Native.Nat.{_≤_}
 use native.Mathlib.Omega.{arith}

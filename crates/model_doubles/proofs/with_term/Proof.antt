@@ -1,4 +1,4 @@
--- `with_term` stores a term behind the others, unless its coefficient is 0.
+-- `with_term` stores a term after the others, unless its coefficient is 0.
 use mathlib.Core.Path.{_∙_, ap}
 use Prim.Native.Nat.{_+_}
 use native.Mathlib.Omega.{arith}

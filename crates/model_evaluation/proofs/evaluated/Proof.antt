@@ -1,4 +1,4 @@
--- `evaluated` puts in one coordinate after the other: what is left at each turn leads to the answer.
+-- `evaluated` puts in one coordinate after the other: what is left at each iteration leads to the answer.
 use mathlib.Core.Path.{_≡_, refl, sym, subst}
 use mathlib.Core.List.{List}
 use Prim.Native.Nat.{ℕ, _+_, _-_, _≤_}
@@ -21,8 +21,8 @@ use Rattle.model_limits.specs.Limits.{Left-in}
 use Rattle.model_evaluation.specs.Evaluate.{Evaluation, Put-of, Put-in}
 use Rattle.model_evaluation.specs.EvaluationLaws.{Remaining}
 use Rattle.model_evaluation.specs.SliceEvaluationLaws.{held-evaluation, held-end}
-use Rattle.model_evaluation.specs.SliceEvaluationLaws.{remaining-start, left-few, put-of, turn-refused}
-use Rattle.model_evaluation.specs.SliceEvaluationLaws.{turn-accepted}
+use Rattle.model_evaluation.specs.SliceEvaluationLaws.{remaining-start, left-few, put-of, iteration-refused}
+use Rattle.model_evaluation.specs.SliceEvaluationLaws.{iteration-accepted}
 use Rattle.model_evaluation.specs.SliceEvaluationLaws.{end-sound, range-end}
 use Rattle.model_evaluation.proofs.evaluated.Statement.{statement}
 use Rattle.model_evaluation.proofs.evaluated.Tie as tie
@@ -67,7 +67,7 @@ loop-holds c =
     let s = c .before .before in
     (remaining-start _ _ _ _ _ (evaluation s) (long s), first-room s, zeros-room, zeros-room, zeros-room)
 
--- ---- a turn
+-- ---- an iteration
 abbrev start : tie.At-loop Inv-loop μ-loop → tie.Start Inv-loop μ-loop
 start l = l .before .before .before
 
@@ -89,22 +89,22 @@ array-copy-out-x c = omega (arith, small c, c .before .loop .inv .0 .first)
 
 -- the coordinate at hand
 module _ (c : tie.After-x Inv-loop μ-loop) where
-  abbrev turn : tie.At-loop Inv-loop μ-loop
-  turn = c .before .before
+  abbrev iteration : tie.At-loop Inv-loop μ-loop
+  iteration = c .before .before
 
-  inside : turn .loop .i ≤ start turn .args .m .n
+  inside : iteration .loop .i ≤ start iteration .args .m .n
   inside = omega (arith, c .before .loop-test .taken)
 
   abbrev X : ℤ
-  X = getD (start turn .args .t2) (turn .loop .i - 1) (pos 0)
+  X = getD (start iteration .args .t2) (iteration .loop .i - 1) (pos 0)
 
   read-back : toZ w64 (ofZ w64 X) ≡ X
   read-back = toZ-ofZ (record { sfits = c .x .given })
 
-  abbrev given : Put-of (turn .loop .i) X (turn .loop .count) (turn .loop .radius) (turn .loop .keys)
-      (turn .loop .coefficients)
-  given = put-of _ _ _ _ _ (evaluation (start turn)) (long (start turn)) _ _ _ _ (turn .loop .inv .0) inside
-      (turn .loop .inv .1)
+  abbrev given : Put-of (iteration .loop .i) X (iteration .loop .count) (iteration .loop .radius)
+      (iteration .loop .keys) (iteration .loop .coefficients)
+  given = put-of _ _ _ _ _ (evaluation (start iteration)) (long (start iteration)) _ _ _ _
+      (iteration .loop .inv .0) inside (iteration .loop .inv .1)
 
 slice-aggregate-put-constant : tie.Need-slice-aggregate-put-constant Inv-loop μ-loop
 slice-aggregate-put-constant c = search needs
@@ -133,7 +133,7 @@ slice-aggregate-put-constant-8 c = search needs
 put-constant-requires : tie.Need-put-constant-requires Inv-loop μ-loop
 put-constant-requires c κs =
     let x = c .before .before .before .before .before .before .before .before in
-    let l = turn x in (
+    let l = iteration x in (
       subst (λ z. Put-of (l .loop .i) z (l .loop .count) (l .loop .radius) (l .loop .keys) (l .loop .coefficients))
           (sym (read-back x)) (given x),
       (l .loop .inv .2, (l .loop .inv .3, l .loop .inv .4)),
@@ -152,40 +152,41 @@ module _ (c : tie.After-put-constant Inv-loop μ-loop) where
 
   left-room : Room left-keys lefts
   left-room = record {
-    keys = let a = turn at .loop .inv .2 .keys in search needs;
-    coefficients = let a = turn at .loop .inv .2 .coefficients in search needs;
+    keys = let a = iteration at .loop .inv .2 .keys in search needs;
+    coefficients = let a = iteration at .loop .inv .2 .coefficients in search needs;
   }
 
   others-room : Room (c .put-constant .last .1 .1 .1 .1 .1 .1 .1 .1 .0)
       (c .put-constant .last .1 .1 .1 .1 .1 .1 .1 .1 .1 .0)
   others-room = record {
-    keys = let a = turn at .loop .inv .3 .keys in search needs;
-    coefficients = let a = turn at .loop .inv .3 .coefficients in search needs;
+    keys = let a = iteration at .loop .inv .3 .keys in search needs;
+    coefficients = let a = iteration at .loop .inv .3 .coefficients in search needs;
   }
 
   spare-room : Room (c .put-constant .last .1 .1 .1 .1 .1 .1 .1 .1 .1 .1 .0)
       (c .put-constant .last .1 .1 .1 .1 .1 .1 .1 .1 .1 .1 .1 .0)
   spare-room = record {
-    keys = let a = turn at .loop .inv .4 .keys in search needs;
-    coefficients = let a = turn at .loop .inv .4 .coefficients in search needs;
+    keys = let a = iteration at .loop .inv .4 .keys in search needs;
+    coefficients = let a = iteration at .loop .inv .4 .coefficients in search needs;
   }
 
   put-is : Left-in (given at .vars) (c .put-constant .result) left-keys lefts (answer (at-place 0
-      (substitute most-degree (turn at .loop .i) (view (held (given at .vars) (turn at .loop .count)
-      (turn at .loop .radius) (turn at .loop .keys) (turn at .loop .coefficients)))
+      (substitute most-degree (iteration at .loop .i) (view (held (given at .vars) (iteration at .loop .count)
+      (iteration at .loop .radius) (iteration at .loop .keys) (iteration at .loop .coefficients)))
       (constant (given at .vars) (X at)))))
-  put-is = subst (λ z. Put-in (turn at .loop .i) z (turn at .loop .count) (turn at .loop .radius) (turn at .loop .keys)
-      (turn at .loop .coefficients) (c .put-constant .result) left-keys lefts) (read-back at) (c .put-constant .ensures)
-      (given at)
+  put-is = subst (λ z. Put-in (iteration at .loop .i) z (iteration at .loop .count) (iteration at .loop .radius)
+      (iteration at .loop .keys)
+      (iteration at .loop .coefficients) (c .put-constant .result) left-keys lefts) (read-back at)
+      (c .put-constant .ensures) (given at)
 
   goes-on : c .put-constant .result .verdict ≡ Accepted
-      → Remaining (held (start (turn at) .args .m .n) (start (turn at) .args .m .count)
-      (start (turn at) .args .m .radius) (start (turn at) .args .m .keys) (start (turn at) .args .m .coefficients))
-      (start (turn at) .args .t2)
-      (turn at .loop .i + 1) (held (start (turn at) .args .m .n) (c .put-constant .result .count)
+      → Remaining (held (start (iteration at) .args .m .n) (start (iteration at) .args .m .count)
+      (start (iteration at) .args .m .radius) (start (iteration at) .args .m .keys)
+      (start (iteration at) .args .m .coefficients)) (start (iteration at) .args .t2)
+      (iteration at .loop .i + 1) (held (start (iteration at) .args .m .n) (c .put-constant .result .count)
       (c .put-constant .result .radius) left-keys lefts)
-  goes-on v = turn-accepted _ _ _ _ _ (evaluation (start (turn at))) (long (start (turn at))) _ _ _ _
-      (turn at .loop .inv .0) (inside at) _ _ put-is v
+  goes-on v = iteration-accepted _ _ _ _ _ (evaluation (start (iteration at))) (long (start (iteration at))) _ _ _ _
+      (iteration at .loop .inv .0) (inside at) _ _ put-is v
 
 enum-told : tie.Need-enum-told Inv-loop μ-loop
 enum-told c = search needs
@@ -197,9 +198,9 @@ returns : tie.Need-returns Inv-loop μ-loop
 returns c =
     let p = c .before .before .before .before .before .before .before .before in
     let x = at p in
-    let s = start (turn x) in
+    let s = start (iteration x) in
     held-end (s .args .m) (first-room s) (few s) (s .args .t2)
-    (turn-refused _ _ _ _ _ (evaluation s) (long s) _ _ _ _ (turn x .loop .inv .0) (inside x) _ _ (put-is p)
+    (iteration-refused _ _ _ _ _ (evaluation s) (long s) _ _ _ _ (iteration x .loop .inv .0) (inside x) _ _ (put-is p)
     (c .enum-told2 .given .1))
 
 slice-aggregate-copied : tie.Need-slice-aggregate-copied Inv-loop μ-loop
@@ -218,9 +219,9 @@ copied-requires : tie.Need-copied-requires Inv-loop μ-loop
 copied-requires c κs =
     let v = c .before .before .before .before in
     let p = v .before .before .before .before .before .before .before .before in
-    let s = start (turn (at p)) in (
+    let s = start (iteration (at p)) in (
       (left-few _ _ _ _ _ (evaluation s) (long s) _ _ _ _ (goes-on p (v .enum-told .given .1)), left-room p),
-      turn (at p) .loop .inv .1,
+      iteration (at p) .loop .inv .1,
     )
 
 add-i : tie.Need-add-i Inv-loop μ-loop
@@ -229,15 +230,15 @@ add-i c =
     let p = v .before .before .before .before .before .before .before .before in
     omega (arith, small (at p .before))
 
--- the slices of the next turn
+-- the slices of the next iteration
 copied-room : (c : tie.After-copied Inv-loop μ-loop)
     → Room (c .copied .last .1 .1 .1 .0) (c .copied .last .1 .1 .1 .1 .0)
 copied-room c =
     let v = c .before .before .before .before .before in
     let p = v .before .before .before .before .before .before .before .before in
     record {
-      keys = let a = turn (at p) .loop .inv .1 .keys in search needs;
-      coefficients = let a = turn (at p) .loop .inv .1 .coefficients in search needs;
+      keys = let a = iteration (at p) .loop .inv .1 .keys in search needs;
+      coefficients = let a = iteration (at p) .loop .inv .1 .coefficients in search needs;
     }
 
 loop-less : tie.Need-loop-less Inv-loop μ-loop
@@ -252,10 +253,10 @@ loop-again c =
     let v = d .before .before .before .before .before in
     let p = v .before .before .before .before .before .before .before .before in
     let x = at p in
-    let s = start (turn x) in
+    let s = start (iteration x) in
     let m = s .args .m in (
       subst (Remaining (held (m .n) (m .count) (m .radius) (m .keys) (m .coefficients)) (s .args .t2)
-          (turn x .loop .i + 1)) (sym (d .copied .ensures _ _)) (goes-on p (v .enum-told .given .1)),
+          (iteration x .loop .i + 1)) (sym (d .copied .ensures _ _)) (goes-on p (v .enum-told .given .1)),
       copied-room d,
       left-room p,
       others-room p,

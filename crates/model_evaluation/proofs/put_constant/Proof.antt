@@ -1,4 +1,4 @@
--- `put_constant` goes down the powers of a variable: what is left at each turn leads to the answer.
+-- `put_constant` goes down the powers of a variable: what is left at each iteration leads to the answer.
 use mathlib.Core.Path.{_≡_, sym, subst}
 use mathlib.Core.List.{List}
 use Prim.Native.Nat.{ℕ, _-_, _<_}
@@ -13,8 +13,9 @@ use Rattle.model_types.specs.ModelStruct.{view, pack}
 use Rattle.model_slices.specs.HeldModels.{held, Room}
 use Rattle.model_evaluation.specs.Evaluate.{Put-of, Put-in}
 use Rattle.model_evaluation.specs.PutCoordinateLaws as P
-use Rattle.model_evaluation.specs.SliceTurnLaws.{put-keys, put-part, put-first, put-few, put-turning, put-stops}
-use Rattle.model_evaluation.specs.SliceTurnLaws.{put-goes-on, put-packed, put-end}
+use Rattle.model_evaluation.specs.SliceIterationLaws.{put-keys, put-part, put-first, put-few, put-iterating}
+use Rattle.model_evaluation.specs.SliceIterationLaws.{put-stops}
+use Rattle.model_evaluation.specs.SliceIterationLaws.{put-goes-on, put-packed, put-end}
 use Rattle.model_evaluation.proofs.put_constant.Statement.{statement}
 use Rattle.model_evaluation.proofs.put_constant.Tie as tie
 
@@ -53,7 +54,7 @@ part-requires c κs =
     let s = c .before .before .before .before .before .before .before in
     (put-part (given s), s .pre .1 .0)
 
--- ---- before the first turn
+-- ---- before the first iteration
 module _ (c : tie.After-part Inv-loop μ-loop) where
   abbrev found : tie.After-largest-exponent Inv-loop μ-loop
   found = c .before .before .before
@@ -83,7 +84,7 @@ loop-holds c =
       λ w. put-first w (found p .largest-exponent .ensures (put-keys w)) _ _ _ (p .part .ensures .0 (put-part w)),
     )
 
--- ---- a turn
+-- ---- an iteration
 abbrev start : tie.At-loop Inv-loop μ-loop → tie.Start Inv-loop μ-loop
 start l = begin (l .before .before .before .before)
 
@@ -97,11 +98,11 @@ part-requires-2 c κs =
 
 -- the terms of the next power
 module _ (c : tie.After-part2 Inv-loop μ-loop) where
-  abbrev turn : tie.In-loop Inv-loop μ-loop
-  turn = c .before .before .before
+  abbrev iteration : tie.In-loop Inv-loop μ-loop
+  iteration = c .before .before .before
 
   abbrev loop : tie.At-loop Inv-loop μ-loop
-  loop = turn .before
+  loop = iteration .before
 
   abbrev next-keys : List ℕ
   next-keys = c .part2 .last .1 .1 .1 .1 .1 .0
@@ -116,7 +117,7 @@ module _ (c : tie.After-part2 Inv-loop μ-loop) where
   }
 
   some : 0 < loop .loop .k
-  some = omega (arith, turn .loop-test .taken)
+  some = omega (arith, iteration .loop-test .taken)
 
   module _ (w : Given (start loop)) where
     next-is : held (w .vars) (c .part2 .result) 0 next-keys nexts
@@ -124,15 +125,15 @@ module _ (c : tie.After-part2 Inv-loop μ-loop) where
         (start loop .args .radius) (start loop .args .keys .now) (start loop .args .coefficients .now))))
     next-is = c .part2 .ensures .0 (put-part w)
 
-put-turn-requires : tie.Need-put-turn-requires Inv-loop μ-loop
-put-turn-requires c κs =
+put-iteration-requires : tie.Need-put-iteration-requires Inv-loop μ-loop
+put-iteration-requires c κs =
     let p = c .before .before .before .before .before .before .before .before .before in
     let l = loop p in
     let w = given (start l) in
-    (put-turning w _ _ _ _ (l .loop .inv .3 w) _ _ _ (next-is p w) (l .loop .inv .0) (next-room p), l .loop .inv .2)
+    (put-iterating w _ _ _ _ (l .loop .inv .3 w) _ _ _ (next-is p w) (l .loop .inv .0) (next-room p), l .loop .inv .2)
 
--- what the turn leaves
-module _ (c : tie.After-put-turn Inv-loop μ-loop) where
+-- what the iteration leaves
+module _ (c : tie.After-put-iteration Inv-loop μ-loop) where
   abbrev before-it : tie.After-part2 Inv-loop μ-loop
   before-it = c .before .before .before .before .before .before .before .before .before .before
 
@@ -140,10 +141,10 @@ module _ (c : tie.After-put-turn Inv-loop μ-loop) where
   at = loop before-it
 
   abbrev left-keys : List ℕ
-  left-keys = c .put-turn .last .1 .1 .1 .0
+  left-keys = c .put-iteration .last .1 .1 .1 .0
 
   abbrev lefts : List ℤ
-  lefts = c .put-turn .last .1 .1 .1 .1 .0
+  lefts = c .put-iteration .last .1 .1 .1 .1 .0
 
   left-room : Room left-keys lefts
   left-room = record {
@@ -151,7 +152,8 @@ module _ (c : tie.After-put-turn Inv-loop μ-loop) where
     coefficients = let a = at .loop .inv .0 .coefficients in search needs;
   }
 
-  spare-room : Room (c .put-turn .last .1 .1 .1 .1 .1 .1 .1 .1 .0) (c .put-turn .last .1 .1 .1 .1 .1 .1 .1 .1 .1 .0)
+  spare-room : Room (c .put-iteration .last .1 .1 .1 .1 .1 .1 .1 .1 .0)
+      (c .put-iteration .last .1 .1 .1 .1 .1 .1 .1 .1 .1 .0)
   spare-room = record {
     keys = let a = at .loop .inv .2 .keys in search needs;
     coefficients = let a = at .loop .inv .2 .coefficients in search needs;
@@ -206,9 +208,9 @@ returns c =
     let l = at t in
     let s = start l in
     subst (λ z. Put-in (s .args .i) z (s .args .count) (s .args .radius) (s .args .keys .now)
-    (s .args .coefficients .now) (t .put-turn .result) (left-keys t) (lefts t))
+    (s .args .coefficients .now) (t .put-iteration .result) (left-keys t) (lefts t))
     (back s) (λ w. put-stops w _ _ _ _ (l .loop .inv .3 w) _ _ _ (next-is p w) (some p) _ _
-    (t .put-turn .ensures (put-turning w _ _ _ _ (l .loop .inv .3 w) _ _ _ (next-is p w) (l .loop .inv .0)
+    (t .put-iteration .ensures (put-iterating w _ _ _ _ (l .loop .inv .3 w) _ _ _ (next-is p w) (l .loop .inv .0)
     (next-room p))) (c .enum-told2 .given .1))
 
 loop-less : tie.Need-loop-less Inv-loop μ-loop
@@ -225,7 +227,7 @@ loop-again c =
       next-room p,
       spare-room t,
       λ w. put-goes-on w _ _ _ _ (l .loop .inv .3 w) _ _ _ (next-is p w) (some p) _ _
-          (t .put-turn .ensures (put-turning w _ _ _ _ (l .loop .inv .3 w) _ _ _ (next-is p w) (l .loop .inv .0)
+          (t .put-iteration .ensures (put-iterating w _ _ _ _ (l .loop .inv .3 w) _ _ _ (next-is p w) (l .loop .inv .0)
           (next-room p))) (c .enum-told .given .1),
     )
 
@@ -296,7 +298,7 @@ put-constant-spec =
     loop-holds
     sub-k
     part-requires-2
-    put-turn-requires
+    put-iteration-requires
     enum-told
     enum-told-2
     same-length

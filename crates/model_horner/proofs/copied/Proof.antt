@@ -41,7 +41,7 @@ shared-slice-copy-out-c c =
     let s = c .before .before .before in
     omega (arith, s .pre .0 .0, s .pre .0 .1 .coefficients)
 
--- a turn
+-- an iteration
 module _ (c : tie.After-c Inv-loop μ-loop) where
   abbrev loop : tie.At-loop Inv-loop μ-loop
   loop = c .before .before .before

@@ -8,14 +8,15 @@ use Rattle.model_keys.specs.KeyShiftLaws.{bits-small, exponent-shifted}
 use Rattle.model_keys.proofs.exponent_of.Statement.{statement}
 use Rattle.model_keys.proofs.exponent_of.Tie as tie
 
-behind-requires : tie.Need-behind-requires
-behind-requires c κs = search needs
+bits-after-requires : tie.Need-bits-after-requires
+bits-after-requires c κs = search needs
 
 shr-result : tie.Need-shr-result
-shr-result c = bits-small _ (c .before .pre) _ (c .behind .ensures)
+shr-result c = bits-small _ (c .before .pre) _ (c .bits-after .ensures)
 
 returns : tie.Need-returns
-returns c = exponent-shifted _ (c .before .pre) _ (c .behind .ensures) (c .before .args .key) (word-key _ (omega arith))
+returns c = exponent-shifted _ (c .before .pre) _ (c .bits-after .ensures) (c .before .args .key)
+    (word-key _ (omega arith))
 
 pub exponent-of-spec : {M : Type 1} → statement M
-exponent-of-spec = tie.close (tie.spec behind-requires shr-result returns)
+exponent-of-spec = tie.close (tie.spec bits-after-requires shr-result returns)

@@ -1,4 +1,4 @@
--- `wide_key` puts the degree behind the exponents.
+-- `wide_key` puts the degree after the exponents.
 use mathlib.Core.Path.{sym, subst}
 use Prim.Native.Nat.{_/_, _%_, _^_, _<_}
 use native.Mathlib.Omega.{arith}

@@ -13,7 +13,7 @@ use Rattle.numbers.specs.Fixed.{capped}
 use Rattle.calculus.specs.Model.{most-terms}
 use Rattle.model_slices.specs.HeldModels.{held, Room}
 use Rattle.model_limits.specs.LimitLaws.{Summed}
-use Rattle.model_limits.specs.SpanPassLaws.{span-first, span-turn, span-end}
+use Rattle.model_limits.specs.SpanPassLaws.{span-first, span-iteration, span-end}
 use Rattle.model_limits.proofs.within.Statement.{statement}
 use Rattle.model_limits.proofs.within.Tie as tie
 
@@ -59,8 +59,8 @@ loop-again : tie.Need-loop-again Inv-loop μ-loop
 loop-again c =
     let t = c .before .before in
     let l = t .before .before in λ n ks r.
-    span-turn n _ _ ks _ r (few (l .before)) _ _ _ (l .loop .inv n ks r) (omega (arith, t .before .loop-test .taken))
-    (c .capped-sum .ensures
+    span-iteration n _ _ ks _ r (few (l .before)) _ _ _ (l .loop .inv n ks r)
+    (omega (arith, t .before .loop-test .taken)) (c .capped-sum .ensures
     ∙ ap (λ x. capped (l .loop .span + x)) (c .before .magnitude .ensures ∙ ap natAbs (read-back t)))
 
 within-span-requires : tie.Need-within-span-requires Inv-loop μ-loop

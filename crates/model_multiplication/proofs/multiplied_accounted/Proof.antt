@@ -23,8 +23,8 @@ slice-aggregate-multiplied-slices-accounted-2 c = search needs
 
 multiplied-slices-accounted-requires : tie.Need-multiplied-slices-accounted-requires
 multiplied-slices-accounted-requires c κs =
-    let lent = c .before .before .before .before .before .before .before .before .before .before in
-    let s = lent .before .before .before .before .before in
+    let borrowed = c .before .before .before .before .before .before .before .before .before .before in
+    let s = borrowed .before .before .before .before .before in
     let wf = first-whole s in
     let wg = second-whole s in
     let h = s .pre .0 in
@@ -42,8 +42,8 @@ same-length-3 c = search needs
 returns : tie.Need-returns
 returns c =
     let m = c .before .before .before .before .before in
-    let lent = m .before .before .before .before .before .before .before .before .before .before .before in
-    let s = lent .before .before .before .before .before in (
+    let borrowed = m .before .before .before .before .before .before .before .before .before .before .before in
+    let s = borrowed .before .before .before .before .before in (
       own-product (s .pre .0) (first-whole s) (second-whole s) _ (m .multiplied-slices-accounted .ensures .0),
       record { slots-length = search needs; keys-length = search needs; sums-length = search needs },
     )

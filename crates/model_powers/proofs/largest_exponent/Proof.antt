@@ -7,7 +7,7 @@ use Rattle.calculus.specs.Model.{most-terms}
 use Rattle.model_slices.specs.HeldModels.{held}
 use Rattle.model_powers.specs.Powers.{Keys-of}
 use Rattle.model_powers.specs.PowersLaws.{Largest}
-use Rattle.model_powers.specs.PowerPassLaws.{keys-few, keys-slot, largest-first, largest-turn, largest-end}
+use Rattle.model_powers.specs.PowerPassLaws.{keys-few, keys-slot, largest-first, largest-iteration, largest-end}
 use Rattle.model_powers.proofs.largest_exponent.Statement.{statement}
 use Rattle.model_powers.proofs.largest_exponent.Tie as tie
 
@@ -48,7 +48,7 @@ loop-less c = omega arith
 loop-again : tie.Need-loop-again Inv-loop μ-loop
 loop-again c =
     let l = c .before .before .before .before in λ w.
-    largest-turn w (l .loop .inv w) (omega (arith, c .before .before .before .loop-test .taken))
+    largest-iteration w (l .loop .inv w) (omega (arith, c .before .before .before .loop-test .taken))
     (c .larger .ensures ∙ ap (max (l .loop .largest)) (c .before .exponent-of .ensures))
 
 returns : tie.Need-returns Inv-loop μ-loop

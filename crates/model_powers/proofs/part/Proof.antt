@@ -48,7 +48,7 @@ shared-slice-copy-out-c c =
     let s = c .before .before .before .before .before in
     omega (arith, few s, s .pre .0 .room .coefficients)
 
--- a turn
+-- an iteration
 module _ (c : tie.After-c Inv-loop μ-loop) where
   abbrev loop : tie.At-loop Inv-loop μ-loop
   loop = c .before .before .before

@@ -9,7 +9,7 @@ use Rattle.calculus.specs.Model.{most-terms}
 use Rattle.model_types.specs.ModelStruct.{pad, listed}
 use Rattle.model_types.specs.ModelStructLaws.{limits}
 use Rattle.model_types.specs.PairedLaws.{Listed, listed-own, listed-same, listed-next, listed-struct, length-paired}
-use Rattle.model_quotient.specs.CertificateLaws.{zeroed-first, zeroed-turn, zeroed-end}
+use Rattle.model_quotient.specs.CertificateLaws.{zeroed-first, zeroed-iteration, zeroed-end}
 use Rattle.model_quotient.proofs.with_radius.Statement.{statement}
 use Rattle.model_quotient.proofs.with_radius.Tie as tie
 
@@ -72,7 +72,7 @@ loop-again c =
       omega arith,
       omega (arith, l .loop .inv .1),
       listed-next (l .loop .inv .2) (l .loop .i - 1) 0 (pos 0)
-          (zeroed-turn _ (long s) (l .loop .i) _ (omega arith) (l .loop .inv .1) refl),
+          (zeroed-iteration _ (long s) (l .loop .i) _ (omega arith) (l .loop .inv .1) refl),
     )
 
 returns : tie.Need-returns Inv-loop μ-loop

@@ -18,7 +18,7 @@ use Rattle.model_types.specs.ModelStructLaws.{Limits, limits}
 use Rattle.model_types.specs.PairedLaws.{length-paired, key-at, coefficient-at}
 use Rattle.model_range.specs.KeyRange.{key-steady, key-fall, key-rise}
 use Rattle.model_range.specs.RangeSizeLaws.{below-within, above-within}
-use Rattle.model_range.specs.RangeLoopLaws.{Counted, counted-first, counted-turn}
+use Rattle.model_range.specs.RangeLoopLaws.{Counted, counted-first, counted-iteration}
 use Rattle.model_range.specs.RangeLoopLaws.{steady-room, fall-room, rise-room}
 use Rattle.model_range.specs.RangeLoopLaws.{middle-end, below-end, above-end}
 use Rattle.model_range.proofs.range_of.Statement.{statement}
@@ -68,7 +68,7 @@ mul-c c = omega (arith, few (c .before .before .before))
 element-copy-out-c : tie.Need-element-copy-out-c Inv-loop μ-loop
 element-copy-out-c c = omega (arith, few (c .before .before .before))
 
--- ---- one turn: the term at hand
+-- ---- one iteration: the term at hand
 module _ (c : tie.After-c Inv-loop μ-loop) where
   abbrev place : tie.At-loop Inv-loop μ-loop
   place = c .before .before .before
@@ -156,7 +156,7 @@ loop-again c =
     let f = c .before in
     let s = f .before in
     let t = s .before .before in
-    counted-turn _ (start t .pre) (long (start t)) _ _ _ _ (place t .loop .inv) (inside t) _ _ _
+    counted-iteration _ (start t .pre) (long (start t)) _ _ _ _ (place t .loop .inv) (inside t) _ _ _
     (answered (s .sum .ok)
     (s .sum .ensures ∙ ap (λ z. toZ w64 (place t .loop .middle) +ℤ z) (steady-is (s .before))))
     (ap (λ x. place t .loop .below + x) (fall-is f))

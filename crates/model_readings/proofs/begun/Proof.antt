@@ -4,7 +4,7 @@ use borrow.Author.Needs.{needs}
 use Rattle.calculus.specs.Refusal.{require-at}
 use Rattle.calculus.specs.Model.{most-degree}
 use Rattle.model_types.specs.ModelStruct.{cause}
-use Rattle.model_readings.specs.RowTurns.{begun-of}
+use Rattle.model_readings.specs.RowIterations.{begun-of}
 use Rattle.model_readings.proofs.begun.Statement.{statement}
 use Rattle.model_readings.proofs.begun.Tie as tie
 

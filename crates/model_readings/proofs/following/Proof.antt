@@ -1,4 +1,4 @@
--- `following` tests what is found, then goes one turn on.
+-- `following` tests what is found, then goes on by one iteration.
 use mathlib.Core.Path.{sym, _∙_}
 use borrow.Author.Needs.{needs}
 use borrow.Author.Tests.{not-true, not-false}

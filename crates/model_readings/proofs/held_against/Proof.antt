@@ -1,7 +1,7 @@
--- `held_against` meets its contract: a walk of its MIR, by hand, with a loop over the lent slice. A turn reads one
--- reading out of the slice and calls `turn` and `following`, of which it knows the contracts alone; so of `begun`.
--- The slice's borrow is opened and shut in each turn, so the invariant owns the slice whole. The state's machine value
--- is the one that `turn` returned. Assumes nothing.
+-- `held_against` meets its contract: a walk of its MIR, by hand, with a loop over the borrowed slice. An iteration
+-- reads one reading out of the slice and calls `iteration` and `following`, of which it knows the contracts alone; so
+-- of `begun`. The slice's borrow is opened and shut in each iteration, so the invariant owns the slice whole. The
+-- state's machine value is the one that `iteration` returned. Assumes nothing.
 use mathlib.Core.Path.{_≡_, refl, sym, _∙_, ap}
 use Prim.Native.Nat.{ℕ, zero, suc, _+_, _-_, _*_, _%_, _≤_, _<_, _^_, zero-le}
 use native.Mathlib.Omega.{arith}
@@ -53,8 +53,9 @@ use denote.Exit.{yes}
 use Rattle.model_types.specs.declared.Model.{Model}
 use Rattle.model_types.specs.declared.Reading.{Reading}
 use Rattle.model_types.specs.declared.Finding.{Finding}
-use Rattle.model_readings.specs.RowTurns.{no-reading, turn-of, next-turn, begun-of, turn-count, pass}
-use Rattle.model_readings.specs.RowTurnLaws.{pass-call}
+use Rattle.model_readings.specs.RowIterations.{no-reading, iteration-of, next-iteration, begun-of}
+use Rattle.model_readings.specs.RowIterations.{iteration-count, pass}
+use Rattle.model_readings.specs.RowIterationLaws.{pass-call}
 use Rattle.model_readings.specs.RowPassLaws.{kept, nearer, next-within, ended, within-row, some-readings}
 use Rattle.model_readings.specs.RowPassLaws.{few-fits, end-fits, begins}
 use Rattle.model_types.proofs.Reading as T
@@ -63,10 +64,10 @@ use Rattle.model_types.proofs.Finding as S
 use Rattle.model_types.proofs.Finding.Laws as S′
 use Rattle.model_types.proofs.Model as G
 use Rattle.model_types.proofs.Model.Laws as G′
-use Rattle.model_readings.proofs.turn as turn
-use Rattle.model_readings.proofs.turn.Symbol as turn-def
-use Rattle.model_readings.proofs.turn.Symbol.{name as #turn}
-use Rattle.model_readings.proofs.turn.Met as turn-thm
+use Rattle.model_readings.proofs.iteration as iteration
+use Rattle.model_readings.proofs.iteration.Symbol as iteration-def
+use Rattle.model_readings.proofs.iteration.Symbol.{name as #iteration}
+use Rattle.model_readings.proofs.iteration.Met as iteration-thm
 use Rattle.model_readings.proofs.following as following
 use Rattle.model_readings.proofs.following.Symbol as following-def
 use Rattle.model_readings.proofs.following.Symbol.{name as #following}
@@ -125,8 +126,8 @@ record Upto (g : Model) (ys : List Reading) : Type 0 where
   same : pass g ys (length ys % 257 * 4 - k) k s ≡ pass g ys (length ys % 257 * 4) 0 (begun-of g (length ys))
 
 module _ {M : Type 1} (𝓤 : URA M) (H : Heap 𝓤) (A : Atoms 𝓤) (mem : Memory → SProp 𝓤) (run : Routine → Fun 𝓤) where
-  abbrev Turn : Contract 𝓤
-  Turn = tripleOf 𝓤 H A turn.signature (turn.spec 𝓤 H A mem run)
+  abbrev Iteration : Contract 𝓤
+  Iteration = tripleOf 𝓤 H A iteration.signature (iteration.spec 𝓤 H A mem run)
 
   abbrev Following : Contract 𝓤
   Following = tripleOf 𝓤 H A following.signature (following.spec 𝓤 H A mem run)
@@ -135,16 +136,16 @@ module _ {M : Type 1} (𝓤 : URA M) (H : Heap 𝓤) (A : Atoms 𝓤) (mem : Mem
   Begun = tripleOf 𝓤 H A begun.signature (begun.spec 𝓤 H A mem run)
 
   said : (g : Model) (s : Finding) (k n : ℕ) (r : Reading) (s′ : Finding) → ent 𝓤
-      (ensured 𝓤 H A turn.ended (turn.clauses 𝓤 H A mem run) tt (g, (s, (k, (n, (r, tt))))) tt s′)
-      (fact 𝓤 (s′ ≡ turn-of g s k n r))
-  said g s k n r s′ = exE 𝓤 _ (λ ws. snd∗ 𝓤 (sem 𝓤 H A (lasts turn.ended tt (g, (s, (k, (n, (r, tt))))) ws))
-      (fact 𝓤 (s′ ≡ turn-of g s k n r)))
+      (ensured 𝓤 H A iteration.ended (iteration.clauses 𝓤 H A mem run) tt (g, (s, (k, (n, (r, tt))))) tt s′)
+      (fact 𝓤 (s′ ≡ iteration-of g s k n r))
+  said g s k n r s′ = exE 𝓤 _ (λ ws. snd∗ 𝓤 (sem 𝓤 H A (lasts iteration.ended tt (g, (s, (k, (n, (r, tt))))) ws))
+      (fact 𝓤 (s′ ≡ iteration-of g s k n r)))
 
   said-following : (s : Finding) (k e : ℕ) (k′ : ℕ) → ent 𝓤
       (ensured 𝓤 H A following.ended (following.clauses 𝓤 H A mem run) tt (s, (k, (e, tt))) tt k′)
-      (fact 𝓤 (k′ ≡ next-turn s k e))
+      (fact 𝓤 (k′ ≡ next-iteration s k e))
   said-following s k e k′ = exE 𝓤 _
-      (λ ws. snd∗ 𝓤 (sem 𝓤 H A (lasts following.ended tt (s, (k, (e, tt))) ws)) (fact 𝓤 (k′ ≡ next-turn s k e)))
+      (λ ws. snd∗ 𝓤 (sem 𝓤 H A (lasts following.ended tt (s, (k, (e, tt))) ws)) (fact 𝓤 (k′ ≡ next-iteration s k e)))
 
   said-begun : (g : Model) (n : ℕ) (s′ : Finding) → ent 𝓤
       (ensured 𝓤 H A begun.ended (begun.clauses 𝓤 H A mem run) tt (g, (n, tt)) tt s′) (fact 𝓤 (s′ ≡ begun-of g n))
@@ -185,7 +186,7 @@ module _ {M : Type 1} (𝓤 : URA M) (H : Heap 𝓤) (A : Atoms 𝓤) (W : Given
 
   exits : Is G.the-row g (m ∷ []) → (s : Finding) (u : Val) → Is S.the-row s (u ∷ []) → s ≡ all → ent 𝓤
       (⋆ 𝓤 H A (‵ (flft κ q) ∷ ‵ Own ∷ [])) (Post u)
-  unfolding turn-count
+  unfolding iteration-count
   exits gm s u is e₀ =
       let e = e₀ ∙ pass-call g ys in
       qed W (‵ (flft κ q) ∷ ‵ Own ∷ []) ∵
@@ -196,8 +197,8 @@ module _ {M : Type 1} (𝓤 : URA M) (H : Heap 𝓤) (A : Atoms 𝓤) (W : Given
       move ! (2 ∷ 0 ∷ []) $ fjoin ! $ move ! (1 ∷ 0 ∷ []) $ frame ! $ frame ! $
       owned ! S.the-row (Is S.the-row) (LL.makes S.the-type S′.the-plain 𝓤 H A) s (u ∷ []) is $ done !
 
-  -- the call of `turn`, on the state s with the machine value u and the reading r with w
-  abbrev to : Finding → Val → ℕ → Reading → Val → Turn 𝓤 H A mem run .Ghost
+  -- the call of `iteration`, on the state s with the machine value u and the reading r with w
+  abbrev to : Finding → Val → ℕ → Reading → Val → Iteration 𝓤 H A mem run .Ghost
   to s u k r w = (
     (
       tt,
@@ -214,7 +215,7 @@ module _ {M : Type 1} (𝓤 : URA M) (H : Heap 𝓤) (A : Atoms 𝓤) (W : Given
       (m ∷ [], (u ∷ [], (vint w64 k ∷ [], (vint w64 n ∷ [], (w ∷ [], tt)))))
 
   asked : (s : Finding) (u : Val) (k : ℕ) (r : Reading) (w : Val) → ent 𝓤 (⋆ 𝓤 H A (‵ ftrue ∷ ‵ (Args s u k r w) ∷ []))
-      (Turn 𝓤 H A mem run .pre (to s u k r w))
+      (Iteration 𝓤 H A mem run .pre (to s u k r w))
   asked s u k r w = qed W (‵ ftrue ∷ ‵ (Args s u k r w) ∷ []) ∵ join ! $ frame ! $ done !
 
   -- that of `following`, on the new state
@@ -245,7 +246,7 @@ module _ {M : Type 1} (𝓤 : URA M) (H : Heap 𝓤) (A : Atoms 𝓤) (W : Given
   Nearer-wf : WellFounded Nearer
   Nearer-wf = InvImage·wf (λ (t : Upto g ys). end - t .k) (Nat·lt-wfRel .wf)
 
-  module _ (𝓣 : Tables 𝓤 H) (known : Triple 𝓤 (𝓣 .C #turn) (Turn 𝓤 H A mem run))
+  module _ (𝓣 : Tables 𝓤 H) (known : Triple 𝓤 (𝓣 .C #iteration) (Iteration 𝓤 H A mem run))
       (known-following : Triple 𝓤 (𝓣 .C #following) (Following 𝓤 H A mem run))
       (known-begun : Triple 𝓤 (𝓣 .C #begun) (Begun 𝓤 H A mem run)) (gn : Room T.the-row n)
       (gm : Is G.the-row g (m ∷ [])) (l₀ l₁ l₂ l₃ l₄ l₅ l₆ l₇ l₈ l₉ l₁₀ l₁₁ l₁₂ : ℕ) where
@@ -271,17 +272,17 @@ module _ {M : Type 1} (𝓤 : URA M) (H : Heap 𝓤) (A : Atoms 𝓤) (W : Given
         (fdies G′.mir l₂) ∷ ‵ (fat fullShare slice l₁ 0 v) ∷ ‵ (fdies slice l₁) ∷ ‵ (froom S′.mir l₀ 0) ∷ ‵
         (fdies S′.mir l₀) ∷ ‵ (flft κ q) ∷ ‵ Own ∷ []
 
-    abbrev Turned : Upto g ys → Out → SProp 𝓤
-    Turned t = afterTurn 𝓤 H (Below 𝓤 H A Nearer At t)
+    abbrev Iterated : Upto g ys → Out → SProp 𝓤
+    Iterated t = afterTurn 𝓤 H (Below 𝓤 H A Nearer At t)
         (afterBlock 𝓤 H (afterSeq 𝓤 H (Wp 𝓤 H C Λ En mir.t-7 (atReturn 𝓤 H En Post)) (atReturn 𝓤 H En Post)))
 
-    turns : (t : Upto g ys) → Sq W (At t) (runs C Λ En mir.turn-1 (anyQ (Turned t)))
+    iterations : (t : Upto g ys) → Sq W (At t) (runs C Λ En mir.turn-1 (anyQ (Iterated t)))
     unfolding afterTurn
-    turns t =
+    iterations t =
         assigns ! (bin ! (load ! (from ! (stop !)) (look ! 10 refl)) (load ! (from ! (stop !)) (look ! 14 refl)) tt)
         (from ! (stop !)) (init ! 8 refl (tt, tt)) $
         first ! $ branches ! (load ! (from ! (stop !)) (look ! 8 refl))
-        (λ less. skips ! $ exec ! C Λ En (after (after mir.turn-1)) (anyQ (Turned t)) $
+        (λ less. skips ! $ exec ! C Λ En (after (after mir.turn-1)) (anyQ (Iterated t)) $
         assigns ! (bin ! (load ! (from ! (stop !)) (look ! 10 refl)) (load ! (from ! (stop !)) (look ! 18 refl))
         (some-n less)) (from ! (stop !)) (init ! 6 refl (tt, record { fits = place-fits less })) $
         assigns ! (bin ! (load ! (from ! (stop !)) (look ! 6 refl)) (lit ! tt) (record { fits = offset-fits less }))
@@ -308,20 +309,20 @@ module _ {M : Type 1} (𝓤 : URA M) (H : Heap 𝓤) (A : Atoms 𝓤) (W : Given
         owned ! S.the-row (Is S.the-row) (LL.makes S.the-type S′.the-plain 𝓤 H A) (t .s) (t .u ∷ []) (t .is) $ fjoin ! $
         owned ! G.the-row (Is G.the-row) (LL.makes G.the-type G′.the-plain 𝓤 H A) g (m ∷ []) gm $ fjoin ! $
         nothing ! $
-        use2 W (raw (Turn 𝓤 H A mem run .pre (to (t .s) (t .u) (t .k) (row t) (w t))))
+        use2 W (raw (Iteration 𝓤 H A mem run .pre (to (t .s) (t .u) (t .k) (row t) (w t))))
         (asked (t .s) (t .u) (t .k) (row t) (w t)) $
-        calls-at ! (fmOf 𝓤 H (W .laws) 𝓣) (Turn 𝓤 H A mem run) known (to (t .s) (t .u) (t .k) (row t) (w t))
+        calls-at ! (fmOf 𝓤 H (W .laws) 𝓣) (Iteration 𝓤 H A mem run) known (to (t .s) (t .u) (t .k) (row t) (w t))
         (and-then ! (load ! (from ! (stop !)) (look ! 23 refl))
         (and-then ! (load ! (from ! (stop !)) (look ! 15 refl))
         (and-then ! (load ! (from ! (stop !)) (look ! 13 refl))
         (and-then ! (load ! (from ! (stop !)) (look ! 21 refl))
         (and-then ! (load ! (from ! (stop !)) (look ! 3 refl)) (no-more !)))))) (λ u′.
         use1 W (later (some (λ (s′ : Finding). (‵ ftrue ⊛ ‵ (S.the-row .own s′ (u′ ∷ []))) ⊛ raw
-        (ensured 𝓤 H A turn.ended (turn.clauses 𝓤 H A mem run) tt (g, (t .s, (t .k, (n, (row t, tt))))) tt s′))))
-        (id⊢ 𝓤 _) $ await ! tt $ pick ! (λ s′.
-        split ! $ move ! (1 ∷ []) $ use1 W (raw (fact 𝓤 (s′ ≡ turn-of g (t .s) (t .k) n (row t))))
+        (ensured 𝓤 H A iteration.ended (iteration.clauses 𝓤 H A mem run) tt
+        (g, (t .s, (t .k, (n, (row t, tt))))) tt s′)))) (id⊢ 𝓤 _) $ await ! tt $ pick ! (λ s′.
+        split ! $ move ! (1 ∷ []) $ use1 W (raw (fact 𝓤 (s′ ≡ iteration-of g (t .s) (t .k) n (row t))))
         (said 𝓤 H A mem run g (t .s) (t .k) n (row t) s′) $
-        heard ! (s′ ≡ turn-of g (t .s) (t .k) n (row t)) (λ e. split ! $ drop ! $
+        heard ! (s′ ≡ iteration-of g (t .s) (t .k) n (row t)) (λ e. split ! $ drop ! $
         peeks ! S.the-row (Is S.the-row) (shows 𝓤 H A S.the-row) s′ (u′ ∷ []) (λ is′.
         -- [what the new state owns; what rows owns; the token; _12; …]
         land ! (from ! (stop !)) (store ! 15 refl
@@ -339,8 +340,8 @@ module _ {M : Type 1} (𝓤 : URA M) (H : Heap 𝓤) (A : Atoms 𝓤) (W : Given
         use1 W (later (some (λ (k′ : ℕ). (‵ ftrue ⊛ ‵ (usize .own k′ (w′ ∷ []))) ⊛ raw
         (ensured 𝓤 H A following.ended (following.clauses 𝓤 H A mem run) tt (s′, (t .k, (end, tt))) tt k′))))
         (id⊢ 𝓤 _) $ await ! tt $ pick ! (λ k′.
-        split ! $ move ! (1 ∷ []) $ use1 W (raw (fact 𝓤 (k′ ≡ next-turn s′ (t .k) end)))
-        (said-following 𝓤 H A mem run s′ (t .k) end k′) $ heard ! (k′ ≡ next-turn s′ (t .k) end) (λ e′. split ! $
+        split ! $ move ! (1 ∷ []) $ use1 W (raw (fact 𝓤 (k′ ≡ next-iteration s′ (t .k) end)))
+        (said-following 𝓤 H A mem run s′ (t .k) end k′) $ heard ! (k′ ≡ next-iteration s′ (t .k) end) (λ e′. split ! $
         drop ! $
         peeks ! usize (Is usize) (shows 𝓤 H A usize) k′ (w′ ∷ []) (λ is-k.
         land-last ! (from ! (stop !)) (store ! 13 refl (uint-lawful 𝓤 H A W w64 .typed k′ _ is-k .0)) $ drop ! $
@@ -383,8 +384,8 @@ module _ {M : Type 1} (𝓤 : URA M) (H : Heap 𝓤) (A : Atoms 𝓤) (W : Given
         below : Holds (ltb (t .k) end) → t .k < 2 ^ 64
         below less = less-fits (t .k) end (ltb→lt (t .k) end less) (end-fits n)
 
-        next : Holds (ltb (t .k) end) → (s′ : Finding) (u′ : Val) → Is S.the-row s′ (u′ ∷ []) → s′ ≡ turn-of g (t .s)
-            (t .k) n (row t) → (k′ : ℕ) → k′ ≡ next-turn s′ (t .k) end → Upto g ys
+        next : Holds (ltb (t .k) end) → (s′ : Finding) (u′ : Val) → Is S.the-row s′ (u′ ∷ [])
+            → s′ ≡ iteration-of g (t .s) (t .k) n (row t) → (k′ : ℕ) → k′ ≡ next-iteration s′ (t .k) end → Upto g ys
         next less s′ u′ is′ e k′ e′ = record {
           k = k′;
           le = next-within s′
@@ -398,7 +399,7 @@ module _ {M : Type 1} (𝓤 : URA M) (H : Heap 𝓤) (A : Atoms 𝓤) (W : Given
 
     -- the loop, and what follows it
     from-loop : (t : Upto g ys) → Sq W (At t) (runs C Λ En mir.t-6 (atRet En Post))
-    from-loop t = first ! $ blocks ! $ loops ! 𝓣 Nearer Nearer-wf At turns t
+    from-loop t = first ! $ blocks ! $ loops ! 𝓣 Nearer Nearer-wf At iterations t
 
     abbrev start : (s : Finding) (u : Val) → Is S.the-row s (u ∷ []) → s ≡ begun-of g n → Upto g ys
     start s u is e = record { k = 0; le = zero-le; s = s; u = u; is = is; same = begins g ys end s (begun-of g n) e }
@@ -443,7 +444,7 @@ module _ {M : Type 1} (𝓤 : URA M) (H : Heap 𝓤) (A : Atoms 𝓤) (W : Given
         assigns ! (of-opd ! (lit ! tt)) (from ! (stop !)) (init ! 10 refl (tt, record { fits = lit< tt })) $
         from-loop (start s′ u′ is′ e)))))
 
-  walk : (𝓣 : Tables 𝓤 H) → Triple 𝓤 (𝓣 .C #turn) (Turn 𝓤 H A mem run) → Triple 𝓤 (𝓣 .C #following)
+  walk : (𝓣 : Tables 𝓤 H) → Triple 𝓤 (𝓣 .C #iteration) (Iteration 𝓤 H A mem run) → Triple 𝓤 (𝓣 .C #following)
       (Following 𝓤 H A mem run) → Triple 𝓤 (𝓣 .C #begun) (Begun 𝓤 H A mem run) → Room T.the-row n → Is G.the-row g
       (m ∷ []) → ent 𝓤 (onEntry 𝓤 H A held.signature (κ, tt) (q, tt) x at)
       (WpFn 𝓤 H (𝓣 .C) (𝓣 .Λ) code.function (v ∷ m ∷ []) Post)
@@ -460,7 +461,7 @@ module _ {M : Type 1} (𝓤 : URA M) (H : Heap 𝓤) (A : Atoms 𝓤) (W : Given
       body 𝓣 known known-following known-begun gn gm l₀ l₁ l₂ l₃ l₄ l₅ l₆ l₇ l₈ l₉ l₁₀ l₁₁ l₁₂)))))))))))))
 
 module _ {M : Type 1} (𝓤 : URA M) (H : Heap 𝓤) (A : Atoms 𝓤) (W : Given 𝓤 H A) (mem : Memory → SProp 𝓤)
-    (run : Routine → Fun 𝓤) (𝓣 : Tables 𝓤 H) (known : Triple 𝓤 (𝓣 .C #turn) (Turn 𝓤 H A mem run))
+    (run : Routine → Fun 𝓤) (𝓣 : Tables 𝓤 H) (known : Triple 𝓤 (𝓣 .C #iteration) (Iteration 𝓤 H A mem run))
     (known-following : Triple 𝓤 (𝓣 .C #following) (Following 𝓤 H A mem run))
     (known-begun : Triple 𝓤 (𝓣 .C #begun) (Begun 𝓤 H A mem run)) where
   held-walks : Walks 𝓤 H A held.ended stayed (WpFn 𝓤 H (𝓣 .C) (𝓣 .Λ) code.function) (held.clauses 𝓤 H A mem run)
@@ -484,9 +485,8 @@ held-against-spec 𝓤 H 𝓜 𝓖 𝓡 =
     entered 𝓤 H (tripleOf 𝓤 H (𝓖 .A) held.signature (held.spec 𝓤 H (𝓖 .A) (𝓜 .mem) (𝓡 .run)))
     (tables 𝓤 H 𝓜 𝓡 code.env .C) (tables 𝓤 H 𝓜 𝓡 code.env .Λ) #held-against code.function (code.unfolded 𝓤 H 𝓜 𝓡)
     (held-meets 𝓤 H (𝓖 .A) (givenOf 𝓤 H 𝓜 𝓖) (𝓜 .mem) (𝓡 .run) (tablesOf 𝓤 H 𝓜 (tables 𝓤 H 𝓜 𝓡 code.env))
-    (cited 𝓤 H (Turn 𝓤 H (𝓖 .A) (𝓜 .mem) (𝓡 .run)) 𝓜 𝓡 code.env #turn turn-def.routine code.calls-model-readings·turn
-    (turn-thm.met 𝓤 H 𝓜 𝓖 𝓡))
-    (cited 𝓤 H (Following 𝓤 H (𝓖 .A) (𝓜 .mem)
+    (cited 𝓤 H (Iteration 𝓤 H (𝓖 .A) (𝓜 .mem) (𝓡 .run)) 𝓜 𝓡 code.env #iteration iteration-def.routine
+    code.calls-model-readings·iteration (iteration-thm.met 𝓤 H 𝓜 𝓖 𝓡)) (cited 𝓤 H (Following 𝓤 H (𝓖 .A) (𝓜 .mem)
     (𝓡 .run)) 𝓜 𝓡 code.env #following following-def.routine code.calls-model-readings·following
     (following-thm.met 𝓤 H 𝓜 𝓖 𝓡))
     (cited 𝓤 H (Begun 𝓤 H (𝓖 .A) (𝓜 .mem)

@@ -21,7 +21,7 @@ returns : tie.Need-returns
 unfolding require-at ordered refusal verdict
 returns c = rw (sym (c .before .order-sound .ensures) ∙ not-true _ (c .if1 .taken))
 
--- the arguments, and what holds behind each test
+-- the arguments, and what holds after each test
 abbrev start : tie.Else1 → tie.Start
 start c = c .before .before .before .before
 

@@ -4,7 +4,7 @@ use borrow.Author.Needs.{needs}
 use lib.ListN.{length}
 use Rattle.calculus.specs.Model.{most-terms, sound}
 use Rattle.model_types.specs.ModelStruct.{view}
-use Rattle.model_soundness.specs.SliceSoundLaws.{lent-own, handed-own}
+use Rattle.model_soundness.specs.SliceSoundLaws.{borrowed-own, handed-own}
 use Rattle.model_soundness.proofs.sound.Statement.{statement}
 use Rattle.model_soundness.proofs.sound.Tie as tie
 
@@ -20,7 +20,7 @@ module _ (c : tie.Start) where
 sound-arrays-requires : tie.Need-sound-arrays-requires
 sound-arrays-requires c κs =
     let start = c .before .before .before .before .before in
-    lent-own _ _ _ (keys-whole start) (coefficients-whole start)
+    borrowed-own _ _ _ (keys-whole start) (coefficients-whole start)
 
 returns : tie.Need-returns
 returns c =

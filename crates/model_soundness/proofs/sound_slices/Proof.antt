@@ -20,8 +20,8 @@ use Rattle.model_types.specs.ModelStruct.{term-sound}
 use Rattle.model_types.specs.ModelStructLaws.{vars-range}
 use Rattle.model_slices.specs.HandedModels.{handed}
 use Rattle.model_soundness.specs.SoundPassLaws.{Passed}
-use Rattle.model_soundness.specs.SliceSoundLaws.{lent-places, slices-vars-not, slices-many-not, slices-first}
-use Rattle.model_soundness.specs.SliceSoundLaws.{slices-end, slices-turn, slices-not}
+use Rattle.model_soundness.specs.SliceSoundLaws.{scratch-places, slices-vars-not, slices-many-not, slices-first}
+use Rattle.model_soundness.specs.SliceSoundLaws.{slices-end, slices-iteration, slices-not}
 use Rattle.model_soundness.proofs.sound_slices.Statement.{statement}
 use Rattle.model_soundness.proofs.sound_slices.Tie as tie
 
@@ -46,7 +46,7 @@ module _ (c : tie.Else2 Inv-loop μ-loop) where
 
   long : (start .args .count ≤ length (start .args .keys .now))
       × (start .args .count ≤ length (start .args .coefficients .now))
-  long = lent-places _ _ _ (start .pre) few
+  long = scratch-places _ _ _ (start .pre) few
 
 -- the count in a word
 few-places : (c : tie.Else2 Inv-loop μ-loop) → start c .args .count ≤ 64
@@ -54,20 +54,20 @@ few-places c = c .if2 .left
 
 -- and of the term at hand
 module _ (c : tie.After-c Inv-loop μ-loop) where
-  abbrev turn : tie.At-loop Inv-loop μ-loop
-  turn = c .before .before .before
+  abbrev iteration : tie.At-loop Inv-loop μ-loop
+  iteration = c .before .before .before
 
   abbrev outside : tie.Else2 Inv-loop μ-loop
-  outside = turn .before
+  outside = iteration .before
 
   abbrev key-at : ℕ
-  key-at = getD (start outside .args .keys .now) (turn .loop .i) 0
+  key-at = getD (start outside .args .keys .now) (iteration .loop .i) 0
 
   abbrev coefficient-at : ℤ
-  coefficient-at = getD (start outside .args .coefficients .now) (turn .loop .i) (pos 0)
+  coefficient-at = getD (start outside .args .coefficients .now) (iteration .loop .i) (pos 0)
 
   key-word : Fits w32 key-at
-  key-word = c .before .shared-slice-known2 .given (turn .loop .i)
+  key-word = c .before .shared-slice-known2 .given (iteration .loop .i)
 
   key-small : key-at < key-limit
   key-small = word-key _ (key-word .fits)
@@ -77,7 +77,7 @@ module _ (c : tie.After-c Inv-loop μ-loop) where
 
 tested : (c : tie.After-term-sound Inv-loop μ-loop)
     → term-sound (start (outside (c .before)) .args .n) (start (outside (c .before)) .args .d)
-    (turn (c .before) .loop .least) (key-at (c .before)) (coefficient-at (c .before))
+    (iteration (c .before) .loop .least) (key-at (c .before)) (coefficient-at (c .before))
     ≡ c .term-sound .result
 tested c = sym (c .term-sound .ensures ∙ ap (term-sound _ _ _ _) (read-back (c .before)))
 
@@ -114,7 +114,7 @@ returns-3 c =
     let t = c .before .before in
     let b = outside t in
     sym
-    (slices-not _ _ _ _ _ _ (vars-hold b) (few b) _ _ _ (turn t .loop .inv) (t .before .before .loop-test .taken)
+    (slices-not _ _ _ _ _ _ (vars-hold b) (few b) _ _ _ (iteration t .loop .inv) (t .before .before .loop-test .taken)
     (long b .0) (long b .1) (key-small t) (tested (c .before) ∙ not-true _ (c .if3 .taken)))
 
 magnitude-requires : tie.Need-magnitude-requires Inv-loop μ-loop
@@ -123,7 +123,7 @@ magnitude-requires c κs = search needs
 capped-sum-requires : tie.Need-capped-sum-requires Inv-loop μ-loop
 capped-sum-requires c κs = search needs
 
--- a key fits twice the bits, and so does the number behind it
+-- a key fits twice the bits, and so does the number after it
 key-fits : (z : ℕ) → Fits w32 z → Fits w64 z
 key-fits z h = omega arith
 
@@ -147,11 +147,12 @@ loop-again c =
     let branch = c .before .before in
     let t = branch .before .before in
     let b = outside t in
-    slices-turn _ _ _ _ _ _ (vars-hold b) (few b) _ _ _ (turn t .loop .inv) (t .before .before .loop-test .taken)
+    slices-iteration _ _ _ _ _ _ (vars-hold b) (few b) _ _ _ (iteration t .loop .inv)
+    (t .before .before .loop-test .taken)
     (long b .0) (long b .1) (key-small t) (tested (branch .before) ∙ not-false _ (branch .if3 .left))
     (c .capped-sum .result)
     (c .capped-sum .ensures
-    ∙ ap (λ x. capped (turn t .loop .span + x)) (c .before .magnitude .ensures ∙ ap natAbs (read-back t)))
+    ∙ ap (λ x. capped (iteration t .loop .span + x)) (c .before .magnitude .ensures ∙ ap natAbs (read-back t)))
 
 within-span-requires : tie.Need-within-span-requires Inv-loop μ-loop
 within-span-requires c κs = search needs

@@ -1,4 +1,4 @@
--- `substituted_accounted` is Horner's rule: what is left at each turn leads to the answer and to its shares.
+-- `substituted_accounted` is Horner's rule: what is left at each iteration leads to the answer and to its shares.
 use mathlib.Core.Path.{_≡_, refl, sym, _∙_}
 use Prim.Native.Nat.{_<_}
 use native.Mathlib.Omega.{arith}
@@ -9,7 +9,8 @@ use Rattle.model_types.specs.ModelStruct.{view, cause}
 use Rattle.product_room.specs.ProductTermsLaws.{free-room}
 use Rattle.model_powers.specs.Powers.{In-variable}
 use Rattle.model_types.specs.ResultLaws.{sound-order}
-use Rattle.model_substitution.specs.HornerLaws.{Left, outside, left-first, left-turn, turn-refused, turn-accepted}
+use Rattle.model_substitution.specs.HornerLaws.{Left, outside, left-first, left-iteration, iteration-refused}
+use Rattle.model_substitution.specs.HornerLaws.{iteration-accepted}
 use Rattle.model_substitution.specs.HornerLaws.{left-packed, left-fits, radius-within, left-end}
 use Rattle.model_substitution.proofs.substituted_accounted.Statement.{statement}
 use Rattle.model_substitution.proofs.substituted_accounted.Tie as tie
@@ -67,7 +68,7 @@ loop-holds c =
       refl,
     )
 
--- ---- a turn
+-- ---- an iteration
 abbrev start : tie.At-loop Inv-loop μ-loop → tie.Start Inv-loop μ-loop
 start l = l .before .before .before .before .before .before .before
 
@@ -77,34 +78,34 @@ sub-k c = omega arith
 part-of-requires-2 : tie.Need-part-of-requires-2 Inv-loop μ-loop
 part-of-requires-2 c κs = in-variable (start (c .before))
 
-horner-turn-requires : tie.Need-horner-turn-requires Inv-loop μ-loop
-horner-turn-requires c κs =
+horner-iteration-requires : tie.Need-horner-iteration-requires Inv-loop μ-loop
+horner-iteration-requires c κs =
     let p = c .before .before .before in
     let l = p .before .before in
     let i = l .loop .inv in (
-      left-turn (start l .pre .0) (i .0) (p .part-of2 .ensures),
+      left-iteration (start l .pre .0) (i .0) (p .part-of2 .ensures),
       free-room (start l .pre .1) (record { slots-length = i .1; keys-length = i .2; sums-length = i .3 }),
     )
 
-module _ (c : tie.After-horner-turn Inv-loop μ-loop) where
+module _ (c : tie.After-horner-iteration Inv-loop μ-loop) where
   abbrev added : tie.After-part-of2 Inv-loop μ-loop
   added = c .before .before .before .before
 
-  abbrev turn : tie.At-loop Inv-loop μ-loop
-  turn = added .before .before
+  abbrev iteration : tie.At-loop Inv-loop μ-loop
+  iteration = added .before .before
 
-  positive : 0 < turn .loop .k
+  positive : 0 < iteration .loop .k
   positive = omega (arith, added .before .loop-test .taken)
 
   -- the table keeps its lengths
-  slots-long : length (c .horner-turn .last .1 .1 .1 .1 .0) ≡ length (start turn .args .slots .now)
-  slots-long = c .horner-turn .kept .1 .1 .1 .1 .0 ∙ turn .loop .inv .1
+  slots-long : length (c .horner-iteration .last .1 .1 .1 .1 .0) ≡ length (start iteration .args .slots .now)
+  slots-long = c .horner-iteration .kept .1 .1 .1 .1 .0 ∙ iteration .loop .inv .1
 
-  keys-long : length (c .horner-turn .last .1 .1 .1 .1 .1 .0) ≡ length (start turn .args .keys .now)
-  keys-long = c .horner-turn .kept .1 .1 .1 .1 .1 .0 ∙ turn .loop .inv .2
+  keys-long : length (c .horner-iteration .last .1 .1 .1 .1 .1 .0) ≡ length (start iteration .args .keys .now)
+  keys-long = c .horner-iteration .kept .1 .1 .1 .1 .1 .0 ∙ iteration .loop .inv .2
 
-  sums-long : length (c .horner-turn .last .1 .1 .1 .1 .1 .1 .0) ≡ length (start turn .args .sums .now)
-  sums-long = c .horner-turn .kept .1 .1 .1 .1 .1 .1 .0 ∙ turn .loop .inv .3
+  sums-long : length (c .horner-iteration .last .1 .1 .1 .1 .1 .1 .0) ≡ length (start iteration .args .sums .now)
+  sums-long = c .horner-iteration .kept .1 .1 .1 .1 .1 .1 .0 ∙ iteration .loop .inv .3
 
 enum-told : tie.Need-enum-told Inv-loop μ-loop
 enum-told c = search needs
@@ -113,7 +114,7 @@ enum-told-2 : tie.Need-enum-told-2 Inv-loop μ-loop
 enum-told-2 c = search needs
 
 -- it is refused
-abbrev refused : tie.After-enum-told2 Inv-loop μ-loop → tie.After-horner-turn Inv-loop μ-loop
+abbrev refused : tie.After-enum-told2 Inv-loop μ-loop → tie.After-horner-iteration Inv-loop μ-loop
 refused c = c .before .before .before .before .before .before .before .before
 
 same-length : tie.Need-same-length Inv-loop μ-loop
@@ -128,14 +129,14 @@ same-length-3 c = sums-long (refused c)
 returns-2 : tie.Need-returns-2 Inv-loop μ-loop
 returns-2 c =
     let m = refused c in
-    let l = turn m in (
-      turn-refused (start l .pre .0) (l .loop .inv .0) (added m .part-of2 .ensures) (positive m)
-          (m .horner-turn .ensures .0) (c .enum-told2 .given .1),
+    let l = iteration m in (
+      iteration-refused (start l .pre .0) (l .loop .inv .0) (added m .part-of2 .ensures) (positive m)
+          (m .horner-iteration .ensures .0) (c .enum-told2 .given .1),
       record { slots-length = slots-long m; keys-length = keys-long m; sums-length = sums-long m },
     )
 
 -- it is accepted
-abbrev accepted : tie.After-last Inv-loop μ-loop → tie.After-horner-turn Inv-loop μ-loop
+abbrev accepted : tie.After-last Inv-loop μ-loop → tie.After-horner-iteration Inv-loop μ-loop
 accepted c = c .before .before .before .before .before .before .before .before .before .before
 
 loop-less : tie.Need-loop-less Inv-loop μ-loop
@@ -144,9 +145,9 @@ loop-less c = omega (arith, positive (accepted c))
 loop-again : tie.Need-loop-again Inv-loop μ-loop
 loop-again c =
     let m = accepted c in
-    let l = turn m in (
-      turn-accepted (start l .pre .0) (l .loop .inv .0) (added m .part-of2 .ensures) (positive m)
-          (m .horner-turn .ensures .0) (c .before .before .enum-told .given .1),
+    let l = iteration m in (
+      iteration-accepted (start l .pre .0) (l .loop .inv .0) (added m .part-of2 .ensures) (positive m)
+          (m .horner-iteration .ensures .0) (c .before .before .enum-told .given .1),
       slots-long m,
       keys-long m,
       sums-long m,
@@ -198,7 +199,7 @@ substituted-accounted-spec =
     loop-holds
     sub-k
     part-of-requires-2
-    horner-turn-requires
+    horner-iteration-requires
     enum-told
     enum-told-2
     same-length

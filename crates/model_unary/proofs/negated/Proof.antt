@@ -20,7 +20,7 @@ use Rattle.model_types.specs.Arrays.{padded}
 use Rattle.model_types.specs.declared.Term.{Term}
 use Rattle.model_types.specs.declared.Model.{Model}
 use Rattle.model_types.specs.ModelStruct.{zero-term, view-term, pack-term, view, pad, pack, listed, of-terms}
-use Rattle.model_types.specs.ModelStructLaws.{read, Limits, limits, within-span, pack-key, map-turn, view-is}
+use Rattle.model_types.specs.ModelStructLaws.{read, Limits, limits, within-span, pack-key, map-iteration, view-is}
 use Rattle.model_types.specs.ModelStructLaws.{length-read}
 use Rattle.model_types.specs.PairedLaws.{Listed, listed-next, listed-same, listed-struct, length-paired}
 use Rattle.model_types.specs.PairedLaws.{key-at, coefficient-at, words-below}
@@ -132,7 +132,7 @@ loop-again c =
     let turned = answered (c .negated .ok) (c .negated .ensures ∙ ap negℤ (read-back t)) in (
       omega arith,
       listed-next (place t .loop .inv .1) i _ _
-          (map-turn (λ t. term (negℤ (t .coefficient)) (t .exponents)) (m .n) i (listed m) _ _
+          (map-iteration (λ t. term (negℤ (t .coefficient)) (t .exponents)) (m .n) i (listed m) _ _
           (omega (arith, whole s, few s)) (omega (arith, few s)) refl
           (ap (λ z. record { key = getD (m .keys) i 0; coefficient = z }) turned
           ∙ ap (λ k. record { key = k; coefficient = negℤ (at t .coefficient) })

@@ -1,4 +1,4 @@
--- `read_input` keeps its count within the buffer, and each turn of its loop adds to it.
+-- `read_input` keeps its count within the buffer, and each iteration of its loop adds to it.
 use mathlib.Core.Path.{_≡_, _∙_}
 use Prim.Native.Nat.{_+_, _-_, _≤_}
 use native.Mathlib.Omega.{arith}
@@ -16,14 +16,14 @@ abbrev μ-loop : tie.MeasureT-loop
 
 -- what came in has room
 module _ (c : tie.After-count Inv-loop μ-loop) where
-  abbrev lent : tie.After-buffer Inv-loop μ-loop
-  lent = c .before .before .before .before .before
+  abbrev borrowed : tie.After-buffer Inv-loop μ-loop
+  borrowed = c .before .before .before .before .before
 
   abbrev place : tie.At-loop Inv-loop μ-loop
-  place = lent .before .before .before .before
+  place = borrowed .before .before .before .before
 
   more-fits : place .loop .count + c .count .result ≤ length (place .loop .buffer)
-  more-fits = omega (arith, simp (length-take, length-drop) at (c .count .ensures .0 .0), lent .buffer .given .1)
+  more-fits = omega (arith, simp (length-take, length-drop) at (c .count .ensures .0 .0), borrowed .buffer .given .1)
 
 loop-holds : tie.Need-loop-holds Inv-loop μ-loop
 loop-holds c = search needs
@@ -59,22 +59,22 @@ count-requires : tie.Need-count-requires Inv-loop μ-loop
 count-requires c κs = tt
 
 same-length-2 : tie.Need-same-length-2 Inv-loop μ-loop
-same-length-2 c = lent (c .before) .buffer .given .1 ∙ place (c .before) .loop .inv .1
+same-length-2 c = borrowed (c .before) .buffer .given .1 ∙ place (c .before) .loop .inv .1
 
 returns-2 : tie.Need-returns-2 Inv-loop μ-loop
 returns-2 c =
     let p = place (c .before) in
-    within {n = p .loop .count} (omega (arith, lent (c .before) .buffer .given .1))
+    within {n = p .loop .count} (omega (arith, borrowed (c .before) .buffer .given .1))
 
 add-count : tie.Need-add-count Inv-loop μ-loop
 add-count c = omega (arith, more-fits (c .before), place (c .before) .before .before .good)
 
 loop-less : tie.Need-loop-less Inv-loop μ-loop
-loop-less c = omega (arith, more-fits (c .before), lent (c .before) .buffer .given .1)
+loop-less c = omega (arith, more-fits (c .before), borrowed (c .before) .buffer .given .1)
 
 loop-again : tie.Need-loop-again Inv-loop μ-loop
 loop-again c =
-    let kept = lent (c .before) .buffer .given .1 in
+    let kept = borrowed (c .before) .buffer .given .1 in
     (omega (arith, more-fits (c .before)), kept ∙ place (c .before) .loop .inv .1)
 
 same-length-3 : tie.Need-same-length-3 Inv-loop μ-loop

@@ -12,7 +12,7 @@ use mir.Val.{toZ, ofZ}
 use Rattle.numbers.specs.Fixed.{capped}
 use Rattle.calculus.specs.Terms.{size}
 use Rattle.product_sums.specs.TermArrays.{terms}
-use Rattle.product_answer.specs.KeptProductLaws.{spanned-first, spanned-turn, spanned-end}
+use Rattle.product_answer.specs.KeptProductLaws.{spanned-first, spanned-iteration, spanned-end}
 use Rattle.product_answer.proofs.within.Statement.{statement}
 use Rattle.product_answer.proofs.within.Tie as tie
 
@@ -53,7 +53,7 @@ loop-again c =
     let z = getD (s .args .coefficients .now) (l .loop .i) (pos 0) in
     let read-back : toZ w64 (ofZ w64 z) ≡ z = toZ-ofZ (record { sfits = t .magnitude-arg .given }) in (
       omega arith,
-      λ keys h. spanned-turn keys _ _ _ _ _ (omega arith) (omega (arith, s .pre)) (l .loop .inv .1 keys h)
+      λ keys h. spanned-iteration keys _ _ _ _ _ (omega arith) (omega (arith, s .pre)) (l .loop .inv .1 keys h)
           (c .capped-sum .ensures
           ∙ ap (λ x. capped (l .loop .span + x)) (c .before .magnitude .ensures ∙ ap natAbs read-back)),
     )

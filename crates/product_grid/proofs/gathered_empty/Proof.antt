@@ -6,7 +6,7 @@ use lib.ListN.{length, replicate, length-replicate}
 use Rattle.algebra.specs.IntegerRing.{ℤR}
 use Rattle.polynomial.specs.Polynomial.{product}
 use Rattle.calculus.specs.Model.{most-terms}
-use Rattle.product_sums.specs.TermArrays.{terms, lent-places}
+use Rattle.product_sums.specs.TermArrays.{terms, scratch-places}
 use Rattle.product_grid_fill.specs.Filling.{All-fit, Summed-up}
 use Rattle.product_grid.specs.GridReadyLaws.{all-fit, most-low, scan-ready, scanned}
 use borrow.Author.Needs.{needs}
@@ -54,7 +54,7 @@ module _ (two : tie.After-word-all2) where
   abbrev start : tie.Start
   start = one .before .before .before .before .before
 
-  fits : All-fit (start .args .sums .now) (replicate lent-places 0) (start .args .ca .now)
+  fits : All-fit (start .args .sums .now) (replicate scratch-places 0) (start .args .ca .now)
       (one .word-all .last .1 .1 .1 .1 .1 .0) (start .args .na) (start .args .cb .now)
       (two .word-all2 .last .1 .1 .1 .1 .1 .0) (start .args .nb)
   unfolding most-terms
@@ -82,8 +82,8 @@ module _ (f : tie.After-fill) where
   unfolding fits all-fit
   summed = f .fill .ensures (fits two-of)
 
-  wide : length (f .fill .last .1 .0) ≡ lent-places
-  wide = f .fill .kept .1 .0 ∙ length-replicate {A = ℕ} lent-places 0
+  wide : length (f .fill .last .1 .0) ≡ scratch-places
+  wide = f .fill .kept .1 .0 ∙ length-replicate {A = ℕ} scratch-places 0
 
 degree-of-requires : tie.Need-degree-of-requires
 degree-of-requires c κs = search needs

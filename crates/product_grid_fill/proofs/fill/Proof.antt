@@ -40,7 +40,7 @@ Inv-loop sums₀ degrees₀ ca ia na cb ib nb i₀ sums degrees i = Held sums₀
 abbrev μ-loop : tie.MeasureT-loop
 μ-loop sums₀ degrees₀ ca ia na cb ib nb i₀ sums degrees i = na - i
 
--- in a turn
+-- in an iteration
 module _ (d : tie.After-c Inv-loop μ-loop) where
   abbrev l : tie.At-loop Inv-loop μ-loop
   l = d .before .before
@@ -48,8 +48,8 @@ module _ (d : tie.After-c Inv-loop μ-loop) where
   abbrev s : tie.Start Inv-loop μ-loop
   s = l .before .before .before .before
 
-  turn : l .loop .i < s .args .na
-  turn = d .before .loop-test .taken
+  iteration : l .loop .i < s .args .na
+  iteration = d .before .loop-test .taken
 
   abbrev y : ℤ
   y = getD (s .args .ca .now) (l .loop .i) (pos 0)
@@ -89,7 +89,7 @@ row-requires c κs =
     let d = c .before .before .before in
     let h = l d .loop .inv in
     rw (fits-y d)
-    (row-fits (s d .pre) (l d .loop .i) (turn d) (l d .loop .sums) (l d .loop .degrees) (h .filled (s d .pre))
+    (row-fits (s d .pre) (l d .loop .i) (iteration d) (l d .loop .sums) (l d .loop .degrees) (h .filled (s d .pre))
     (h .sums-long) (h .degrees-long))
 
 add-i : tie.Need-add-i Inv-loop μ-loop
@@ -108,14 +108,14 @@ loop-again c =
     let i = l d .loop .i in
     let added = rw (fits-y d) at (r .row .ensures) in
     record {
-      on = omega (arith, turn d);
+      on = omega (arith, iteration d);
       sums-long = r .row .kept .0 ∙ h .sums-long;
       degrees-long = r .row .kept .1 .0 ∙ h .degrees-long;
       filled = rw add-one (λ (w : Fits d).
           rw (products-more (terms (a .na) (w .ka) (a .ca .now)) (terms (a .nb) (w .kb) (a .cb .now)) i
-          (at-key (getD (w .ka) i 0) (y d)) (next-first w i (turn d) (l d .loop .sums) (l d .loop .degrees)))
+          (at-key (getD (w .ka) i 0) (y d)) (next-first w i (iteration d) (l d .loop .sums) (l d .loop .degrees)))
           (filled-after _ _ _ _ _ _ _ _ (h .filled w)
-          (added (row-fits w i (turn d) (l d .loop .sums) (l d .loop .degrees) (h .filled w) (h .sums-long)
+          (added (row-fits w i (iteration d) (l d .loop .sums) (l d .loop .degrees) (h .filled w) (h .sums-long)
           (h .degrees-long)))));
     }
 

@@ -46,7 +46,7 @@ Inv-loop sums₀ degrees₀ at c cb ib count j₀ sums degrees j =
 abbrev μ-loop : tie.MeasureT-loop
 μ-loop sums₀ degrees₀ at c cb ib count j₀ sums degrees j = count - j
 
--- in a turn: the next term, its place, and room for its product
+-- in an iteration: the next term, its place, and room for its product
 module _ (d : tie.After-y Inv-loop μ-loop) where
   abbrev l : tie.At-loop Inv-loop μ-loop
   l = d .before .before
@@ -77,8 +77,8 @@ module _ (d : tie.After-y Inv-loop μ-loop) where
       Row-fits (s .args .sums .now) (s .args .degrees .now) (s .args .at) c (s .args .cb .now) (s .args .ib .now)
       (s .args .count)
 
-  turn : j < s .args .count
-  turn = d .before .loop-test .taken
+  iteration : j < s .args .count
+  iteration = d .before .loop-test .taken
 
   fits-y : SFits w64 y
   fits-y = record { sfits = d .y .given }
@@ -101,18 +101,18 @@ module _ (d : tie.After-y Inv-loop μ-loop) where
     next =
         let a = s .args in
         let long = terms-length (a .count) (w .kb) (a .cb .now) (w .keys-long) (w .coefficients-long) in
-        take-suc bs j none (omega (arith, turn))
+        take-suc bs j none (omega (arith, iteration))
         ∙ ap (λ t. take j bs ++ (t ∷ []))
-        (terms-at (a .count) (w .kb) (a .cb .now) j turn (w .keys-long) (w .coefficients-long))
+        (terms-at (a .count) (w .kb) (a .cb .now) j iteration (w .keys-long) (w .coefficients-long))
 
     there : p ≡ place (w .sides) (w .key + k)
     there =
-        ap (λ x. x / 2 ^ 8) (w .words j turn)
+        ap (λ x. x / 2 ^ 8) (w .words j iteration)
         ∙ word-place (w .sides .second) (w .sides .third) (w .sides .fourth) (w .key + k)
 
     degree-there : v % 2 ^ 8 ≡ wide-degree (w .key + k)
     degree-there =
-        ap (λ x. x % 2 ^ 8) (w .words j turn)
+        ap (λ x. x % 2 ^ 8) (w .words j iteration)
         ∙ word-degree (w .sides .second) (w .sides .third) (w .sides .fourth) (w .key + k)
 
   filled : (w : Fits) → Filled (w .sides) (s .args .sums .now) (before w) (l .loop .sums) (l .loop .degrees)
@@ -123,7 +123,7 @@ module _ (d : tie.After-y Inv-loop μ-loop) where
   w = s .pre
 
   inside : p < w .sides .size
-  inside = rw (there w) (w .gridded j turn .below)
+  inside = rw (there w) (w .gridded j iteration .below)
 
   within-sums : p < length (l .loop .sums)
   within-sums = omega (arith, inside, w .sums-room, l .loop .inv .sums-long)
@@ -227,7 +227,7 @@ loop-again e =
     (rw (product-is (o .before), toZ-ofZ (fits-z d), toZ-ofZ (fits-old o)) at (e .sum .ensures))
     ∙ toZ-ofZ (fits-sum d) in
     record {
-      on = omega (arith, turn d);
+      on = omega (arith, iteration d);
       sums-long = length-set (l d .loop .sums) (p d) _ ∙ l d .loop .inv .sums-long;
       degrees-long = length-set (l d .loop .degrees) (p d) _ ∙ l d .loop .inv .degrees-long;
       filled = rw (fits-c d, add-one) (λ w.
@@ -235,7 +235,7 @@ loop-again e =
           (filled-more (w .sides) (s d .args .sums .now) (before d w) (l d .loop .sums) (l d .loop .degrees)
           (filled d w) (omega (arith, w .sums-room, l d .loop .inv .sums-long))
           (omega (arith, w .degrees-room, l d .loop .inv .degrees-long)) (w .key + k d w) z _
-          (w .gridded (j d) (turn d)) (p d) (there d w) u _ (degree-there d w)));
+          (w .gridded (j d) (iteration d)) (p d) (there d w) u _ (degree-there d w)));
     }
 
 same-length : tie.Need-same-length Inv-loop μ-loop

@@ -1,4 +1,4 @@
--- `word_of` puts the degree behind the place, without overflow.
+-- `word_of` puts the degree after the place, without overflow.
 use mathlib.Core.Path.{_≡_, refl}
 use Prim.Native.Nat.{_<_, _≤_, _^_}
 use native.Mathlib.Omega.{arith}

@@ -26,7 +26,7 @@ abbrev μ-loop : tie.MeasureT-loop
 loop-holds : tie.Need-loop-holds Inv-loop μ-loop
 loop-holds c = held-none _ _ _ _ _ _ (c .before .before .pre .1)
 
--- in a turn
+-- in an iteration
 module _ (c : tie.After-steps Inv-loop μ-loop) where
   abbrev l : tie.At-loop Inv-loop μ-loop
   l = c .before .before
@@ -39,12 +39,12 @@ module _ (c : tie.After-steps Inv-loop μ-loop) where
       row-terms (s .args .sums .now) (s .args .degrees .now) ((s .args .at + j) * s .args .fourth)
       (steps-within (s .args .fourth) (s .args .left - j)) (s .args .key + third-step * j)
 
-  turn : l .loop .i < s .args .n
-  turn = c .before .loop-test .taken
+  iteration : l .loop .i < s .args .n
+  iteration = c .before .loop-test .taken
 
   ready : Row-ready (s .args .sums .now) (s .args .degrees .now) ((s .args .at + l .loop .i) * s .args .fourth)
       (steps-within (s .args .fourth) (s .args .left - l .loop .i)) (s .args .key + third-step * l .loop .i)
-  ready = row-ready _ _ _ _ _ _ _ (s .pre .0) (l .loop .i) turn
+  ready = row-ready _ _ _ _ _ _ _ (s .pre .0) (l .loop .i) iteration
 
 sub-rest : tie.Need-sub-rest Inv-loop μ-loop
 sub-rest c = search needs
@@ -87,7 +87,7 @@ add-rounding c =
       fits =
           omega (
             arith,
-            held-rounding (part (t p)) _ _ _ _ _ _ _ _ _ _ _ (l (t p) .loop .inv) (turn (t p)) _ _ _ (done p),
+            held-rounding (part (t p)) _ _ _ _ _ _ _ _ _ _ _ (l (t p) .loop .inv) (iteration (t p)) _ _ _ (done p),
             s (t p) .pre .0 .small,
           );
     }
@@ -99,7 +99,7 @@ add-swept c =
       fits =
           omega (
             arith,
-            held-swept (part (t p)) _ _ _ _ _ _ _ _ _ _ _ (l (t p) .loop .inv) (turn (t p)) _ _ _ (done p),
+            held-swept (part (t p)) _ _ _ _ _ _ _ _ _ _ _ (l (t p) .loop .inv) (iteration (t p)) _ _ _ (done p),
             s (t p) .pre .0 .small,
           );
     }
@@ -113,7 +113,7 @@ loop-less c = search needs
 loop-again : tie.Need-loop-again Inv-loop μ-loop
 loop-again c =
     let p = c .before .before .before .before .before in
-    held-more (part (t p)) _ _ _ _ _ _ _ _ _ _ _ (l (t p) .loop .inv) (turn (t p)) _ _ _ (done p)
+    held-more (part (t p)) _ _ _ _ _ _ _ _ _ _ _ (l (t p) .loop .inv) (iteration (t p)) _ _ _ (done p)
     (p .row .kept .1 .1 .1 .1 .1 .1 .0) (p .row .kept .1 .1 .1 .1 .1 .1 .1 .0)
 
 same-length : tie.Need-same-length Inv-loop μ-loop

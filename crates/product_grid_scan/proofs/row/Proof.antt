@@ -71,8 +71,8 @@ module _ (p : tie.After-push Inv-loop μ-loop) where
       at-key (s .args .key + fourth-step * j + getD (s .args .degrees .now) (s .args .at + j) 0)
       (getD (s .args .sums .now) (s .args .at + j) (pos 0)) ∷ []
 
-  turn : l .loop .i < s .args .n
-  turn = v .before .loop-test .taken
+  iteration : l .loop .i < s .args .n
+  iteration = v .before .loop-test .taken
 
   pushed : Part (s .args .d) (part (l .loop .i)) (l .loop .count) (l .loop .kept) (l .loop .coefficients)
       (p .push .last .0) (p .push .last .1 .0) (p .push .result)
@@ -85,7 +85,7 @@ add-rounding c =
       fits =
           omega (
             arith,
-            held-rounding (part p) _ _ _ _ _ _ _ _ _ _ _ (l p .loop .inv) (turn p) _ _ _ (pushed p),
+            held-rounding (part p) _ _ _ _ _ _ _ _ _ _ _ (l p .loop .inv) (iteration p) _ _ _ (pushed p),
             s p .pre .0 .small,
           );
     }
@@ -97,7 +97,7 @@ add-swept c =
       fits =
           omega (
             arith,
-            held-swept (part p) _ _ _ _ _ _ _ _ _ _ _ (l p .loop .inv) (turn p) _ _ _ (pushed p),
+            held-swept (part p) _ _ _ _ _ _ _ _ _ _ _ (l p .loop .inv) (iteration p) _ _ _ (pushed p),
             s p .pre .0 .small,
           );
     }
@@ -111,7 +111,7 @@ loop-less c = search needs
 loop-again : tie.Need-loop-again Inv-loop μ-loop
 loop-again c =
     let p = c .before .before .before .before .before in
-    held-more (part p) _ _ _ _ _ _ _ _ _ _ _ (l p .loop .inv) (turn p) _ _ _ (pushed p) (p .push .kept .0)
+    held-more (part p) _ _ _ _ _ _ _ _ _ _ _ (l p .loop .inv) (iteration p) _ _ _ (pushed p) (p .push .kept .0)
     (p .push .kept .1 .0)
 
 same-length : tie.Need-same-length Inv-loop μ-loop

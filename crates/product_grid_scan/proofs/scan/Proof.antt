@@ -32,7 +32,7 @@ steps-requires c κs = search needs
 loop-holds : tie.Need-loop-holds Inv-loop μ-loop
 loop-holds c = held-none _ _ _ _ _ _ (c .before .before .before .pre .1)
 
--- in a turn
+-- in an iteration
 module _ (l : tie.At-loop Inv-loop μ-loop) where
   abbrev s : tie.Start Inv-loop μ-loop
   s = l .before .before .before .before
@@ -45,15 +45,15 @@ module _ (l : tie.At-loop Inv-loop μ-loop) where
   number : l .before .steps .result ≡ steps-within (s .args .first) (s .args .most)
   number = l .before .steps .ensures
 
-  module _ (turn : l .loop .i < l .before .steps .result) where
+  module _ (iteration : l .loop .i < l .before .steps .result) where
     last : l .loop .i ≤ s .args .most
-    last = omega (arith, turn, number, steps-left (s .args .first) (s .args .most))
+    last = omega (arith, iteration, number, steps-left (s .args .first) (s .args .most))
 
     ready : Plane-ready (s .args .sums .now) (s .args .degrees .now) (s .args .third) (s .args .fourth)
         (l .loop .i * s .args .second)
         (steps-within (s .args .second) (s .args .most - l .loop .i)) (first-step * l .loop .i)
         (s .args .most - l .loop .i)
-    ready = plane-ready _ _ _ _ _ _ _ (s .pre .0) (l .loop .i) (omega (arith, turn, number))
+    ready = plane-ready _ _ _ _ _ _ _ (s .pre .0) (l .loop .i) (omega (arith, iteration, number))
 
 sub-rest : tie.Need-sub-rest Inv-loop μ-loop
 sub-rest c = last (c .before) (c .loop-test .taken)
@@ -85,8 +85,8 @@ module _ (p : tie.After-plane Inv-loop μ-loop) where
   abbrev l : tie.At-loop Inv-loop μ-loop
   l = t .before .before
 
-  turn : l .loop .i < l .before .steps .result
-  turn = t .before .loop-test .taken
+  iteration : l .loop .i < l .before .steps .result
+  iteration = t .before .loop-test .taken
 
   done : Part (s l .args .d) (part l (l .loop .i)) (l .loop .count) (l .loop .kept) (l .loop .coefficients)
       (p .plane .last .1 .1 .1 .1 .1 .1 .1 .1 .1 .0) (p .plane .last .1 .1 .1 .1 .1 .1 .1 .1 .1 .1 .0)
@@ -103,7 +103,7 @@ add-rounding c =
       fits =
           omega (
             arith,
-            held-rounding (part (l p)) _ _ _ _ _ _ _ _ _ _ _ (l p .loop .inv) (turn p) _ _ _ (done p),
+            held-rounding (part (l p)) _ _ _ _ _ _ _ _ _ _ _ (l p .loop .inv) (iteration p) _ _ _ (done p),
             small p,
           );
     }
@@ -115,7 +115,7 @@ add-swept c =
       fits =
           omega (
             arith,
-            held-swept (part (l p)) _ _ _ _ _ _ _ _ _ _ _ (l p .loop .inv) (turn p) _ _ _ (done p),
+            held-swept (part (l p)) _ _ _ _ _ _ _ _ _ _ _ (l p .loop .inv) (iteration p) _ _ _ (done p),
             small p,
           );
     }
@@ -129,7 +129,7 @@ loop-less c = search needs
 loop-again : tie.Need-loop-again Inv-loop μ-loop
 loop-again c =
     let p = c .before .before .before .before .before in
-    held-more (part (l p)) _ _ _ _ _ _ _ _ _ _ _ (l p .loop .inv) (turn p) _ _ _ (done p)
+    held-more (part (l p)) _ _ _ _ _ _ _ _ _ _ _ (l p .loop .inv) (iteration p) _ _ _ (done p)
     (p .plane .kept .1 .1 .1 .1 .1 .1 .1 .1 .1 .0) (p .plane .kept .1 .1 .1 .1 .1 .1 .1 .1 .1 .1 .0)
 
 same-length : tie.Need-same-length Inv-loop μ-loop

@@ -1,4 +1,4 @@
--- `find_below` comes to the first slot on the key's way that leads to the key, behind the home slot.
+-- `find_below` comes to the first slot on the key's way that leads to the key, after the home slot.
 use mathlib.Core.Path.{_≡_}
 use Prim.Native.Nat.{_+_, _*_, _<_}
 use native.Mathlib.Nat.{div-lt-self}
@@ -21,7 +21,7 @@ Inv-loop slots keys homes key entry whole h₀ path₀ h path = Walking homes sl
 abbrev μ-loop : tie.MeasureT-loop
 μ-loop slots keys homes key entry whole h₀ path₀ h path = path
 
--- in a turn: h is inside, and so is what the slot leads to
+-- in an iteration: h is inside, and so is what the slot leads to
 abbrev start : tie.At-loop Inv-loop μ-loop → tie.Start Inv-loop μ-loop
 start l = l .before .before .before .before
 

@@ -1,7 +1,7 @@
 -- `in_large_grid` makes a grid of zeros.
 use native.Mathlib.Omega.{arith}
 use borrow.Author.Needs.{needs}
-use Rattle.product_sums.specs.TermArrays.{lent-places}
+use Rattle.product_sums.specs.TermArrays.{scratch-places}
 use Rattle.product_grid.specs.GridReadyLaws.{fresh-zeros}
 use Rattle.product_room.specs.ProductTermsLaws.{grid-ready}
 use Rattle.product_own_room.proofs.in_large_grid.Statement.{statement}
@@ -17,7 +17,7 @@ gathered-empty-requires : tie.Need-gathered-empty-requires
 gathered-empty-requires c κs =
     let s = c .before .before .before .before .before .before in
     let few = s .pre .1 .1 .0 in
-    (grid-ready (s .pre .0) _ (s .pre .1 .0) few few (s .pre .1 .1 .1), fresh-zeros lent-places _)
+    (grid-ready (s .pre .0) _ (s .pre .1 .0) few few (s .pre .1 .1 .1), fresh-zeros scratch-places _)
 
 same-length : tie.Need-same-length
 same-length c = search needs

@@ -62,14 +62,14 @@ module _ (c : tie.After-unpack2) where
   second-long : start .args .count2 ≤ length (c .unpack2 .last .1 .1 .1 .0)
   second-long = let f = few-second start in search needs
 
-slice-aggregate-kept-lent : tie.Need-slice-aggregate-kept-lent
-slice-aggregate-kept-lent c = search needs
+slice-aggregate-kept-in-scratch : tie.Need-slice-aggregate-kept-in-scratch
+slice-aggregate-kept-in-scratch c = search needs
 
-slice-aggregate-kept-lent-2 : tie.Need-slice-aggregate-kept-lent-2
-slice-aggregate-kept-lent-2 c = search needs
+slice-aggregate-kept-in-scratch-2 : tie.Need-slice-aggregate-kept-in-scratch-2
+slice-aggregate-kept-in-scratch-2 c = search needs
 
-kept-lent-requires : tie.Need-kept-lent-requires
-kept-lent-requires c κs =
+kept-in-scratch-requires : tie.Need-kept-in-scratch-requires
+kept-in-scratch-requires c κs =
     let u = c .before .before .before .before .before .before .before .before in
     let s = start u in (
       slice-factors _ _ _ _ _ _ _ _ _ _ (s .pre .0) (first u) (second u) (first-long u) (s .pre .1 .0 .1)
@@ -78,14 +78,14 @@ kept-lent-requires c κs =
     )
 
 -- ---- where the products are gathered
-module _ (c : tie.After-kept-lent) where
+module _ (c : tie.After-kept-in-scratch) where
   abbrev unpacked : tie.After-unpack2
   unpacked = c .before .before .before .before .before .before .before .before .before
 
-  kept-long : most-terms ≤ length (c .kept-lent .last .1 .1 .1 .1 .1 .1 .1 .1 .1 .1 .0)
+  kept-long : most-terms ≤ length (c .kept-in-scratch .last .1 .1 .1 .1 .1 .1 .1 .1 .1 .1 .0)
   kept-long = let r = start unpacked .pre .1 .1 .1 .1 .kept-room in search needs
 
-  coefficients-long : most-terms ≤ length (c .kept-lent .last .1 .1 .1 .1 .1 .1 .1 .1 .1 .1 .1 .0)
+  coefficients-long : most-terms ≤ length (c .kept-in-scratch .last .1 .1 .1 .1 .1 .1 .1 .1 .1 .1 .1 .0)
   coefficients-long = let r = start unpacked .pre .1 .1 .1 .1 .coefficients-room in search needs
 
 kept-answer-requires : tie.Need-kept-answer-requires
@@ -95,7 +95,7 @@ kept-answer-requires c κs =
     let u = unpacked w in
     let s = start u in
     slice-ready _ _ _ _ _ _ _ _ _ _ (s .pre .0) (first u) (second u) (first-long u) (s .pre .1 .0 .1)
-    (second-long u) (s .pre .1 .1 .0 .1) (w .kept-lent .ensures .0) (kept-long w) (coefficients-long w)
+    (second-long u) (s .pre .1 .1 .0 .1) (w .kept-in-scratch .ensures .0) (kept-long w) (coefficients-long w)
 
 same-length : tie.Need-same-length
 same-length c = search needs
@@ -119,7 +119,7 @@ returns c =
     let u = unpacked w in
     let s = start u in (
       slice-answer _ _ _ _ _ _ _ _ _ _ (s .pre .0) (first u) (second u) (first-long u) (s .pre .1 .0 .1)
-          (second-long u) (s .pre .1 .1 .0 .1) (w .kept-lent .ensures .0) (kept-long w) (coefficients-long w)
+          (second-long u) (s .pre .1 .1 .0 .1) (w .kept-in-scratch .ensures .0) (kept-long w) (coefficients-long w)
           (c .kept-answer .ensures .0),
       (
         c .kept-answer .ensures .1,
@@ -135,9 +135,9 @@ multiplied-slices-spec =
     unpack-requires
     slice-aggregate-unpack-2
     unpack-requires-2
-    slice-aggregate-kept-lent
-    slice-aggregate-kept-lent-2
-    kept-lent-requires
+    slice-aggregate-kept-in-scratch
+    slice-aggregate-kept-in-scratch-2
+    kept-in-scratch-requires
     kept-answer-requires
     same-length
     same-length-2

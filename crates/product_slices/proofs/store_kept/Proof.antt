@@ -1,4 +1,4 @@
--- `store_kept` stores the terms, and zeros behind them.
+-- `store_kept` stores the terms, and zeros after them.
 use mathlib.Core.Path.{sym, _∙_, ap, subst}
 use native.Mathlib.Omega.{arith}
 use borrow.Author.Needs.{needs}

@@ -11,7 +11,8 @@ use mir.Val.{toZ, ofZ}
 use Rattle.calculus_laws.specs.MonomialKeyLaws.{word-key}
 use Rattle.model_slices.specs.HandedModels.{handed}
 use Rattle.product_slices.specs.HandedTerms.{Handed}
-use Rattle.product_slices.specs.HandedTermsLaws.{Unpacking, handed-first, handed-turn, handed-room, handed-end}
+use Rattle.product_slices.specs.HandedTermsLaws.{Unpacking, handed-first, handed-iteration, handed-room}
+use Rattle.product_slices.specs.HandedTermsLaws.{handed-end}
 use Rattle.product_slices.proofs.unpack.Statement.{statement}
 use Rattle.product_slices.proofs.unpack.Tie as tie
 
@@ -85,7 +86,7 @@ loop-again c =
       omega arith,
       length-set (l .loop .wide) (l .loop .i) _ ∙ l .loop .inv .1,
       λ w. rw (c .before .wide-key .ensures, size-at c)
-          (handed-turn w (l .loop .inv .2 w) (omega arith) (omega arith)
+          (handed-iteration w (l .loop .inv .2 w) (omega arith) (omega arith)
           (word-key _ (l .before .before .shared-slice-known .given (l .loop .i) .fits))),
     )
 

@@ -7,7 +7,7 @@ use borrow.Author.Tests.{not-true, not-false}
 use lib.ListN.{length, length-map}
 use Rattle.calculus.specs.Book.{most-models}
 use Rattle.sheet_book.specs.FailingLaws.{walked-first}
-use Rattle.sheet_book_tests.specs.WalkLaws.{Models-walked, models-unsound, models-turn, models-end}
+use Rattle.sheet_book_tests.specs.WalkLaws.{Models-walked, models-unsound, models-iteration, models-end}
 use Rattle.sheet_book_tests.proofs.first_unsound_model.Statement.{statement}
 use Rattle.sheet_book_tests.proofs.first_unsound_model.Tie as tie
 
@@ -50,20 +50,20 @@ models-less c = let t = c .before .before .before .models-test .taken in omega a
 
 models-again : tie.Need-models-again Inv-models μ-models
 models-again c =
-    let turn = c .before .before .before in
-    let at = turn .before in
-    models-turn (at .before .args .t1) (at .models .k) (long (at .before)) (at .models .inv)
-    (turn .models-test .taken) _ (sym (c .before .model-sound .ensures) ∙ not-false _ (c .if1 .left))
+    let iteration = c .before .before .before in
+    let at = iteration .before in
+    models-iteration (at .before .args .t1) (at .models .k) (long (at .before)) (at .models .inv)
+    (iteration .models-test .taken) _ (sym (c .before .model-sound .ensures) ∙ not-false _ (c .if1 .left))
 
 returns : tie.Need-returns Inv-models μ-models
 returns c = models-end _ _ (long (c .before .before)) (c .before .models .inv) (c .models-test .left)
 
 returns-2 : tie.Need-returns-2 Inv-models μ-models
 returns-2 c =
-    let turn = c .before .before .before in
-    let at = turn .before in
+    let iteration = c .before .before .before in
+    let at = iteration .before in
     models-unsound (at .before .args .t1) (at .models .k) (long (at .before)) (at .models .inv)
-    (turn .models-test .taken) _ (sym (c .before .model-sound .ensures) ∙ not-true _ (c .if1 .taken))
+    (iteration .models-test .taken) _ (sym (c .before .model-sound .ensures) ∙ not-true _ (c .if1 .taken))
 
 pub first-unsound-model-spec : {M : Type 1} → statement M
 first-unsound-model-spec =

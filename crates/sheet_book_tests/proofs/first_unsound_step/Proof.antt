@@ -7,7 +7,7 @@ use borrow.Author.Tests.{not-true, not-false}
 use lib.ListN.{length, length-map}
 use Rattle.calculus.specs.Book.{most-steps}
 use Rattle.sheet_book.specs.FailingLaws.{walked-first}
-use Rattle.sheet_book_tests.specs.WalkLaws.{Steps-walked, steps-turn, steps-bad, steps-end}
+use Rattle.sheet_book_tests.specs.WalkLaws.{Steps-walked, steps-iteration, steps-bad, steps-end}
 use Rattle.sheet_book_tests.proofs.first_unsound_step.Statement.{statement}
 use Rattle.sheet_book_tests.proofs.first_unsound_step.Tie as tie
 
@@ -49,20 +49,20 @@ steps-less c = let t = c .before .before .before .steps-test .taken in omega ari
 
 steps-again : tie.Need-steps-again Inv-steps μ-steps
 steps-again c =
-    let turn = c .before .before .before in
-    let at = turn .before in
-    steps-turn (at .before .args .t1) (at .steps .i) (long (at .before)) (at .steps .inv) (turn .steps-test .taken) _ _
-    (c .before .step-sound .ensures) (not-false _ (c .if1 .left))
+    let iteration = c .before .before .before in
+    let at = iteration .before in
+    steps-iteration (at .before .args .t1) (at .steps .i) (long (at .before)) (at .steps .inv)
+    (iteration .steps-test .taken) _ _ (c .before .step-sound .ensures) (not-false _ (c .if1 .left))
 
 returns : tie.Need-returns Inv-steps μ-steps
 returns c = steps-end _ _ (long (c .before .before)) (c .before .steps .inv) (c .steps-test .left)
 
 returns-2 : tie.Need-returns-2 Inv-steps μ-steps
 returns-2 c =
-    let turn = c .before .before .before in
-    let at = turn .before in
-    steps-bad (at .before .args .t1) (at .steps .i) (long (at .before)) (at .steps .inv) (turn .steps-test .taken) _ _
-    (c .before .step-sound .ensures) (not-true _ (c .if1 .taken))
+    let iteration = c .before .before .before in
+    let at = iteration .before in
+    steps-bad (at .before .args .t1) (at .steps .i) (long (at .before)) (at .steps .inv)
+    (iteration .steps-test .taken) _ _ (c .before .step-sound .ensures) (not-true _ (c .if1 .taken))
 
 pub first-unsound-step-spec : {M : Type 1} → statement M
 first-unsound-step-spec =

@@ -6,7 +6,7 @@ use borrow.Author.Tests.{eq-eqb, ne-eqb}
 use lib.ListN.{length}
 use Rattle.calculus.specs.Model.{most-terms, sound}
 use Rattle.model_types.specs.ModelStruct.{view}
-use Rattle.model.specs.OperationLaws.{lent-own, handed-own}
+use Rattle.model.specs.OperationLaws.{borrowed-own, handed-own}
 use Rattle.sheet_book_tests.proofs.model_sound.Statement.{statement}
 use Rattle.sheet_book_tests.proofs.model_sound.Tie as tie
 
@@ -27,7 +27,7 @@ returns c =
 sound-arrays-requires : tie.Need-sound-arrays-requires
 sound-arrays-requires c κs =
     let start = c .before .before .before .before .before .before in
-    lent-own _ _ _ (keys-whole start) (coefficients-whole start)
+    borrowed-own _ _ _ (keys-whole start) (coefficients-whole start)
 
 returns-2 : tie.Need-returns-2
 returns-2 c =

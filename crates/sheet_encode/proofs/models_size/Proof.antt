@@ -45,35 +45,35 @@ model-size-requires c κs =
     model-at-fits (s .args .t1) (s .pre) _ _ (c .before .loop-test .taken) (omega (arith, whole s, few s))
 
 module _ (c : tie.After-model-size Inv-loop μ-loop) where
-  abbrev turn : tie.At-loop Inv-loop μ-loop
-  turn = c .before .before .before
+  abbrev iteration : tie.At-loop Inv-loop μ-loop
+  iteration = c .before .before .before
 
   abbrev start : tie.Start Inv-loop μ-loop
-  start = turn .before
+  start = iteration .before
 
-  more : turn .loop .size + c .model-size .result
-      ≡ length (front model-bytes (held-book (start .args .t1) .models) (turn .loop .k + 1))
+  more : iteration .loop .size + c .model-size .result
+      ≡ length (front model-bytes (held-book (start .args .t1) .models) (iteration .loop .k + 1))
   more =
       let b = start .args .t1 in
-      let k = turn .loop .k in
+      let k = iteration .loop .k in
       let i : k < b .«model_count» = c .before .before .loop-test .taken in
       let x : Model = of-terms 0 0 0 [] in
       let y = held-model x in
       omega (
         arith,
-        turn .loop .inv .1,
+        iteration .loop .inv .1,
         c .model-size .ensures,
         length-more model-bytes (held-book b .models) k y (omega (arith, count-models b)),
         ap (λ m. length (model-bytes m)) (model-at b k x i (omega (arith, whole start, few start))),
       )
 
-  small : turn .loop .size + c .model-size .result ≤ 8272
+  small : iteration .loop .size + c .model-size .result ≤ 8272
   small =
       let b = start .args .t1 in
       omega (
         arith,
         more,
-        length-front model-bytes (held-book b .models) (turn .loop .k + 1),
+        length-front model-bytes (held-book b .models) (iteration .loop .k + 1),
         ap length (models-joined b),
         models-short (held-book b) (start .pre),
       )

@@ -1,4 +1,4 @@
--- `put_model` puts the radius and the count, and the terms behind them.
+-- `put_model` puts the radius and the count, and the terms after them.
 use mathlib.Core.Path.{_≡_, sym, _∙_, ap, ap₂}
 use mathlib.Core.List.{map}
 use Prim.Native.Nat.{_+_, _*_, _-_, _<_, _≤_}
@@ -20,7 +20,7 @@ use Rattle.format.specs.Bytes.{join}
 use Rattle.format.specs.Format.{head-length, term-length, term-bytes}
 use Rattle.format.specs.ReadBackLaws.{length-term, length-terms}
 use Rattle.sheet_book.specs.BookStruct.{held-term, held-model}
-use Rattle.sheet_encode.specs.RecordLoopLaws.{Put, put-first, put-length, put-room, put-turn, put-end}
+use Rattle.sheet_encode.specs.RecordLoopLaws.{Put, put-first, put-length, put-room, put-iteration, put-end}
 use Rattle.sheet_encode.specs.StoreLaws.{model-stores}
 use Rattle.sheet_encode.specs.FittingLaws.{count-terms, length-record, term-at, coefficient-at}
 use Rattle.sheet_encode.proofs.put_model.Statement.{statement}
@@ -79,7 +79,7 @@ add-place c = search needs
 loop-holds : tie.Need-loop-holds Inv-loop μ-loop
 loop-holds c = put-first (term-bytes _) _ _ _
 
--- ---- a turn
+-- ---- an iteration
 abbrev start : tie.At-loop Inv-loop μ-loop → tie.Start Inv-loop μ-loop
 start c = c .before .before .before .before .before .before .before
 
@@ -101,47 +101,48 @@ element-copy-out-c : tie.Need-element-copy-out-c Inv-loop μ-loop
 element-copy-out-c c = omega (arith, few (start (c .before .before)))
 
 module _ (c : tie.After-c Inv-loop μ-loop) where
-  abbrev turn : tie.At-loop Inv-loop μ-loop
-  turn = c .before .before .before
+  abbrev iteration : tie.At-loop Inv-loop μ-loop
+  iteration = c .before .before .before
 
   abbrev held : Model
-  held = start turn .args .t3
+  held = start iteration .args .t3
 
   abbrev term : Term
-  term = getD (listed held) (turn .loop .i) zero-term
+  term = getD (listed held) (iteration .loop .i) zero-term
 
-  inside : turn .loop .i < held .count
+  inside : iteration .loop .i < held .count
   inside = c .before .before .loop-test .taken
 
   whole-count : held .count ≤ length (listed held)
-  whole-count = omega (arith, whole (start turn), few (start turn))
+  whole-count = omega (arith, whole (start iteration), few (start iteration))
 
-  key-is : getD (held .keys) (turn .loop .i) 0 ≡ term .key
-  key-is = sym (key-at _ _ (turn .loop .i) (even (start turn)))
+  key-is : getD (held .keys) (iteration .loop .i) 0 ≡ term .key
+  key-is = sym (key-at _ _ (iteration .loop .i) (even (start iteration)))
 
-  read-back : toZ w64 (ofZ w64 (getD (held .coefficients) (turn .loop .i) (pos 0))) ≡ term .coefficient
-  read-back = toZ-ofZ (record { sfits = c .c .given }) ∙ sym (P.coefficient-at _ _ (turn .loop .i) (even (start turn)))
+  read-back : toZ w64 (ofZ w64 (getD (held .coefficients) (iteration .loop .i) (pos 0))) ≡ term .coefficient
+  read-back = toZ-ofZ (record { sfits = c .c .given })
+      ∙ sym (P.coefficient-at _ _ (iteration .loop .i) (even (start iteration)))
 
-  here : getD (held-model held .terms) (turn .loop .i) (held-term zero-term) ≡ held-term term
-  here = term-at held (turn .loop .i) zero-term inside whole-count
+  here : getD (held-model held .terms) (iteration .loop .i) (held-term zero-term) ≡ held-term term
+  here = term-at held (iteration .loop .i) zero-term inside whole-count
 
-  below : turn .loop .i < length (held-model held .terms)
+  below : iteration .loop .i < length (held-model held .terms)
   below = omega (arith, inside, count-terms held)
 
-  sized : turn .before .before .before .before .before .term-bytes .result ≡ term-length (held .n)
-  sized = turn .before .before .before .before .before .term-bytes .ensures
+  sized : iteration .before .before .before .before .before .term-bytes .result ≡ term-length (held .n)
+  sized = iteration .before .before .before .before .before .term-bytes .ensures
 
-  fits : turn .loop .place + term-length (held .n) ≤ length (turn .loop .buffer)
+  fits : iteration .loop .place + term-length (held .n) ≤ length (iteration .loop .buffer)
   fits =
-      let e = put-length (term-bytes (held .n)) _ _ _ (turn .loop .inv) in
+      let e = put-length (term-bytes (held .n)) _ _ _ (iteration .loop .inv) in
       omega (
         arith,
-        put-room (term-bytes (held .n)) _ _ _ (turn .loop .inv) (held-term zero-term) (held-term term) below here
+        put-room (term-bytes (held .n)) _ _ _ (iteration .loop .inv) (held-term zero-term) (held-term term) below here
             (omega (
               arith,
               e,
-              long turn,
-              room (start turn),
+              long iteration,
+              room (start iteration),
               length-terms (held .n) (held-model held .terms),
               ap (λ k. term-length (held .n) * k) (count-terms held),
             )),
@@ -151,17 +152,17 @@ module _ (c : tie.After-c Inv-loop μ-loop) where
 put-term-requires : tie.Need-put-term-requires Inv-loop μ-loop
 put-term-requires c κs =
     let t = c .before in (
-      rw (read-back t) (coefficient-at (held t) (start (turn t) .pre .0) _ _ (inside t) (whole-count t)),
+      rw (read-back t) (coefficient-at (held t) (start (iteration t) .pre .0) _ _ (inside t) (whole-count t)),
       fits t,
     )
 
 add-place-2 : tie.Need-add-place-2 Inv-loop μ-loop
 add-place-2 c =
     let t = c .before .before .before .before in
-    omega (arith, fits t, sized t, long (turn t), start (turn t) .fits)
+    omega (arith, fits t, sized t, long (iteration t), start (iteration t) .fits)
 
 add-i : tie.Need-add-i Inv-loop μ-loop
-add-i c = omega (arith, few (start (turn (c .before .before .before .before))))
+add-i c = omega (arith, few (start (iteration (c .before .before .before .before))))
 
 loop-less : tie.Need-loop-less Inv-loop μ-loop
 loop-less c = search needs
@@ -170,8 +171,8 @@ loop-again : tie.Need-loop-again Inv-loop μ-loop
 unfolding held-term
 loop-again c =
     let t = c .before .before .before .before in
-    let l = turn t in
-    put-turn (term-bytes (held t .n)) _ _ _ (l .loop .inv) (held-term zero-term) (held-term (term t)) (below t)
+    let l = iteration t in
+    put-iteration (term-bytes (held t .n)) _ _ _ (l .loop .inv) (held-term zero-term) (held-term (term t)) (below t)
     (here t) _ _
     (c .before .before .put-term .ensures
     ∙ ap₂ (λ k z. sets (l .loop .buffer) (l .loop .place) (term-bytes (held t .n) (record {

@@ -1,4 +1,4 @@
--- `put_models` puts the models one behind the other.
+-- `put_models` puts the models one after the other.
 use mathlib.Core.Path.{_≡_, _∙_, ap}
 use mathlib.Core.List.{[], map}
 use Prim.Native.Nat.{_+_, _-_, _<_, _≤_}
@@ -14,7 +14,7 @@ use Rattle.sheet_book.specs.declared.Book.{Book}
 use Rattle.sheet_book.specs.BookStruct.{held-model, held-book}
 use Rattle.sheet_book.specs.FailingLaws.{count-models}
 use Rattle.sheet_encode.specs.Fitting.{Model-fits}
-use Rattle.sheet_encode.specs.RecordLoopLaws.{Put, put-first, put-length, put-room, put-turn, put-end}
+use Rattle.sheet_encode.specs.RecordLoopLaws.{Put, put-first, put-length, put-room, put-iteration, put-end}
 use Rattle.sheet_encode.specs.SectionFittingLaws.{models-joined, book-limits, model-at, model-at-fits}
 use Rattle.sheet_encode.proofs.put_models.Statement.{statement}
 use Rattle.sheet_encode.proofs.put_models.Tie as tie
@@ -39,7 +39,7 @@ module _ (c : tie.Start Inv-loop μ-loop) where
 loop-holds : tie.Need-loop-holds Inv-loop μ-loop
 loop-holds c = put-first model-bytes _ _ _
 
--- ---- a turn
+-- ---- an iteration
 mul-m : tie.Need-mul-m Inv-loop μ-loop
 mul-m c = omega (arith, few (c .before .before .before))
 
@@ -51,35 +51,35 @@ abbrev blank : Model
 blank = of-terms 0 0 0 []
 
 module _ (c : tie.After-m Inv-loop μ-loop) where
-  abbrev turn : tie.At-loop Inv-loop μ-loop
-  turn = c .before .before
+  abbrev iteration : tie.At-loop Inv-loop μ-loop
+  iteration = c .before .before
 
   abbrev start : tie.Start Inv-loop μ-loop
-  start = turn .before .before
+  start = iteration .before .before
 
   abbrev held : Book
   held = start .args .t2
 
   abbrev model : Model
-  model = getD (held .models) (turn .loop .k) blank
+  model = getD (held .models) (iteration .loop .k) blank
 
-  inside : turn .loop .k < held .«model_count»
+  inside : iteration .loop .k < held .«model_count»
   inside = c .before .loop-test .taken
 
   whole-count : held .«model_count» ≤ length (held .models)
   whole-count = omega (arith, whole start, few start)
 
-  here : getD (held-book held .models) (turn .loop .k) (held-model blank) ≡ held-model model
-  here = model-at held (turn .loop .k) blank inside whole-count
+  here : getD (held-book held .models) (iteration .loop .k) (held-model blank) ≡ held-model model
+  here = model-at held (iteration .loop .k) blank inside whole-count
 
-  below : turn .loop .k < length (held-book held .models)
+  below : iteration .loop .k < length (held-book held .models)
   below = omega (arith, inside, count-models held)
 
   model-fits : Model-fits (held-model model)
   model-fits = model-at-fits held (start .pre .0) _ _ inside whole-count
 
-  fits : turn .loop .place + length (model-bytes (held-model model)) ≤ length (turn .loop .buffer)
-  fits = put-room model-bytes _ _ _ (turn .loop .inv) (held-model blank) (held-model model) below here (room start)
+  fits : iteration .loop .place + length (model-bytes (held-model model)) ≤ length (iteration .loop .buffer)
+  fits = put-room model-bytes _ _ _ (iteration .loop .inv) (held-model blank) (held-model model) below here (room start)
 
 put-model-requires : tie.Need-put-model-requires Inv-loop μ-loop
 put-model-requires c κs = (model-fits (c .before), fits (c .before))
@@ -92,7 +92,7 @@ read c = c .before .before .before .before .before
 
 add-place : tie.Need-add-place Inv-loop μ-loop
 add-place c =
-    let e = put-length model-bytes _ _ _ (turn (read c) .loop .inv) in
+    let e = put-length model-bytes _ _ _ (iteration (read c) .loop .inv) in
     omega (arith, fits (read c), e, c .model-size .ensures, start (read c) .good)
 
 add-k : tie.Need-add-k Inv-loop μ-loop
@@ -104,8 +104,8 @@ loop-less c = search needs
 loop-again : tie.Need-loop-again Inv-loop μ-loop
 loop-again c =
     let m = read c in
-    let l = turn m in
-    put-turn model-bytes _ _ _ (l .loop .inv) (held-model blank) (held-model (model m)) (below m) (here m) _ _
+    let l = iteration m in
+    put-iteration model-bytes _ _ _ (l .loop .inv) (held-model blank) (held-model (model m)) (below m) (here m) _ _
     (c .before .before .before .put-model .ensures)
     (ap (λ n. l .loop .place + n) (c .model-size .ensures))
 

@@ -1,4 +1,4 @@
--- `put_step` puts the fields one behind the other.
+-- `put_step` puts the fields one after the other.
 use mathlib.Core.Path.{_≡_, _∙_}
 use native.Mathlib.Omega.{arith}
 use borrow.Author.Needs.{needs}

@@ -1,4 +1,4 @@
--- `put_steps` puts the steps one behind the other.
+-- `put_steps` puts the steps one after the other.
 use mathlib.Core.Path.{_≡_, sym, ap}
 use mathlib.Core.List.{map}
 use Prim.Native.Nat.{_+_, _-_, _<_, _≤_}
@@ -12,7 +12,7 @@ use Rattle.sheet_book.specs.declared.Step.{Step}
 use Rattle.sheet_book.specs.declared.Book.{Book}
 use Rattle.sheet_book.specs.BookStruct.{no-step, held-step, held-book}
 use Rattle.sheet_book.specs.FailingLaws.{count-steps}
-use Rattle.sheet_encode.specs.RecordLoopLaws.{Put, put-first, put-length, put-room, put-turn, put-end}
+use Rattle.sheet_encode.specs.RecordLoopLaws.{Put, put-first, put-length, put-room, put-iteration, put-end}
 use Rattle.sheet_encode.specs.SectionFittingLaws.{book-limits, step-at, step-at-fits}
 use Rattle.sheet_encode.proofs.put_steps.Statement.{statement}
 use Rattle.sheet_encode.proofs.put_steps.Tie as tie
@@ -37,7 +37,7 @@ module _ (c : tie.Start Inv-loop μ-loop) where
 loop-holds : tie.Need-loop-holds Inv-loop μ-loop
 loop-holds c = put-first step-bytes _ _ _
 
--- ---- a turn
+-- ---- an iteration
 mul-s : tie.Need-mul-s Inv-loop μ-loop
 mul-s c = omega (arith, few (c .before .before .before))
 
@@ -45,34 +45,34 @@ element-copy-out-s : tie.Need-element-copy-out-s Inv-loop μ-loop
 element-copy-out-s c = omega (arith, few (c .before .before .before))
 
 module _ (c : tie.After-s Inv-loop μ-loop) where
-  abbrev turn : tie.At-loop Inv-loop μ-loop
-  turn = c .before .before
+  abbrev iteration : tie.At-loop Inv-loop μ-loop
+  iteration = c .before .before
 
   abbrev start : tie.Start Inv-loop μ-loop
-  start = turn .before .before
+  start = iteration .before .before
 
   abbrev held : Book
   held = start .args .t3
 
   abbrev step : Step
-  step = getD (held .steps) (turn .loop .k) no-step
+  step = getD (held .steps) (iteration .loop .k) no-step
 
-  inside : turn .loop .k < held .«step_count»
+  inside : iteration .loop .k < held .«step_count»
   inside = c .before .loop-test .taken
 
   whole-count : held .«step_count» ≤ length (held .steps)
   whole-count = omega (arith, whole start, few start)
 
-  here : getD (held-book held .steps) (turn .loop .k) (held-step no-step) ≡ held-step step
-  here = step-at held (turn .loop .k) no-step inside whole-count
+  here : getD (held-book held .steps) (iteration .loop .k) (held-step no-step) ≡ held-step step
+  here = step-at held (iteration .loop .k) no-step inside whole-count
 
-  below : turn .loop .k < length (held-book held .steps)
+  below : iteration .loop .k < length (held-book held .steps)
   below = omega (arith, inside, count-steps held)
 
-  fits : turn .loop .place + step-length ≤ length (turn .loop .buffer)
+  fits : iteration .loop .place + step-length ≤ length (iteration .loop .buffer)
   fits = omega (
     arith,
-    put-room step-bytes _ _ _ (turn .loop .inv) (held-step no-step) (held-step step) below here (room start),
+    put-room step-bytes _ _ _ (iteration .loop .inv) (held-step no-step) (held-step step) below here (room start),
     length-step (held-step step),
   )
 
@@ -84,7 +84,7 @@ put-step-requires c κs =
 add-place : tie.Need-add-place Inv-loop μ-loop
 add-place c =
     let s = c .before .before .before .before in
-    let e = put-length step-bytes _ _ _ (turn s .loop .inv) in
+    let e = put-length step-bytes _ _ _ (iteration s .loop .inv) in
     omega (arith, fits s, e, start s .fits)
 
 add-k : tie.Need-add-k Inv-loop μ-loop
@@ -96,8 +96,8 @@ loop-less c = search needs
 loop-again : tie.Need-loop-again Inv-loop μ-loop
 loop-again c =
     let s = c .before .before .before .before in
-    let l = turn s in
-    put-turn step-bytes _ _ _ (l .loop .inv) (held-step no-step) (held-step (step s)) (below s) (here s) _ _
+    let l = iteration s in
+    put-iteration step-bytes _ _ _ (l .loop .inv) (held-step no-step) (held-step (step s)) (below s) (here s) _ _
     (c .before .before .put-step .ensures)
     (ap (λ n. l .loop .place + n) (sym (length-step (held-step (step s)))))
 

@@ -1,4 +1,4 @@
--- `put_term` puts the key and behind it the coefficient.
+-- `put_term` puts the key and after it the coefficient.
 use mathlib.Core.Path.{_≡_, _∙_, ap, ap₂}
 use Prim.Native.Nat.{_+_, _-_}
 use native.Mathlib.Omega.{arith}

@@ -16,9 +16,9 @@ use Rattle.format.specs.Bytes.{byte}
 use Rattle.format.specs.Format.{term-length}
 use Rattle.format.specs.KeyBytesLaws.{term-most}
 use Rattle.sheet_walk.specs.TermWalkLaws.{model-at, length-at}
-use Rattle.sheet_walk.specs.ModelWalkLaws.{models-turn, models-end}
+use Rattle.sheet_walk.specs.ModelWalkLaws.{models-iteration, models-end}
 use Rattle.sheet_walk.specs.ModelWalkLaws.{models-no-head, models-no-terms, models-many, models-unsound}
-use Rattle.sheet_walk.specs.ModelWalkLaws.{model-lent, model-handed}
+use Rattle.sheet_walk.specs.ModelWalkLaws.{model-borrowed, model-handed}
 use Rattle.sheet_read_walk.specs.KeptLaws.{Models-kept, models-none, models-more, models-answer}
 use Rattle.sheet_read_walk.proofs.read_models.Statement.{statement}
 use Rattle.sheet_read_walk.proofs.read_models.Tie as tie
@@ -125,7 +125,7 @@ sound-arrays-requires : tie.Need-sound-arrays-requires Inv-models μ-models
 sound-arrays-requires c κs =
     let read = c .before .before .before .before .before in
     let u = read .before in
-    model-lent (sheet u) (start u .args .n) (outer u .models .at) (few u) _ (read .model-at .ensures)
+    model-borrowed (sheet u) (start u .args .n) (outer u .models .at) (few u) _ (read .model-at .ensures)
 
 mul-models : tie.Need-mul-models Inv-models μ-models
 unfolding most-models
@@ -154,7 +154,7 @@ models-again c =
     let k = u .before .before .before .before .models-test .taken in
     rw (outer u .before .before .term-bytes .ensures)
     (models-more _ _ _ _ _ _ _ m k (start u .pre .2) _
-    (models-turn _ _ _ _ _ _ _ (m .so-far) k _ (counted u) (room u)
+    (models-iteration _ _ _ _ _ _ _ (m .so-far) k _ (counted u) (room u)
     (decided (c .before) ∙ not-false _ (c .if4 .left))) _ (r .model-at .ensures))
 
 returns : tie.Need-returns Inv-models μ-models

@@ -4,7 +4,7 @@ use Prim.Native.Nat.{_-_}
 use borrow.Author.Needs.{needs}
 use borrow.Author.Tests.{not-true, not-false}
 use Rattle.calculus.specs.Book.{most-steps}
-use Rattle.sheet_walk.specs.StepWalkLaws.{steps-turn, steps-bad, steps-end, steps-most}
+use Rattle.sheet_walk.specs.StepWalkLaws.{steps-iteration, steps-bad, steps-end, steps-most}
 use Rattle.sheet_read_walk.specs.KeptLaws.{Steps-kept, steps-none, steps-more, steps-answer}
 use Rattle.sheet_read_walk.proofs.read_steps.Statement.{statement}
 use Rattle.sheet_read_walk.proofs.read_steps.Tie as tie
@@ -50,7 +50,8 @@ steps-again c =
     let k = t .before .steps-test .taken in
     let e = t .step-at .ensures in
     steps-more _ _ _ _ _ _ _ _ h k (l .before .before .pre .0) _ e
-    (steps-turn _ _ _ _ _ _ _ (h .so-far) k _ e (sym (c .before .step-sound .ensures) ∙ not-false _ (c .if1 .left)))
+    (steps-iteration _ _ _ _ _ _ _ (h .so-far) k _ e
+    (sym (c .before .step-sound .ensures) ∙ not-false _ (c .if1 .left)))
 
 returns : tie.Need-returns Inv-steps μ-steps
 returns c =

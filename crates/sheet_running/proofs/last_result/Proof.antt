@@ -4,7 +4,7 @@ use native.Mathlib.Omega.{arith}
 use Rattle.calculus.specs.Refusal.{stopped}
 use Rattle.model_types.specs.ModelStruct.{cause, answer}
 use Rattle.sheet_step_answers.specs.Answers.{accepted-answer}
-use Rattle.sheet_turn_laws.specs.MemoryLaws.{few-steps, some-step, begun-first, last-sound}
+use Rattle.sheet_run_laws.specs.MemoryLaws.{few-steps, some-step, begun-first, last-sound}
 use Rattle.sheet_running.specs.RunningLaws.{ended-ran, last-ran}
 use borrow.Author.Needs.{needs}
 use Rattle.sheet_running.proofs.last_result.Statement.{statement}

@@ -112,7 +112,7 @@ returns c =
       substituted c .substituted-accounted .ensures .1,
     )
 
--- the table is as it was lent
+-- the table is the scratch that was given
 returns-2 : tie.Need-returns-2
 unfolding codes held-step
 returns-2 c =

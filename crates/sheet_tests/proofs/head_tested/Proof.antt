@@ -19,7 +19,7 @@ use Rattle.sheet_tests.specs.HeadedLaws.{head-sound}
 use Rattle.sheet_tests.proofs.head_tested.Statement.{statement}
 use Rattle.sheet_tests.proofs.head_tested.Tie as tie
 
--- ---- what is known behind test 1
+-- ---- what is known after test 1
 module _ (c : tie.Else1) where
   abbrev sheet : List ℕ
   sheet = c .before .before .before .args .sheet .now

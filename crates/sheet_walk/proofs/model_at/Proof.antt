@@ -11,7 +11,8 @@ use mir.Val.{Fits, toZ, ofZ}
 use Rattle.calculus.specs.Model.{most-terms}
 use Rattle.format.specs.Bytes.{byte}
 use Rattle.format.specs.Format.{term-length}
-use Rattle.sheet_walk.specs.TermWalkLaws.{Terms-so-far, terms-first, terms-turn, terms-end, length-at, one-inside}
+use Rattle.sheet_walk.specs.TermWalkLaws.{Terms-so-far, terms-first, terms-iteration, terms-end, length-at}
+use Rattle.sheet_walk.specs.TermWalkLaws.{one-inside}
 use Rattle.sheet_walk.proofs.model_at.Statement.{statement}
 use Rattle.sheet_walk.proofs.model_at.Tie as tie
 
@@ -128,7 +129,7 @@ loop-again c =
     let l = c .before .before in
     let s = start (l .before) in
     rw (sized (l .before))
-    (terms-turn (sheet s) (s .args .n) (s .args .at) (s .pre .1) (l .before .loop .inv) (counts l) _
+    (terms-iteration (sheet s) (s .args .n) (s .args .at) (s .pre .1) (l .before .loop .inv) (counts l) _
     (c .before .term-at .ensures) _ (read-back c))
 
 returns : tie.Need-returns Inv-loop μ-loop

@@ -15,9 +15,10 @@ use Rattle.format.specs.Bytes.{byte}
 use Rattle.format.specs.Format.{term-length}
 use Rattle.format.specs.KeyBytesLaws.{term-most}
 use Rattle.sheet_walk.specs.TermWalkLaws.{model-at, length-at}
-use Rattle.sheet_walk.specs.ModelWalkLaws.{Models-passed, models-answer, models-first, models-turn, models-end}
+use Rattle.sheet_walk.specs.ModelWalkLaws.{Models-passed, models-answer, models-first, models-iteration}
+use Rattle.sheet_walk.specs.ModelWalkLaws.{models-end}
 use Rattle.sheet_walk.specs.ModelWalkLaws.{models-no-head, models-no-terms, models-many, models-unsound}
-use Rattle.sheet_walk.specs.ModelWalkLaws.{model-lent, model-handed}
+use Rattle.sheet_walk.specs.ModelWalkLaws.{model-borrowed, model-handed}
 use Rattle.sheet_walk.proofs.walk_models.Statement.{statement}
 use Rattle.sheet_walk.proofs.walk_models.Tie as tie
 
@@ -119,7 +120,7 @@ sound-arrays-requires : tie.Need-sound-arrays-requires Inv-models μ-models
 sound-arrays-requires c κs =
     let read = c .before .before .before .before .before in
     let u = read .before in
-    model-lent (sheet u) (start u .args .n) (outer u .models .at) (few u) _ (read .model-at .ensures)
+    model-borrowed (sheet u) (start u .args .n) (outer u .models .at) (few u) _ (read .model-at .ensures)
 
 add-at : tie.Need-add-at Inv-models μ-models
 add-at c =
@@ -138,7 +139,7 @@ models-again c =
     let m = outer u .models .inv in
     rw (outer u .before .term-bytes .ensures) (record {
       before = _;
-      so-far = models-turn _ _ _ _ _ _ _ (m .so-far) (u .before .before .before .before .models-test .taken) _
+      so-far = models-iteration _ _ _ _ _ _ _ (m .so-far) (u .before .before .before .before .models-test .taken) _
           (counted u) (room u) (decided (c .before) ∙ not-false _ (c .if4 .left));
     })
 

@@ -3,7 +3,7 @@ use mathlib.Core.Path.{sym, _∙_}
 use Prim.Native.Nat.{_-_}
 use borrow.Author.Needs.{needs}
 use borrow.Author.Tests.{not-true, not-false}
-use Rattle.sheet_walk.specs.StepWalkLaws.{Steps-so-far, steps-first, steps-turn, steps-bad, steps-end}
+use Rattle.sheet_walk.specs.StepWalkLaws.{Steps-so-far, steps-first, steps-iteration, steps-bad, steps-end}
 use Rattle.sheet_walk.proofs.walk_steps.Statement.{statement}
 use Rattle.sheet_walk.proofs.walk_steps.Tie as tie
 
@@ -35,7 +35,7 @@ steps-again : tie.Need-steps-again Inv-steps μ-steps
 steps-again c =
     let t = c .before .before in
     let l = t .before .before in
-    steps-turn _ _ _ _ _ _ _ (l .steps .inv) (t .before .steps-test .taken) _ (t .step-at .ensures)
+    steps-iteration _ _ _ _ _ _ _ (l .steps .inv) (t .before .steps-test .taken) _ (t .step-at .ensures)
     (sym (c .before .step-sound .ensures) ∙ not-false _ (c .if1 .left))
 
 returns : tie.Need-returns Inv-steps μ-steps

@@ -1,4 +1,4 @@
--- `write` tests first; then models, steps and the trailer make the sheet, and what stands behind it stays.
+-- `write` tests first; then models, steps and the trailer make the sheet, and what stands after it stays.
 use mathlib.Core.Path.{_≡_, sym, _∙_, ap}
 use Prim.Native.Nat.{_+_, _*_, _≤_}
 use native.Mathlib.Omega.{arith}

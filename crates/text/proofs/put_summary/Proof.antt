@@ -12,7 +12,7 @@ use Rattle.format.specs.Bytes.{join}
 use Rattle.format.specs.Lines.{text, term-line, ends-line, exact-lines, radius-line}
 use Rattle.sheet_book.specs.SummaryStruct.{ends-of, exact-of, summary-of}
 use Rattle.text_decimal.specs.Put.{Put, Room}
-use Rattle.text_decimal.specs.PutLaws.{_then-put_, put-as, room-before, room-behind}
+use Rattle.text_decimal.specs.PutLaws.{_then-put_, put-as, room-before, room-after}
 use Rattle.text_lines.specs.LineParts.{ends, mixed}
 use Rattle.text_lines.specs.LineLaws.{lines-pieces, ends-back}
 use Rattle.text.proofs.put_summary.Statement.{statement}
@@ -73,14 +73,14 @@ exact-is : (c : tie.After-struct-told5)
 exact-is c = ap (λ q. mixed q (start₄ (c .before .before .before .before) .args .summary .exact .remainder))
     (toZ-ofZ (record { sfits = c .struct-told5 .given .0 .1 }))
 
--- room behind the radius, behind the terms, behind the range, and behind the integral
+-- room after the radius, after the terms, after the range, and after the integral
 room₁ : (c : tie.After-put-radius)
     → Room (c .put-radius .result) (terms (start₁ c) ++ (range (start₁ c) ++ (integral (start₁ c) ++ exact (start₁ c))))
-room₁ c = room-behind (radius (start₁ c)) _ (whole (start₁ c)) (c .put-radius .ensures)
+room₁ c = room-after (radius (start₁ c)) _ (whole (start₁ c)) (c .put-radius .ensures)
 
 room₂ : (c : tie.After-put-terms)
     → Room (c .put-terms .result) (range (start₂ c) ++ (integral (start₂ c) ++ exact (start₂ c)))
-room₂ c = room-behind (terms (start₂ c)) _ (room₁ (c .before .before .before .before)) (c .put-terms .ensures)
+room₂ c = room-after (terms (start₂ c)) _ (room₁ (c .before .before .before .before)) (c .put-terms .ensures)
 
 range-put : (c : tie.After-put-ends)
     → let p = c .before .before .before .before .before .before .before .put-terms in
@@ -91,7 +91,7 @@ range-put c = put-as (ap (ends-line (text "range")) (range-is (c .before))) (c .
 room₃ : (c : tie.After-put-ends) → Room (c .put-ends .result) (integral (start₃ c) ++ exact (start₃ c))
 room₃ c =
     let p = c .before .before .before .before .before .before .before in
-    room-behind (range (start₃ c)) _ (room₂ p) (range-put c)
+    room-after (range (start₃ c)) _ (room₂ p) (range-put c)
 
 integral-put : (c : tie.After-put-ends2)
     → let e = c .before .before .before .before .before .before .before in
@@ -103,7 +103,7 @@ integral-put c = put-as (ap (ends-line (text "integral")) (integral-is (c .befor
 room₄ : (c : tie.After-put-ends2) → Room (c .put-ends2 .result) (exact (start₄ c))
 room₄ c =
     let p = c .before .before .before .before .before .before .before in
-    room-behind (integral (start₄ c)) _ (room₃ p) (integral-put c)
+    room-after (integral (start₄ c)) _ (room₃ p) (integral-put c)
 
 exact-put : (c : tie.After-put-exact-of)
     → let e = c .before .before .before .before .before in

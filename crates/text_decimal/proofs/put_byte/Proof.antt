@@ -4,8 +4,8 @@ use Rattle.text_decimal.specs.PutLaws as put
 use Rattle.text_decimal.proofs.put_byte.Statement.{statement}
 use Rattle.text_decimal.proofs.put_byte.Tie as tie
 
-add-behind : tie.Need-add-behind
-add-behind c = search needs
+add-after : tie.Need-add-after
+add-after c = search needs
 
 slice-write-out : tie.Need-slice-write-out
 slice-write-out c = search needs
@@ -20,4 +20,4 @@ returns-2 : tie.Need-returns-2
 returns-2 c = put.put-out (c .if1 .left)
 
 pub put-byte-spec : {M : Type 1} → statement M
-put-byte-spec = tie.close (tie.spec add-behind slice-write-out same-length returns returns-2)
+put-byte-spec = tie.close (tie.spec add-after slice-write-out same-length returns returns-2)

@@ -7,7 +7,7 @@ use mir.Facts.{toZ-ofZ}
 use Rattle.fixed.specs.MachineLaws.{negative, not-negative}
 use Rattle.format.specs.Lines.{text, decimal}
 use Rattle.text_decimal.specs.Put.{natural, integer}
-use Rattle.text_decimal.specs.PutLaws.{_then-put_, put-as, room-before, room-behind, integer-negative}
+use Rattle.text_decimal.specs.PutLaws.{_then-put_, put-as, room-before, room-after, integer-negative}
 use Rattle.text_decimal.specs.PutLaws.{integer-natural}
 use Rattle.text_decimal.proofs.put_integer.Statement.{statement}
 use Rattle.text_decimal.proofs.put_integer.Tie as tie
@@ -46,7 +46,7 @@ unfolding text
 put-decimal-requires c κs =
     let p = c .before .before .before in
     let t = p .before .before .before in
-    room-behind (32 ∷ 45 ∷ []) _ (rw (with-sign t) at (t .before .before .before .pre)) (p .put-bytes .ensures)
+    room-after (32 ∷ 45 ∷ []) _ (rw (with-sign t) at (t .before .before .before .pre)) (p .put-bytes .ensures)
 
 same-length : tie.Need-same-length
 same-length c = search needs

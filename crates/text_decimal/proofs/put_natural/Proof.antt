@@ -3,7 +3,7 @@ use mathlib.Core.List.{[], _∷_}
 use borrow.Author.Needs.{needs}
 use Rattle.format.specs.Lines.{text, decimal}
 use Rattle.text_decimal.specs.Put.{natural}
-use Rattle.text_decimal.specs.PutLaws.{_then-put_, room-before, room-behind}
+use Rattle.text_decimal.specs.PutLaws.{_then-put_, room-before, room-after}
 use Rattle.text_decimal.proofs.put_natural.Statement.{statement}
 use Rattle.text_decimal.proofs.put_natural.Tie as tie
 
@@ -18,7 +18,7 @@ unfolding natural text
 put-decimal-requires c κs =
     let p = c .before .before .before in
     let s = p .before .before .before in
-    room-behind (32 ∷ []) (decimal (s .args .x)) (s .pre) (p .put-byte .ensures)
+    room-after (32 ∷ []) (decimal (s .args .x)) (s .pre) (p .put-byte .ensures)
 
 same-length : tie.Need-same-length
 same-length c = search needs

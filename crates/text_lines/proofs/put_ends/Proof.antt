@@ -8,7 +8,7 @@ use mir.Syntax.{w64}
 use mir.Val.{toZ, ofZ}
 use Rattle.format.specs.Lines.{text}
 use Rattle.text_decimal.specs.Put.{Put, Room, integer}
-use Rattle.text_decimal.specs.PutLaws.{_then-put_, put-as, room-before, room-behind}
+use Rattle.text_decimal.specs.PutLaws.{_then-put_, put-as, room-before, room-after}
 use Rattle.text_lines.specs.LineParts.{ends}
 use Rattle.text_lines.specs.LineLaws.{line-end, ends-pieces}
 use Rattle.text_lines.proofs.put_ends.Statement.{statement}
@@ -44,9 +44,9 @@ start₂ c = start₁ (c .before .before .before .before)
 abbrev start₃ : tie.After-put-integer2 → tie.Start
 start₃ c = start₂ (c .before .before .before .before)
 
--- room behind the word, behind the low end, and behind the high end
+-- room after the word, after the low end, and after the high end
 room₁ : (c : tie.After-put-bytes) → Room (c .put-bytes .result) (low (start₁ c) ++ (high (start₁ c) ++ line-end))
-room₁ c = room-behind (word (start₁ c)) _ (whole (start₁ c)) (c .put-bytes .ensures)
+room₁ c = room-after (word (start₁ c)) _ (whole (start₁ c)) (c .put-bytes .ensures)
 
 low-put : (c : tie.After-put-integer)
     → let p = c .before .before .before .before .put-bytes in
@@ -54,7 +54,7 @@ low-put : (c : tie.After-put-integer)
 low-put c = put-as (low-is (start₂ c)) (c .put-integer .ensures)
 
 room₂ : (c : tie.After-put-integer) → Room (c .put-integer .result) (high (start₂ c) ++ line-end)
-room₂ c = room-behind (low (start₂ c)) _ (room₁ (c .before .before .before .before)) (low-put c)
+room₂ c = room-after (low (start₂ c)) _ (room₁ (c .before .before .before .before)) (low-put c)
 
 high-put : (c : tie.After-put-integer2)
     → let p = c .before .before .before .before .put-integer in
@@ -62,7 +62,7 @@ high-put : (c : tie.After-put-integer2)
 high-put c = put-as (high-is (start₃ c)) (c .put-integer2 .ensures)
 
 room₃ : (c : tie.After-put-integer2) → Room (c .put-integer2 .result) line-end
-room₃ c = room-behind (high (start₃ c)) line-end (room₂ (c .before .before .before .before)) (high-put c)
+room₃ c = room-after (high (start₃ c)) line-end (room₂ (c .before .before .before .before)) (high-put c)
 
 put-bytes-requires : tie.Need-put-bytes-requires
 put-bytes-requires c κs = room-before (word (c .before .before .before)) _ (whole (c .before .before .before))

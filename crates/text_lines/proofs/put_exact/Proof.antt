@@ -8,7 +8,7 @@ use mir.Syntax.{w64}
 use mir.Val.{toZ, ofZ}
 use Rattle.format.specs.Lines.{text}
 use Rattle.text_decimal.specs.Put.{Put, Room, natural, integer}
-use Rattle.text_decimal.specs.PutLaws.{_then-put_, put-as, room-before, room-behind}
+use Rattle.text_decimal.specs.PutLaws.{_then-put_, put-as, room-before, room-after}
 use Rattle.text_lines.specs.LineParts.{mixed}
 use Rattle.text_lines.specs.LineLaws.{line-end, exact-pieces}
 use Rattle.text_lines.proofs.put_exact.Statement.{statement}
@@ -38,10 +38,10 @@ start₂ c = start₁ (c .before .before .before .before)
 abbrev start₃ : tie.After-put-natural → tie.Start
 start₃ c = start₂ (c .before .before .before .before)
 
--- room behind the word, behind the quotient, and behind the remainder
+-- room after the word, after the quotient, and after the remainder
 room₁ : (c : tie.After-put-bytes) → Room (c .put-bytes .result) (quotient (start₁ c) ++ (rest (start₁ c) ++ line-end))
 unfolding text
-room₁ c = room-behind (text "exact") _ (whole (start₁ c)) (c .put-bytes .ensures)
+room₁ c = room-after (text "exact") _ (whole (start₁ c)) (c .put-bytes .ensures)
 
 quotient-put : (c : tie.After-put-integer)
     → let p = c .before .before .before .before .put-bytes in
@@ -49,10 +49,10 @@ quotient-put : (c : tie.After-put-integer)
 quotient-put c = put-as (quotient-is (start₂ c)) (c .put-integer .ensures)
 
 room₂ : (c : tie.After-put-integer) → Room (c .put-integer .result) (rest (start₂ c) ++ line-end)
-room₂ c = room-behind (quotient (start₂ c)) _ (room₁ (c .before .before .before .before)) (quotient-put c)
+room₂ c = room-after (quotient (start₂ c)) _ (room₁ (c .before .before .before .before)) (quotient-put c)
 
 room₃ : (c : tie.After-put-natural) → Room (c .put-natural .result) line-end
-room₃ c = room-behind (rest (start₃ c)) line-end (room₂ (c .before .before .before .before)) (c .put-natural .ensures)
+room₃ c = room-after (rest (start₃ c)) line-end (room₂ (c .before .before .before .before)) (c .put-natural .ensures)
 
 slice-aggregate-put-bytes : tie.Need-slice-aggregate-put-bytes
 slice-aggregate-put-bytes c = search needs

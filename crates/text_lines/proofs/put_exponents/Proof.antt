@@ -1,4 +1,4 @@
--- `put_exponents` puts one exponent a turn: the invariant is what the first i leave.
+-- `put_exponents` puts one exponent in each iteration: the invariant is what the first i leave.
 use mathlib.Core.Path.{_≡_, ap, _∙_}
 use Prim.Native.Nat.{_-_, _<_}
 use native.Mathlib.Omega.{arith}

@@ -4,21 +4,21 @@ use mathlib.Core.List.{_++_}
 use borrow.Author.Needs.{needs}
 use Rattle.format.specs.Lines.{text}
 use Rattle.text_decimal.specs.Put.{Room, natural}
-use Rattle.text_decimal.specs.PutLaws.{_then-put_, put-as, room-before, room-behind}
+use Rattle.text_decimal.specs.PutLaws.{_then-put_, put-as, room-before, room-after}
 use Rattle.text_lines.specs.LineLaws.{line-end, radius-pieces}
 use Rattle.text_lines.proofs.put_radius.Statement.{statement}
 use Rattle.text_lines.proofs.put_radius.Tie as tie
 
--- room behind the word, and behind the number
+-- room after the word, and after the number
 room₁ : (c : tie.After-put-bytes)
     → Room (c .put-bytes .result) (natural (c .before .before .before .before .args .radius) ++ line-end)
 unfolding text
 room₁ c =
     let s = c .before .before .before .before in
-    room-behind (text "radius") _ (rw (radius-pieces (s .args .radius)) at (s .pre)) (c .put-bytes .ensures)
+    room-after (text "radius") _ (rw (radius-pieces (s .args .radius)) at (s .pre)) (c .put-bytes .ensures)
 
 room₂ : (c : tie.After-put-natural) → Room (c .put-natural .result) line-end
-room₂ c = room-behind (natural _) line-end (room₁ (c .before .before .before .before)) (c .put-natural .ensures)
+room₂ c = room-after (natural _) line-end (room₁ (c .before .before .before .before)) (c .put-natural .ensures)
 
 slice-aggregate-put-bytes : tie.Need-slice-aggregate-put-bytes
 slice-aggregate-put-bytes c = search needs

@@ -4,12 +4,12 @@ use mathlib.Core.List.{_++_}
 use borrow.Author.Needs.{needs}
 use Rattle.format.specs.Lines.{text}
 use Rattle.text_decimal.specs.Put.{Room, natural}
-use Rattle.text_decimal.specs.PutLaws.{_then-put_, put-as, room-before, room-behind}
+use Rattle.text_decimal.specs.PutLaws.{_then-put_, put-as, room-before, room-after}
 use Rattle.text_lines.specs.LineLaws.{line-end, refusal-pieces}
 use Rattle.text_lines.proofs.put_refusal.Statement.{statement}
 use Rattle.text_lines.proofs.put_refusal.Tie as tie
 
--- room behind the word, behind the number, and behind the place
+-- room after the word, after the number, and after the place
 room₁ : (c : tie.After-put-bytes)
     → Room (c .put-bytes .result)
     (natural (c .before .before .before .before .args .number)
@@ -17,16 +17,16 @@ room₁ : (c : tie.After-put-bytes)
 unfolding text
 room₁ c =
     let s = c .before .before .before .before in
-    room-behind (text "refused") _ (rw (refusal-pieces (s .args .number) (s .args .place)) at (s .pre))
+    room-after (text "refused") _ (rw (refusal-pieces (s .args .number) (s .args .place)) at (s .pre))
     (c .put-bytes .ensures)
 
 room₂ : (c : tie.After-put-natural)
     → Room (c .put-natural .result)
     (natural (c .before .before .before .before .before .before .before .before .args .place) ++ line-end)
-room₂ c = room-behind (natural _) _ (room₁ (c .before .before .before .before)) (c .put-natural .ensures)
+room₂ c = room-after (natural _) _ (room₁ (c .before .before .before .before)) (c .put-natural .ensures)
 
 room₃ : (c : tie.After-put-natural2) → Room (c .put-natural2 .result) line-end
-room₃ c = room-behind (natural _) line-end (room₂ (c .before .before .before .before)) (c .put-natural2 .ensures)
+room₃ c = room-after (natural _) line-end (room₂ (c .before .before .before .before)) (c .put-natural2 .ensures)
 
 slice-aggregate-put-bytes : tie.Need-slice-aggregate-put-bytes
 slice-aggregate-put-bytes c = search needs

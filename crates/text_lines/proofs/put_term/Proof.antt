@@ -11,7 +11,7 @@ use Rattle.calculus.specs.Terms.{term}
 use Rattle.format.specs.Bytes.{join}
 use Rattle.format.specs.Lines.{text}
 use Rattle.text_decimal.specs.Put.{Put, Room, natural, integer}
-use Rattle.text_decimal.specs.PutLaws.{_then-put_, put-as, room-before, room-behind}
+use Rattle.text_decimal.specs.PutLaws.{_then-put_, put-as, room-before, room-after}
 use Rattle.text_lines.specs.LineLaws.{line-end, term-pieces}
 use Rattle.text_lines.proofs.put_term.Statement.{statement}
 use Rattle.text_lines.proofs.put_term.Tie as tie
@@ -40,14 +40,14 @@ start₂ c = start₁ (c .before .before .before .before)
 abbrev start₃ : tie.After-put-integer → tie.Start
 start₃ c = start₂ (c .before .before .before .before)
 
--- room behind the word, behind the exponents, and behind the coefficient
+-- room after the word, after the exponents, and after the coefficient
 room₁ : (c : tie.After-put-bytes)
     → Room (c .put-bytes .result) (exponents (start₁ c) ++ (coefficient (start₁ c) ++ line-end))
 unfolding text
-room₁ c = room-behind (text "term") _ (whole (start₁ c)) (c .put-bytes .ensures)
+room₁ c = room-after (text "term") _ (whole (start₁ c)) (c .put-bytes .ensures)
 
 room₂ : (c : tie.After-put-exponents) → Room (c .put-exponents .result) (coefficient (start₂ c) ++ line-end)
-room₂ c = room-behind (exponents (start₂ c)) _ (room₁ (c .before .before .before .before)) (c .put-exponents .ensures)
+room₂ c = room-after (exponents (start₂ c)) _ (room₁ (c .before .before .before .before)) (c .put-exponents .ensures)
 
 coefficient-put : (c : tie.After-put-integer)
     → let p = c .before .before .before .before .put-exponents in
@@ -55,7 +55,7 @@ coefficient-put : (c : tie.After-put-integer)
 coefficient-put c = put-as (coefficient-is (start₃ c)) (c .put-integer .ensures)
 
 room₃ : (c : tie.After-put-integer) → Room (c .put-integer .result) line-end
-room₃ c = room-behind (coefficient (start₃ c)) line-end (room₂ (c .before .before .before .before)) (coefficient-put c)
+room₃ c = room-after (coefficient (start₃ c)) line-end (room₂ (c .before .before .before .before)) (coefficient-put c)
 
 slice-aggregate-put-bytes : tie.Need-slice-aggregate-put-bytes
 slice-aggregate-put-bytes c = search needs

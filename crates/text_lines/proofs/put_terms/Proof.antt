@@ -1,4 +1,4 @@
--- `put_terms` puts the line of one term a turn: the invariant is what the first i leave.
+-- `put_terms` puts the line of one term in each iteration: the invariant is what the first i leave.
 use mathlib.Core.Path.{_≡_, sym, ap, ap₂, _∙_}
 use mathlib.Core.List.{[]}
 use Prim.Native.Nat.{_≤_, _-_, _<_}

@@ -12,7 +12,7 @@ use Rattle.model_types.specs.ModelStruct.{view}
 use Rattle.model_slices.specs.HandedModels.{handed, model-room}
 use Rattle.c_calls.specs.CallCodes.{call-fits, called}
 use Rattle.c_calls.specs.CallCodesLaws.{fits-room}
-use Rattle.c_products.specs.ProductCallLaws.{product-code, fits-lent}
+use Rattle.c_products.specs.ProductCallLaws.{product-code, fits-borrowed}
 use Rattle.exports.proofs.calls.hechroung_raw_call.Statement.{statement}
 use Rattle.exports.proofs.calls.hechroung_raw_call.Tie as tie
 
@@ -50,7 +50,7 @@ returns c = rw (
 multiply-requires : tie.Need-multiply-requires
 multiply-requires c κs =
     let e = c .before .before .before .before in
-    let l = fits-lent _ _ _ _ _ _ _ _ (fits e) in
+    let l = fits-borrowed _ _ _ _ _ _ _ _ (fits e) in
     (l .0, (l .1, fits-room _ _ _ _ _ _ _ _ _ _ (fits e)))
 
 same-length : tie.Need-same-length

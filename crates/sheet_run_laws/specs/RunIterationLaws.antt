@@ -1,0 +1,279 @@
+-- One step of a run, for the functions that make it: what it may ask of its operands, and what its answer leads to; and
+-- the scratch memory for it.
+use mathlib.Core.Path.{_≡_, refl, sym, _∙_, ap, ap₂, subst}
+use mathlib.Core.Bool.{Bool, true, false, cond}
+use mathlib.Core.List.{List}
+use Prim.Native.Nat.{ℕ, _+_, _*_, _-_, _<_, _≤_}
+use native.Mathlib.Nat.{mul-le-mul}
+use native.Mathlib.Omega.{arith}
+use lib.Dec.{T, leb}
+use lib.IntN.{ℤ, natAbs}
+use lib.ListN.{length, take, drop, getD, length-drop}
+use lib.Seq.{take-all}
+use Rattle.numbers.specs.Fixed.{span-limit}
+use Rattle.calculus.specs.Model as C
+use Rattle.calculus.specs.Model.{most-degree, sound, zero-model}
+use Rattle.calculus.specs.Refusal as R
+use Rattle.calculus.specs.Refusal.{accepted, stopped, at-place}
+use Rattle.calculus.specs.Operations.{multiply, quotient}
+use Rattle.calculus.specs.Shares.{all-carried, product-shares}
+use Rattle.model_types.specs.declared.Model.{Model}
+use Rattle.model_types.specs.declared.Refusal.{Refusal}
+use Rattle.model_types.specs.declared.Verdict.{Verdict}
+use Rattle.model_types.specs.declared.Verdict.the-variants.{Accepted, Refused}
+use Rattle.model_types.specs.declared.Answer.{Answer}
+use Rattle.model_types.specs.declared.Accounted.{Accounted}
+use Rattle.model_types.specs.ModelStruct.{view, cause, answer}
+use Rattle.model_types.specs.SharesStruct.{accounted}
+use Rattle.model_slices.specs.HandedModels.{handed}
+use Rattle.model.specs.OperationContracts.{Factors, Proposal}
+use Rattle.format.specs.HeldBook.{Held-step}
+use Rattle.sheet_book.specs.declared.Book.{Book}
+use Rattle.sheet_book.specs.BookStruct.{held-book}
+use Rattle.sheet_results.specs.Results.{Results, Roomy, result, settled-results, settled-rows}
+use Rattle.sheet_steps.specs.Steps.{step-answer, step-row, names-second, Step-ready}
+use Rattle.sheet_run_laws.specs.declared.Stop.{Stop}
+use Rattle.sheet_run_laws.specs.Run.{Running, Ended, Iterated, Iteration, Input-iteration, Scratch-for, Served}
+use Rattle.sheet_run_laws.specs.Run.{Fit}
+use Rattle.sheet_run_laws.specs.Run.{most-entries, Begun, Stopped}
+use Rattle.sheet_run_laws.specs.RunLaws.{first-place, second-place, third-earlier, fourth-earlier, here-small}
+use Rattle.sheet_run_laws.specs.RunLaws.{step-ready, by-code, input-sound, by-input, factors, by-product}
+use Rattle.sheet_run_laws.specs.RunLaws.{proposal, by-quotient, quotient-bounded, quotient-carried}
+use Rattle.sheet_run_laws.specs.RunLaws.{given, step-iterated}
+
+module _ {n d i : ℕ} {s : Held-step} {m : Results} {flat : List ℕ} (t : Iteration n d i s m flat) where
+  -- the book's variables and order are those that are handed over
+  into : (P : (n d : ℕ) → Type 0) → P (t .held .n) (t .held .d) → P n d
+  into P x = subst (λ n. P n d) (t .vars) (subst (P (t .held .n)) (t .order) x)
+
+  out-of : (P : (n d : ℕ) → Type 0) → P n d → P (t .held .n) (t .held .d)
+  out-of P x = subst (λ n. P n (t .held .d)) (sym (t .vars)) (subst (P n) (sym (t .order)) x)
+
+  -- ---- places
+  pub iteration-small : i < 64
+  iteration-small = here-small (t .passes) (t .at)
+
+  pub iteration-first : s .a < 64
+  iteration-first = first-place (t .passes) (t .at)
+
+  pub iteration-second : s .b < 64
+  iteration-second = second-place (t .passes) (t .at)
+
+  pub iteration-third : s .code ≡ 9 → s .v < 64
+  iteration-third e = omega (arith, third-earlier (t .passes) (t .at) e, iteration-small)
+
+  pub iteration-fourth : s .code ≡ 9 → natAbs (s .value) < 64
+  iteration-fourth e = omega (arith, fourth-earlier (t .passes) (t .at) e, iteration-small)
+
+  pub iteration-room : Roomy m
+  iteration-room = t .so-far .room
+
+  pub iteration-rows : length flat ≡ 256
+  iteration-rows = t .so-far .rows-stored .room
+
+  -- ---- a step that names at most two results
+  module _ (f g : Model)
+      (is-first : view f ≡ cond (leb 3 (s .code)) (view (result n m (s .a))) (zero-model n))
+      (is-second : view g ≡ cond (names-second (s .code)) (view (result n m (s .b))) (zero-model n))
+      (z : s .code ≡ 0 → ⊥) (w : s .code ≡ 6 → ⊥) (o : s .code ≡ 9 → ⊥) where
+    here-first : view f ≡ cond (leb 3 (s .code)) (view (result (t .held .n) m (s .a))) (zero-model (t .held .n))
+    here-first = out-of (λ n d. view f ≡ cond (leb 3 (s .code)) (view (result n m (s .a))) (zero-model n)) is-first
+
+    here-second : view g
+        ≡ cond (names-second (s .code)) (view (result (t .held .n) m (s .b))) (zero-model (t .held .n))
+    here-second =
+        out-of (λ n d. view g ≡ cond (names-second (s .code)) (view (result n m (s .b))) (zero-model n)) is-second
+
+    pub other-ready : Step-ready n d s f g
+    other-ready = into (λ n d. Step-ready n d s f g)
+        (step-ready (t .passes) (t .at) (t .so-far) f g here-first here-second z w o)
+
+    pub other-iterated : {r : Accounted} {v : Verdict} {m' : Results} {flat' : List ℕ}
+        → ((k : C.Model)
+        → r ≡ accounted (step-answer n d s k (view f) (view g)) (step-row n d s k (view f) (view g)))
+        → v ≡ r .answer .verdict → m' ≡ settled-results r i m → flat' ≡ settled-rows r i flat
+        → Iterated (t .held) i v m' flat'
+    other-iterated {r = r} e = step-iterated (t .passes) (t .at) (t .so-far)
+        (by-code (t .passes) (t .at) (t .so-far) f g here-first here-second z w o
+        (out-of (λ n d. (k : C.Model)
+        → r ≡ accounted (step-answer n d s k (view f) (view g)) (step-row n d s k (view f) (view g))) e))
+
+  -- ---- a product
+  module _ (e : s .code ≡ 6) where
+    pub iteration-factors : Factors d (result n m (s .a)) (result n m (s .b))
+    iteration-factors = into (λ n d. Factors d (result n m (s .a)) (result n m (s .b)))
+        (factors (t .passes) (t .at) (t .so-far) e)
+
+    pub product-iterated : {r : Accounted} {v : Verdict} {m' : Results} {flat' : List ℕ}
+        → r ≡ accounted (multiply d (view (result n m (s .a))) (view (result n m (s .b))))
+        (λ k. product-shares d (view (result n m (s .a))) (view (result n m (s .b))))
+        → v ≡ r .answer .verdict → m' ≡ settled-results r i m → flat' ≡ settled-rows r i flat
+        → Iterated (t .held) i v m' flat'
+    product-iterated {r = r} q = step-iterated (t .passes) (t .at) (t .so-far)
+        (by-product (t .passes) (t .at) (t .so-far) e
+        (out-of (λ n d. r ≡ accounted (multiply d (view (result n m (s .a))) (view (result n m (s .b))))
+        (λ k. product-shares d (view (result n m (s .a))) (view (result n m (s .b))))) q))
+
+  -- ---- a quotient
+  module _ (f g k w : Model) (e : s .code ≡ 9) (is-first : view f ≡ view (result n m (s .a)))
+      (is-second : view g ≡ view (result n m (s .b))) (is-third : view k ≡ view (result n m (s .v)))
+      (is-fourth : view w ≡ view (result n m (natAbs (s .value)))) where
+    pub iteration-proposal : Proposal d f g k w
+    iteration-proposal = into (λ n d. Proposal d f g k w)
+        (proposal (t .passes) (t .at) (t .so-far) f g k w e
+        (out-of (λ n d. view f ≡ view (result n m (s .a))) is-first)
+        (out-of (λ n d. view g ≡ view (result n m (s .b))) is-second)
+        (out-of (λ n d. view k ≡ view (result n m (s .v))) is-third)
+        (out-of (λ n d. view w ≡ view (result n m (natAbs (s .value)))) is-fourth))
+
+    module _ {q : Answer} (is-quotient : q ≡ answer (at-place 0 (quotient d (view f) (view g) (view k) (view w)))) where
+      divided : q ≡ answer (at-place 0 (given (t .passes) (t .at) (t .so-far)))
+      divided = by-quotient (t .passes) (t .at) (t .so-far) f g k w e
+          (out-of (λ n d. view f ≡ view (result n m (s .a))) is-first)
+          (out-of (λ n d. view g ≡ view (result n m (s .b))) is-second)
+          (out-of (λ n d. view k ≡ view (result n m (s .v))) is-third)
+          (out-of (λ n d. view w ≡ view (result n m (natAbs (s .value)))) is-fourth)
+          (out-of (λ n d. q ≡ answer (at-place 0 (quotient d (view f) (view g) (view k) (view w)))) is-quotient)
+
+      pub iteration-bounded : q .model .radius ≤ span-limit
+      iteration-bounded = quotient-bounded (t .passes) (t .at) (t .so-far) divided
+
+      pub quotient-iterated : {r : Accounted} {v : Verdict} {m' : Results} {flat' : List ℕ}
+          → ((a : R.Answer C.Model) → q ≡ answer (at-place 0 a) → r ≡ accounted a all-carried)
+          → v ≡ r .answer .verdict → m' ≡ settled-results r i m → flat' ≡ settled-rows r i flat
+          → Iterated (t .held) i v m' flat'
+      quotient-iterated x = step-iterated (t .passes) (t .at) (t .so-far)
+          (quotient-carried (t .passes) (t .at) (t .so-far) e divided x)
+
+-- ---- an input
+module _ {n d i : ℕ} {s : Held-step} {m : Results} {flat : List ℕ} (k : Model)
+    (t : Input-iteration n d i s m flat k) where
+  pub iteration-input : T (sound most-degree (view k))
+  iteration-input = input-sound (t .iteration .passes) (t .iteration .at) (t .iteration .so-far) k (t .code)
+      (t .is-model)
+
+  pub input-iterated : {r : Accounted} {m' : Results} {flat' : List ℕ}
+      → r ≡ accounted (accepted (view k)) all-carried
+      → m' ≡ settled-results r i m → flat' ≡ settled-rows r i flat → Running (t .iteration .held) (i + 1) m' flat'
+  unfolding accounted answer at-place
+  input-iterated {r = r} q x y = step-iterated (t .iteration .passes) (t .iteration .at) (t .iteration .so-far)
+      (by-input (t .iteration .passes) (t .iteration .at) (t .iteration .so-far) k (t .code) (t .is-model) q)
+      {v = r .answer .verdict} refl x y .going (ap (λ r. r .answer .verdict) q)
+
+-- ---- scratch memory
+pub fit-served : {s : Held-step} {room : ℕ} {counts slots keys : List ℕ} {sums : List ℤ} → Fit s room counts
+    → Scratch-for room slots keys sums → Served s counts slots keys sums
+fit-served f l = record {
+  product = λ e.
+      let p = f .product e in
+      record {
+        slots-room = omega (arith, p, l .some .slots-room);
+        keys-room = omega (arith, p, l .some .keys-room);
+        sums-room = omega (arith, p, l .some .sums-room);
+      };
+  substitution = λ e. l .full (f .substitution e);
+  quotient = λ e. l .full (f .quotient e);
+}
+
+-- with all the room there is, every step fits
+pub products-few : (a b : ℕ) → a ≤ 64 → b ≤ 64 → a * b ≤ most-entries
+products-few a b p q = mul-le-mul p q
+
+-- ---- the parts of the slices that a result begins
+-- all of them
+part-all : {A : Type 0} (a : ℕ) (xs : List A) → take (length xs - a) (drop a xs) ≡ drop a xs
+part-all a xs = take-all (length xs - a) (drop a xs) (omega (arith, length-drop a xs))
+
+-- the model in them is the result
+pub result-part : (n : ℕ) (m : Results) (j : ℕ)
+    → handed n (getD (m .counts) j 0) (getD (m .radii) j 0)
+    (take (length (m .keys) - 64 * j) (drop (64 * j) (m .keys)))
+    (take (length (m .coefficients) - 64 * j) (drop (64 * j) (m .coefficients)))
+    ≡ result n m j
+unfolding result
+result-part n m j = ap₂ (handed n (getD (m .counts) j 0) (getD (m .radii) j 0)) (part-all (64 * j) (m .keys))
+    (part-all (64 * j) (m .coefficients))
+
+pub factors-part : (n : ℕ) {d : ℕ} (m : Results) (a b : ℕ) → Factors d (result n m a) (result n m b)
+    → Factors d
+    (handed n (getD (m .counts) a 0) (getD (m .radii) a 0)
+    (take (length (m .keys) - 64 * a) (drop (64 * a) (m .keys)))
+    (take (length (m .coefficients) - 64 * a) (drop (64 * a) (m .coefficients))))
+    (handed n (getD (m .counts) b 0) (getD (m .radii) b 0)
+    (take (length (m .keys) - 64 * b) (drop (64 * b) (m .keys)))
+    (take (length (m .coefficients) - 64 * b) (drop (64 * b) (m .coefficients))))
+factors-part n {d} m a b f = both (sym (result-part n m a)) (sym (result-part n m b)) f
+  where
+    both : {p q v w : Model} → p ≡ v → q ≡ w → Factors d p q → Factors d v w
+    both {p = p} {w = w} e o f = subst (λ x. Factors d x w) e (subst (Factors d p) o f)
+
+-- and they have the places that its count names
+pub part-holds : {m : Results} → Roomy m → {j : ℕ} → j < 64
+    → (getD (m .counts) j 0 ≤ length (take (length (m .keys) - 64 * j) (drop (64 * j) (m .keys))))
+    × (getD (m .counts) j 0 ≤ length (take (length (m .coefficients) - 64 * j) (drop (64 * j) (m .coefficients))))
+part-holds {m} r {j} h = (
+  omega (arith, r .few j, r .keys-long, h, ap length (part-all (64 * j) (m .keys)), length-drop (64 * j) (m .keys)),
+  omega (
+    arith,
+    r .few j,
+    r .coefficients-long,
+    h,
+    ap length (part-all (64 * j) (m .coefficients)),
+    length-drop (64 * j) (m .coefficients),
+  ),
+)
+
+-- the scratch memory still serves as long as the slices keep their lengths
+pub scratch-still : {room : ℕ} {s k : List ℕ} {z : List ℤ} (s' k' : List ℕ) (z' : List ℤ) → Scratch-for room s k z
+    → length s' ≡ length s → length k' ≡ length k → length z' ≡ length z → Scratch-for room s' k' z'
+scratch-still s' k' z' l a b c = record {
+  some = record {
+    slots-room = omega (arith, l .some .slots-room, a);
+    keys-room = omega (arith, l .some .keys-room, b);
+    sums-room = omega (arith, l .some .sums-room, c);
+  };
+  full = λ h. record {
+    slots-room = omega (arith, l .full h .slots-room, a);
+    keys-room = omega (arith, l .full h .keys-room, b);
+    sums-room = omega (arith, l .full h .sums-room, c);
+  };
+}
+
+-- ---- where a part of a run stopped
+-- no verdict is both
+pub not-both : {A : Type 0} {v : Verdict} {x : Refusal} {y : ℕ} → v ≡ Accepted → v ≡ Refused x y → A
+not-both p q = let z : _≡_ {A = ℕ} 0 1 = cc in absurd (omega arith)
+
+module _ {b : Book} {room i : ℕ} {m : Results} {flat : List ℕ} where
+  -- before a step that asks more room
+  pub stopped-short : Begun b i m flat → (most-entries ≤ room → ⊥)
+      → Stopped b room (record { at = i; verdict = Accepted }) m flat
+  stopped-short s o = record {
+    ended = λ x y e. not-both refl e;
+    going = λ e. s;
+    whole = λ h e. absurd (o h);
+  }
+
+  -- at the end
+  pub stopped-whole : Begun b i m flat → i ≡ b .«step_count» → Stopped b room (record { at = i; verdict = Accepted })
+      m flat
+  stopped-whole s o = record { ended = λ x y e. not-both refl e; going = λ e. s; whole = λ h e. o }
+
+  -- at a refusal
+  pub stopped-refused : {v : Verdict} {x : Refusal} {y : ℕ} → v ≡ Refused x y
+      → ((x : Refusal) (y : ℕ) → v ≡ Refused x y → Ended (held-book b) (stopped (cause x) i) flat)
+      → Stopped b room (record { at = i; verdict = v }) m flat
+  stopped-refused q e = record {
+    ended = e;
+    going = λ p. not-both p q;
+    whole = λ h p. not-both p q;
+  }
+
+-- with less room, at the end or at a refusal
+pub stopped-on : {b : Book} {room : ℕ} {t : Stop} {m : Results} {flat : List ℕ} → Stopped b room t m flat
+    → (t .verdict ≡ Accepted → t .at ≡ b .«step_count») → Stopped b most-entries t m flat
+stopped-on s q = record { ended = s .ended; going = s .going; whole = λ h e. q e }
+
+-- no test is both
+pub true-false : {t : Bool} → t ≡ true → t ≡ false → ⊥
+true-false p q = subst T (sym p ∙ q) tt

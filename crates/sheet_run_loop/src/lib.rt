@@ -1,0 +1,72 @@
+// The steps of a book in order, each after the results so far, as far as the scratch memory for products serves.
+ghost use Rattle.sheet_results.specs.Results.{results};
+ghost use Rattle.sheet_run_laws.specs.Run.{«Scratch-for», Begun, Stopped};
+use model_types::Key;
+use model_types::Verdict;
+use sheet_book::Book;
+use sheet_run_laws::Stop;
+
+// The steps from one on, until the end, a refusal, or a step that asks more room than there is.
+pub fn steps(
+    b: Book,
+    from: usize,
+    room: usize,
+    keys: &mut [Key],
+    coefficients: &mut [i64],
+    counts: &mut [usize],
+    radii: &mut [u64],
+    rows: &mut [u64],
+    slots: &mut [u16],
+    places: &mut [u64],
+    sums: &mut [i64],
+) -> Stop
+    requires { ⌜ Begun b from (results (now keys) (now coefficients) (now counts) (now radii)) (now rows) ⌝ }
+    requires { ⌜ Scratch-for room (now slots) (now places) (now sums) ⌝ }
+    ensures { λ r. ⌜ Stopped b room r
+        (results (now (keys .exit)) (now (coefficients .exit)) (now (counts .exit)) (now (radii .exit)))
+        (now (rows .exit)) ⌝ }
+{
+    let n = b.n;
+    let d = b.d;
+    let count = b.step_count;
+    let mut i = from;
+    while i < count {
+        let s = b.steps[i];
+        let code = s.code;
+        if code == 0 {
+            let input = b.models[sheet_steps::model_place(s.a)];
+            sheet_run_steps::input_step(input, i, keys, coefficients, counts, radii, rows);
+            i += 1;
+            continue;
+        }
+        let served = sheet_run_room::fits(s, room, counts);
+        if !served {
+            return Stop {
+                at: i,
+                verdict: Verdict::Accepted,
+            };
+        }
+        let v = sheet_run_steps::step(
+            n,
+            d,
+            s,
+            i,
+            keys,
+            coefficients,
+            counts,
+            radii,
+            rows,
+            slots,
+            places,
+            sums,
+        );
+        let Verdict::Accepted = v else {
+            return Stop { at: i, verdict: v };
+        };
+        i += 1;
+    }
+    Stop {
+        at: i,
+        verdict: Verdict::Accepted,
+    }
+}

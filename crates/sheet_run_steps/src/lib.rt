@@ -1,0 +1,254 @@
+// One step of a run: an input, a product, a quotient, or any other.
+ghost use mathlib.Core.Path.{_≡_};
+ghost use Prim.Native.Nat.{ℕ, _+_, _*_, _<_};
+ghost use lib.Dec.{T};
+ghost use lib.ListN.{length, getD};
+ghost use Rattle.calculus.specs.Model.{«most-degree», sound};
+ghost use Rattle.calculus.specs.Operations.{multiply};
+ghost use Rattle.calculus.specs.Shares.{«product-shares»};
+ghost use Rattle.model_types.specs.ModelStruct.{view};
+ghost use Rattle.model_types.specs.SharesStruct.{accounted};
+ghost use Rattle.model.specs.OperationContracts.{Factors, «Scratch-room»};
+ghost use Rattle.format.specs.HeldBook.{«Held-step»};
+ghost use Rattle.sheet_book.specs.BookStruct.{«held-step»};
+ghost use Rattle.sheet_results.specs.Results.{results, Roomy, result};
+ghost use Rattle.sheet_run_laws.specs.Run.{Running, Iteration, «Input-iteration», Iterated};
+ghost use Rattle.sheet_run_laws.specs.Run.{Served};
+use model_types::Accounted;
+use model_types::Key;
+use model_types::Model;
+use model_types::Verdict;
+use sheet_book::Step;
+
+// An input: the model that it names is put at place i.
+pub fn input_step(
+    input: Model,
+    i: usize,
+    keys: &mut [Key],
+    coefficients: &mut [i64],
+    counts: &mut [usize],
+    radii: &mut [u64],
+    rows: &mut [u64],
+)
+    requires { ⌜ T (sound most-degree (view input)) ⌝ }
+    requires { ⌜ i < 64 ⌝ }
+    requires { ⌜ Roomy (results (now keys) (now coefficients) (now counts) (now radii)) ⌝ }
+    requires { ⌜ length (now rows) ≡ 256 ⌝ }
+    ensures { λ r. ⌜ ((n d : ℕ) (s : Held-step) (t : Input-iteration n d i s
+        (results (now (keys .entry)) (now (coefficients .entry)) (now (counts .entry)) (now (radii .entry)))
+        (now (rows .entry)) input) → Running (t .iteration .held) (i + 1)
+        (results (now (keys .exit)) (now (coefficients .exit)) (now (counts .exit)) (now (radii .exit)))
+        (now (rows .exit))) ⌝ }
+{
+    let c = sheet_steps::input_answer(input);
+    let _v = sheet_results::settled(c, i, keys, coefficients, counts, radii, rows);
+}
+
+// The product of two results.
+fn product(
+    n: u8,
+    d: u8,
+    a: usize,
+    b: usize,
+    keys: &[Key],
+    coefficients: &[i64],
+    counts: &[usize],
+    radii: &[u64],
+    slots: &mut [u16],
+    places: &mut [u64],
+    sums: &mut [i64],
+) -> Accounted
+    requires { ⌜ (a < 64) × (b < 64) ⌝ }
+    requires { ⌜ Roomy (results (now keys) (now coefficients) (now counts) (now radii)) ⌝ }
+    requires { ⌜ Factors d (result n (results (now keys) (now coefficients) (now counts) (now radii)) a)
+        (result n (results (now keys) (now coefficients) (now counts) (now radii)) b) ⌝ }
+    requires { ⌜ Scratch-room (getD (now counts) a 0 * getD (now counts) b 0) (now slots) (now places) (now sums) ⌝ }
+    ensures { λ r. ⌜ r ≡ accounted (multiply d
+        (view (result n (results (now (keys .entry)) (now (coefficients .entry)) (now (counts .entry))
+        (now (radii .entry))) a))
+        (view (result n (results (now (keys .entry)) (now (coefficients .entry)) (now (counts .entry))
+        (now (radii .entry))) b)))
+        (λ k. product-shares d
+        (view (result n (results (now (keys .entry)) (now (coefficients .entry)) (now (counts .entry))
+        (now (radii .entry))) a))
+        (view (result n (results (now (keys .entry)) (now (coefficients .entry)) (now (counts .entry))
+        (now (radii .entry))) b))) ⌝ }
+{
+    let from1 = model_types::MOST_TERMS * a;
+    let from2 = model_types::MOST_TERMS * b;
+    let count1 = counts[a];
+    let count2 = counts[b];
+    let radius1 = radii[a];
+    let radius2 = radii[b];
+    model::multiplied_slices_accounted(
+        d,
+        n,
+        count1,
+        radius1,
+        &keys[from1..],
+        &coefficients[from1..],
+        count2,
+        radius2,
+        &keys[from2..],
+        &coefficients[from2..],
+        slots,
+        places,
+        sums,
+    )
+}
+
+// A product: straight from the slices that the results stand in.
+fn product_step(
+    n: u8,
+    d: u8,
+    s: Step,
+    i: usize,
+    keys: &mut [Key],
+    coefficients: &mut [i64],
+    counts: &mut [usize],
+    radii: &mut [u64],
+    rows: &mut [u64],
+    slots: &mut [u16],
+    places: &mut [u64],
+    sums: &mut [i64],
+) -> Verdict
+    requires { ⌜ Iteration n d i (held-step s) (results (now keys) (now coefficients) (now counts) (now radii))
+        (now rows) ⌝ }
+    requires { ⌜ Served (held-step s) (now counts) (now slots) (now places) (now sums) ⌝ }
+    requires { ⌜ held-step s .code ≡ 6 ⌝ }
+    ensures { λ r. ⌜ ((t : Iteration n d i (held-step s)
+        (results (now (keys .entry)) (now (coefficients .entry)) (now (counts .entry)) (now (radii .entry)))
+        (now (rows .entry))) → Iterated (t .held) i r
+        (results (now (keys .exit)) (now (coefficients .exit)) (now (counts .exit)) (now (radii .exit)))
+        (now (rows .exit))) ⌝ }
+{
+    let a = s.a as usize;
+    let b = s.b as usize;
+    let c = product(
+        n,
+        d,
+        a,
+        b,
+        keys,
+        coefficients,
+        counts,
+        radii,
+        slots,
+        places,
+        sums,
+    );
+    sheet_results::settled(c, i, keys, coefficients, counts, radii, rows)
+}
+
+// A quotient: all of its radius is carried.
+fn quotient_step(
+    n: u8,
+    d: u8,
+    s: Step,
+    i: usize,
+    keys: &mut [Key],
+    coefficients: &mut [i64],
+    counts: &mut [usize],
+    radii: &mut [u64],
+    rows: &mut [u64],
+    slots: &mut [u16],
+    places: &mut [u64],
+    sums: &mut [i64],
+) -> Verdict
+    requires { ⌜ Iteration n d i (held-step s) (results (now keys) (now coefficients) (now counts) (now radii))
+        (now rows) ⌝ }
+    requires { ⌜ Served (held-step s) (now counts) (now slots) (now places) (now sums) ⌝ }
+    requires { ⌜ held-step s .code ≡ 9 ⌝ }
+    ensures { λ r. ⌜ ((t : Iteration n d i (held-step s)
+        (results (now (keys .entry)) (now (coefficients .entry)) (now (counts .entry)) (now (radii .entry)))
+        (now (rows .entry))) → Iterated (t .held) i r
+        (results (now (keys .exit)) (now (coefficients .exit)) (now (counts .exit)) (now (radii .exit)))
+        (now (rows .exit))) ⌝ }
+{
+    let a = s.a as usize;
+    let b = s.b as usize;
+    let v = s.v as usize;
+    let z = s.value;
+    let last = fixed::magnitude(z) as usize;
+    let f = sheet_results::result(n, a, keys, coefficients, counts, radii);
+    let g = sheet_results::result(n, b, keys, coefficients, counts, radii);
+    let h = sheet_results::result(n, v, keys, coefficients, counts, radii);
+    let w = sheet_results::result(n, last, keys, coefficients, counts, radii);
+    let q = model::divided(d, f, g, h, w, slots, places, sums);
+    let c = model::all_carried(q);
+    sheet_results::settled(c, i, keys, coefficients, counts, radii, rows)
+}
+
+// Any step but an input: its verdict. Unless it is refused its result and its row are put at place i.
+pub fn step(
+    n: u8,
+    d: u8,
+    s: Step,
+    i: usize,
+    keys: &mut [Key],
+    coefficients: &mut [i64],
+    counts: &mut [usize],
+    radii: &mut [u64],
+    rows: &mut [u64],
+    slots: &mut [u16],
+    places: &mut [u64],
+    sums: &mut [i64],
+) -> Verdict
+    requires { ⌜ Iteration n d i (held-step s) (results (now keys) (now coefficients) (now counts) (now radii))
+        (now rows) ⌝ }
+    requires { ⌜ Served (held-step s) (now counts) (now slots) (now places) (now sums) ⌝ }
+    requires { ⌜ (held-step s .code ≡ 0 → ⊥) ⌝ }
+    ensures { λ r. ⌜ ((t : Iteration n d i (held-step s)
+        (results (now (keys .entry)) (now (coefficients .entry)) (now (counts .entry)) (now (radii .entry)))
+        (now (rows .entry))) → Iterated (t .held) i r
+        (results (now (keys .exit)) (now (coefficients .exit)) (now (counts .exit)) (now (radii .exit)))
+        (now (rows .exit))) ⌝ }
+{
+    let code = s.code;
+    if code == 6 {
+        return product_step(
+            n,
+            d,
+            s,
+            i,
+            keys,
+            coefficients,
+            counts,
+            radii,
+            rows,
+            slots,
+            places,
+            sums,
+        );
+    }
+    if code == 9 {
+        return quotient_step(
+            n,
+            d,
+            s,
+            i,
+            keys,
+            coefficients,
+            counts,
+            radii,
+            rows,
+            slots,
+            places,
+            sums,
+        );
+    }
+    sheet_run_others::other_step(
+        n,
+        d,
+        s,
+        i,
+        keys,
+        coefficients,
+        counts,
+        radii,
+        rows,
+        slots,
+        places,
+        sums,
+    )
+}

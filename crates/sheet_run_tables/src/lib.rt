@@ -1,0 +1,80 @@
+// The steps of a book with scratch memory for products: a small table, or the full one.
+ghost use Rattle.model.specs.OperationContracts.{«most-entries»};
+ghost use Rattle.sheet_results.specs.Results.{results};
+ghost use Rattle.sheet_run_laws.specs.Run.{Begun, Stopped};
+use model_types::Key;
+use sheet_book::Book;
+use sheet_run_laws::Stop;
+
+// The products of the small table, and its size. The full one has room for those of 64 terms with 64.
+const FEW_PRODUCTS: usize = 256;
+
+const FEW_SLOTS: usize = model::SLOTS_EACH * FEW_PRODUCTS + 1;
+
+const FEW_PLACES: usize = FEW_PRODUCTS + 1;
+
+// The first steps, with the small table.
+pub fn small(
+    b: Book,
+    keys: &mut [Key],
+    coefficients: &mut [i64],
+    counts: &mut [usize],
+    radii: &mut [u64],
+    rows: &mut [u64],
+) -> Stop
+    requires { ⌜ Begun b 0 (results (now keys) (now coefficients) (now counts) (now radii)) (now rows) ⌝ }
+    ensures { λ r. ⌜ Stopped b 256 r
+        (results (now (keys .exit)) (now (coefficients .exit)) (now (counts .exit)) (now (radii .exit)))
+        (now (rows .exit)) ⌝ }
+{
+    let mut slots = [0u16; FEW_SLOTS];
+    let mut places = [0u64; FEW_PLACES];
+    let mut sums = [0i64; FEW_PLACES];
+    sheet_run_loop::steps(
+        b,
+        0,
+        FEW_PRODUCTS,
+        keys,
+        coefficients,
+        counts,
+        radii,
+        rows,
+        &mut slots,
+        &mut places,
+        &mut sums,
+    )
+}
+
+// The steps from one on, with the full table. (It is filled with zeros where it is declared, so that a run that does
+// without it must not come here.)
+pub fn large(
+    b: Book,
+    from: usize,
+    keys: &mut [Key],
+    coefficients: &mut [i64],
+    counts: &mut [usize],
+    radii: &mut [u64],
+    rows: &mut [u64],
+) -> Stop
+    requires { ⌜ Begun b from (results (now keys) (now coefficients) (now counts) (now radii)) (now rows) ⌝ }
+    ensures { λ r. ⌜ Stopped b most-entries r
+        (results (now (keys .exit)) (now (coefficients .exit)) (now (counts .exit)) (now (radii .exit)))
+        (now (rows .exit)) ⌝ }
+{
+    let mut slots = [0u16; model::SLOTS];
+    let mut places = [0u64; model::PLACES];
+    let mut sums = [0i64; model::PLACES];
+    sheet_run_loop::steps(
+        b,
+        from,
+        model::ENTRIES,
+        keys,
+        coefficients,
+        counts,
+        radii,
+        rows,
+        &mut slots,
+        &mut places,
+        &mut sums,
+    )
+}
