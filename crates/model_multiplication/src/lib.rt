@@ -1,6 +1,6 @@
-// The product of two models, in scratch memory or in room of its own: the product of models in slices borrows the arrays
-// of both. (Keys are copied before: `&` of two fields of one struct is not covered by the borrow checker where the callee
-// takes them at two lifetimes.)
+// The product of two models, in scratch memory or in room of its own: the product of models in slices borrows the
+// arrays of both. (Keys are copied before: `&` of two fields of one struct is not covered by the borrow checker where
+// the callee takes them at two lifetimes.)
 ghost use mathlib.Core.Path.{_≡_};
 ghost use Prim.Native.Nat.{_*_};
 ghost use Rattle.calculus.specs.Refusal.{«at-place»};
