@@ -25,9 +25,9 @@ use Rattle.model_soundness.specs.SoundPassLaws.{passed-iteration}
 use Rattle.model_soundness.specs.SoundPassLaws.{passed-not}
 
 -- ---- the places that a count names
-pub scratch-places : (count k z : ℕ) → borrowed count k z ≡ true → count ≤ most-terms → (count ≤ k) × (count ≤ z)
+pub borrowed-places : (count k z : ℕ) → borrowed count k z ≡ true → count ≤ most-terms → (count ≤ k) × (count ≤ z)
 unfolding borrowed
-scratch-places count k z h f =
+borrowed-places count k z h f =
     let named = leb (min count most-terms) k in
     let t = subst T (sym h) tt in
     let l = leb→le (min count most-terms) k (and-left named _ t) in

@@ -20,7 +20,7 @@ use Rattle.model_types.specs.ModelStruct.{term-sound}
 use Rattle.model_types.specs.ModelStructLaws.{vars-range}
 use Rattle.model_slices.specs.HandedModels.{handed}
 use Rattle.model_soundness.specs.SoundPassLaws.{Passed}
-use Rattle.model_soundness.specs.SliceSoundLaws.{scratch-places, slices-vars-not, slices-many-not, slices-first}
+use Rattle.model_soundness.specs.SliceSoundLaws.{borrowed-places, slices-vars-not, slices-many-not, slices-first}
 use Rattle.model_soundness.specs.SliceSoundLaws.{slices-end, slices-iteration, slices-not}
 use Rattle.model_soundness.proofs.sound_slices.Statement.{statement}
 use Rattle.model_soundness.proofs.sound_slices.Tie as tie
@@ -46,7 +46,7 @@ module _ (c : tie.Else2 Inv-loop μ-loop) where
 
   long : (start .args .count ≤ length (start .args .keys .now))
       × (start .args .count ≤ length (start .args .coefficients .now))
-  long = scratch-places _ _ _ (start .pre) few
+  long = borrowed-places _ _ _ (start .pre) few
 
 -- the count in a word
 few-places : (c : tie.Else2 Inv-loop μ-loop) → start c .args .count ≤ 64
