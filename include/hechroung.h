@@ -2,9 +2,11 @@
    polynomials. The functions that are written out here spread structs into numbers and slices, test for null pointers,
    and hand on to those of hechroung_raw.h, which are proved (crates/exports).
 
-   Numbers. Coefficients, radii, values, coordinates and ends are whole numbers in units of 1/HECHROUNG_UNIT.
+   Numbers. Coefficients, radii, values, coordinates and ends are whole numbers in units of 1/U, U =
+   HECHROUNG_UNIT.
 
-   Answers. Every function that makes a call returns a byte:
+   Answers. Every function that makes a call returns a byte (hechroung_print and hechroung_record return a length,
+   hechroung_next a kind of record):
      0                   accepted
      1 to 17             the refusal of documents 01 and 02; the answer is then the zero model in one variable, the
                          curve of zeros, or ends 0 and the exact integral 0
@@ -47,7 +49,8 @@ extern "C" {
 #define HECHROUNG_VERSION_PATCH 0
 
 /* The number of the layout: of the functions of hechroung_raw.h, their names, codes and slices. A program that hands
-   slices to them can test it when it is compiled: #if HECHROUNG_ABI != 4. The shared library is named by it,
+   slices to them can test it when it is compiled: #if HECHROUNG_ABI != 4 (with this header: hechroung_raw.h alone
+   defines neither it nor the limits). The shared library is named by it,
    libhechroung.so.4 (libhechroung.so is a link to it), so that a program that was linked with another layout does not
    start with this one. In layout 3 the functions had other names, an antiderivative was code 9 of a call, and a call on
    curves had the codes 1 to 4. In layout 2 keys had 16 bits, those of variables 1 to 4: such a key has to be shifted up
@@ -91,7 +94,8 @@ enum hechroung_refusal {
     HECHROUNG_BAD_RANK = 17
 };
 
-/* The codes of a sheet's steps, the `code` of struct hechroung_step; hechroung_raw_call has the same. */
+/* The codes of a sheet's steps, the `code` of struct hechroung_step; hechroung_raw_call has
+   the same but 0 and 9, hechroung_raw_curve has 3 to 6. */
 enum hechroung_step_code {
     HECHROUNG_STEP_INPUT = 0,
     HECHROUNG_STEP_CONSTANT = 1,
@@ -106,7 +110,7 @@ enum hechroung_step_code {
     HECHROUNG_STEP_ANTIDERIVATIVE = 10
 };
 
-/* What hechroung_next finds at a place of a sheet. */
+/* What hechroung_next finds at a place of a sheet. None of these is the code of a step. */
 enum hechroung_record_kind {
     HECHROUNG_NO_RECORD = 0,
     HECHROUNG_MODEL_RECORD = 1,
@@ -370,6 +374,7 @@ static inline uint8_t hechroung_ended_(uint8_t code, const struct hechroung_mode
     number = hechroung_raw_ends(code, f->n, f->count, f->radius,
                                 f->keys, HECHROUNG_MOST_TERMS, f->coefficients, HECHROUNG_MOST_TERMS,
                                 point, length, ends, 4);
+    if (number == HECHROUNG_MISUSED) return number;
     answer->low = ends[0];
     answer->high = ends[1];
     if (exact != NULL) {

@@ -4,9 +4,9 @@
 #include <inttypes.h>
 #include <stdio.h>
 
-/* The exact integral stands after the ends from layout 2 on, and keys have 32 bits from this one on. */
+/* The exact integral stands after the ends from layout 2 on, and keys have 32 bits from layout 3 on. */
 #if HECHROUNG_ABI != 4
-#error "this example is for layout 3 of hechroung.h"
+#error "this example is for layout 4 of hechroung.h"
 #endif
 
 /* HALF_TIME: minutes from the middle of a milking to its end, where x is 1. */

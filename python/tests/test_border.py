@@ -15,7 +15,7 @@ from hechroung import UNIT, Book, Curve, Misused, Model, Reading, Refused, _libr
 # The least and the greatest number of each width.
 BYTE, KEY, RADIUS, VALUE = (0, 2 ** 8 - 1), (0, 2 ** 32 - 1), (0, 2 ** 64 - 1), (-2 ** 63, 2 ** 63 - 1)
 WIDTHS = {ctypes.c_uint8: BYTE, ctypes.c_uint64: RADIUS, ctypes.c_size_t: RADIUS, ctypes.c_int64: VALUE}
-# How many functions the header declares extern.
+# How many functions include/hechroung_raw.h declares.
 DECLARED = 22
 NO_WHOLE_NUMBERS = [1.0, 0.5, float("nan"), Fraction(3, 2), "1", b"1", None, [1], 1j]
 

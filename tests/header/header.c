@@ -65,6 +65,9 @@ static void refusals(void) {
     SAME(hechroung_add(&answer, &one, &answer, NULL), HECHROUNG_OVER_SPAN);
     SAME(hechroung_add(&low, &high, &answer, NULL), HECHROUNG_TOO_MANY_TERMS);
     SAME(hechroung_evaluate(&one, outside, HECHROUNG_MOST_VARIABLES, &ends), HECHROUNG_LEAVES_BOX);
+    ends.low = 7;
+    SAME(hechroung_evaluate(&one, outside, HECHROUNG_MOST_VARIABLES - 1, &ends), HECHROUNG_MISUSED);
+    SAME(ends.low, 7); /* no call was made, and nothing was written */
     SAME(hechroung_add(&one, &two, &answer, NULL), HECHROUNG_VARIABLES_DIFFER);
     SAME(hechroung_store_model(&one, bytes, 11, &length), HECHROUNG_SHORT_BUFFER);
     SAME(hechroung_divide(1, &one, &one, &one, &zero, &answer, NULL), HECHROUNG_UNCERTIFIED);

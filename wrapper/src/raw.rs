@@ -557,8 +557,8 @@ pub fn quotient(
     }
 }
 
-/// A call that answers with two ends, by its [`ends_code`]. Evaluate takes the first eight coordinates of `point`, which
-/// the others do not look at. It returns the refusal's number, 0 without one; the low and the high end go into `ends`,
+/// A call that answers with two ends, by its [`ends_code`]. Evaluate takes the first eight coordinates of `point`,
+/// which the others do not look at. It returns the refusal's number, 0 without one; the low and the high end go into `ends`,
 /// and after them the quotient and the remainder of the exact integral, or 0 for the other codes and above four
 /// variables.
 #[must_use]
@@ -839,8 +839,8 @@ pub struct HandedCurve<'a> {
     pub radius: u64,
 }
 
-/// A call on curves, by its [`code`]: negate, add, subtract or multiply. It returns the refusal's number, 0 without one.
-/// 16 coefficients go into the slice, and the refusal's place and the radius into `numbers`.
+/// A call on curves, by its [`code`]: negate, add, subtract or multiply. It returns the refusal's number, 0 without
+/// one. 16 coefficients go into the slice, and the refusal's place and the radius into `numbers`.
 #[must_use]
 pub fn curve(
     code: u8,
