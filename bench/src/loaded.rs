@@ -7,7 +7,7 @@ use std::ffi::{c_char, c_int, c_void, CStr, CString};
 
 /// The point of calls that do not look at it.
 static NOWHERE: [i64; MOST_VARS] = [0; MOST_VARS];
-/// Every name is looked up at once, and none is lent to another library.
+/// Every name is looked up at once, and none is bound to another library.
 const RTLD_NOW: c_int = 2;
 
 #[link(name = "dl")]
@@ -58,15 +58,15 @@ pub struct Library {
 }
 
 /// A model with its keys in both widths, so that no build pays for a conversion; in 16 bits are variables 1 to 4.
-pub struct Lent {
+pub struct Borrowed {
     model: Model,
     halves: [u16; MOST_TERMS],
 }
 
-impl Lent {
-    pub fn new(model: Model) -> Lent {
+impl Borrowed {
+    pub fn new(model: Model) -> Borrowed {
         let halves = model.keys.map(|key| (key >> 16) as u16);
-        Lent { model, halves }
+        Borrowed { model, halves }
     }
 
     fn keys(&self, layout: Layout) -> *const u32 {
@@ -168,7 +168,7 @@ impl Library {
         }
     }
 
-    pub fn multiply(&self, d: u8, f: &Lent, g: &Lent) -> Answer {
+    pub fn multiply(&self, d: u8, f: &Borrowed, g: &Borrowed) -> Answer {
         let mut answer = Answer::EMPTY;
         let (keys1, keys2, keys) = (
             f.keys(self.layout),
@@ -210,32 +210,36 @@ impl Library {
     }
 
     /// The two ends of the range.
-    pub fn range(&self, f: &Lent) -> [i64; 2] {
+    pub fn range(&self, f: &Borrowed) -> [i64; 2] {
         let [low, high, _, _] = self.ended(1, f, &NOWHERE);
         [low, high]
     }
 
     /// The two ends of the integral, and the exact one, or zeros where the build has none.
-    pub fn integral(&self, f: &Lent) -> [i64; 4] {
+    pub fn integral(&self, f: &Borrowed) -> [i64; 4] {
         self.ended(2, f, &NOWHERE)
     }
 
     /// The two ends of the value at a point in the first four variables.
-    pub fn evaluate(&self, f: &Lent, point: &[i64; MOST_VARS]) -> [i64; 2] {
+    pub fn evaluate(&self, f: &Borrowed, point: &[i64; MOST_VARS]) -> [i64; 2] {
         let [low, high, _, _] = self.ended(3, f, point);
         [low, high]
     }
 
-    fn ended(&self, code: u8, lent: &Lent, point: &[i64; MOST_VARS]) -> [i64; 4] {
+    fn ended(&self, code: u8, borrowed: &Borrowed, point: &[i64; MOST_VARS]) -> [i64; 4] {
         let mut ends = [0; 4];
-        let (n, count, radius) = (lent.model.n, lent.model.count, lent.model.radius);
-        let coefficients = lent.model.coefficients.as_ptr();
+        let (n, count, radius) = (
+            borrowed.model.n,
+            borrowed.model.count,
+            borrowed.model.radius,
+        );
+        let coefficients = borrowed.model.coefficients.as_ptr();
         let out = ends.as_mut_ptr();
         // SAFETY: as in `multiply`.
         let refusal = unsafe {
             match self.ends {
                 EitherEnds::Two(call) => {
-                    let keys = lent.halves.as_ptr();
+                    let keys = borrowed.halves.as_ptr();
                     call(
                         code,
                         n,
@@ -254,7 +258,7 @@ impl Library {
                     )
                 }
                 EitherEnds::Now(call) => {
-                    let keys = lent.model.keys.as_ptr();
+                    let keys = borrowed.model.keys.as_ptr();
                     call(
                         code,
                         n,

@@ -12,7 +12,7 @@ mod timing;
 use hechroung::{Model, MOST_VARS, UNIT};
 use inputs::{cubic, factors, factors_in, integrand, largest, largest_in, typical, up_to_degree};
 use inputs::{Kind, Parity, STEPS};
-use loaded::{Layout, Lent, Library};
+use loaded::{Borrowed, Layout, Library};
 use reference::generate::Random;
 use std::hint::black_box;
 use timing::{best, median};
@@ -147,7 +147,7 @@ fn product_of(order: u8, factors: impl Fn(&mut Random) -> (Model, Model) + 'stat
     Box::new(move |builds, random| {
         let pairs: Vec<_> = (0..PRODUCTS)
             .map(|_| factors(random))
-            .map(|(f, g)| (Lent::new(f), Lent::new(g)))
+            .map(|(f, g)| (Borrowed::new(f), Borrowed::new(g)))
             .collect();
         for (f, g) in &pairs {
             let answer = |build: &Library| build.multiply(order, f, g).widened();
@@ -164,7 +164,7 @@ fn product_of(order: u8, factors: impl Fn(&mut Random) -> (Model, Model) + 'stat
 fn range(terms: usize, order: u8, alike: Alike) -> Measure {
     Box::new(move |builds, random| {
         let models: Vec<_> = (0..PRODUCTS)
-            .map(|_| Lent::new(factors(random, terms, order, Kind::Kept).0))
+            .map(|_| Borrowed::new(factors(random, terms, order, Kind::Kept).0))
             .collect();
         for f in &models {
             let [new, old] = builds.each_ref().map(|build| build.range(f));
@@ -183,7 +183,7 @@ fn range(terms: usize, order: u8, alike: Alike) -> Measure {
 fn integral(terms: usize, order: u8, parity: Parity, alike: Alike) -> Measure {
     Box::new(move |builds, random| {
         let models: Vec<_> = (0..PRODUCTS)
-            .map(|_| Lent::new(integrand(random, terms, order, parity)))
+            .map(|_| Borrowed::new(integrand(random, terms, order, parity)))
             .collect();
         for f in &models {
             let [new, old] = builds.each_ref().map(|build| build.integral(f));
@@ -203,7 +203,7 @@ fn evaluate(terms: usize, order: u8) -> Measure {
     const POINT: [i64; MOST_VARS] = [UNIT / 2, -UNIT / 3, UNIT / 5, -UNIT / 7, 0, 0, 0, 0];
     Box::new(move |builds, random| {
         let models: Vec<_> = (0..PRODUCTS)
-            .map(|_| Lent::new(factors(random, terms, order, Kind::Kept).0))
+            .map(|_| Borrowed::new(factors(random, terms, order, Kind::Kept).0))
             .collect();
         for f in &models {
             let [new, old] = builds.each_ref().map(|build| build.evaluate(f, &POINT));

@@ -1,4 +1,4 @@
-//! Writing a book into a lent buffer: tests 3, 5, 6 and 11.
+//! Writing a book into a borrowed buffer: tests 3, 5, 6 and 11.
 
 use crate::book::{Book, SoundBook};
 use crate::model::{key_of_monomial, Model};

@@ -3,7 +3,7 @@
 
 use crate::agree::{pair, same, to_ends, to_model, unless, wide, Seen};
 use crate::case::Bytes;
-use crate::shaped::{lent, misused, over, COEFFICIENT, KEY, NUMBER};
+use crate::shaped::{borrowed, misused, over, COEFFICIENT, KEY, NUMBER};
 use hechroung::raw::{self, Handed, HandedCurve};
 use hechroung::{curves, Curve, Ends, Model, MOST_TERMS};
 use reference::calls::{EndsAnswer, ModelAnswer};
@@ -342,7 +342,7 @@ fn made(call: &Call, shape: &Shape, inputs: [usize; 2], stored: &mut Stored) -> 
                 coefficients: &over(&model.coefficients, COEFFICIENT, second),
             };
             stored.number = raw::from_powers(handed, &mut stored.signed, &mut stored.numbers);
-            lent(&model, first, second)
+            borrowed(&model, first, second)
         }
     }
 }

@@ -3,7 +3,7 @@
 
 use crate::agree::{pair, same, sound, to_ends, to_model, unless, wide, Seen};
 use crate::case::{push_model, take_model, Bytes};
-use crate::shaped::{handed, lent, misused, over, slices, COEFFICIENT, NUMBER};
+use crate::shaped::{borrowed, handed, misused, over, slices, COEFFICIENT, NUMBER};
 use hechroung::raw;
 use reference::calls::EndsAnswer;
 use reference::cuts::{Call, DEEPEST};
@@ -185,8 +185,9 @@ fn compare_stored(call: &Call, expected: &EndsAnswer, shape: &Shape) -> Result<S
         &mut ends,
         &mut numbers,
     );
-    let fits =
-        lent(&model, keys_length, coefficients_length) && ends_length >= 2 && numbers_length >= 1;
+    let fits = borrowed(&model, keys_length, coefficients_length)
+        && ends_length >= 2
+        && numbers_length >= 1;
     let found = (ends, numbers);
     if !fits {
         let before = (vec![COEFFICIENT; ends_length], vec![NUMBER; numbers_length]);

@@ -161,8 +161,8 @@ fn compare_model(
         &mut stored,
     );
     let fits = matches!(arguments.code, 1..=8 | 10)
-        && lent(&arguments.f, keys1, coefficients1)
-        && lent(&arguments.g, keys2, coefficients2)
+        && borrowed(&arguments.f, keys1, coefficients1)
+        && borrowed(&arguments.g, keys2, coefficients2)
         && outputs[0] >= MOST_TERMS
         && outputs[1] >= MOST_TERMS
         && outputs[2] >= 4;
@@ -217,20 +217,20 @@ fn compare_quotient(
         coefficients: &over(&coefficients, COEFFICIENT, coefficients_length),
     };
     let entries = ns_length.min(counts_length).min(radii_length);
-    let lent = entries >= 4 && keys_length.min(coefficients_length) >= 4 * MOST_TERMS;
+    let borrowed = entries >= 4 && keys_length.min(coefficients_length) >= 4 * MOST_TERMS;
     compare_answer(
         answer,
-        lent,
+        borrowed,
         shape.outputs,
         |keys, coefficients, numbers| raw::quotient(order, handed, keys, coefficients, numbers),
     )
 }
 
-/// All that a call stores whose answer is a model, in slices of these lengths; `lent` says whether those that it reads
-/// are long enough.
+/// All that a call stores whose answer is a model, in slices of these lengths; `borrowed` says whether those that it
+/// reads are long enough.
 pub fn compare_answer(
     answer: &ModelAnswer,
-    lent: bool,
+    borrowed: bool,
     outputs: [u8; 3],
     call: impl FnOnce(&mut [u32], &mut [i64], &mut [u64]) -> u8,
 ) -> Result<Seen, String> {
@@ -238,7 +238,7 @@ pub fn compare_answer(
     let (mut keys, mut coefficients, mut numbers) = untouched(outputs);
     let number = call(&mut keys, &mut coefficients, &mut numbers);
     let found = (keys, coefficients, numbers);
-    if !lent || outputs[0].min(outputs[1]) < MOST_TERMS || outputs[2] < 4 {
+    if !borrowed || outputs[0].min(outputs[1]) < MOST_TERMS || outputs[2] < 4 {
         return misused(number, &found, &untouched(outputs));
     }
     let refusal = answer.refusal.map(pair);
@@ -285,7 +285,7 @@ fn compare_ends(
     let point = over(&arguments.point, COEFFICIENT, shape.point.into());
     let number = raw::ends(arguments.code, handed, &point, &mut stored);
     let fits = (1..=3).contains(&arguments.code)
-        && lent(&arguments.f, length_keys, length_coefficients)
+        && borrowed(&arguments.f, length_keys, length_coefficients)
         && (arguments.code != EVALUATE || point.len() >= MOST_VARIABLES)
         && length_ends >= 4;
     if !fits {
@@ -300,7 +300,7 @@ fn compare_ends(
 }
 
 /// Whether slices have every place that a count names.
-pub fn lent(model: &Model, keys: usize, coefficients: usize) -> bool {
+pub fn borrowed(model: &Model, keys: usize, coefficients: usize) -> bool {
     keys.min(coefficients) >= model.count.min(MOST_TERMS)
 }
 

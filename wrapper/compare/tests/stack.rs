@@ -113,7 +113,7 @@ impl Drop for Stack {
 }
 
 /// A model's slices.
-struct Lent {
+struct Borrowed {
     n: u8,
     count: usize,
     radius: u64,
@@ -121,9 +121,9 @@ struct Lent {
     coefficients: [i64; MOST_TERMS],
 }
 
-impl Lent {
-    fn new(model: &StoredModel) -> Lent {
-        Lent {
+impl Borrowed {
+    fn new(model: &StoredModel) -> Borrowed {
+        Borrowed {
             n: model.n,
             count: model.count,
             radius: model.radius,
@@ -163,7 +163,7 @@ impl Answer {
         shares: [0; 4 * MOST_STEPS],
     };
 
-    fn call(&mut self, code: u8, d: u8, i: u8, f: &Lent, g: &Lent) {
+    fn call(&mut self, code: u8, d: u8, i: u8, f: &Borrowed, g: &Borrowed) {
         self.number = raw::call(
             code,
             d,
@@ -197,11 +197,11 @@ impl Answer {
         );
     }
 
-    fn readings(&mut self, f: &Lent, rows: HandedReadings<'_>) {
+    fn readings(&mut self, f: &Borrowed, rows: HandedReadings<'_>) {
         self.number = raw::readings(f.handed(), rows, &mut self.numbers);
     }
 
-    fn store(&mut self, f: &Lent, buffer: &mut [u8]) {
+    fn store(&mut self, f: &Borrowed, buffer: &mut [u8]) {
         self.number = raw::store(f.handed(), buffer, &mut self.numbers);
     }
 
@@ -260,31 +260,31 @@ impl Answer {
     fn curve(&mut self, code: u8, f: &StoredChebyshev, g: &StoredChebyshev) {
         self.number = raw::curve(
             code,
-            lent(f),
-            lent(g),
+            borrowed(f),
+            borrowed(g),
             &mut self.coefficients,
             &mut self.numbers,
         );
     }
 
     fn curve_range(&mut self, f: &StoredChebyshev) {
-        self.number = raw::curve_range(lent(f), &mut self.ends);
+        self.number = raw::curve_range(borrowed(f), &mut self.ends);
     }
 
     fn curve_to_powers(&mut self, f: &StoredChebyshev) {
         self.number = raw::to_powers(
-            lent(f),
+            borrowed(f),
             &mut self.keys,
             &mut self.coefficients,
             &mut self.numbers,
         );
     }
 
-    fn curve_from_powers(&mut self, f: &Lent) {
+    fn curve_from_powers(&mut self, f: &Borrowed) {
         self.number = raw::from_powers(f.handed(), &mut self.coefficients, &mut self.numbers);
     }
 
-    fn cut_range(&mut self, d: u8, i: u8, k: u8, f: &Lent) {
+    fn cut_range(&mut self, d: u8, i: u8, k: u8, f: &Borrowed) {
         self.number = raw::cut_range(d, i, k, f.handed(), &mut self.ends, &mut self.numbers);
     }
 }
@@ -447,17 +447,20 @@ fn most(name: &str, figure: usize, used: impl Iterator<Item = usize>) -> usize {
 #[test]
 fn a_call_stays_within_its_figure() {
     let mut stack = Stack::new(CALL);
-    let mut pairs: Vec<(Lent, Lent)> = Vec::new();
+    let mut pairs: Vec<(Borrowed, Borrowed)> = Vec::new();
     for n in HEAVIEST {
         let heaviest = sheet::read(&heaviest_sheet(n));
         assert_eq!(heaviest.refusal, None);
         let heavy = &heaviest.book.models[..2];
-        pairs.push((Lent::new(&heavy[0]), Lent::new(&heavy[1])));
+        pairs.push((Borrowed::new(&heavy[0]), Borrowed::new(&heavy[1])));
     }
     for number in 0..GENERATED {
         let book = books::sound_book(&mut Random::new(number));
         let last = book.model_count.saturating_sub(1);
-        pairs.push((Lent::new(&book.models[0]), Lent::new(&book.models[last])));
+        pairs.push((
+            Borrowed::new(&book.models[0]),
+            Borrowed::new(&book.models[last]),
+        ));
     }
     for code in (1..=8).chain([10]) {
         let mut accepted = 0;
@@ -530,7 +533,7 @@ fn a_quotient_stays_within_its_figure() {
 }
 
 /// The slices of a curve.
-fn lent(curve: &StoredChebyshev) -> HandedCurve<'_> {
+fn borrowed(curve: &StoredChebyshev) -> HandedCurve<'_> {
     HandedCurve {
         coefficients: &curve.coefficients,
         radius: curve.radius,
@@ -575,7 +578,7 @@ fn a_call_on_curves_stays_within_its_figure() {
             CurveCall::Range { f } => stack.run(|| answer.curve_range(f)),
             CurveCall::ToPowers { f } => stack.run(|| answer.curve_to_powers(f)),
             CurveCall::FromPowers { f } => {
-                let f = Lent::new(f);
+                let f = Borrowed::new(f);
                 stack.run(|| answer.curve_from_powers(&f))
             }
         };
@@ -597,7 +600,7 @@ fn a_cut_range_stays_within_its_figure() {
     let mut accepted = 0;
     let used = (0..GENERATED).map(|number| {
         let call = cuts::call(11, number);
-        let f = Lent::new(&call.f);
+        let f = Borrowed::new(&call.f);
         let mut answer = Answer::NONE;
         let used = stack.run(|| answer.cut_range(call.order, call.i, call.depth, &f));
         let refusal = call.answer().refusal;
@@ -631,7 +634,7 @@ fn a_row_of_readings_stays_within_the_figure_of_a_call() {
     let mut accepted = 0;
     let used = (0..GENERATED).map(|number| {
         let call = generate::readings::call(7, number);
-        let f = Lent::new(&call.f);
+        let f = Borrowed::new(&call.f);
         let points: Vec<i64> = call.readings.iter().flat_map(|row| row.point).collect();
         let lows: Vec<i64> = call.readings.iter().map(|row| row.low).collect();
         let highs: Vec<i64> = call.readings.iter().map(|row| row.high).collect();
@@ -657,7 +660,7 @@ fn the_archive_stays_within_the_figure_of_a_call() {
         let mut answer = Answer::NONE;
         let used = match archive::call(7, number) {
             ArchiveCall::Store { f, mut buffer } => {
-                let f = Lent::new(&f);
+                let f = Borrowed::new(&f);
                 stack.run(|| answer.store(&f, &mut buffer))
             }
             ArchiveCall::Restore { bytes, most } => stack.run(|| answer.restore(&bytes, most)),
