@@ -20,7 +20,7 @@ use Rattle.model_types.specs.PairedLaws.{Listed, paired-of}
 use Rattle.model_slices.specs.HandedModels.{terms-of, handed, over, answer-numbers, model-room}
 
 -- ---- terms of two slices
-terms-more : (i : ℕ) (ks : List ℕ) (cs : List ℤ) → i < length ks → i < length cs
+pub terms-more : (i : ℕ) (ks : List ℕ) (cs : List ℤ) → i < length ks → i < length cs
     → terms-of (suc i) ks cs ≡ terms-of i ks cs ++ (record { key = getD ks i 0; coefficient = getD cs i (pos 0) } ∷ [])
 unfolding terms-of
 terms-more i [] cs h l = absurd (omega arith)
@@ -29,7 +29,7 @@ terms-more zero (k ∷ ks) (c ∷ cs) h l = refl
 terms-more (suc i) (k ∷ ks) (c ∷ cs) h l =
     ap (λ (r : List Term). record { key = k; coefficient = c } ∷ r) (terms-more i ks cs (omega arith) (omega arith))
 
-length-terms : (i : ℕ) (ks : List ℕ) (cs : List ℤ) → i ≤ length ks → i ≤ length cs → length (terms-of i ks cs) ≡ i
+pub length-terms : (i : ℕ) (ks : List ℕ) (cs : List ℤ) → i ≤ length ks → i ≤ length cs → length (terms-of i ks cs) ≡ i
 unfolding terms-of
 length-terms zero ks cs h l = refl
 length-terms (suc i) [] cs h l = absurd (omega arith)

@@ -16,7 +16,7 @@ use Rattle.model_types.specs.ModelStruct.{zero-term, view-term, view, pad, pair
 use Rattle.model_types.specs.ModelStructLaws.{view-is}
 use Rattle.model_types.specs.PairedLaws.{paired-of, length-paired, listed-next, listed-struct}
 use Rattle.model_slices.specs.HandedModels.{terms-of}
-use Rattle.model_slices.specs.HandedModelsLaws.{handed-more}
+use Rattle.model_slices.specs.HandedModelsLaws.{terms-more, length-terms, handed-more}
 use Rattle.model_slices.specs.HeldModels.{held, Room, Clear}
 
 -- a term by its key and its coefficient
@@ -24,22 +24,6 @@ abbrev pub pair : ℕ → ℤ → Term
 pair k c = record { key = k; coefficient = c }
 
 -- ---- the terms of two slices
-pub length-terms : (i : ℕ) (ks : List ℕ) (cs : List ℤ) → i ≤ length ks → i ≤ length cs → length (terms-of i ks cs) ≡ i
-unfolding terms-of
-length-terms zero ks cs h l = refl
-length-terms (suc i) [] cs h l = absurd (omega arith)
-length-terms (suc i) (k ∷ ks) [] h l = absurd (omega arith)
-length-terms (suc i) (k ∷ ks) (c ∷ cs) h l = ap suc (length-terms i ks cs (omega arith) (omega arith))
-
-terms-more : (i : ℕ) (ks : List ℕ) (cs : List ℤ) → i < length ks → i < length cs
-    → terms-of (suc i) ks cs ≡ terms-of i ks cs ++ (pair (getD ks i 0) (getD cs i (pos 0)) ∷ [])
-unfolding terms-of
-terms-more i [] cs h l = absurd (omega arith)
-terms-more i (k ∷ ks) [] h l = absurd (omega arith)
-terms-more zero (k ∷ ks) (c ∷ cs) h l = refl
-terms-more (suc i) (k ∷ ks) (c ∷ cs) h l =
-    ap (λ (r : List Term). pair k c ∷ r) (terms-more i ks cs (omega arith) (omega arith))
-
 pair-at : (n i : ℕ) (ks : List ℕ) (cs : List ℤ) → i < n → i < length ks → i < length cs
     → getD (terms-of n ks cs) i zero-term ≡ pair (getD ks i 0) (getD cs i (pos 0))
 unfolding terms-of
