@@ -1,6 +1,7 @@
 //! Prints tables of times, each row measured side by side in one run: the proved library, FLINT, and the second
 //! implementation. Inputs are used in turn, so that no branch predictor learns one of them.
-//! usage: bench [SEED], or bench slow [SEED] for a search for sheets that run slowly
+//! usage: bench [SEED]; bench sheets [SEED] for how many sheets a second alone; bench slow [SEED] for a search for sheets
+//! that run slowly
 
 mod antiderivatives;
 mod archive;
@@ -18,23 +19,25 @@ mod readings;
 mod shares;
 mod sheets;
 mod slow;
+mod throughput;
 mod timing;
 
 use reference::generate::Random;
 
 fn main() {
     let words: Vec<String> = std::env::args().skip(1).collect();
-    let (search, words) = match &words[..] {
-        [first, rest @ ..] if first == "slow" => (true, rest),
-        all => (false, all),
+    let (what, words) = match &words[..] {
+        [first, rest @ ..] if first == "slow" || first == "sheets" => (first.as_str(), rest),
+        all => ("tables", all),
     };
     let seed = words
         .first()
         .map_or(0, |word| word.parse().expect("a seed is a number"));
     let mut random = Random::new(seed);
-    if search {
-        slow::print(&mut random);
-        return;
+    match what {
+        "slow" => return slow::print(&mut random),
+        "sheets" => return throughput::print(seed),
+        _ => (),
     }
     products::print(&mut random);
     calls::print(&mut random);
@@ -45,6 +48,7 @@ fn main() {
     readings::print(seed);
     sheets::print(&mut random);
     shares::print(seed);
+    throughput::print(seed);
     growth::print(&mut random);
     cuts::print(seed);
     doubles::print(seed);
