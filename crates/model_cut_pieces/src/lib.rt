@@ -3,7 +3,6 @@ ghost use mathlib.Core.Path.{_≡_};
 ghost use Prim.Native.Nat.{_*_, _^_, _≤_, _<_};
 ghost use Rattle.calculus.specs.Key.{«key-width»};
 ghost use Rattle.calculus.specs.Refusal.{«at-place»};
-ghost use Rattle.product_hash_collect.specs.CollectorContracts.{«Free-table»};
 ghost use Rattle.product_room.specs.ProductTerms.{«Scratch-room»};
 ghost use Rattle.model_types.specs.ModelStruct.{view, pack, bounds};
 ghost use Rattle.cuts.specs.Cuts.{«most-depth», «half-width», «piece-middle», piece, «piece-range»};
@@ -98,9 +97,7 @@ pub fn piece_range(
     requires { ⌜ Cutting d i k f ⌝ }
     requires { ⌜ j < 2 ^ k ⌝ }
     requires { ⌜ Scratch-room piece-products (now slots) (now keys) (now sums) ⌝ }
-    ensures exact { λ r. ⌜ r ≡ bounds (at-place j (piece-range d i k (view f) j)) ⌝ }
-    ensures table { λ r. ⌜ Free-table (now (slots .entry)) (now (keys .entry)) (now (sums .entry))
-        (now (slots .exit)) (now (keys .exit)) (now (sums .exit)) ⌝ }
+    ensures { λ r. ⌜ r ≡ bounds (at-place j (piece-range d i k (view f) j)) ⌝ }
 {
     let g = piece(f.n, i, k, j);
     let a = model_substitution::substituted(d, i, f, g, slots, keys, sums);

@@ -8,7 +8,6 @@ ghost use Rattle.calculus.specs.Operations.{multiply};
 ghost use Rattle.calculus.specs.Shares.{«product-shares»};
 ghost use Rattle.model_types.specs.ModelStruct.{view, answer};
 ghost use Rattle.model_types.specs.SharesStruct.{accounted};
-ghost use Rattle.product_hash_collect.specs.CollectorContracts.{«Free-table»};
 ghost use Rattle.product_room.specs.ProductTerms.{«Scratch-room»};
 ghost use Rattle.product_answer.specs.ProductFactors.{Factors};
 use model_types::Accounted;
@@ -29,9 +28,7 @@ pub fn multiplied_accounted(
 ) -> Accounted
     requires { ⌜ Factors d f g ⌝ }
     requires { ⌜ Scratch-room (f .count * g .count) (now slots) (now keys) (now sums) ⌝ }
-    ensures exact { λ r. ⌜ r ≡ accounted (multiply d (view f) (view g)) (λ m. product-shares d (view f) (view g)) ⌝ }
-    ensures table { λ r. ⌜ Free-table (now (slots .entry)) (now (keys .entry)) (now (sums .entry))
-        (now (slots .exit)) (now (keys .exit)) (now (sums .exit)) ⌝ }
+    ensures { λ r. ⌜ r ≡ accounted (multiply d (view f) (view g)) (λ m. product-shares d (view f) (view g)) ⌝ }
 {
     let keys1 = f.keys;
     let keys2 = g.keys;
@@ -63,9 +60,7 @@ pub fn multiplied(
 ) -> Answer
     requires { ⌜ Factors d f g ⌝ }
     requires { ⌜ Scratch-room (f .count * g .count) (now slots) (now keys) (now sums) ⌝ }
-    ensures exact { λ r. ⌜ r ≡ answer (at-place 0 (multiply d (view f) (view g))) ⌝ }
-    ensures table { λ r. ⌜ Free-table (now (slots .entry)) (now (keys .entry)) (now (sums .entry))
-        (now (slots .exit)) (now (keys .exit)) (now (sums .exit)) ⌝ }
+    ensures { λ r. ⌜ r ≡ answer (at-place 0 (multiply d (view f) (view g))) ⌝ }
 {
     let product = multiplied_accounted(d, f, g, slots, keys, sums);
     product.answer

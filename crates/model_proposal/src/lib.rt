@@ -6,7 +6,7 @@ ghost use Rattle.calculus.specs.Model.{«one-model»};
 ghost use Rattle.calculus.specs.Refusal.{«at-place»};
 ghost use Rattle.calculus.specs.Operations.{bare, defect, deviation};
 ghost use Rattle.model_types.specs.ModelStruct.{view, pack, answer};
-ghost use Rattle.product_hash_collect.specs.CollectorContracts.{«Scratch-table», «Free-table»};
+ghost use Rattle.product_hash_collect.specs.CollectorContracts.{«Scratch-table»};
 ghost use Rattle.model_multiplication.specs.Factors.{Factors};
 ghost use Rattle.model_proposal.specs.Proposal.{Proposal, Gap, gap};
 use model_types::Answer;
@@ -44,9 +44,7 @@ fn gap(
 ) -> Answer
     requires { ⌜ Gap d f g h ⌝ }
     requires { ⌜ Scratch-table (now slots) (now keys) (now sums) ⌝ }
-    ensures exact { λ r. ⌜ r ≡ answer (at-place 0 (gap d (view f) (view g) (view h))) ⌝ }
-    ensures table { λ r. ⌜ Free-table (now (slots .entry)) (now (keys .entry)) (now (sums .entry))
-        (now (slots .exit)) (now (keys .exit)) (now (sums .exit)) ⌝ }
+    ensures { λ r. ⌜ r ≡ answer (at-place 0 (gap d (view f) (view g) (view h))) ⌝ }
 {
     let product = model_multiplication::multiplied(d, g, bare(h), slots, keys, sums);
     let v = product.verdict;
@@ -70,9 +68,7 @@ pub fn defect(
 ) -> Answer
     requires { ⌜ Proposal d f g h w ⌝ }
     requires { ⌜ Scratch-table (now slots) (now keys) (now sums) ⌝ }
-    ensures exact { λ r. ⌜ r ≡ answer (at-place 0 (defect d (view f) (view g) (view h) (view w))) ⌝ }
-    ensures table { λ r. ⌜ Free-table (now (slots .entry)) (now (keys .entry)) (now (sums .entry))
-        (now (slots .exit)) (now (keys .exit)) (now (sums .exit)) ⌝ }
+    ensures { λ r. ⌜ r ≡ answer (at-place 0 (defect d (view f) (view g) (view h) (view w))) ⌝ }
 {
     let difference = gap(d, f, g, h, slots, keys, sums);
     let v = difference.verdict;
@@ -95,9 +91,7 @@ pub fn deviation(
 ) -> Answer
     requires { ⌜ Factors d w g ⌝ }
     requires { ⌜ Scratch-table (now slots) (now keys) (now sums) ⌝ }
-    ensures exact { λ r. ⌜ r ≡ answer (at-place 0 (deviation d (view g) (view w))) ⌝ }
-    ensures table { λ r. ⌜ Free-table (now (slots .entry)) (now (keys .entry)) (now (sums .entry))
-        (now (slots .exit)) (now (keys .exit)) (now (sums .exit)) ⌝ }
+    ensures { λ r. ⌜ r ≡ answer (at-place 0 (deviation d (view g) (view w))) ⌝ }
 {
     let unit = one(g.n);
     let product = model_multiplication::multiplied(d, bare(w), g, slots, keys, sums);

@@ -7,7 +7,7 @@ ghost use Rattle.calculus.specs.Model.{«most-degree», sound};
 ghost use Rattle.calculus.specs.Refusal.{«at-place»};
 ghost use Rattle.calculus.specs.Operations.{«largest-value», certified, quotient};
 ghost use Rattle.model_types.specs.ModelStruct.{view, pack, answer};
-ghost use Rattle.product_hash_collect.specs.CollectorContracts.{«Scratch-table», «Free-table»};
+ghost use Rattle.product_hash_collect.specs.CollectorContracts.{«Scratch-table»};
 ghost use Rattle.model_proposal.specs.Proposal.{Proposal};
 ghost use Rattle.model_quotient.specs.Certificate.{«with-radius», judged, Judged};
 use model_types::Answer;
@@ -79,9 +79,7 @@ fn judged(
 ) -> Answer
     requires { ⌜ Judged d g h w beta ⌝ }
     requires { ⌜ Scratch-table (now slots) (now keys) (now sums) ⌝ }
-    ensures exact { λ r. ⌜ r ≡ answer (at-place 0 (judged d (view g) (view h) (view w) beta)) ⌝ }
-    ensures table { λ r. ⌜ Free-table (now (slots .entry)) (now (keys .entry)) (now (sums .entry))
-        (now (slots .exit)) (now (keys .exit)) (now (sums .exit)) ⌝ }
+    ensures { λ r. ⌜ r ≡ answer (at-place 0 (judged d (view g) (view h) (view w) beta)) ⌝ }
 {
     let form = model_proposal::deviation(d, g, w, slots, keys, sums);
     let v = form.verdict;
@@ -107,9 +105,7 @@ pub fn divided(
 ) -> Answer
     requires { ⌜ Proposal d f g h w ⌝ }
     requires { ⌜ Scratch-table (now slots) (now keys) (now sums) ⌝ }
-    ensures exact { λ r. ⌜ r ≡ answer (at-place 0 (quotient d (view f) (view g) (view h) (view w))) ⌝ }
-    ensures table { λ r. ⌜ Free-table (now (slots .entry)) (now (keys .entry)) (now (sums .entry))
-        (now (slots .exit)) (now (keys .exit)) (now (sums .exit)) ⌝ }
+    ensures { λ r. ⌜ r ≡ answer (at-place 0 (quotient d (view f) (view g) (view h) (view w))) ⌝ }
 {
     let form = model_proposal::defect(d, f, g, h, w, slots, keys, sums);
     let v = form.verdict;

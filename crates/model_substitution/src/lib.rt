@@ -9,7 +9,6 @@ ghost use Rattle.calculus.specs.Shares as S;
 ghost use Rattle.calculus.specs.Shares.{«product-shares», carrying, «substitute-shares»};
 ghost use Rattle.model_types.specs.ModelStruct.{view, answer};
 ghost use Rattle.model_types.specs.SharesStruct.{«stored-shares», accounted};
-ghost use Rattle.product_hash_collect.specs.CollectorContracts.{«Free-table»};
 ghost use Rattle.product_room.specs.ProductTerms.{«Scratch-room»};
 ghost use Rattle.model_substitution.specs.Substitute.{«horner-iteration», Iteration, Substitution};
 use model_types::Accounted;
@@ -47,10 +46,8 @@ fn horner_iteration(
 ) -> Accounted
     requires { ⌜ Iteration d h g q ⌝ }
     requires { ⌜ Scratch-room (most-terms * g .count) (now slots) (now keys) (now sums) ⌝ }
-    ensures exact { λ r. ⌜ r ≡ accounted (horner-iteration d (view h) (view g) (view q))
+    ensures { λ r. ⌜ r ≡ accounted (horner-iteration d (view h) (view g) (view q))
         (λ m. product-shares d (view h) (view g)) ⌝ }
-    ensures table { λ r. ⌜ Free-table (now (slots .entry)) (now (keys .entry)) (now (sums .entry))
-        (now (slots .exit)) (now (keys .exit)) (now (sums .exit)) ⌝ }
 {
     let product = model_multiplication::multiplied_accounted(d, h, g, slots, keys, sums);
     let answer = product.answer;
@@ -81,10 +78,8 @@ pub fn substituted_accounted(
 ) -> Accounted
     requires { ⌜ Substitution d i f g ⌝ }
     requires { ⌜ Scratch-room (most-terms * g .count) (now slots) (now keys) (now sums) ⌝ }
-    ensures exact { λ r. ⌜ r ≡ accounted (substitute d i (view f) (view g))
+    ensures { λ r. ⌜ r ≡ accounted (substitute d i (view f) (view g))
         (λ m. substitute-shares d i (view f) (view g)) ⌝ }
-    ensures table { λ r. ⌜ Free-table (now (slots .entry)) (now (keys .entry)) (now (sums .entry))
-        (now (slots .exit)) (now (keys .exit)) (now (sums .exit)) ⌝ }
 {
     if !model_range::in_box(g) {
         let refused = model_types::refuse(Refusal::LeavesBox, 0);
@@ -137,9 +132,7 @@ pub fn substituted(
 ) -> Answer
     requires { ⌜ Substitution d i f g ⌝ }
     requires { ⌜ Scratch-room (most-terms * g .count) (now slots) (now keys) (now sums) ⌝ }
-    ensures exact { λ r. ⌜ r ≡ answer (at-place 0 (substitute d i (view f) (view g))) ⌝ }
-    ensures table { λ r. ⌜ Free-table (now (slots .entry)) (now (keys .entry)) (now (sums .entry))
-        (now (slots .exit)) (now (keys .exit)) (now (sums .exit)) ⌝ }
+    ensures { λ r. ⌜ r ≡ answer (at-place 0 (substitute d i (view f) (view g))) ⌝ }
 {
     let all = substituted_accounted(d, i, f, g, slots, keys, sums);
     all.answer

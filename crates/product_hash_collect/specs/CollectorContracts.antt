@@ -88,10 +88,3 @@ pub record Scratch-table (slots keys : List ℕ) (sums : List ℤ) : Type 0 wher
   pub slots-room : home-slots + 2 * most-entries < length slots
   pub keys-room : scratch-places ≤ length keys
   pub sums-room : scratch-places ≤ length sums
-
--- what comes back of it: the content is left free, and each slice keeps its length
-pub record Free-table (slots-before keys-before : List ℕ) (sums-before : List ℤ)
-    (slots keys : List ℕ) (sums : List ℤ) : Type 0 where
-  pub slots-length : length slots ≡ length slots-before
-  pub keys-length : length keys ≡ length keys-before
-  pub sums-length : length sums ≡ length sums-before

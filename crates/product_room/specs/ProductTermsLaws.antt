@@ -15,7 +15,6 @@ use Rattle.product_sums.specs.declared.Gathered.{Gathered}
 use Rattle.product_sums.specs.Kept.{Gathering}
 use Rattle.product_sums.specs.ProductSums.{accumulated-all}
 use Rattle.product_hash_collect.specs.CollectorContracts.{Collected, Held-factors, Empty-table, Scratch-table}
-use Rattle.product_hash_collect.specs.CollectorContracts.{Free-table}
 use Rattle.product_hash_collect.specs.FactorArrayLaws.{monomial-at, first-key, first-monomial, second-key}
 use Rattle.product_hash_collect.specs.FactorArrayLaws.{second-monomial}
 use Rattle.product_hash_collect.specs.FactorArrayLaws.{factors-size}
@@ -75,13 +74,13 @@ module _ {slots keys : List ℕ} {sums : List ℤ} where
       sums-room = omega (arith, l, t .sums-room);
     }
 
-    -- and still does when it comes back
-    pub free-room : {slots′ keys′ : List ℕ} {sums′ : List ℤ} → Free-table slots keys sums slots′ keys′ sums′
-        → Scratch-room products slots′ keys′ sums′
-    free-room f = record {
-      slots-room = omega (arith, f .slots-length, t .slots-room);
-      keys-room = omega (arith, f .keys-length, t .keys-room);
-      sums-room = omega (arith, f .sums-length, t .sums-room);
+    -- and still does when it comes back: its content is free, and each slice keeps its length
+    pub free-room : {slots′ keys′ : List ℕ} {sums′ : List ℤ} → length slots′ ≡ length slots
+        → length keys′ ≡ length keys → length sums′ ≡ length sums → Scratch-room products slots′ keys′ sums′
+    free-room a b c = record {
+      slots-room = omega (arith, a, t .slots-room);
+      keys-room = omega (arith, b, t .keys-room);
+      sums-room = omega (arith, c, t .sums-room);
     }
 
 -- ---- two lists of terms

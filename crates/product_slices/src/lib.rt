@@ -10,7 +10,6 @@ ghost use Rattle.calculus.specs.Shares.{«product-shares»};
 ghost use Rattle.model_types.specs.ModelStruct.{view};
 ghost use Rattle.model_types.specs.SharesStruct.{accounted};
 ghost use Rattle.model_slices.specs.HandedModels.{handed, «stored-keys», «stored-coefficients»};
-ghost use Rattle.product_hash_collect.specs.CollectorContracts.{«Free-table»};
 ghost use Rattle.product_room.specs.ProductTerms.{«Scratch-room», «Kept-room»};
 ghost use Rattle.product_answer.specs.ProductFactors.{Factors, Unpacked};
 ghost use Rattle.product_slices.specs.HandedTerms.{Handed};
@@ -77,8 +76,6 @@ pub fn multiplied_slices(
         (view (handed n count1 radius1 (now (keys1 .entry)) (now (coefficients1 .entry))))
         (view (handed n count2 radius2 (now (keys2 .entry)) (now (coefficients2 .entry))))) ⌝ }
     ensures ready { λ k. ⌜ Kept-ready k (now (kept .exit)) (now (coefficients .exit)) ⌝ }
-    ensures table { λ k. ⌜ Free-table (now (slots .entry)) (now (keys .entry)) (now (sums .entry))
-        (now (slots .exit)) (now (keys .exit)) (now (sums .exit)) ⌝ }
 {
     let mut ka = [0u64; model_types::MOST_TERMS];
     let mut kb = [0u64; model_types::MOST_TERMS];
@@ -170,14 +167,12 @@ pub fn multiplied_slices_accounted(
     requires { ⌜ (count1 ≤ length (now keys1)) × (count1 ≤ length (now coefficients1)) ⌝ }
     requires { ⌜ (count2 ≤ length (now keys2)) × (count2 ≤ length (now coefficients2)) ⌝ }
     requires { ⌜ Scratch-room (count1 * count2) (now slots) (now keys) (now sums) ⌝ }
-    ensures exact { λ r. ⌜ r ≡ accounted (multiply d
+    ensures { λ r. ⌜ r ≡ accounted (multiply d
         (view (handed n count1 radius1 (now (keys1 .entry)) (now (coefficients1 .entry))))
         (view (handed n count2 radius2 (now (keys2 .entry)) (now (coefficients2 .entry)))))
         (λ m. product-shares d
         (view (handed n count1 radius1 (now (keys1 .entry)) (now (coefficients1 .entry))))
         (view (handed n count2 radius2 (now (keys2 .entry)) (now (coefficients2 .entry))))) ⌝ }
-    ensures table { λ r. ⌜ Free-table (now (slots .entry)) (now (keys .entry)) (now (sums .entry))
-        (now (slots .exit)) (now (keys .exit)) (now (sums .exit)) ⌝ }
 {
     let mut kept = [0u64; model_types::MOST_TERMS + 1];
     let mut coefficients = [0i64; model_types::MOST_TERMS + 1];

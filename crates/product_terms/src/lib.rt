@@ -3,7 +3,7 @@
 ghost use Prim.Native.Nat.{_*_};
 ghost use Rattle.product_sums.specs.TermArrays.{terms};
 ghost use Rattle.product_sums.specs.ProductSums.{«Product-gathered»};
-ghost use Rattle.product_hash_collect.specs.CollectorContracts.{«Held-factors», «Free-table»};
+ghost use Rattle.product_hash_collect.specs.CollectorContracts.{«Held-factors»};
 ghost use Rattle.product_room.specs.ProductTerms.{«Scratch-room», «Kept-room»};
 use product_grid_index::Sides;
 use product_sums::Gathered;
@@ -30,10 +30,8 @@ pub fn kept_in_scratch(
     requires { ⌜ Held-factors (now ka) (now ca) na (now kb) (now cb) nb ⌝ }
     requires { ⌜ Scratch-room (na * nb) (now slots) (now keys) (now sums) ⌝ }
     requires { ⌜ Kept-room (now kept) (now coefficients) ⌝ }
-    ensures exact { λ r. ⌜ Product-gathered d na (now (ka .entry)) (now (ca .entry))
+    ensures { λ r. ⌜ Product-gathered d na (now (ka .entry)) (now (ca .entry))
         nb (now (kb .entry)) (now (cb .entry)) (now (kept .exit)) (now (coefficients .exit)) r ⌝ }
-    ensures table { λ r. ⌜ Free-table (now (slots .entry)) (now (keys .entry)) (now (sums .entry))
-        (now (slots .exit)) (now (keys .exit)) (now (sums .exit)) ⌝ }
 {
     let products = na * nb;
     if products <= GRID_FROM {

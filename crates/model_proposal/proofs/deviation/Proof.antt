@@ -46,11 +46,9 @@ same-length-3 c = search needs
 
 returns : tie.Need-returns
 returns c =
-    let m = c .before .before .before .before .before .before .before in (
-      deviation-refused (start m .pre .0) _ (bared m .bare .ensures) (m .multiplied .ensures .0)
-          (c .enum-told2 .given .1),
-      record { slots-length = search needs; keys-length = search needs; sums-length = search needs },
-    )
+    let m = c .before .before .before .before .before .before .before in
+    deviation-refused (start m .pre .0) _ (bared m .bare .ensures) (m .multiplied .ensures)
+    (c .enum-told2 .given .1)
 
 -- ---- it is accepted
 module _ (c : tie.After-enum-told) where
@@ -63,7 +61,7 @@ module _ (c : tie.After-enum-told) where
 subtracted-requires : tie.Need-subtracted-requires
 subtracted-requires c κs =
     let m = made c in
-    deviation-operands (start m .pre .0) _ (bared m .bare .ensures) (m .multiplied .ensures .0) (taken c)
+    deviation-operands (start m .pre .0) _ (bared m .bare .ensures) (m .multiplied .ensures) (taken c)
     (bared m .before .one .ensures)
 
 same-length-4 : tie.Need-same-length-4
@@ -77,11 +75,9 @@ same-length-6 c = search needs
 
 returns-2 : tie.Need-returns-2
 returns-2 c =
-    let m = made (c .before) in (
-      deviation-answer (start m .pre .0) _ (bared m .bare .ensures) (m .multiplied .ensures .0) (taken (c .before))
-          (bared m .before .one .ensures) (c .subtracted .ensures),
-      record { slots-length = search needs; keys-length = search needs; sums-length = search needs },
-    )
+    let m = made (c .before) in
+    deviation-answer (start m .pre .0) _ (bared m .bare .ensures) (m .multiplied .ensures) (taken (c .before))
+    (bared m .before .one .ensures) (c .subtracted .ensures)
 
 pub deviation-spec : {M : Type 1} → statement M
 deviation-spec =

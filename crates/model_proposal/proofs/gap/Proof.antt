@@ -41,10 +41,8 @@ same-length-3 c = search needs
 
 returns : tie.Need-returns
 returns c =
-    let m = c .before .before .before .before .before .before .before in (
-      gap-refused (start m .pre .0) _ (bared m .bare .ensures) (m .multiplied .ensures .0) (c .enum-told2 .given .1),
-      record { slots-length = search needs; keys-length = search needs; sums-length = search needs },
-    )
+    let m = c .before .before .before .before .before .before .before in
+    gap-refused (start m .pre .0) _ (bared m .bare .ensures) (m .multiplied .ensures) (c .enum-told2 .given .1)
 
 -- ---- it is accepted
 module _ (c : tie.After-enum-told) where
@@ -57,7 +55,7 @@ module _ (c : tie.After-enum-told) where
 subtracted-requires : tie.Need-subtracted-requires
 subtracted-requires c κs =
     let m = made c in
-    gap-operands (start m .pre .0) _ (bared m .bare .ensures) (m .multiplied .ensures .0) (taken c)
+    gap-operands (start m .pre .0) _ (bared m .bare .ensures) (m .multiplied .ensures) (taken c)
 
 same-length-4 : tie.Need-same-length-4
 same-length-4 c = search needs
@@ -70,11 +68,9 @@ same-length-6 c = search needs
 
 returns-2 : tie.Need-returns-2
 returns-2 c =
-    let m = made (c .before) in (
-      gap-answer (start m .pre .0) _ (bared m .bare .ensures) (m .multiplied .ensures .0) (taken (c .before))
-          (c .subtracted .ensures),
-      record { slots-length = search needs; keys-length = search needs; sums-length = search needs },
-    )
+    let m = made (c .before) in
+    gap-answer (start m .pre .0) _ (bared m .bare .ensures) (m .multiplied .ensures) (taken (c .before))
+    (c .subtracted .ensures)
 
 pub gap-spec : {M : Type 1} → statement M
 gap-spec =

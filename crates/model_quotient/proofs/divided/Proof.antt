@@ -37,10 +37,8 @@ same-length-3 c = search needs
 
 returns : tie.Need-returns
 returns c =
-    let m = c .before .before .before .before .before .before .before in (
-      divided-refused (start m .pre .0) (m .defect .ensures .0) (c .enum-told2 .given .1),
-      record { slots-length = search needs; keys-length = search needs; sums-length = search needs },
-    )
+    let m = c .before .before .before .before .before .before .before in
+    divided-refused (start m .pre .0) (m .defect .ensures) (c .enum-told2 .given .1)
 
 -- ---- it is accepted
 module _ (c : tie.After-enum-told) where
@@ -51,14 +49,14 @@ module _ (c : tie.After-enum-told) where
   taken = c .enum-told .given .1
 
 largest-value-requires : tie.Need-largest-value-requires
-largest-value-requires c κs = defect-order (start (made c) .pre .0) (made c .defect .ensures .0) (taken c)
+largest-value-requires c κs = defect-order (start (made c) .pre .0) (made c .defect .ensures) (taken c)
 
 judged-requires : tie.Need-judged-requires
 judged-requires c κs =
     let l = c .before .before .before in
     let m = made (l .before) in
     let t = start m .pre .1 in (
-      judged-asked (start m .pre .0) (m .defect .ensures .0) (taken (l .before)) _ (l .largest-value .ensures),
+      judged-asked (start m .pre .0) (m .defect .ensures) (taken (l .before)) _ (l .largest-value .ensures),
       record {
         slots-room = omega (arith, m .defect .kept .1 .1 .1 .1 .1 .0, t .slots-room);
         keys-room = omega (arith, m .defect .kept .1 .1 .1 .1 .1 .1 .0, t .keys-room);
@@ -80,13 +78,11 @@ returns-2 c =
     let p = c .before .before .before .before .before in
     let l = p .before .before .before .before in
     let m = made (l .before) in
-    let s = start m in (
-      divided-answer (s .pre .0) (m .defect .ensures .0) (taken (l .before))
-          (p .judged .ensures .0
-          ∙ ap (λ beta. answer (at-place 0 (judged (s .args .d) (view (s .args .g)) (view (s .args .h))
-          (view (s .args .w)) beta))) (l .largest-value .ensures)),
-      record { slots-length = search needs; keys-length = search needs; sums-length = search needs },
-    )
+    let s = start m in
+    divided-answer (s .pre .0) (m .defect .ensures) (taken (l .before))
+    (p .judged .ensures
+    ∙ ap (λ beta. answer (at-place 0 (judged (s .args .d) (view (s .args .g)) (view (s .args .h))
+    (view (s .args .w)) beta))) (l .largest-value .ensures))
 
 pub divided-spec : {M : Type 1} → statement M
 divided-spec =

@@ -36,10 +36,8 @@ same-length-3 c = search needs
 
 returns : tie.Need-returns
 returns c =
-    let m = c .before .before .before .before .before .before .before in (
-      judged-refused (start m .pre .0) (m .deviation .ensures .0) (c .enum-told2 .given .1),
-      record { slots-length = search needs; keys-length = search needs; sums-length = search needs },
-    )
+    let m = c .before .before .before .before .before .before .before in
+    judged-refused (start m .pre .0) (m .deviation .ensures) (c .enum-told2 .given .1)
 
 -- ---- it is accepted
 module _ (c : tie.After-enum-told) where
@@ -50,7 +48,7 @@ module _ (c : tie.After-enum-told) where
   taken = c .enum-told .given .1
 
 largest-value-requires : tie.Need-largest-value-requires
-largest-value-requires c κs = form-sound (start (made c) .pre .0) (made c .deviation .ensures .0) (taken c)
+largest-value-requires c κs = form-sound (start (made c) .pre .0) (made c .deviation .ensures) (taken c)
 
 certified-requires : tie.Need-certified-requires
 certified-requires c κs =
@@ -69,12 +67,10 @@ returns-2 : tie.Need-returns-2
 returns-2 c =
     let l = c .before in
     let m = made (l .before) in
-    let s = start m in (
-      judged-answer (s .pre .0) (m .deviation .ensures .0) (taken (l .before))
-          (c .certified .ensures ∙ ap (λ mu. answer (at-place 0 (certified (view (s .args .h)) (s .args .beta) mu)))
-          (l .largest-value .ensures)),
-      record { slots-length = search needs; keys-length = search needs; sums-length = search needs },
-    )
+    let s = start m in
+    judged-answer (s .pre .0) (m .deviation .ensures) (taken (l .before))
+    (c .certified .ensures ∙ ap (λ mu. answer (at-place 0 (certified (view (s .args .h)) (s .args .beta) mu)))
+    (l .largest-value .ensures))
 
 pub judged-spec : {M : Type 1} → statement M
 judged-spec =

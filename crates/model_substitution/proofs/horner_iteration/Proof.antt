@@ -34,10 +34,8 @@ same-length-3 c = search needs
 
 returns : tie.Need-returns
 returns c =
-    let m = c .before .before .before .before .before .before .before .before in (
-      product-refused (start m .pre .0) (m .multiplied-accounted .ensures .0) (c .enum-told2 .given .1),
-      record { slots-length = search needs; keys-length = search needs; sums-length = search needs },
-    )
+    let m = c .before .before .before .before .before .before .before .before in
+    product-refused (start m .pre .0) (m .multiplied-accounted .ensures) (c .enum-told2 .given .1)
 
 -- ---- it is accepted
 module _ (c : tie.After-enum-told) where
@@ -48,7 +46,7 @@ module _ (c : tie.After-enum-told) where
   taken = c .enum-told .given .1
 
 added-requires : tie.Need-added-requires
-added-requires c κs = product-operands (start (made c) .pre .0) (made c .multiplied-accounted .ensures .0) (taken c)
+added-requires c κs = product-operands (start (made c) .pre .0) (made c .multiplied-accounted .ensures) (taken c)
 
 unless-refused-requires : tie.Need-unless-refused-requires
 unless-refused-requires c κs = search needs
@@ -65,11 +63,9 @@ same-length-6 c = search needs
 returns-2 : tie.Need-returns-2
 returns-2 c =
     let t = c .before .before in
-    let m = made t in (
-      sum-accounted (start m .pre .0) (m .multiplied-accounted .ensures .0) (taken t) (c .before .added .ensures)
-          (c .unless-refused .ensures),
-      record { slots-length = search needs; keys-length = search needs; sums-length = search needs },
-    )
+    let m = made t in
+    sum-accounted (start m .pre .0) (m .multiplied-accounted .ensures) (taken t) (c .before .added .ensures)
+    (c .unless-refused .ensures)
 
 pub horner-iteration-spec : {M : Type 1} → statement M
 horner-iteration-spec =

@@ -17,10 +17,8 @@ same-length-3 : tie.Need-same-length-3
 same-length-3 c = search needs
 
 returns : tie.Need-returns
-returns c = (
-  accounted-answer _ _ (c .before .before .before .before .before .before .substituted-accounted .ensures .0),
-  record { slots-length = search needs; keys-length = search needs; sums-length = search needs },
-)
+returns c =
+    accounted-answer _ _ (c .before .before .before .before .before .before .substituted-accounted .ensures)
 
 pub substituted-spec : {M : Type 1} → statement M
 substituted-spec =

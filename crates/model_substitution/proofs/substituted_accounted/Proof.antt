@@ -45,11 +45,9 @@ refuse-requires c κs = search needs
 
 returns : tie.Need-returns Inv-loop μ-loop
 unfolding cause
-returns c = (
-  outside _ _ _ _ (sym (c .before .before .in-box .ensures) ∙ not-true _ (c .before .if1 .taken))
-      (c .refuse .ensures),
-  record { slots-length = refl; keys-length = refl; sums-length = refl },
-)
+returns c =
+    outside _ _ _ _ (sym (c .before .before .in-box .ensures) ∙ not-true _ (c .before .if1 .taken))
+    (c .refuse .ensures)
 
 largest-exponent-of-requires : tie.Need-largest-exponent-of-requires Inv-loop μ-loop
 largest-exponent-of-requires c κs = in-variable (c .before .before .before .before)
@@ -84,7 +82,7 @@ horner-iteration-requires c κs =
     let l = p .before .before in
     let i = l .loop .inv in (
       left-iteration (start l .pre .0) (i .0) (p .part-of2 .ensures),
-      free-room (start l .pre .1) (record { slots-length = i .1; keys-length = i .2; sums-length = i .3 }),
+      free-room (start l .pre .1) (i .1) (i .2) (i .3),
     )
 
 module _ (c : tie.After-horner-iteration Inv-loop μ-loop) where
@@ -129,11 +127,9 @@ same-length-3 c = sums-long (refused c)
 returns-2 : tie.Need-returns-2 Inv-loop μ-loop
 returns-2 c =
     let m = refused c in
-    let l = iteration m in (
-      iteration-refused (start l .pre .0) (l .loop .inv .0) (added m .part-of2 .ensures) (positive m)
-          (m .horner-iteration .ensures .0) (c .enum-told2 .given .1),
-      record { slots-length = slots-long m; keys-length = keys-long m; sums-length = sums-long m },
-    )
+    let l = iteration m in
+    iteration-refused (start l .pre .0) (l .loop .inv .0) (added m .part-of2 .ensures) (positive m)
+    (m .horner-iteration .ensures) (c .enum-told2 .given .1)
 
 -- it is accepted
 abbrev accepted : tie.After-last Inv-loop μ-loop → tie.After-horner-iteration Inv-loop μ-loop
@@ -147,7 +143,7 @@ loop-again c =
     let m = accepted c in
     let l = iteration m in (
       iteration-accepted (start l .pre .0) (l .loop .inv .0) (added m .part-of2 .ensures) (positive m)
-          (m .horner-iteration .ensures .0) (c .before .before .enum-told .given .1),
+          (m .horner-iteration .ensures) (c .before .before .enum-told .given .1),
       slots-long m,
       keys-long m,
       sums-long m,
@@ -179,11 +175,9 @@ same-length-6 c = left c .loop .inv .3
 
 returns-3 : tie.Need-returns-3 Inv-loop μ-loop
 returns-3 c =
-    let l = left c in (
-      left-end (start l .pre .0) (l .loop .inv .0) (c .before .before .before .loop-test .left)
-          (c .before .widened .ensures) (c .before .before .carrying .ensures) (c .unless-refused .ensures),
-      record { slots-length = l .loop .inv .1; keys-length = l .loop .inv .2; sums-length = l .loop .inv .3 },
-    )
+    let l = left c in
+    left-end (start l .pre .0) (l .loop .inv .0) (c .before .before .before .loop-test .left)
+    (c .before .widened .ensures) (c .before .before .carrying .ensures) (c .unless-refused .ensures)
 
 pub substituted-accounted-spec : {M : Type 1} → statement M
 substituted-accounted-spec =

@@ -95,7 +95,7 @@ kept-answer-requires c κs =
     let u = unpacked w in
     let s = start u in
     slice-ready _ _ _ _ _ _ _ _ _ _ (s .pre .0) (first u) (second u) (first-long u) (s .pre .1 .0 .1)
-    (second-long u) (s .pre .1 .1 .0 .1) (w .kept-in-scratch .ensures .0) (kept-long w) (coefficients-long w)
+    (second-long u) (s .pre .1 .1 .0 .1) (w .kept-in-scratch .ensures) (kept-long w) (coefficients-long w)
 
 same-length : tie.Need-same-length
 same-length c = search needs
@@ -119,12 +119,9 @@ returns c =
     let u = unpacked w in
     let s = start u in (
       slice-answer _ _ _ _ _ _ _ _ _ _ (s .pre .0) (first u) (second u) (first-long u) (s .pre .1 .0 .1)
-          (second-long u) (s .pre .1 .1 .0 .1) (w .kept-in-scratch .ensures .0) (kept-long w) (coefficients-long w)
+          (second-long u) (s .pre .1 .1 .0 .1) (w .kept-in-scratch .ensures) (kept-long w) (coefficients-long w)
           (c .kept-answer .ensures .0),
-      (
-        c .kept-answer .ensures .1,
-        record { slots-length = search needs; keys-length = search needs; sums-length = search needs },
-      ),
+      c .kept-answer .ensures .1,
     )
 
 pub multiplied-slices-spec : {M : Type 1} → statement M

@@ -39,10 +39,8 @@ same-length-3 c = search needs
 
 returns : tie.Need-returns
 returns c =
-    let m = c .before .before .before .before .before .before .before .before .before .before in (
-      c .packed-kept .ensures ∙ m .multiplied-slices .ensures .0,
-      record { slots-length = search needs; keys-length = search needs; sums-length = search needs },
-    )
+    let m = c .before .before .before .before .before .before .before .before .before .before in
+    c .packed-kept .ensures ∙ m .multiplied-slices .ensures .0
 
 pub multiplied-slices-accounted-spec : {M : Type 1} → statement M
 multiplied-slices-accounted-spec =

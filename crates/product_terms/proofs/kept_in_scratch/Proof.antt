@@ -33,10 +33,8 @@ same-length-5 : tie.Need-same-length-5
 same-length-5 c = search needs
 
 returns : tie.Need-returns
-returns c = (
-  c .before .before .before .before .before .before .before .before .in-scratch-table .ensures,
-  record { slots-length = search needs; keys-length = search needs; sums-length = search needs },
-)
+returns c =
+    c .before .before .before .before .before .before .before .before .in-scratch-table .ensures
 
 grid-for-requires : tie.Need-grid-for-requires
 grid-for-requires c κs = search needs
@@ -63,10 +61,8 @@ same-length-8 : tie.Need-same-length-8
 same-length-8 c = search needs
 
 returns-2 : tie.Need-returns-2
-returns-2 c = (
-  c .before .before .before .before .gathered .ensures,
-  record { slots-length = search needs; keys-length = search needs; sums-length = search needs },
-)
+returns-2 c =
+    c .before .before .before .before .gathered .ensures
 
 in-scratch-table-requires-2 : tie.Need-in-scratch-table-requires-2
 in-scratch-table-requires-2 c κs = search needs
@@ -87,10 +83,8 @@ same-length-13 : tie.Need-same-length-13
 same-length-13 c = search needs
 
 returns-3 : tie.Need-returns-3
-returns-3 c = (
-  c .before .before .before .before .before .before .before .before .in-scratch-table2 .ensures,
-  record { slots-length = search needs; keys-length = search needs; sums-length = search needs },
-)
+returns-3 c =
+    c .before .before .before .before .before .before .before .before .in-scratch-table2 .ensures
 
 pub kept-in-scratch-spec : {M : Type 1} → statement M
 kept-in-scratch-spec =

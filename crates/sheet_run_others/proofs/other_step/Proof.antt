@@ -116,7 +116,7 @@ returns c = λ t.
     let w = c .before .before .before .before .before .before .before .before .before .settled .ensures in
     other-iterated t (first o) (second o) (is-first o) (is-second o) (p .0) (p .1) (p .2)
     (c .before .before .before .before .before .before .before .before .before .before .before .before .before
-    .before .before .before .before .before .before .before .step-answer .ensures .0) (w .0) (w .1) (w .2)
+    .before .before .before .before .before .before .before .step-answer .ensures) (w .0) (w .1) (w .2)
 
 pub other-step-spec : {M : Type 1} → statement M
 other-step-spec =

@@ -118,7 +118,7 @@ returns : tie.Need-returns
 returns c =
     let s = c .before .before .before .before .before .before .before .before .before .before .before .before .before
     .before .before .before .before .before .before .before .before .before in
-    c .before .before .before .before .before .multiplied-slices-accounted .ensures .0
+    c .before .before .before .before .before .multiplied-slices-accounted .ensures
     ∙ ap₂ (λ x y. accounted (multiply (s .args .d) (view x) (view y)) (λ k. product-shares (s .args .d) (view x)
     (view y)))
     (result-part (s .args .n) (memory s) (s .args .a)) (result-part (s .args .n) (memory s) (s .args .b))

@@ -123,7 +123,7 @@ all-carried-requires c κs =
     (o .before .before .before .before .before .before .before .before .before .before .before .before .before
     .before .before .result .ensures) (o .before .before .before .before .before .before .before .before .before
     .before .result2 .ensures) (o .before .before .before .before .before .result3 .ensures) (is-fourth o)
-    (c .before .before .before .before .before .divided .ensures .0)
+    (c .before .before .before .before .before .divided .ensures)
 
 settled-requires : tie.Need-settled-requires
 settled-requires c κs = let t = c .before .before .before .before .before .before .before .before .before .before
@@ -177,7 +177,7 @@ returns c = λ t.
     .before .before .result .ensures) (o .before .before .before .before .before .before .before .before .before
     .before .result2 .ensures) (o .before .before .before .before .before .result3 .ensures) (is-fourth o)
     (c .before .before .before .before .before .before .before .before .before .before .before .before .before
-    .before .before .before .before .before .before .before .before .divided .ensures .0) (c .before .before
+    .before .before .before .before .before .before .before .before .divided .ensures) (c .before .before
     .before .before .before .before .before .before .before .before .before .before .before .before .before
     .all-carried .ensures) (w .0) (w .1) (w .2)
 

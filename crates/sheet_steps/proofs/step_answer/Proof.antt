@@ -106,43 +106,33 @@ same-length-3 c = substituted c .substituted-accounted .kept .1 .1 .1 .1 .1 .1 .
 returns : tie.Need-returns
 unfolding codes held-step
 returns c =
-    let m = substituted c .before .before .before .before in (
-      λ k. answers (start (m .before)) k 7 _ _ (substituted c .substituted-accounted .ensures .0) (m .match .keys1)
-          refl refl,
-      substituted c .substituted-accounted .ensures .1,
-    )
+    let m = substituted c .before .before .before .before in
+    λ k. answers (start (m .before)) k 7 _ _ (substituted c .substituted-accounted .ensures) (m .match .keys1) refl refl
 
--- the table is the scratch that was given
 returns-2 : tie.Need-returns-2
 unfolding codes held-step
 returns-2 c =
     let t = c .before .before in
     let s = start (t .before .before) in
     let read-back : toZ w64 (ofZ w64 (s .args .s .value)) ≡ s .args .s .value =
-    toZ-ofZ (record { sfits = t .struct-told .given .1 .1 .1 .1 .0 .1 }) in (
-      λ k. answers s k 8 _ _
-          (c .swept-accounted .ensures
-          ∙ ap (λ k. accounted (accepted (Op.sweep k (view (s .args .f)))) (λ m. sweep-shares k (view (s .args .f))))
-          (c .before .magnitude .ensures ∙ ap natAbs read-back))
-          (t .before .match .keys2) refl refl,
-      record { slots-length = refl; keys-length = refl; sums-length = refl },
-    )
+    toZ-ofZ (record { sfits = t .struct-told .given .1 .1 .1 .1 .0 .1 }) in
+    λ k. answers s k 8 _ _
+    (c .swept-accounted .ensures
+    ∙ ap (λ k. accounted (accepted (Op.sweep k (view (s .args .f)))) (λ m. sweep-shares k (view (s .args .f))))
+    (c .before .magnitude .ensures ∙ ap natAbs read-back))
+    (t .before .match .keys2) refl refl
 
 returns-3 : tie.Need-returns-3
 unfolding codes held-step
 returns-3 c =
-    let m = c .before in (
-      λ k. answers (start (m .before)) k 10 _ _ (c .integrated-accounted .ensures) (m .match .keys3) refl refl,
-      record { slots-length = refl; keys-length = refl; sums-length = refl },
-    )
+    let m = c .before in
+    λ k. answers (start (m .before)) k 10 _ _ (c .integrated-accounted .ensures) (m .match .keys3) refl refl
 
 returns-4 : tie.Need-returns-4
 returns-4 c =
-    let s = start (c .before .before .before) in (
-      λ k. carried-is (s .args .n) (s .args .d) (held-step (s .args .s)) k (s .args .f) (s .args .g)
-          (direct (c .before .before)) (c .before .direct-answer .ensures (s .args .d) k) (c .all-carried .ensures),
-      record { slots-length = refl; keys-length = refl; sums-length = refl },
-    )
+    let s = start (c .before .before .before) in
+    λ k. carried-is (s .args .n) (s .args .d) (held-step (s .args .s)) k (s .args .f) (s .args .g)
+    (direct (c .before .before)) (c .before .direct-answer .ensures (s .args .d) k) (c .all-carried .ensures)
 
 pub step-answer-spec : {M : Type 1} → statement M
 step-answer-spec =
