@@ -1,4 +1,2 @@
--- Definitions: the struct of a trailer.
+-- The struct of a trailer.
 pub mod Trailer
--- Laws: numbers at a place.
-pub mod BytesAtLaws

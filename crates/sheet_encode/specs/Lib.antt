@@ -1,5 +1,4 @@
 pub mod Fitting
-pub mod BitsLaws
 pub mod RecordLoopLaws
 pub mod StoreLaws
 pub mod FittingLaws

@@ -1,12 +1,12 @@
-// A sheet put into a borrowed buffer, one function for each part: its records, their fields one after the other,
-// numbers little-endian; and its sections, all models, all steps and the trailer.
+// A sheet put into a borrowed buffer, one function for each part: its records, their fields one after the other;
+// and its sections, all models, all steps and the trailer.
 ghost use mathlib.Core.Path.{_≡_};
 ghost use Prim.Native.Nat.{_+_, _*_, _^_, _<_, _≤_};
 ghost use mathlib.Core.List.{map};
 ghost use lib.IntN.{natAbs};
 ghost use lib.ListN.{length};
 ghost use lib.Seq.{sets};
-ghost use Rattle.format.specs.Bytes.{join, «u16-bytes», «u32-bytes», bits};
+ghost use Rattle.format.specs.Bytes.{join};
 ghost use Rattle.format.specs.Format.{«key-length», «key-bytes», «term-length», «step-length», «trailer-length»};
 ghost use Rattle.format.specs.Format.{«term-bytes», «model-bytes», «step-bytes», «models-bytes», «trailer-bytes»};
 ghost use Rattle.format.specs.HeldBook.{Held-passes};
@@ -17,51 +17,6 @@ use model_types::Model;
 use sheet_book::Book;
 use sheet_book::Step;
 
-// ---- numbers, little-endian; the rest of the buffer stays
-
-// Two bytes.
-fn put_u16(buffer: &mut [u8], at: usize, x: u16)
-    requires { ⌜ at + 2 ≤ length (now buffer) ⌝ }
-    ensures { λ r. ⌜ now (buffer .exit) ≡ sets (now (buffer .entry)) at (u16-bytes x) ⌝ }
-{
-    buffer[at] = (x % 256) as u8;
-    buffer[at + 1] = (x / 256 % 256) as u8;
-}
-
-// Four bytes.
-fn put_u32(buffer: &mut [u8], at: usize, u: u32)
-    requires { ⌜ at + 4 ≤ length (now buffer) ⌝ }
-    ensures { λ r. ⌜ now (buffer .exit) ≡ sets (now (buffer .entry)) at (u32-bytes u) ⌝ }
-{
-    buffer[at] = (u % 256) as u8;
-    buffer[at + 1] = (u / 256 % 256) as u8;
-    buffer[at + 2] = (u / 256 / 256 % 256) as u8;
-    buffer[at + 3] = (u / 256 / 256 / 256 % 256) as u8;
-}
-
-// Two's complement in 32 bits. Coefficients and values that pass the tests are at most the span limit in size, which
-// `span-four-bytes` puts below 2^31.
-fn bits_of(z: i64) -> u32
-    requires { ⌜ natAbs z < 2 ^ 31 ⌝ }
-    ensures { λ r. ⌜ r ≡ bits z ⌝ }
-{
-    if z < 0 {
-        (z + format::WORD) as u32
-    } else {
-        z as u32
-    }
-}
-
-// Four bytes with a sign.
-fn put_i32(buffer: &mut [u8], at: usize, z: i64)
-    requires { ⌜ natAbs z < 2 ^ 31 ⌝ }
-    requires { ⌜ at + 4 ≤ length (now buffer) ⌝ }
-    ensures { λ r. ⌜ now (buffer .exit) ≡ sets (now (buffer .entry)) at (u32-bytes (bits z)) ⌝ }
-{
-    let u = bits_of(z);
-    put_u32(buffer, at, u);
-}
-
 // ---- records
 
 // A key of n variables: short or long.
@@ -70,9 +25,9 @@ fn put_key(buffer: &mut [u8], at: usize, n: u8, key: Key)
     ensures { λ r. ⌜ now (buffer .exit) ≡ sets (now (buffer .entry)) at (key-bytes n key) ⌝ }
 {
     if n <= format::MOST_SHORT {
-        put_u16(buffer, at, (key / format::SHORT_KEY) as u16);
+        model_bytes::put_u16(buffer, at, (key / format::SHORT_KEY) as u16);
     } else {
-        put_u32(buffer, at, key);
+        model_bytes::put_u32(buffer, at, key);
     }
 }
 
@@ -85,7 +40,7 @@ fn put_term(buffer: &mut [u8], at: usize, n: u8, key: Key, coefficient: i64)
 {
     let size = sheet_book::term_bytes(n);
     put_key(buffer, at, n, key);
-    put_i32(buffer, at + size - 4, coefficient);
+    model_bytes::put_i32(buffer, at + size - 4, coefficient);
 }
 
 // A model.
@@ -97,7 +52,7 @@ fn put_model(buffer: &mut [u8], at: usize, m: Model)
     let n = m.n;
     let count = m.count;
     let size = sheet_book::term_bytes(n);
-    put_u32(buffer, at, m.radius as u32);
+    model_bytes::put_u32(buffer, at, m.radius as u32);
     buffer[at + format::COUNT_AT] = count as u8;
     let mut place = at + format::MODEL_BYTES;
     let mut i = 0;
@@ -128,7 +83,7 @@ fn put_step(buffer: &mut [u8], at: usize, s: Step)
     buffer[at + 1] = s.a;
     buffer[at + 2] = s.b;
     buffer[at + 3] = s.v;
-    put_i32(buffer, at + 4, s.value);
+    model_bytes::put_i32(buffer, at + 4, s.value);
 }
 
 // ---- the sections of a book that passed the tests
@@ -196,7 +151,7 @@ pub fn put_trailer(buffer: &mut [u8], at: usize, b: Book, offset: usize)
     buffer[at + 1] = b.d;
     buffer[at + 2] = b.model_count as u8;
     buffer[at + 3] = b.step_count as u8;
-    put_u16(buffer, at + 4, offset as u16);
+    model_bytes::put_u16(buffer, at + 4, offset as u16);
     buffer[at + 6] = format::FIRST_MARK;
     buffer[at + 7] = mark;
 }

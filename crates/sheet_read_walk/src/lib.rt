@@ -38,7 +38,7 @@ pub fn read_models(s: &[u8], n: u8, d: u8, count: usize) -> ModelsRead
         if left < format::MODEL_BYTES {
             break 'models;
         }
-        let total = sheet_decode::byte_at(s, at + format::COUNT_AT) as usize;
+        let total = model_bytes::byte_at(s, at + format::COUNT_AT) as usize;
         let taken = format::MODEL_BYTES + size * total;
         if left < taken {
             break 'models;

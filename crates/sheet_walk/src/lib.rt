@@ -23,8 +23,8 @@ pub fn model_at(s: &[u8], at: usize, n: u8) -> Model
     ensures { λ r. ⌜ r ≡ stored-model (read-model n (drop at (now (s .entry)))) ⌝ }
 {
     let size = sheet_book::term_bytes(n);
-    let total = sheet_decode::byte_at(s, at + format::COUNT_AT) as usize;
-    let radius = sheet_decode::u32_at(s, at) as u64;
+    let total = model_bytes::byte_at(s, at + format::COUNT_AT) as usize;
+    let radius = model_bytes::u32_at(s, at) as u64;
     let mut keys: [Key; model_types::MOST_TERMS] = [0; model_types::MOST_TERMS];
     let mut coefficients = [0i64; model_types::MOST_TERMS];
     let mut place = at + format::MODEL_BYTES;
@@ -59,7 +59,7 @@ pub fn walk_models(s: &[u8], n: u8, d: u8, count: usize) -> ModelsWalked
         if left < format::MODEL_BYTES {
             break 'models;
         }
-        let total = sheet_decode::byte_at(s, at + format::COUNT_AT) as usize;
+        let total = model_bytes::byte_at(s, at + format::COUNT_AT) as usize;
         let taken = format::MODEL_BYTES + size * total;
         if left < taken {
             break 'models;

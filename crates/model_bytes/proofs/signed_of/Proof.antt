@@ -1,7 +1,8 @@
--- `signed_of` is the integer of 32 bits: those from the sign bit on stand for negative ones.
-use mathlib.Core.Path.{_≡_, sym, _∙_}
-use Prim.Native.Nat.{ℕ, suc, _+_, _-_, _^_, _≤_, _<_}
+-- `signed_of` is the integer of 32 bits: moved up by the sign bit and around, they stand in order from the least on.
+use mathlib.Core.Path.{_≡_}
+use Prim.Native.Nat.{ℕ, suc, _+_, _-_, _%_, _^_, _≤_, _<_}
 use native.Mathlib.Omega.{arith}
+use native.Mathlib.Decide.{decLe}
 use borrow.Author.Tests.{lt-ltb, le-ltb}
 use lib.IntN.{pos, negsuc, _-ℤ_}
 use mir.Facts.{toZ-ofZ}
@@ -15,23 +16,36 @@ use borrow.Author.Needs.{needs}
 use Rattle.model_bytes.proofs.signed_of.Statement.{statement}
 use Rattle.model_bytes.proofs.signed_of.Tie as tie
 
--- what is taken off
-below : (u : ℕ) → Is (pos u -ℤ pos (2 ^ 32)) (u + 0) (0 + 2 ^ 32)
-below u = is-add (is-nat u) (is-neg (is-nat (2 ^ 32)))
+-- where the bits are moved to, and what is taken off then
+abbrev moved : ℕ → ℕ
+moved u = (u + 2147483648) % 4294967296
 
-below-fits : (u : ℕ) → u < 2 ^ 32 → SFits w64 (pos u -ℤ pos (2 ^ 32))
-below-fits u h = fits-range (below u) (omega arith) (omega arith)
+below : (m : ℕ) → Is (pos m -ℤ pos 2147483648) (m + 0) (0 + 2147483648)
+below m = is-add (is-nat m) (is-neg (is-nat 2147483648))
+
+below-fits : (u : ℕ) → SFits w64 (pos (moved u) -ℤ pos 2147483648)
+below-fits u = fits-range (below (moved u)) (omega arith) (omega arith)
 
 -- the two halves of the bits
-from-zero-on : (u : ℕ) → u < 2 ^ 31 → signed u ≡ pos u
+from-zero-on : (u : ℕ) → u < 2 ^ 31 → pos (moved u) -ℤ pos 2147483648 ≡ signed u
 unfolding signed
-from-zero-on u h = rw (lt-ltb u (2 ^ 31) h, signed)
+from-zero-on u h = rw (lt-ltb u (2 ^ 31) h, signed) (is-eq (below (moved u)) (is-nat u) (omega arith))
 
-from-sign-on : (u : ℕ) → 2 ^ 31 ≤ u → u < 2 ^ 32 → signed u ≡ pos u -ℤ pos (2 ^ 32)
+from-sign-on : (u : ℕ) → 2 ^ 31 ≤ u → u < 2 ^ 32 → pos (moved u) -ℤ pos 2147483648 ≡ signed u
 unfolding signed
 from-sign-on u l h =
     rw (le-ltb u (2 ^ 31) l, signed)
-    (is-eq (is (negsuc (2 ^ 32 - suc u))) (below u) (omega arith))
+    (is-eq (below (moved u)) (is (negsuc (2 ^ 32 - suc u))) (omega arith))
+
+in-order : (u : ℕ) → u < 2 ^ 32 → pos (moved u) -ℤ pos 2147483648 ≡ signed u
+in-order u h = go (decLe (2 ^ 31) u)
+  where
+    go : Dec (2 ^ 31 ≤ u) → pos (moved u) -ℤ pos 2147483648 ≡ signed u
+    go (yes l) = from-sign-on u l h
+    go (no l) = from-zero-on u (omega arith)
+
+add-moved : tie.Need-add-moved
+add-moved c = search needs
 
 cast-result : tie.Need-cast-result
 cast-result c = search needs
@@ -40,15 +54,12 @@ cast-result-2 : tie.Need-cast-result-2
 cast-result-2 c = search needs
 
 sub-result : tie.Need-sub-result
-sub-result c = rw (toZ-pos w64 (c .before .args .bits) (omega arith)) (below-fits (c .before .args .bits) (omega arith))
+sub-result c = rw (toZ-pos w64 (moved (c .args .bits)) (omega arith)) (below-fits (c .args .bits))
 
 returns : tie.Need-returns
-returns c = toZ-pos w64 _ (omega arith) ∙ sym (from-zero-on _ (c .if1 .taken))
-
-returns-2 : tie.Need-returns-2
-returns-2 c =
-    rw (toZ-pos w64 (c .before .args .bits) (omega arith), toZ-ofZ (below-fits (c .before .args .bits) (omega arith)))
-    (sym (from-sign-on (c .before .args .bits) (c .if1 .left) (omega arith)))
+returns c =
+    rw (toZ-pos w64 (moved (c .args .bits)) (omega arith), toZ-ofZ (below-fits (c .args .bits)))
+    (in-order (c .args .bits) (omega arith))
 
 pub signed-of-spec : {M : Type 1} → statement M
-signed-of-spec = tie.close (tie.spec cast-result cast-result-2 sub-result returns returns-2)
+signed-of-spec = tie.close (tie.spec add-moved cast-result cast-result-2 sub-result returns)

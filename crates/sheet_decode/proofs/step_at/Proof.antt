@@ -1,6 +1,6 @@
 -- `step_at` is the struct of the step at a place.
 use Rattle.format.specs.ReadLoopLaws.{byte-at}
-use Rattle.sheet_decode.specs.BytesAtLaws.{byte-here}
+use Rattle.model_bytes.specs.WordsAtLaws.{byte-here}
 use lib.Seq.{drop-drop}
 use Rattle.fixed.specs.MachineLaws.{answered}
 use Rattle.format.specs.Format.{read-step}

@@ -3,7 +3,7 @@ use lib.Seq.{drop-drop}
 use Rattle.format.specs.Format.{read-trailer}
 use Rattle.format.specs.ReadLoopLaws.{byte-at}
 use Rattle.sheet_decode.specs.Trailer.{stored-trailer}
-use Rattle.sheet_decode.specs.BytesAtLaws.{byte-here}
+use Rattle.model_bytes.specs.WordsAtLaws.{byte-here}
 use borrow.Author.Needs.{needs}
 use Rattle.sheet_decode.proofs.trailer_at.Statement.{statement}
 use Rattle.sheet_decode.proofs.trailer_at.Tie as tie
