@@ -26,6 +26,10 @@ reading-of ps ls hs i = record {
   high = coordinate hs i;
 }
 
+-- the numbers of the readings that are looked at end here: four times 256, the most of a row
+abbrev pub numbers-end : ℕ
+numbers-end = 1024
+
 -- n readings from number i on
 unfoldable pub readings-from : (points lows highs : List ℤ) (i n : ℕ) → List Reading
 readings-from ps ls hs i zero = []
@@ -35,10 +39,14 @@ readings-from ps ls hs i (suc n) = reading-of ps ls hs i ∷ readings-from ps ls
 unfoldable pub row-of : (points lows highs : List ℤ) → List Reading
 row-of ps ls hs = readings-from ps ls hs 0 (length ls)
 
--- whether slices of these lengths hold a model and a row, and there is room for three numbers
+-- how many numbers go with what is found: a refusal's place, whether a reading contradicts, and which
+abbrev pub finding-numbers : ℕ
+finding-numbers = 3
+
+-- whether slices of these lengths hold a model and a row, and there is room for these numbers
 unfoldable pub readings-fit : (count keys coefficients points lows highs numbers : ℕ) → Bool
 readings-fit count keys coefficients points lows highs numbers =
-    borrowed count keys coefficients && leb lows (points / 8) && leb lows highs && leb 3 numbers
+    borrowed count keys coefficients && leb lows (points / 8) && leb lows highs && leb finding-numbers numbers
 
 -- ---- what the slice holds at the end
 -- the number that the call returns, and its slice

@@ -18,7 +18,7 @@ use Rattle.model_readings.specs.ReadingStruct.{view-reading, finding}
 use Rattle.model_readings.specs.RowIterations.{no-reading, iteration-of, begun-of, iteration-count, pass}
 use Rattle.model_readings.specs.RowIterationLaws.{pass-call}
 use Rattle.model_slices.specs.HandedModels.{borrowed, over}
-use Rattle.c_readings.specs.HandedReadings.{reading-of, readings-from, row-of, readings-fit}
+use Rattle.c_readings.specs.HandedReadings.{numbers-end, reading-of, readings-from, row-of, readings-fit}
 
 module _ (ps ls hs : List ℤ) where
   from-length : (i n : ℕ) → length (readings-from ps ls hs i n) ≡ n
@@ -57,7 +57,7 @@ over-three (x ∷ y ∷ []) a b c h = absurd (omega arith)
 over-three (x ∷ y ∷ z ∷ l) a b c h = refl
 
 -- an iteration is at a reading below 1,024
-pub below-all : (n k : ℕ) → k < n % 257 * 4 → k % n < 1024
+pub below-all : (n k : ℕ) → k < n % 257 * 4 → k % n < numbers-end
 below-all n k h = let m : k % n ≤ k = mod-le k n in omega arith
 
 -- an iteration with the reading that the slices hold is that of the row

@@ -9,8 +9,8 @@ ghost use Rattle.model_types.specs.ModelStruct.{view};
 ghost use Rattle.model_readings.specs.ReadingStruct.{«view-reading», finding};
 ghost use Rattle.model_slices.specs.HandedModels.{handed};
 ghost use Rattle.c_readings.specs.HandedReadings.{«reading-of», «row-of», «readings-fit»};
-ghost use Rattle.c_readings.specs.HandedReadings.{«any-contradicts», «number-of»};
-ghost use Rattle.c_readings.specs.HandedReadings.{«readings-state», «stored-finding»};
+ghost use Rattle.c_readings.specs.HandedReadings.{«numbers-end», «any-contradicts», «number-of»};
+ghost use Rattle.c_readings.specs.HandedReadings.{«finding-numbers», «readings-state», «stored-finding»};
 use model_types::Contradiction;
 use model_types::Finding;
 use model_types::Key;
@@ -49,7 +49,7 @@ pub fn readings_fit(
 
 // Reading i. A row has at most 256, and of a longer one no more are looked at than can be numbered below 1,024.
 fn reading_of(points: &[i64], lows: &[i64], highs: &[i64], i: usize) -> Reading
-    requires { ⌜ i < 1024 ⌝ }
+    requires { ⌜ i < numbers-end ⌝ }
     ensures { λ r. ⌜ r ≡ reading-of (now (points .entry)) (now (lows .entry)) (now (highs .entry)) i ⌝ }
 {
     let at = i * COORDINATES;
@@ -131,7 +131,7 @@ fn number_of(c: Contradiction) -> usize
 
 // What is found goes into a slice; the number of the refusal.
 pub fn store_finding(f: Finding, numbers: &mut [u64]) -> u8
-    requires { ⌜ 3 ≤ length (now numbers) ⌝ }
+    requires { ⌜ finding-numbers ≤ length (now numbers) ⌝ }
     ensures { λ r. ⌜ readings-state r (now (numbers .exit)) ≡ stored-finding f (now (numbers .entry)) ⌝ }
 {
     let c = f.contradiction;

@@ -6,7 +6,7 @@ ghost use lib.ListN.{length};
 ghost use Rattle.calculus.specs.Model.{«most-terms»};
 ghost use Rattle.format.specs.Format.{«run-sheet»};
 ghost use Rattle.sheet_book.specs.SummaryStruct.{«run-answer»};
-ghost use Rattle.model_slices.specs.HandedModels.{«answer-numbers», «model-room»};
+ghost use Rattle.model_slices.specs.HandedModels.{«answer-numbers», «run-ends», «model-room»};
 ghost use Rattle.c_runs.specs.SheetCalls.{«six-ends», «run-state», «stored-summary», «called-run»};
 use model_types::Key;
 use sheet::Ends;
@@ -18,7 +18,7 @@ pub const ENDS: usize = 6;
 
 // Two pairs of ends, the quotient and the remainder go into a slice.
 fn store_ends(range: Ends, integral: Ends, exact: Exact, ends: &mut [i64])
-    requires { ⌜ (6 ≤ length (now ends)) × (exact .remainder < 2 ^ 63) ⌝ }
+    requires { ⌜ (run-ends ≤ length (now ends)) × (exact .remainder < 2 ^ 63) ⌝ }
     ensures { λ r. ⌜ now (ends .exit) ≡ six-ends range integral exact (now (ends .entry)) ⌝ }
 {
     let low = range.low;
@@ -44,7 +44,7 @@ pub fn store_summary(
     ends: &mut [i64],
 ) -> u8
     requires { ⌜ (most-terms ≤ length (now keys)) × (most-terms ≤ length (now coefficients))
-        × (answer-numbers ≤ length (now numbers)) × (6 ≤ length (now ends)) × (s .exact .remainder < 2 ^ 63) ⌝ }
+        × (answer-numbers ≤ length (now numbers)) × (run-ends ≤ length (now ends)) × (s .exact .remainder < 2 ^ 63) ⌝ }
     ensures { λ r. ⌜ run-state r (now (keys .exit)) (now (coefficients .exit)) (now (numbers .exit)) (now (ends .exit))
         ≡ stored-summary s (now (keys .entry)) (now (coefficients .entry)) (now (numbers .entry))
         (now (ends .entry)) ⌝ }
@@ -72,7 +72,7 @@ pub fn run_sheet(
 ) -> u8
     ensures { λ r. ⌜ run-state r (now (keys .exit)) (now (coefficients .exit)) (now (numbers .exit)) (now (ends .exit))
         ≡ called-run (model-room (length (now (keys .entry))) (length (now (coefficients .entry)))
-        (length (now (numbers .entry)))) (leb 6 (length (now (ends .entry))))
+        (length (now (numbers .entry)))) (leb run-ends (length (now (ends .entry))))
         (run-answer (run-sheet (now (sheet .entry))))
         (now (keys .entry)) (now (coefficients .entry)) (now (numbers .entry)) (now (ends .entry)) ⌝ }
 {

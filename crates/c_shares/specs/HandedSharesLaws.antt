@@ -11,9 +11,9 @@ use Rattle.calculus.specs.Model.{most-terms}
 use Rattle.calculus_laws.specs.TestLaws.{and-left, and-right}
 use Rattle.model_types.specs.ArrayLaws.{take-more}
 use Rattle.model_types.specs.declared.Shares.{Shares}
-use Rattle.model_slices.specs.HandedModels.{over, answer-numbers, model-room}
+use Rattle.model_slices.specs.HandedModels.{over, answer-numbers, run-ends, model-room}
 use Rattle.model_slices.specs.HandedModelsLaws.{over-more, room-parts}
-use Rattle.c_shares.specs.HandedShares.{row-numbers, report-room}
+use Rattle.c_shares.specs.HandedShares.{row-numbers, report-numbers, report-room}
 
 -- ---- rows
 row-length : (l : List Shares) → length (row-numbers l) ≡ 4 * length l
@@ -68,7 +68,7 @@ rows-more rows k i h w =
 
 -- ---- room
 pub report-fits : (k z n e s : ℕ) → report-room k z n e s ≡ true
-    → (most-terms ≤ k) × (most-terms ≤ z) × (answer-numbers ≤ n) × (6 ≤ e) × (256 ≤ s)
+    → (most-terms ≤ k) × (most-terms ≤ z) × (answer-numbers ≤ n) × (run-ends ≤ e) × (report-numbers ≤ s)
 unfolding report-room
 report-fits k z n e s h =
     let t = subst T (sym h) tt in

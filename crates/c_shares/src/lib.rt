@@ -2,7 +2,7 @@
 ghost use mathlib.Core.Path.{_≡_};
 ghost use Prim.Native.Nat.{_≤_};
 ghost use lib.ListN.{length};
-ghost use Rattle.c_shares.specs.HandedShares.{«stored-rows», «report-room»};
+ghost use Rattle.c_shares.specs.HandedShares.{«report-numbers», «stored-rows», «report-room»};
 use sheet_book::Report;
 
 // The ends of a run: those of the range and those of the integral, the quotient and the remainder.
@@ -13,7 +13,7 @@ const ROW_NUMBERS: usize = 256;
 
 // Row i goes to the places from 4 × i on: carried, rounding, swept, slack.
 pub fn store_rows(r: Report, out: &mut [u64])
-    requires { ⌜ 256 ≤ length (now out) ⌝ }
+    requires { ⌜ report-numbers ≤ length (now out) ⌝ }
     ensures { λ u. ⌜ now (out .exit) ≡ stored-rows r (now (out .entry)) ⌝ }
 {
     let mut i = 0;

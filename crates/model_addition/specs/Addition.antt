@@ -9,7 +9,7 @@ use Rattle.calculus.specs.Refusal.{too-many-terms, stopped, at-place}
 use Rattle.calculus.specs.Operations.{limited, add}
 use Rattle.model_types.specs.declared.Model.{Model}
 use Rattle.model_types.specs.ModelStruct.{view, answer}
-use Rattle.model_slices.specs.HeldModels.{held, Room}
+use Rattle.model_slices.specs.HeldModels.{model-places, held, Room}
 use Rattle.model_limits.specs.Limits.{Packed}
 
 -- two sound models in the same variables
@@ -28,9 +28,9 @@ pub record Sum-of (c : ℕ) (ks : List ℕ) (cs : List ℤ) (d : ℕ) (ks₂ : L
   pub second-room : Room ks₂ cs₂
   pub operands : Operands (held vars c radius1 ks cs) (held vars d radius2 ks₂ cs₂)
 
--- the terms of a + b, of which the limits are still to be tested, or more than 64
+-- the terms of a + b, of which the limits are still to be tested, or more than a model has
 pub record Sum-in (a b : Model) (n count : ℕ) (ks : List ℕ) (cs : List ℤ) : Type 0 where
-  pub packed : count ≤ 64 → Packed (held n count (a .radius + b .radius) ks cs)
-  pub sum : count ≤ 64 → answer (at-place 0 (limited (view (held n count (a .radius + b .radius) ks cs))))
+  pub packed : count ≤ model-places → Packed (held n count (a .radius + b .radius) ks cs)
+  pub sum : count ≤ model-places → answer (at-place 0 (limited (view (held n count (a .radius + b .radius) ks cs))))
       ≡ answer (at-place 0 (add (view a) (view b)))
-  pub many : 64 < count → answer (at-place 0 (add (view a) (view b))) ≡ answer (stopped too-many-terms 0)
+  pub many : model-places < count → answer (at-place 0 (add (view a) (view b))) ≡ answer (stopped too-many-terms 0)

@@ -5,7 +5,7 @@ ghost use Rattle.calculus.specs.Model.{«most-terms»};
 ghost use Rattle.calculus.specs.Refusal.{«at-place»};
 ghost use Rattle.calculus.specs.Operations.{add, subtract};
 ghost use Rattle.model_types.specs.ModelStruct.{view, answer};
-ghost use Rattle.model_slices.specs.HeldModels.{held, Room, Clear};
+ghost use Rattle.model_slices.specs.HeldModels.{«model-places», held, Room, Clear};
 ghost use Rattle.model_addition.specs.Merge.{Ready, Takes};
 ghost use Rattle.model_addition.specs.Addition.{Operands, «Sum-of», «Sum-in»};
 use model_types::Answer;
@@ -102,7 +102,7 @@ pub fn merged<'a, 'b>(
         → Sum-in (held (w .vars) c (w .radius1) (now (keys1 .entry)) (now (coefficients1 .entry)))
         (held (w .vars) d (w .radius2) (now (keys2 .entry)) (now (coefficients2 .entry)))
         (w .vars) r (now (stored .exit)) (now (out .exit))) ⌝ }
-    ensures clear { λ r. ⌜ (r ≤ 64 → Clear 0 (now (stored .entry)) (now (out .entry))
+    ensures clear { λ r. ⌜ (r ≤ model-places → Clear 0 (now (stored .entry)) (now (out .entry))
         → Clear r (now (stored .exit)) (now (out .exit))) ⌝ }
 {
     let mut count = 0;

@@ -6,6 +6,7 @@ ghost use lib.Dec.{leb};
 ghost use Prim.Native.Nat.{_%_, _^_, _<_, _≤_};
 ghost use Rattle.numbers.specs.Division.{«divided-up»};
 ghost use Rattle.calculus.specs.Model as C;
+ghost use Rattle.calculus.specs.Model.{«most-terms»};
 ghost use Rattle.calculus.specs.Operations.{«one-if-any»};
 ghost use Rattle.doubles.specs.Doubles.{signed, «model-of», «call-doubles»};
 ghost use Rattle.model_types.specs.ModelStruct.{pack, answer};
@@ -169,7 +170,7 @@ const SECOND_POWER: Key = 2 << 28;
 // A term after those of a model, unless its coefficient is 0.
 fn with_term(m: Model, key: Key, coefficient: i64) -> Model
     requires { ⌜ m .n ≡ 1 ⌝ }
-    requires { ⌜ m .count < 64 ⌝ }
+    requires { ⌜ m .count < most-terms ⌝ }
     ensures { λ r. ⌜ ((o : C.Model) → m ≡ pack o → r ≡ pack (with-term key coefficient o)) ⌝ }
 {
     if coefficient == 0 {

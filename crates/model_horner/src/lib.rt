@@ -3,7 +3,7 @@
 ghost use mathlib.Core.Path.{_≡_};
 ghost use Prim.Native.Nat.{ℕ, _≤_};
 ghost use Rattle.model_types.specs.ModelStruct.{view, pack};
-ghost use Rattle.model_slices.specs.HeldModels.{held, Room};
+ghost use Rattle.model_slices.specs.HeldModels.{«model-places», held, Room};
 ghost use Rattle.model_scaling.specs.Scaling.{«scaled-pass»};
 ghost use Rattle.model_horner.specs.Held.{«Scale-of»};
 use model_types::Key;
@@ -53,7 +53,7 @@ pub fn scaled(
 
 // The terms that a count names go from two slices into two others.
 pub fn copied(count: usize, keys: &[Key], coefficients: &[i64], stored: &mut [Key], out: &mut [i64])
-    requires { ⌜ (count ≤ 64) × Room (now keys) (now coefficients) ⌝ }
+    requires { ⌜ (count ≤ model-places) × Room (now keys) (now coefficients) ⌝ }
     requires { ⌜ Room (now stored) (now out) ⌝ }
     ensures { λ r. ⌜ ((n radius : ℕ) → held n count radius (now (stored .exit)) (now (out .exit))
         ≡ held n count radius (now (keys .entry)) (now (coefficients .entry))) ⌝ }

@@ -9,7 +9,7 @@ ghost use Rattle.calculus.specs.Model.{span};
 ghost use Rattle.calculus.specs.Refusal.{«at-place»};
 ghost use Rattle.calculus.specs.Operations.{limited, widen};
 ghost use Rattle.model_types.specs.ModelStruct.{view, answer};
-ghost use Rattle.model_slices.specs.HeldModels.{held, Room};
+ghost use Rattle.model_slices.specs.HeldModels.{«model-places», held, Room};
 ghost use Rattle.model_limits.specs.Limits.{Packed, «Left-in»};
 use model_types::Answer;
 use model_types::Model;
@@ -25,7 +25,7 @@ pub struct Left {
 
 // Whether the span of a model is within the limit. It is summed without wrapping.
 pub fn within(count: usize, radius: u64, coefficients: &[i64]) -> bool
-    requires { ⌜ (count ≤ 64) × (length (now coefficients) ≡ 64) ⌝ }
+    requires { ⌜ (count ≤ model-places) × (length (now coefficients) ≡ model-places) ⌝ }
     ensures { λ r. ⌜ ((n : ℕ) (ks : List ℕ) → Room ks (now (coefficients .entry))
         → r ≡ leb (span (view (held n count radius ks (now (coefficients .entry))))) span-limit) ⌝ }
 {
@@ -56,7 +56,7 @@ pub fn limited(m: Model) -> Answer
 
 // The same of a model in slices: the terms that it holds stay where they are.
 pub fn limited_slices(count: usize, radius: u64, coefficients: &[i64]) -> Left
-    requires { ⌜ (count ≤ 64) × (length (now coefficients) ≡ 64) ⌝ }
+    requires { ⌜ (count ≤ model-places) × (length (now coefficients) ≡ model-places) ⌝ }
     ensures { λ r. ⌜ ((n : ℕ) (ks : List ℕ) → Room ks (now (coefficients .entry))
         → Packed (held n count radius ks (now (coefficients .entry)))
         → Left-in n r ks (now (coefficients .entry))

@@ -47,6 +47,10 @@ stored-coefficients m = over (m .coefficients)
 abbrev pub answer-numbers : ℕ
 answer-numbers = 4
 
+-- how many ends go with a run that is answered: of the range, of the integral, q and r
+abbrev pub run-ends : ℕ
+run-ends = 6
+
 -- a refusal's place, n, the count, the radius
 unfoldable pub stored-numbers : (place : ℕ) → Model → List ℕ → List ℕ
 stored-numbers place m = over (place ∷ m .n ∷ m .count ∷ m .radius ∷ [])

@@ -13,10 +13,14 @@ use Rattle.model_slices.specs.HandedModels.{terms-of}
 unfoldable pub held : (n count radius : ℕ) → List ℕ → List ℤ → Model
 held n count radius ks cs = of-terms n count radius (pad (terms-of count ks cs))
 
--- 64 places in each slice
+-- the places of each slice: as many as a model has terms at most
+abbrev pub model-places : ℕ
+model-places = 64
+
+-- all of them are there
 pub record Room (ks : List ℕ) (cs : List ℤ) : Type 0 where
-  pub keys : length ks ≡ 64
-  pub coefficients : length cs ≡ 64
+  pub keys : length ks ≡ model-places
+  pub coefficients : length cs ≡ model-places
 
 -- zeros do stand after the terms that the count names: the arrays of a struct
 abbrev pub Clear : (count : ℕ) → List ℕ → List ℤ → Type 0

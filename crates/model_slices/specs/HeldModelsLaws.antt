@@ -17,7 +17,12 @@ use Rattle.model_types.specs.ModelStructLaws.{view-is}
 use Rattle.model_types.specs.PairedLaws.{paired-of, length-paired, listed-next, listed-struct}
 use Rattle.model_slices.specs.HandedModels.{terms-of}
 use Rattle.model_slices.specs.HandedModelsLaws.{terms-more, length-terms, handed-more}
-use Rattle.model_slices.specs.HeldModels.{held, Room, Clear}
+use Rattle.model_slices.specs.HeldModels.{held, model-places, Room, Clear}
+
+-- a slice has a place for each term
+pub all-places : model-places ≡ most-terms
+unfolding most-terms
+all-places = refl
 
 -- a term by its key and its coefficient
 abbrev pub pair : ℕ → ℤ → Term

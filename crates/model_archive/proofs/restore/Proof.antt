@@ -10,6 +10,7 @@ use Rattle.calculus.specs.Model as C
 use Rattle.calculus.specs.Refusal.{stopped, bad-length}
 use Rattle.model_types.specs.ModelStruct.{answer, cause}
 use Rattle.format.specs.Bytes.{byte, u32}
+use Rattle.archive.specs.Ranks.{rank-width}
 use Rattle.archive.specs.Archive.{read-all, require-ranks, restored-model, restored}
 use Rattle.model_archive_restoring.specs.Restoring.{go-on, last-test}
 use Rattle.model_archive_restoring.specs.RestoreLoopLaws.{ranks-passed}
@@ -90,7 +91,7 @@ enum-told : tie.Need-enum-told
 enum-told c = search needs
 
 restored-model-requires : tie.Need-restored-model-requires
-unfolding go-on
+unfolding go-on rank-width
 restored-model-requires c κs =
     let s = c .before .before .before .before .before .before .before .before .before .before .before in
     let l = read-all (c .before .before .before .fewer .result) (drop 6 (s .args .bytes .now)) in (

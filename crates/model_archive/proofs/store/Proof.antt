@@ -7,6 +7,7 @@ use lib.Dec.{T}
 use lib.ListN.{length}
 use Rattle.calculus.specs.Model.{most-terms, most-degree, between, sound}
 use Rattle.calculus_laws.specs.BookLaws.{between-high}
+use Rattle.archive.specs.Ranks.{rank-width}
 use Rattle.model_types.specs.declared.Verdict.the-variants.{Accepted}
 use Rattle.model_types.specs.ModelStruct.{view}
 use Rattle.model_types.specs.ModelStructLaws.{Limits, limits, length-view}
@@ -49,8 +50,8 @@ module _ (c : tie.Else2) where
   unfolding view
   in-four = sym (c .before .before .before .from-one .ensures) ∙ not-false _ (c .before .before .if1 .left)
 
-  four : start .args .m .n ≤ 4
-  unfolding view
+  four : start .args .m .n ≤ rank-width
+  unfolding view rank-width
   four = between-high 1 4 (start .args .m .n) (subst T (sym in-four) tt)
 
   few : start .args .m .count ≤ 64

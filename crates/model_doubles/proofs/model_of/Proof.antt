@@ -9,6 +9,7 @@ use mir.Facts.{toZ-ofZ}
 use mir.Syntax.{w64}
 use mir.Val.{toZ, ofZ}
 use Rattle.calculus.specs.Model as C
+use Rattle.calculus.specs.Model.{most-terms}
 use Rattle.doubles.specs.Doubles.{model-of}
 use Rattle.model_types.specs.ModelStruct.{pack}
 use Rattle.model_doubles.specs.DoublesStruct.{with-term}
@@ -37,10 +38,12 @@ module _ (c : tie.After-with-term) where
   few1 = omega (arith, length-with 0 (toZ w64 (ofZ w64 (start .args .c0))) (empty (start .args .radius)))
 
 with-term-requires : tie.Need-with-term-requires
+unfolding most-terms
 with-term-requires c κs =
     room _ (empty 0) (packed-empty _ 0 (c .without-terms .ensures)) (refl) (omega arith)
 
 with-term-requires-2 : tie.Need-with-term-requires-2
+unfolding most-terms
 with-term-requires-2 c κs = room _ (o1 c) (got1 c) (vars-with 0 _ _) (omega (arith, few1 c))
 
 -- the second one
@@ -59,6 +62,7 @@ module _ (c : tie.After-with-term2) where
   )
 
 with-term-requires-3 : tie.Need-with-term-requires-3
+unfolding most-terms
 with-term-requires-3 c κs =
     room _ (o2 c) (got2 c) (vars-with 268435456 _ _ ∙ vars-with 0 _ _) (omega (arith, few2 c))
 

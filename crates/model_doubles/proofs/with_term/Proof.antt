@@ -5,6 +5,7 @@ use native.Mathlib.Omega.{arith}
 use borrow.Author.Needs.{needs}
 use lib.ListN.{set}
 use mir.Facts.{toZ-ofZ}
+use Rattle.calculus.specs.Model.{most-terms}
 use Rattle.calculus_laws.specs.MonomialKeyLaws.{word-key}
 use Rattle.model_types.specs.ZeroTestLaws.{zero-bits, nonzero-bits}
 use Rattle.model_doubles.specs.OneMoreTermLaws.{with-none, with-one}
@@ -15,21 +16,27 @@ returns : tie.Need-returns
 returns c o h = with-none _ o _ _ (zero-bits (c .before .fits .coefficient) (c .if1 .taken)) h
 
 mul-keys : tie.Need-mul-keys
+unfolding most-terms
 mul-keys c = search needs
 
 array-write-keys : tie.Need-array-write-keys
+unfolding most-terms
 array-write-keys c = search needs
 
 mul-coefficients : tie.Need-mul-coefficients
+unfolding most-terms
 mul-coefficients c = search needs
 
 array-set-from-coefficients : tie.Need-array-set-from-coefficients
+unfolding most-terms
 array-set-from-coefficients c = search needs
 
 add-t8 : tie.Need-add-t8
+unfolding most-terms
 add-t8 c = search needs
 
 returns-2 : tie.Need-returns-2
+unfolding most-terms
 returns-2 c o h =
     let s = c .before .before .before in
     ap (λ z. record {
