@@ -18,7 +18,6 @@ use Rattle.sheet_book.specs.BookStruct.{no-model, no-step, stored-model, stored
 use Rattle.sheet_book.specs.Failing.{first-failing}
 use Rattle.sheet_book.specs.ZeroLaws.{no-model-packed}
 use Rattle.sheet_walk.specs.Walk.{Walk, walk, steps-walked}
-use Rattle.sheet_walk.specs.TermWalkLaws.{model-at}
 use Rattle.sheet_walk.specs.ModelWalkLaws.{Models-so-far, Ends, walk-place, walk-after, models-first}
 use Rattle.sheet_walk.specs.StepWalkLaws.{Steps-so-far, steps-first, steps-here, steps-inside}
 use Rattle.sheet_read_walk.specs.declared.ModelsRead.{ModelsRead}
@@ -43,7 +42,8 @@ models-none s n d count none e = record {
 module _ (s : List ℕ) (n d count : ℕ) (models : List Model) (at k : ℕ) (h : Models-kept s n d count models at k) where
   pub models-more : k < count → count ≤ most-models → (next : ℕ)
       → Models-so-far s n d count (h .before ++ (read-model n (drop at s) ∷ [])) next (k + 1)
-      → (m : Model) → m ≡ model-at n at s → Models-kept s n d count (set models k m) next (k + 1)
+      → (m : Model) → m ≡ stored-model (read-model n (drop at s))
+      → Models-kept s n d count (set models k m) next (k + 1)
   unfolding most-models
   models-more l few next w m e = record {
     before = h .before ++ (read-model n (drop at s) ∷ []);

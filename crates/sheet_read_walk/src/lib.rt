@@ -6,6 +6,7 @@ ghost use Rattle.calculus.specs.Key.{«key-width»};
 ghost use Rattle.calculus.specs.Book.{«most-models», «most-steps»};
 ghost use Rattle.format.specs.Format.{«step-length»};
 ghost use Rattle.sheet_read_walk.specs.KeptRecords.{«models-read», «steps-read»};
+use model_types::Key;
 use model_types::Model;
 use sheet_book::Step;
 
@@ -28,29 +29,26 @@ pub fn read_models(s: &[u8], n: u8, d: u8, count: usize) -> ModelsRead
     requires { ⌜ (1 ≤ n) × (n ≤ key-width) × (count ≤ most-models) ⌝ }
     ensures { λ r. ⌜ r ≡ models-read n d count (now (s .entry)) ⌝ }
 {
-    let size = sheet_book::term_bytes(n);
     let none = model_types::without_terms(0);
     let mut models = [none; sheet_book::MOST_MODELS];
     let mut at = 0;
     let mut k = 0;
     'models: while k < count {
-        let left = s.len() - at;
-        if left < format::MODEL_BYTES {
+        let mut keys: [Key; model_types::MOST_TERMS] = [0; model_types::MOST_TERMS];
+        let mut coefficients = [0i64; model_types::MOST_TERMS];
+        let taken = sheet_walk::record_at(s, at, n, d, &mut keys, &mut coefficients);
+        if taken == 0 {
             break 'models;
         }
         let total = model_bytes::byte_at(s, at + format::COUNT_AT) as usize;
-        let taken = format::MODEL_BYTES + size * total;
-        if left < taken {
-            break 'models;
-        }
-        if model_types::MOST_TERMS < total {
-            break 'models;
-        }
-        let m = sheet_walk::model_at(s, at, n);
-        if !model::sound_arrays(m.n, m.count, m.radius, &m.keys, &m.coefficients, d) {
-            break 'models;
-        }
-        models[k] = m;
+        let radius = model_bytes::u32_at(s, at) as u64;
+        models[k] = Model {
+            n: n,
+            count: total,
+            radius: radius,
+            keys: keys,
+            coefficients: coefficients,
+        };
         at += taken;
         k += 1;
     }
