@@ -5,6 +5,8 @@ pub use Rattle.model_antiderivative.specs.Antiderivatives.{Integrand}
 pub use Rattle.model_multiplication.specs.Factors.{Factors}
 pub use Rattle.model_substitution.specs.Substitute.{Substitution}
 pub use Rattle.model_proposal.specs.Proposal.{Proposal}
+-- the products that a quotient asks room for, which a caller counts
+unfoldable pub use Rattle.model_proposal.specs.Proposal.{quotient-products}
 -- the products that the full table has room for
 pub use Rattle.product_hash_table.specs.Table.{most-entries}
 pub use Rattle.product_hash_collect.specs.CollectorContracts.{Scratch-table}

@@ -309,6 +309,9 @@ pub use model_substitution::substituted_accounted;
 // The answer of `quotient`, for four sound models in the same variables. The table is scratch.
 pub use model_quotient::divided;
 
+// The same where g, h and w lie in slices, with a table for the products that its forms make.
+pub use model_quotient::divided_slices;
+
 // Any other operation's answer with the shares of its radius: all is carried.
 pub use model_types::all_carried;
 

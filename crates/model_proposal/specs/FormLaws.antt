@@ -26,16 +26,16 @@ use Rattle.model_types.specs.ModelStructLaws.{sound-vars}
 use Rattle.model_types.specs.ResultLaws.{sound-in, sound-order, sound-struct, Holds, held-view, held-sound, held-vars}
 use Rattle.model_types.specs.ResultLaws.{taken-sound, taken-vars, taken-then, refused-then}
 use Rattle.model_addition.specs.Addition.{Operands}
-use Rattle.model_multiplication.specs.Factors.{Factors}
+use Rattle.product_answer.specs.ProductFactors.{Factors}
 use Rattle.model_proposal.specs.Proposal.{gap, Gap, Proposal}
 
 -- ---- a struct that holds a model without its radius
 module _ (m b : Model) (e : view b ≡ bare (view m)) where
-  bare-vars : b .n ≡ m .n
+  pub bare-vars : b .n ≡ m .n
   unfolding view bare
   bare-vars = ap (λ c. c .vars) e
 
-  bare-struct : (d : ℕ) → T (sound d (view m)) → T (sound d (view b))
+  pub bare-struct : (d : ℕ) → T (sound d (view m)) → T (sound d (view b))
   unfolding bare
   bare-struct d h = subst (λ c. T (sound d c)) (sym e)
       (sound-in (view m .vars) d (bare (view m)) (sound-vars d (view m) h)

@@ -1,2 +1,3 @@
 pub mod Proposal
 pub mod FormLaws
+pub mod SliceFormLaws

@@ -1,9 +1,9 @@
 -- What the forms of a proposal ask, and the difference in the first of them.
 use mathlib.Core.Path.{_≡_}
-use Prim.Native.Nat.{ℕ, _≤_}
+use Prim.Native.Nat.{ℕ, _*_, _≤_, max}
 use lib.Dec.{T}
 use Rattle.calculus.specs.Model as C
-use Rattle.calculus.specs.Model.{most-degree, sound}
+use Rattle.calculus.specs.Model.{most-degree, most-terms, sound}
 use Rattle.calculus.specs.Refusal as R
 use Rattle.calculus.specs.Refusal.{_then_}
 use Rattle.calculus.specs.Operations.{subtract, multiply, bare}
@@ -33,3 +33,7 @@ pub record Proposal (d : ℕ) (f g h w : Model) : Type 0 where
   pub divisor-vars : g .n ≡ f .n
   pub proposed-vars : h .n ≡ f .n
   pub inverse-vars : w .n ≡ f .n
+
+-- how many pairs of terms a product of the forms has at the most, by the numbers of terms of g, h and w
+unfoldable pub quotient-products : (g h w : ℕ) → ℕ
+quotient-products g h w = max (g * h) (most-terms * w)

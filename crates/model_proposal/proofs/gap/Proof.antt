@@ -1,21 +1,30 @@
 -- `gap` multiplies and subtracts: a refused product is the answer, and else the difference is.
 use mathlib.Core.Path.{_≡_}
 use borrow.Author.Needs.{needs}
+use Rattle.calculus.specs.Operations.{bare}
+use Rattle.model_types.specs.declared.Model.{Model}
 use Rattle.model_types.specs.declared.Verdict.the-variants.{Accepted}
-use Rattle.model_multiplication.specs.FactorRoomLaws.{factors-room}
+use Rattle.model_types.specs.ModelStruct.{view}
+use Rattle.model_types.specs.SharesStructLaws.{accounted-answer}
+use Rattle.model_slices.specs.HandedModels.{handed}
 use Rattle.model_proposal.specs.FormLaws.{gap-factors, gap-refused, gap-operands, gap-answer}
+use Rattle.model_proposal.specs.SliceFormLaws.{handed-bare}
 use Rattle.model_proposal.proofs.gap.Statement.{statement}
 use Rattle.model_proposal.proofs.gap.Tie as tie
 
-bare-requires : tie.Need-bare-requires
-bare-requires c κs = search needs
+-- ---- what is asked at the start
+module _ (s : tie.Start) where
+  -- h, which has no radius
+  abbrev second : Model
+  second = handed (s .args .f .n) (s .args .count2) 0 (s .args .keys2 .now) (s .args .coefficients2 .now)
 
-multiplied-requires : tie.Need-multiplied-requires
-multiplied-requires c κs =
-    let b = c .before .before .before in
-    let s = b .before .before .before in
-    let f = gap-factors (s .pre .0) _ (b .bare .ensures) in
-    (f, factors-room f (s .pre .1))
+  bared : view second ≡ bare (view second)
+  bared = handed-bare (s .args .f .n) (s .args .count2) 0 (s .args .keys2 .now) (s .args .coefficients2 .now)
+
+multiplied-slices-accounted-requires : tie.Need-multiplied-slices-accounted-requires
+multiplied-slices-accounted-requires c κs =
+    let s = c .before .before .before .before .before .before .before in
+    (gap-factors (s .pre .0) (second s) (bared s), s .pre .1)
 
 enum-told : tie.Need-enum-told
 enum-told c = search needs
@@ -23,11 +32,8 @@ enum-told c = search needs
 enum-told-2 : tie.Need-enum-told-2
 enum-told-2 c = search needs
 
-abbrev bared : tie.After-multiplied → tie.After-bare
-bared c = c .before .before .before .before
-
-abbrev start : tie.After-multiplied → tie.Start
-start c = bared c .before .before .before
+abbrev start : tie.After-multiplied-slices-accounted → tie.Start
+start c = c .before .before .before .before .before .before .before .before
 
 -- ---- the product is refused
 same-length : tie.Need-same-length
@@ -41,21 +47,25 @@ same-length-3 c = search needs
 
 returns : tie.Need-returns
 returns c =
-    let m = c .before .before .before .before .before .before .before in
-    gap-refused (start m .pre .0) _ (bared m .bare .ensures) (m .multiplied .ensures) (c .enum-told2 .given .1)
+    let m = c .before .before .before .before .before .before .before .before in
+    let s = start m in
+    gap-refused (s .pre .0) (second s) (bared s) (accounted-answer _ _ (m .multiplied-slices-accounted .ensures))
+    (c .enum-told2 .given .1)
 
 -- ---- it is accepted
 module _ (c : tie.After-enum-told) where
-  abbrev made : tie.After-multiplied
-  made = c .before .before .before .before .before .before .before
+  abbrev made : tie.After-multiplied-slices-accounted
+  made = c .before .before .before .before .before .before .before .before
 
-  taken : made .multiplied .result .verdict ≡ Accepted
+  taken : made .multiplied-slices-accounted .result .answer .verdict ≡ Accepted
   taken = c .enum-told .given .1
 
 subtracted-requires : tie.Need-subtracted-requires
 subtracted-requires c κs =
     let m = made c in
-    gap-operands (start m .pre .0) _ (bared m .bare .ensures) (m .multiplied .ensures) (taken c)
+    let s = start m in
+    gap-operands (s .pre .0) (second s) (bared s) (accounted-answer _ _ (m .multiplied-slices-accounted .ensures))
+    (taken c)
 
 same-length-4 : tie.Need-same-length-4
 same-length-4 c = search needs
@@ -69,15 +79,15 @@ same-length-6 c = search needs
 returns-2 : tie.Need-returns-2
 returns-2 c =
     let m = made (c .before) in
-    gap-answer (start m .pre .0) _ (bared m .bare .ensures) (m .multiplied .ensures) (taken (c .before))
-    (c .subtracted .ensures)
+    let s = start m in
+    gap-answer (s .pre .0) (second s) (bared s) (accounted-answer _ _ (m .multiplied-slices-accounted .ensures))
+    (taken (c .before)) (c .subtracted .ensures)
 
 pub gap-spec : {M : Type 1} → statement M
 gap-spec =
     tie.close
     (tie.spec
-    bare-requires
-    multiplied-requires
+    multiplied-slices-accounted-requires
     enum-told
     enum-told-2
     same-length

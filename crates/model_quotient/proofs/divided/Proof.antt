@@ -1,31 +1,54 @@
--- `divided` works out the first form: a refused one is the answer, and else what the second one comes to.
-use mathlib.Core.Path.{_≡_, _∙_, ap}
-use native.Mathlib.Omega.{arith}
+-- `divided` lends the arrays of three structs.
+use mathlib.Core.Path.{sym}
 use borrow.Author.Needs.{needs}
-use lib.ListN.{length}
-use Rattle.calculus.specs.Refusal.{at-place}
-use Rattle.model_types.specs.declared.Verdict.the-variants.{Accepted}
-use Rattle.model_types.specs.ModelStruct.{view, answer}
-use Rattle.model_quotient.specs.Certificate.{judged}
-use Rattle.model_quotient.specs.CertificateLaws.{divided-refused, defect-order, judged-asked, divided-answer}
+use Rattle.calculus.specs.Model.{most-terms}
+use Rattle.model_multiplication.specs.OwnArraysLaws.{Whole}
+use Rattle.product_room.specs.ProductTermsLaws.{scratch-room}
+use Rattle.model_quotient.specs.LentLaws.{lent-proposal, second-long, third-long, fourth-long, lent-room}
+use Rattle.model_quotient.specs.LentLaws.{lent-quotient}
 use Rattle.model_quotient.proofs.divided.Statement.{statement}
 use Rattle.model_quotient.proofs.divided.Tie as tie
 
-defect-requires : tie.Need-defect-requires
-defect-requires c κs =
-    let s = c .before .before .before .before .before in
-    (s .pre .0, s .pre .1)
+-- ---- the arrays of g, h and w have all places
+module _ (s : tie.Start) where
+  second-whole : Whole (s .args .t3)
+  unfolding most-terms
+  second-whole = record { keys-whole = search needs; coefficients-whole = search needs }
 
-enum-told : tie.Need-enum-told
-enum-told c = search needs
+  third-whole : Whole (s .args .t4)
+  unfolding most-terms
+  third-whole = record { keys-whole = search needs; coefficients-whole = search needs }
 
-enum-told-2 : tie.Need-enum-told-2
-enum-told-2 c = search needs
+  fourth-whole : Whole (s .args .t5)
+  unfolding most-terms
+  fourth-whole = record { keys-whole = search needs; coefficients-whole = search needs }
 
-abbrev start : tie.After-defect → tie.Start
-start c = c .before .before .before .before .before .before
+slice-aggregate-divided-slices : tie.Need-slice-aggregate-divided-slices
+slice-aggregate-divided-slices c = search needs
 
--- ---- the form is refused
+slice-aggregate-divided-slices-2 : tie.Need-slice-aggregate-divided-slices-2
+unfolding most-terms
+slice-aggregate-divided-slices-2 c = sym (third-whole (c .before .before .before .before .before .before .before
+    .before .before .before) .keys-whole)
+
+slice-aggregate-divided-slices-3 : tie.Need-slice-aggregate-divided-slices-3
+unfolding most-terms
+slice-aggregate-divided-slices-3 c = sym (fourth-whole (c .before .before .before .before .before .before .before
+    .before .before .before .before .before .before .before) .keys-whole)
+
+divided-slices-requires : tie.Need-divided-slices-requires
+divided-slices-requires c κs =
+    let s = c .before .before .before .before .before .before .before .before .before .before .before .before
+    .before .before .before .before .before .before .before .before in
+    let q = s .pre .0 in
+    let g = second-whole s in
+    let h = third-whole s in
+    let w = fourth-whole s in
+    let room = scratch-room (s .pre .1) (lent-room q g h w) in (
+      lent-proposal q g h w,
+      (second-long q g h w, (third-long q g h w, (fourth-long q g h w, room))),
+    )
+
 same-length : tie.Need-same-length
 same-length c = search needs
 
@@ -37,67 +60,20 @@ same-length-3 c = search needs
 
 returns : tie.Need-returns
 returns c =
-    let m = c .before .before .before .before .before .before .before in
-    divided-refused (start m .pre .0) (m .defect .ensures) (c .enum-told2 .given .1)
-
--- ---- it is accepted
-module _ (c : tie.After-enum-told) where
-  abbrev made : tie.After-defect
-  made = c .before .before .before .before .before .before .before
-
-  taken : made .defect .result .verdict ≡ Accepted
-  taken = c .enum-told .given .1
-
-largest-value-requires : tie.Need-largest-value-requires
-largest-value-requires c κs = defect-order (start (made c) .pre .0) (made c .defect .ensures) (taken c)
-
-judged-requires : tie.Need-judged-requires
-judged-requires c κs =
-    let l = c .before .before .before in
-    let m = made (l .before) in
-    let t = start m .pre .1 in (
-      judged-asked (start m .pre .0) (m .defect .ensures) (taken (l .before)) _ (l .largest-value .ensures),
-      record {
-        slots-room = omega (arith, m .defect .kept .1 .1 .1 .1 .1 .0, t .slots-room);
-        keys-room = omega (arith, m .defect .kept .1 .1 .1 .1 .1 .1 .0, t .keys-room);
-        sums-room = omega (arith, m .defect .kept .1 .1 .1 .1 .1 .1 .1 .0, t .sums-room);
-      },
-    )
-
-same-length-4 : tie.Need-same-length-4
-same-length-4 c = search needs
-
-same-length-5 : tie.Need-same-length-5
-same-length-5 c = search needs
-
-same-length-6 : tie.Need-same-length-6
-same-length-6 c = search needs
-
-returns-2 : tie.Need-returns-2
-returns-2 c =
-    let p = c .before .before .before .before .before in
-    let l = p .before .before .before .before in
-    let m = made (l .before) in
-    let s = start m in
-    divided-answer (s .pre .0) (m .defect .ensures) (taken (l .before))
-    (p .judged .ensures
-    ∙ ap (λ beta. answer (at-place 0 (judged (s .args .d) (view (s .args .g)) (view (s .args .h))
-    (view (s .args .w)) beta))) (l .largest-value .ensures))
+    let m = c .before .before .before .before .before in
+    let s = m .before .before .before .before .before .before .before .before .before .before .before .before
+    .before .before .before .before .before .before .before .before .before in
+    lent-quotient (s .pre .0) (second-whole s) (third-whole s) (fourth-whole s) (m .divided-slices .ensures)
 
 pub divided-spec : {M : Type 1} → statement M
 divided-spec =
     tie.close
     (tie.spec
-    defect-requires
-    enum-told
-    enum-told-2
+    slice-aggregate-divided-slices
+    slice-aggregate-divided-slices-2
+    slice-aggregate-divided-slices-3
+    divided-slices-requires
     same-length
     same-length-2
     same-length-3
-    returns
-    largest-value-requires
-    judged-requires
-    same-length-4
-    same-length-5
-    same-length-6
-    returns-2)
+    returns)

@@ -1,10 +1,12 @@
 -- `judged` works out the second form: a refused one is the answer, and else what it certifies.
-use mathlib.Core.Path.{_≡_, _∙_, ap}
+use mathlib.Core.Path.{_≡_, sym, _∙_, ap₂, subst}
 use borrow.Author.Needs.{needs}
+use lib.Dec.{T}
+use Rattle.calculus.specs.Model.{most-degree, sound}
 use Rattle.calculus.specs.Refusal.{at-place}
 use Rattle.calculus.specs.Operations.{certified}
 use Rattle.model_types.specs.declared.Verdict.the-variants.{Accepted}
-use Rattle.model_types.specs.ModelStruct.{view, answer}
+use Rattle.model_types.specs.ModelStruct.{answer}
 use Rattle.model_types.specs.ResultLaws.{sound-order}
 use Rattle.model_quotient.specs.CertificateLaws.{judged-refused, form-sound, judged-answer}
 use Rattle.model_quotient.proofs.judged.Statement.{statement}
@@ -12,7 +14,7 @@ use Rattle.model_quotient.proofs.judged.Tie as tie
 
 deviation-requires : tie.Need-deviation-requires
 deviation-requires c κs =
-    let s = c .before .before .before .before .before in
+    let s = c .before .before .before .before .before .before .before .before in
     (s .pre .0 .factors, s .pre .1)
 
 enum-told : tie.Need-enum-told
@@ -22,7 +24,7 @@ enum-told-2 : tie.Need-enum-told-2
 enum-told-2 c = search needs
 
 abbrev start : tie.After-deviation → tie.Start
-start c = c .before .before .before .before .before .before
+start c = c .before .before .before .before .before .before .before .before .before
 
 -- ---- the form is refused
 same-length : tie.Need-same-length
@@ -44,15 +46,22 @@ module _ (c : tie.After-enum-told) where
   abbrev made : tie.After-deviation
   made = c .before .before .before .before .before .before .before
 
-  taken : made .deviation .result .verdict ≡ Accepted
-  taken = c .enum-told .given .1
+  accepted : made .deviation .result .verdict ≡ Accepted
+  accepted = c .enum-told .given .1
 
 largest-value-requires : tie.Need-largest-value-requires
-largest-value-requires c κs = form-sound (start (made c) .pre .0) (made c .deviation .ensures) (taken c)
+largest-value-requires c κs = form-sound (start (made c) .pre .0) (made c .deviation .ensures) (accepted c)
+
+taken-requires : tie.Need-taken-requires
+taken-requires c κs = search needs
 
 certified-requires : tie.Need-certified-requires
 certified-requires c κs =
-    let s = start (made (c .before)) .pre .0 in (sound-order _ _ (s .factors .order) (s .proposed), s .small)
+    let s = start (made (c .before .before)) .pre .0 in (
+      subst (λ h. T (sound most-degree h)) (sym (c .taken .ensures))
+          (sound-order _ _ (s .factors .order) (s .proposed)),
+      s .small,
+    )
 
 same-length-4 : tie.Need-same-length-4
 same-length-4 c = search needs
@@ -65,11 +74,12 @@ same-length-6 c = search needs
 
 returns-2 : tie.Need-returns-2
 returns-2 c =
-    let l = c .before in
+    let h = c .before in
+    let l = h .before in
     let m = made (l .before) in
     let s = start m in
-    judged-answer (s .pre .0) (m .deviation .ensures) (taken (l .before))
-    (c .certified .ensures ∙ ap (λ mu. answer (at-place 0 (certified (view (s .args .h)) (s .args .beta) mu)))
+    judged-answer (s .pre .0) (m .deviation .ensures) (accepted (l .before))
+    (c .certified .ensures ∙ ap₂ (λ p mu. answer (at-place 0 (certified p (s .args .beta) mu))) (h .taken .ensures)
     (l .largest-value .ensures))
 
 pub judged-spec : {M : Type 1} → statement M
@@ -84,6 +94,7 @@ judged-spec =
     same-length-3
     returns
     largest-value-requires
+    taken-requires
     certified-requires
     same-length-4
     same-length-5
