@@ -1,10 +1,11 @@
--- The results of a book's steps and their rows, in flat slices: what stands at a place, and what the slices hold once a
--- result is put there.
+-- A book's models, the results of its steps and their rows, in flat slices: what stands at a place, and what the slices
+-- hold once a model is put there.
 use mathlib.Core.Path.{_≡_}
 use mathlib.Core.List.{List, [], _∷_, _++_}
 use Prim.Native.Nat.{ℕ, zero, suc, _+_, _*_, _≤_}
 use lib.IntN.{ℤ}
 use lib.ListN.{length, take, drop, getD, set}
+use Rattle.calculus.specs.Model.{most-terms}
 use Rattle.model_types.specs.declared.Model.{Model}
 use Rattle.model_types.specs.declared.Shares.{Shares}
 use Rattle.model_types.specs.declared.Accounted.{Accounted}
@@ -12,8 +13,8 @@ use Rattle.model_types.specs.declared.Verdict.{Verdict}
 use Rattle.model_types.specs.declared.Verdict.the-variants.{Accepted, Refused}
 use Rattle.model_slices.specs.HandedModels.{handed, over}
 
--- ---- results
--- keys and coefficients, 64 of each for a step, and a count and a radius for each
+-- ---- models and results
+-- keys and coefficients, as many of each for a place as a model has at the most, and a count and a radius for each
 pub record Results : Type 0 where
   pub keys : List ℕ
   pub coefficients : List ℤ
@@ -24,18 +25,19 @@ pub record Results : Type 0 where
 abbrev pub results : List ℕ → List ℤ → (counts radii : List ℕ) → Results
 results ks zs cs rs = record { keys = ks; coefficients = zs; counts = cs; radii = rs }
 
--- a place for each of 64 steps, and no count above 64
-pub record Roomy (m : Results) : Type 0 where
-  pub keys-long : length (m .keys) ≡ 4096
-  pub coefficients-long : length (m .coefficients) ≡ 4096
-  pub counts-long : length (m .counts) ≡ 64
-  pub radii-long : length (m .radii) ≡ 64
-  pub few : (j : ℕ) → getD (m .counts) j 0 ≤ 64
+-- so many places, and no count above a model's most terms
+pub record Roomy (places : ℕ) (m : Results) : Type 0 where
+  pub keys-long : most-terms * places ≤ length (m .keys)
+  pub coefficients-long : most-terms * places ≤ length (m .coefficients)
+  pub counts-long : places ≤ length (m .counts)
+  pub radii-long : places ≤ length (m .radii)
+  pub few : (j : ℕ) → getD (m .counts) j 0 ≤ most-terms
 
 -- the struct at place j, in n variables
 unfoldable pub result : (n : ℕ) → Results → (j : ℕ) → Model
 result n m j =
-    handed n (getD (m .counts) j 0) (getD (m .radii) j 0) (drop (64 * j) (m .keys)) (drop (64 * j) (m .coefficients))
+    handed n (getD (m .counts) j 0) (getD (m .radii) j 0) (drop (most-terms * j) (m .keys))
+    (drop (most-terms * j) (m .coefficients))
 
 -- a list with others in the place of its own from a place on
 unfoldable pub spliced : {A : Type 0} → (at : ℕ) → (new old : List A) → List A
@@ -44,13 +46,17 @@ spliced at new old = take at old ++ over new (drop at old)
 -- with a struct put at place i: only the terms that its count names
 unfoldable pub with-result : Model → (i : ℕ) → Results → Results
 with-result k i m = record {
-  keys = spliced (64 * i) (take (k .count) (k .keys)) (m .keys);
-  coefficients = spliced (64 * i) (take (k .count) (k .coefficients)) (m .coefficients);
+  keys = spliced (most-terms * i) (take (k .count) (k .keys)) (m .keys);
+  coefficients = spliced (most-terms * i) (take (k .count) (k .coefficients)) (m .coefficients);
   counts = set (m .counts) i (k .count);
   radii = set (m .radii) i (k .radius);
 }
 
 -- ---- rows
+-- the numbers of the rows of all steps, four for each
+abbrev pub most-row-numbers : ℕ
+most-row-numbers = 256
+
 -- the row at place j: four numbers of a flat slice
 unfoldable pub row-at : List ℕ → (j : ℕ) → Shares
 row-at l j = record {

@@ -1,5 +1,5 @@
--- Laws of results in flat slices: a struct that is put at a place stands there, those before it stay, and the slices
--- keep their room.
+-- Laws of models and results in flat slices: a struct that is put at a place stands there, all others stay, and the
+-- slices keep their room.
 use mathlib.Core.Path.{_≡_, refl, sym, _∙_, ap, ap₂}
 use mathlib.Core.List.{List, [], _∷_, _++_, map, append-nil}
 use mathlib.Core.Logic.{_≢_}
@@ -7,8 +7,10 @@ use Prim.Native.Nat.{ℕ, zero, suc, _+_, _*_, _-_, _≤_, _<_, min}
 use native.Mathlib.Decide.{decLt, ℕ-discrete}
 use native.Mathlib.Omega.{arith}
 use lib.IntN.{ℤ, pos}
-use lib.ListN.{length, take, drop, getD, set, length-append, length-set, length-drop}
+use lib.ListN.{length, take, drop, getD, set, replicate, length-append, length-set, length-take, length-drop}
+use lib.ListN.{length-replicate}
 use lib.Seq.{take-all, drop-length, length-take-le, drop-at, drop-append-le, take-append-le, getD-drop}
+use lib.Seq.{drop-drop, drop-append-seam}
 use lib.Seq.{getD-set-same, getD-set-other}
 use Rattle.calculus.specs.Model.{most-terms, zero-model}
 use Rattle.model_types.specs.declared.Term.{Term}
@@ -22,7 +24,7 @@ use Rattle.model_slices.specs.HandedModelsLaws.{taken-view}
 use Rattle.model_types.specs.declared.Refusal.{Refusal}
 use Rattle.model_types.specs.declared.Accounted.{Accounted}
 use Rattle.model_types.specs.declared.Verdict.the-variants.{Accepted, Refused}
-use Rattle.sheet_results.specs.Results.{Results, Roomy, result, spliced, with-result, with-row}
+use Rattle.sheet_results.specs.Results.{Results, results, Roomy, result, spliced, with-result, with-row}
 use Rattle.sheet_results.specs.Results.{unless, settled-results, settled-rows}
 
 -- ---- a part of a list replaced
@@ -81,6 +83,22 @@ module _ {A : Type 0} where
       cut (suc b) (suc a) [] h = refl
       cut (suc b) (suc a) (x ∷ xs) h = cut b a xs (omega arith)
 
+  -- three parts of a list
+  dropped : (a n e b : ℕ) (xs : List A) → b ≡ a + n + e → drop b xs ≡ drop e (drop n (drop a xs))
+  dropped a n e b xs h =
+      ap (λ k. drop k xs) h ∙ sym (drop-drop e (a + n) xs) ∙ ap (drop e) (sym (drop-drop n a xs))
+
+  -- after it: what was there
+  pub spliced-after : (a b : ℕ) (new xs : List A) → a + length new ≤ b → a ≤ length xs
+      → drop b (spliced a new xs) ≡ drop b xs
+  unfolding over
+  spliced-after a b new xs h l =
+      let e : b ≡ a + length new + (b - (a + length new)) = omega (arith, h) in
+      dropped a (length new) (b - (a + length new)) b (spliced a new xs) e
+      ∙ ap (λ r. drop (b - (a + length new)) (drop (length new) r)) (spliced-from a new xs l)
+      ∙ ap (drop (b - (a + length new))) (drop-append-seam new (drop (length new) (drop a xs)))
+      ∙ sym (dropped a (length new) (b - (a + length new)) b xs e)
+
 -- ---- terms of two slices
 -- only as many of both matter
 terms-taken : (n : ℕ) (ks : List ℕ) (cs : List ℤ) → terms-of n ks cs ≡ terms-of n (take n ks) (take n cs)
@@ -115,7 +133,7 @@ coefficients-long-as (k ∷ ks) [] = omega arith
 coefficients-long-as (k ∷ ks) (c ∷ cs) = omega (arith, coefficients-long-as ks cs)
 
 -- ---- a struct put at a place
-module _ (n : ℕ) (k : Model) (i : ℕ) {m : Results} (r : Roomy m) (l : i < 64) where
+module _ (n : ℕ) (k : Model) (i : ℕ) {places : ℕ} {m : Results} (r : Roomy places m) (l : i < places) where
   -- the terms that its count names
   abbrev named : List Term
   named = take (k .count) (listed k)
@@ -149,22 +167,22 @@ module _ (n : ℕ) (k : Model) (i : ℕ) {m : Results} (r : Roomy m) (l : i < 64
         ∙ sym (first-take zero-term (k .count) (listed k) w))
 
     terms-here : terms-of (k .count)
-        (drop (64 * i) (spliced (64 * i) named-keys (m .keys)))
-        (drop (64 * i) (spliced (64 * i) named-coefficients (m .coefficients))) ≡ named
-    unfolding over
+        (drop (most-terms * i) (spliced (most-terms * i) named-keys (m .keys)))
+        (drop (most-terms * i) (spliced (most-terms * i) named-coefficients (m .coefficients))) ≡ named
+    unfolding over most-terms
     terms-here =
         ap₂ (terms-of (k .count))
-        (spliced-from (64 * i) named-keys (m .keys) (omega (arith, r .keys-long)))
-        (spliced-from (64 * i) named-coefficients (m .coefficients) (omega (arith, r .coefficients-long)))
+        (spliced-from (most-terms * i) named-keys (m .keys) (omega (arith, r .keys-long)))
+        (spliced-from (most-terms * i) named-coefficients (m .coefficients) (omega (arith, r .coefficients-long)))
         ∙ terms-put (k .count) (k .keys) _ (k .coefficients) _ w
 
     -- it stands there
-    pub result-here : k .n ≡ n → k .count ≤ 64 → view (result n (with-result k i m) i) ≡ view k
+    pub result-here : k .n ≡ n → k .count ≤ most-terms → view (result n (with-result k i m) i) ≡ view k
     unfolding result with-result most-terms
     result-here e f =
         ap₂ (λ (c e : ℕ). view (handed n c e
-        (drop (64 * i) (spliced (64 * i) named-keys (m .keys)))
-        (drop (64 * i) (spliced (64 * i) named-coefficients (m .coefficients)))))
+        (drop (most-terms * i) (spliced (most-terms * i) named-keys (m .keys)))
+        (drop (most-terms * i) (spliced (most-terms * i) named-coefficients (m .coefficients)))))
         (getD-set-same (m .counts) i (k .count) 0 (omega (arith, r .counts-long)))
         (getD-set-same (m .radii) i (k .radius) 0 (omega (arith, r .radii-long)))
         ∙ sym (taken-view n (k .count) (k .radius) (k .count) _ _ short)
@@ -172,37 +190,54 @@ module _ (n : ℕ) (k : Model) (i : ℕ) {m : Results} (r : Roomy m) (l : i < 64
         (sym e) terms-here
         ∙ named-view
       where
-        short : k .count ≡ min (min (k .count) 64)
-            (min (length (drop (64 * i) (spliced (64 * i) named-keys (m .keys))))
-            (length (drop (64 * i) (spliced (64 * i) named-coefficients (m .coefficients)))))
+        short : k .count ≡ min (min (k .count) most-terms)
+            (min (length (drop (most-terms * i) (spliced (most-terms * i) named-keys (m .keys))))
+            (length (drop (most-terms * i) (spliced (most-terms * i) named-coefficients (m .coefficients)))))
         short =
-            let x = length-drop (64 * i) (spliced (64 * i) named-keys (m .keys)) in
-            let y = length-drop (64 * i) (spliced (64 * i) named-coefficients (m .coefficients)) in
-            let p = length-spliced (64 * i) named-keys (m .keys)
+            let x = length-drop (most-terms * i) (spliced (most-terms * i) named-keys (m .keys)) in
+            let y = length-drop (most-terms * i) (spliced (most-terms * i) named-coefficients (m .coefficients)) in
+            let p = length-spliced (most-terms * i) named-keys (m .keys)
             (omega (arith, r .keys-long, keys-long)) in
-            let q = length-spliced (64 * i) named-coefficients (m .coefficients)
+            let q = length-spliced (most-terms * i) named-coefficients (m .coefficients)
             (omega (arith, r .coefficients-long, coefficients-long)) in
             omega (arith, x, y, p, q, r .keys-long, r .coefficients-long, f, l)
 
-  -- those before it stay
-  pub result-before : (j : ℕ) → j < i → result n (with-result k i m) j ≡ result n m j
-  unfolding result with-result handed most-terms
-  result-before j h =
-      let o : j ≢ i = λ e. omega (arith, e) in
-      ap₂ (λ (c e : ℕ). of-terms n c e (pad (terms-of 64 (drop (64 * j) (spliced (64 * i) named-keys (m .keys)))
-      (drop (64 * j) (spliced (64 * i) named-coefficients (m .coefficients))))))
+  -- what stands at another place of a list stays
+  kept-elsewhere : {A : Type 0} (new xs : List A) → length new ≤ most-terms → most-terms * places ≤ length xs
+      → (j : ℕ) → j ≢ i
+      → take most-terms (drop (most-terms * j) (spliced (most-terms * i) new xs))
+      ≡ take most-terms (drop (most-terms * j) xs)
+  unfolding most-terms
+  kept-elsewhere new xs f h j o = elim (decLt j i) [
+    | yes b ↦ spliced-before (64 * i) (64 * j) 64 new xs (omega (arith, b)) (omega (arith, h, l))
+    | no b ↦ ap (take 64) (spliced-after (64 * i) (64 * j) new xs
+        (let e : i < j = above (omega (arith, b)) in omega (arith, e, f)) (omega (arith, h, l)))
+  ]
+    where
+      above : i ≤ j → i < j
+      above p = elim (ℕ-discrete i j) [
+        | yes e ↦ absurd (o (sym e))
+        | no e ↦ omega (arith, p, e)
+      ]
+
+  -- all others stay
+  pub result-other : k .count ≤ most-terms → (j : ℕ) → j ≢ i → result n (with-result k i m) j ≡ result n m j
+  unfolding result with-result handed
+  result-other f j o =
+      ap₂ (λ (c e : ℕ). of-terms n c e (pad (terms-of most-terms
+      (drop (most-terms * j) (spliced (most-terms * i) named-keys (m .keys)))
+      (drop (most-terms * j) (spliced (most-terms * i) named-coefficients (m .coefficients))))))
       (getD-set-other (m .counts) i j (k .count) 0 o) (getD-set-other (m .radii) i j (k .radius) 0 o)
       ∙ ap (λ (t : List Term). of-terms n (getD (m .counts) j 0) (getD (m .radii) j 0) (pad t))
-      (terms-taken 64 _ _
-      ∙ ap₂ (terms-of 64)
-      (spliced-before (64 * i) (64 * j) 64 named-keys (m .keys) (omega arith)
-      (omega (arith, r .keys-long)))
-      (spliced-before (64 * i) (64 * j) 64 named-coefficients (m .coefficients) (omega arith)
-      (omega (arith, r .coefficients-long)))
-      ∙ sym (terms-taken 64 _ _))
+      (terms-taken most-terms _ _
+      ∙ ap₂ (terms-of most-terms)
+      (kept-elsewhere named-keys (m .keys) (omega (arith, f, length-take (k .count) (k .keys))) (r .keys-long) j o)
+      (kept-elsewhere named-coefficients (m .coefficients)
+      (omega (arith, f, length-take (k .count) (k .coefficients))) (r .coefficients-long) j o)
+      ∙ sym (terms-taken most-terms _ _))
 
-  -- no count is above 64
-  still-few : k .count ≤ 64 → (j : ℕ) → getD (set (m .counts) i (k .count)) j 0 ≤ 64
+  -- no count is above the most
+  still-few : k .count ≤ most-terms → (j : ℕ) → getD (set (m .counts) i (k .count)) j 0 ≤ most-terms
   still-few f j = elim (ℕ-discrete j i) [
     | yes e ↦
         let g : getD (set (m .counts) i (k .count)) j 0 ≡ k .count =
@@ -213,25 +248,54 @@ module _ (n : ℕ) (k : Model) (i : ℕ) {m : Results} (r : Roomy m) (l : i < 64
   ]
 
   -- and the slices keep their room
-  pub roomy-still : k .count ≤ 64 → k .count ≤ length (listed k) → Roomy (with-result k i m)
-  unfolding with-result
+  pub roomy-still : k .count ≤ most-terms → k .count ≤ length (listed k) → Roomy places (with-result k i m)
+  unfolding with-result most-terms
   roomy-still f w = record {
-    keys-long = length-spliced (64 * i) named-keys (m .keys)
-        (omega (arith, r .keys-long, keys-long w)) ∙ r .keys-long;
-    coefficients-long = length-spliced (64 * i) named-coefficients (m .coefficients)
-        (omega (arith, r .coefficients-long, coefficients-long w)) ∙ r
-        .coefficients-long;
-    counts-long = length-set (m .counts) i (k .count) ∙ r .counts-long;
-    radii-long = length-set (m .radii) i (k .radius) ∙ r .radii-long;
+    keys-long =
+        let p = length-spliced (64 * i) named-keys (m .keys) (omega (arith, r .keys-long, keys-long w, f, l)) in
+        omega (arith, p, r .keys-long);
+    coefficients-long =
+        let p = length-spliced (64 * i) named-coefficients (m .coefficients)
+        (omega (arith, r .coefficients-long, coefficients-long w, f, l)) in
+        omega (arith, p, r .coefficients-long);
+    counts-long = omega (arith, length-set (m .counts) i (k .count), r .counts-long);
+    radii-long = omega (arith, length-set (m .radii) i (k .radius), r .radii-long);
     few = still-few f;
   }
 
+-- ---- fewer places
+pub roomy-less : {a b : ℕ} {m : Results} → Roomy a m → b ≤ a → Roomy b m
+unfolding most-terms
+roomy-less r h = record {
+  keys-long = omega (arith, r .keys-long, h);
+  coefficients-long = omega (arith, r .coefficients-long, h);
+  counts-long = omega (arith, r .counts-long, h);
+  radii-long = omega (arith, r .radii-long, h);
+  few = r .few;
+}
+
+-- ---- slices of zeros
+zeros-at : (n j : ℕ) → _≡_ {A = ℕ} (getD (replicate n 0) j 0) 0
+zeros-at zero j = refl
+zeros-at (suc n) zero = refl
+zeros-at (suc n) (suc j) = zeros-at n j
+
+pub roomy-zeros : (k z c r places : ℕ) → most-terms * places ≤ k → most-terms * places ≤ z → places ≤ c → places ≤ r
+    → Roomy places (results (replicate k 0) (replicate z (pos 0)) (replicate c 0) (replicate r 0))
+roomy-zeros k z c r places a b d e = record {
+  keys-long = omega (arith, length-replicate {A = ℕ} k 0, a);
+  coefficients-long = omega (arith, length-replicate z (pos 0), b);
+  counts-long = omega (arith, length-replicate {A = ℕ} c 0, d);
+  radii-long = omega (arith, length-replicate {A = ℕ} r 0, e);
+  few = λ j. omega (arith, zeros-at c j);
+}
+
 -- ---- the struct at a place, taken out
-module _ {m : Results} (r : Roomy m) {j : ℕ} (l : j < 64) where
+module _ {places : ℕ} {m : Results} (r : Roomy places m) {j : ℕ} (l : j < places) where
   -- by the terms that its count names
   pub taken-end : (n i : ℕ) → i ≡ getD (m .counts) j 0
       → view (of-terms n (getD (m .counts) j 0) (getD (m .radii) j 0)
-      (pad (terms-of i (drop (64 * j) (m .keys)) (drop (64 * j) (m .coefficients)))))
+      (pad (terms-of i (drop (most-terms * j) (m .keys)) (drop (most-terms * j) (m .coefficients)))))
       ≡ view (result n m j)
   unfolding result most-terms
   taken-end n i e = taken-view n _ _ i _ _
@@ -240,9 +304,9 @@ module _ {m : Results} (r : Roomy m) {j : ℕ} (l : j < 64) where
         e,
         r .few j,
         r .keys-long,
-        length-drop (64 * j) (m .keys),
+        length-drop (most-terms * j) (m .keys),
         r .coefficients-long,
-        length-drop (64 * j) (m .coefficients),
+        length-drop (most-terms * j) (m .coefficients),
       ))
 
 -- ---- an answer put down

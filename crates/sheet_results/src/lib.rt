@@ -1,22 +1,21 @@
-// The results of a book's steps, in flat slices: 64 keys and 64 coefficients for each step, a count and a radius; and
-// their rows, four numbers for each. A step reads what it names out of them, so that nothing else is copied.
+// A book's models and the results of its steps, in flat slices: 64 keys and 64 coefficients for each, a count and a
+// radius; and the rows of the results, four numbers for each. The models stand first, model a at place a, and the
+// result of step i at place 16 + i. A step reads what it names out of them, so that nothing else is copied.
 ghost use mathlib.Core.Path.{_≡_};
 ghost use mathlib.Core.Bool.{cond};
-ghost use Prim.Native.Nat.{_≤_, _<_};
+ghost use Prim.Native.Nat.{_+_, _≤_, _<_};
 ghost use lib.ListN.{length, take, set};
-ghost use Rattle.calculus.specs.Model.{«zero-model»};
+ghost use Rattle.calculus.specs.Model.{«most-terms», «zero-model»};
+ghost use Rattle.calculus.specs.Book.{«most-models», «most-steps»};
 ghost use Rattle.model_types.specs.ModelStruct.{view};
 ghost use Rattle.model_slices.specs.HandedModels.{over};
 ghost use Rattle.sheet_results.specs.Results.{results, Roomy, result, «with-result», «with-row», «first-rows»};
-ghost use Rattle.sheet_results.specs.Results.{«settled-results», «settled-rows»};
+ghost use Rattle.sheet_results.specs.Results.{«settled-results», «settled-rows», «most-row-numbers»};
 use model_types::Accounted;
 use model_types::Key;
 use model_types::Model;
 use model_types::Shares;
 use model_types::Verdict;
-
-// The places of a book's steps.
-const MOST_STEPS: usize = 64;
 
 // The numbers of a row.
 const ROW: usize = 4;
@@ -30,8 +29,7 @@ pub fn result(
     counts: &[usize],
     radii: &[u64],
 ) -> Model
-    requires { ⌜ j < 64 ⌝ }
-    requires { ⌜ Roomy (results (now keys) (now coefficients) (now counts) (now radii)) ⌝ }
+    requires { ⌜ Roomy (j + 1) (results (now keys) (now coefficients) (now counts) (now radii)) ⌝ }
     ensures { λ r. ⌜ view r ≡ view (result n
         (results (now (keys .entry)) (now (coefficients .entry)) (now (counts .entry)) (now (radii .entry))) j) ⌝ }
 {
@@ -61,8 +59,7 @@ pub fn operand(
     counts: &[usize],
     radii: &[u64],
 ) -> Model
-    requires { ⌜ j < 64 ⌝ }
-    requires { ⌜ Roomy (results (now keys) (now coefficients) (now counts) (now radii)) ⌝ }
+    requires { ⌜ Roomy (j + 1) (results (now keys) (now coefficients) (now counts) (now radii)) ⌝ }
     ensures { λ r. ⌜ view r ≡ cond named (view (result n
         (results (now (keys .entry)) (now (coefficients .entry)) (now (counts .entry)) (now (radii .entry))) j))
         (zero-model n) ⌝ }
@@ -73,25 +70,13 @@ pub fn operand(
     model_types::without_terms(n)
 }
 
-// The count, the radius and the row of a result are put at a place.
-pub fn put_numbers(
-    count: usize,
-    radius: u64,
-    row: Shares,
-    i: usize,
-    counts: &mut [usize],
-    radii: &mut [u64],
-    rows: &mut [u64],
-)
-    requires { ⌜ i < 64 ⌝ }
-    requires { ⌜ (length (now counts) ≡ 64) × (length (now radii) ≡ 64) × (length (now rows) ≡ 256) ⌝ }
-    ensures { λ r. ⌜ (now (counts .exit) ≡ set (now (counts .entry)) i count)
-        × (now (radii .exit) ≡ set (now (radii .entry)) i radius)
-        × (now (rows .exit) ≡ with-row row i (now (rows .entry))) ⌝ }
+// The row of a result is put at a place.
+fn put_row(row: Shares, i: usize, rows: &mut [u64])
+    requires { ⌜ i < most-steps ⌝ }
+    requires { ⌜ length (now rows) ≡ most-row-numbers ⌝ }
+    ensures { λ r. ⌜ now (rows .exit) ≡ with-row row i (now (rows .entry)) ⌝ }
 {
     let at = ROW * i;
-    counts[i] = count;
-    radii[i] = radius;
     rows[at] = row.carried;
     rows[at + 1] = row.rounding;
     rows[at + 2] = row.swept;
@@ -100,7 +85,7 @@ pub fn put_numbers(
 
 // The terms that a model's count names go into two slices.
 fn store_named(m: Model, keys: &mut [Key], coefficients: &mut [i64])
-    requires { ⌜ (64 ≤ length (now keys)) × (64 ≤ length (now coefficients)) ⌝ }
+    requires { ⌜ (most-terms ≤ length (now keys)) × (most-terms ≤ length (now coefficients)) ⌝ }
     ensures { λ r. ⌜ (now (keys .exit) ≡ over (take (m .count) (m .keys)) (now (keys .entry)))
         × (now (coefficients .exit) ≡ over (take (m .count) (m .coefficients)) (now (coefficients .entry))) ⌝ }
 {
@@ -109,33 +94,28 @@ fn store_named(m: Model, keys: &mut [Key], coefficients: &mut [i64])
     model_slices::copy_coefficients(count, &m.coefficients, coefficients);
 }
 
-// A result and its row are put at a place.
-pub fn put(
+// A model is put at a place. (What it says of the model's own arrays is known here only, where it is handed over.)
+pub fn put_model(
     m: Model,
-    row: Shares,
     i: usize,
     keys: &mut [Key],
     coefficients: &mut [i64],
     counts: &mut [usize],
     radii: &mut [u64],
-    rows: &mut [u64],
 )
-    requires { ⌜ i < 64 ⌝ }
-    requires { ⌜ Roomy (results (now keys) (now coefficients) (now counts) (now radii)) ⌝ }
-    requires { ⌜ length (now rows) ≡ 256 ⌝ }
-    ensures { λ r. ⌜ (results (now (keys .exit)) (now (coefficients .exit)) (now (counts .exit)) (now (radii .exit))
+    requires { ⌜ Roomy (i + 1) (results (now keys) (now coefficients) (now counts) (now radii)) ⌝ }
+    ensures { λ r. ⌜ results (now (keys .exit)) (now (coefficients .exit)) (now (counts .exit)) (now (radii .exit))
         ≡ with-result m i (results (now (keys .entry)) (now (coefficients .entry)) (now (counts .entry))
-        (now (radii .entry))))
-        × (now (rows .exit) ≡ with-row row i (now (rows .entry))) ⌝ }
+        (now (radii .entry))) ⌝ }
+    ensures whole { λ r. ⌜ (length (m .keys) ≡ most-terms) × (length (m .coefficients) ≡ most-terms) ⌝ }
 {
     let from = model_types::MOST_TERMS * i;
     store_named(m, &mut keys[from..], &mut coefficients[from..]);
-    let count = m.count;
-    let radius = m.radius;
-    put_numbers(count, radius, row, i, counts, radii, rows);
+    counts[i] = m.count;
+    radii[i] = m.radius;
 }
 
-// An answer's verdict. Unless it is refused its model and its shares are put at a place.
+// An answer's verdict. Unless it is refused its model is put at the place of result i, and its shares are row i.
 pub fn settled(
     c: Accounted,
     i: usize,
@@ -145,13 +125,13 @@ pub fn settled(
     radii: &mut [u64],
     rows: &mut [u64],
 ) -> Verdict
-    requires { ⌜ i < 64 ⌝ }
-    requires { ⌜ Roomy (results (now keys) (now coefficients) (now counts) (now radii)) ⌝ }
-    requires { ⌜ length (now rows) ≡ 256 ⌝ }
+    requires { ⌜ i < most-steps ⌝ }
+    requires { ⌜ Roomy (most-models + i + 1) (results (now keys) (now coefficients) (now counts) (now radii)) ⌝ }
+    requires { ⌜ length (now rows) ≡ most-row-numbers ⌝ }
     ensures { λ r. ⌜ (r ≡ c .answer .verdict)
         × (results (now (keys .exit)) (now (coefficients .exit)) (now (counts .exit)) (now (radii .exit))
-        ≡ settled-results c i (results (now (keys .entry)) (now (coefficients .entry)) (now (counts .entry))
-        (now (radii .entry))))
+        ≡ settled-results c (most-models + i) (results (now (keys .entry)) (now (coefficients .entry))
+        (now (counts .entry)) (now (radii .entry))))
         × (now (rows .exit) ≡ settled-rows c i (now (rows .entry))) ⌝ }
 {
     let a = c.answer;
@@ -161,18 +141,20 @@ pub fn settled(
     };
     let m = a.model;
     let row = c.shares;
-    put(m, row, i, keys, coefficients, counts, radii, rows);
+    let place = sheet_book::MOST_MODELS + i;
+    put_model(m, place, keys, coefficients, counts, radii);
+    put_row(row, i, rows);
     v
 }
 
-// The rows of all 64 places.
-pub fn all_rows(flat: &[u64]) -> [Shares; MOST_STEPS]
-    requires { ⌜ length (now flat) ≡ 256 ⌝ }
-    ensures { λ r. ⌜ r ≡ first-rows (now (flat .entry)) 64 ⌝ }
+// The rows of all places.
+pub fn all_rows(flat: &[u64]) -> [Shares; sheet_book::MOST_STEPS]
+    requires { ⌜ length (now flat) ≡ most-row-numbers ⌝ }
+    ensures { λ r. ⌜ r ≡ first-rows (now (flat .entry)) most-steps ⌝ }
 {
-    let mut shares = [Shares::ZERO; MOST_STEPS];
+    let mut shares = [Shares::ZERO; sheet_book::MOST_STEPS];
     let mut i = 0;
-    while i < MOST_STEPS {
+    while i < sheet_book::MOST_STEPS {
         let at = ROW * i;
         let carried = flat[at];
         let rounding = flat[at + 1];

@@ -1,54 +1,95 @@
 -- What is known in the middle of a run, what a step asks and what it leads to, where a run may stop, and the scratch
 -- memory for products.
 use mathlib.Core.Path.{_≡_}
-use mathlib.Core.List.{List, [], _++_}
+use mathlib.Core.List.{List, [], _++_, map}
 use Prim.Native.Nat.{ℕ, _+_, _*_, _<_, _≤_}
 use lib.IntN.{ℤ}
 use lib.ListN.{length, drop, getD}
 use Rattle.calculus.specs.Model as C
-use Rattle.calculus.specs.Model.{zero-model}
+use Rattle.calculus.specs.Model.{most-terms, zero-model}
 use Rattle.calculus.specs.Refusal as R
 use Rattle.calculus.specs.Refusal.{stopped}
 use Rattle.calculus_laws.specs.SoundLaws.{Sound}
 use Rattle.calculus_laws.specs.EachLaws.{All}
-use Rattle.calculus.specs.Book.{model-of, run-steps}
+use Rattle.calculus.specs.Book.{most-models, most-steps, model-of, run-steps}
 use Rattle.calculus.specs.Shares as S
 use Rattle.calculus.specs.Shares.{no-shares, run-shares, rows-sound}
-use Rattle.model_types.specs.declared.Model.{Model}
 use Rattle.model_types.specs.declared.Refusal.{Refusal}
 use Rattle.model_types.specs.declared.Verdict.{Verdict}
 use Rattle.model_types.specs.declared.Verdict.the-variants.{Accepted, Refused}
+use Rattle.model_types.specs.Arrays.{first-places}
 use Rattle.model_types.specs.ModelStruct.{view, cause}
 use Rattle.model_types.specs.SharesStruct.{stored-shares}
 use Rattle.model.specs.OperationContracts.{Scratch-table, Scratch-room}
 use Rattle.format.specs.HeldBook.{Held-step, Held-book, view-book, Held-passes}
-use Rattle.sheet_book.specs.declared.Book.{Book}
-use Rattle.sheet_book.specs.BookStruct.{held-book}
-use Rattle.sheet_results.specs.Results.{Results, Roomy, result, row-at}
+use Rattle.sheet_book.specs.BookStruct.{no-step, held-step}
+use Rattle.sheet_results.specs.Results.{Results, Roomy, result, row-at, most-row-numbers}
+use Rattle.sheet_run_laws.specs.declared.StepList.{StepList}
 use Rattle.sheet_run_laws.specs.declared.Stop.{Stop}
 use Rattle.sheet_run_laws.specs.LastResult.{last-result}
 -- the products that the full table has room for
 pub use Rattle.model.specs.OperationContracts.{most-entries}
 
+-- ---- the codes of steps that a run tells apart
+-- an input
+abbrev pub input-code : ℕ
+input-code = 0
+
+-- a product
+abbrev pub multiply-code : ℕ
+multiply-code = 6
+
+-- a substitution
+abbrev pub substitute-code : ℕ
+substitute-code = 7
+
+-- a quotient
+abbrev pub quotient-code : ℕ
+quotient-code = 9
+
+-- ---- a book whose models stand in flat slices
+-- the steps that a list of steps holds: places beyond the count are not looked at
+unfoldable pub listed-steps : StepList → List Held-step
+listed-steps l = map held-step (first-places no-step (l .count) (l .steps))
+
+-- a list of steps has the steps of a book, and its variables and order
+pub record Same-steps (h : Held-book) (l : StepList) : Type 0 where
+  pub vars : h .n ≡ l .n
+  pub order : h .d ≡ l .d
+  pub steps : h .steps ≡ listed-steps l
+
+-- model a of a book stands at place a
+pub record Loaded (h : Held-book) (m : Results) : Type 0 where
+  pub each : (a : ℕ) → a < length (h .models) → view (result (h .n) m a) ≡ model-of (view-book h) a
+
+-- a book that passes its tests has these steps, its models stand in the slices, and there is a place for each result
+pub record Prepared (l : StepList) (m : Results) : Type 0 where
+  pub held : Held-book
+  pub passes : Held-passes held
+  pub same : Same-steps held l
+  pub room : Roomy (most-models + l .count) m
+  pub loaded : Loaded held m
+
 -- ---- in the middle of a run
--- the first 64 rows of a flat slice are these, with zeros after them
+-- the rows of a flat slice, one for each step, are these, with zeros after them
 pub record Rows-stored (rows : List S.Shares) (flat : List ℕ) : Type 0 where
-  pub room : length flat ≡ 256
-  pub each : (j : ℕ) → j < 64 → row-at flat j ≡ stored-shares (getD rows j no-shares)
+  pub room : length flat ≡ most-row-numbers
+  pub each : (j : ℕ) → j < most-steps → row-at flat j ≡ stored-shares (getD rows j no-shares)
 
 module _ (h : Held-book) where
   -- sound, of the book's variables and order
   abbrev pub Good : C.Model → Type 0
   Good = Sound (h .n) (h .d)
 
-  -- the results of the first i steps stand in flat slices, and so do their rows, and the steps that are left lead to
-  -- the answer and to the rows after these
+  -- the book's models stand in flat slices, and after them the results of the first i steps; so do their rows; and the
+  -- steps that are left lead to the answer and to the rows after these
   pub record Running (i : ℕ) (m : Results) (flat : List ℕ) : Type 0 where
     pub models : List C.Model
     pub count : length models ≡ i
     pub good : All Good models
-    pub room : Roomy m
-    pub stored : (j : ℕ) → j < i → view (result (h .n) m j) ≡ getD models j (zero-model (h .n))
+    pub room : Roomy (most-models + length (h .steps)) m
+    pub loaded : Loaded h m
+    pub stored : (j : ℕ) → j < i → view (result (h .n) m (most-models + j)) ≡ getD models j (zero-model (h .n))
     pub rest : run-steps (view-book h) models (drop i (view-book h .steps))
         ≡ run-steps (view-book h) [] (view-book h .steps)
     pub rows : List S.Shares
@@ -60,7 +101,7 @@ module _ (h : Held-book) where
   pub record Ended (r : R.Result C.Model) (flat : List ℕ) : Type 0 where
     pub is : r ≡ last-result (view-book h)
     pub rows : List S.Shares
-    pub rows-few : length rows ≤ 64
+    pub rows-few : length rows ≤ most-steps
     pub rows-stored : Rows-stored rows flat
     pub rows-all : rows ≡ rows-sound (view-book h)
 
@@ -84,39 +125,60 @@ pub record Iteration (n d i : ℕ) (s : Held-step) (m : Results) (flat : List �
   pub at : Step-at held i s
   pub so-far : Running held i m flat
 
--- which is an input, with the model that it names
-pub record Input-iteration (n d i : ℕ) (s : Held-step) (m : Results) (flat : List ℕ) (input : Model) : Type 0 where
-  pub iteration : Iteration n d i s m flat
-  pub code : s .code ≡ 0
-  pub is-model : view input ≡ model-of (view-book (iteration .held)) (s .a)
+-- which is an input, whatever the order is
+pub record Input-step (n i : ℕ) (s : Held-step) (m : Results) (flat : List ℕ) : Type 0 where
+  pub order : ℕ
+  pub iteration : Iteration n order i s m flat
+  pub code : s .code ≡ input-code
 
 -- ---- scratch memory
--- for products of so many pairs of terms; with room for 64 times 64 it serves a substitution and a quotient too
+-- for products of so many pairs of terms; with room for the most it serves a substitution and a quotient too
 pub record Scratch-for (room : ℕ) (slots keys : List ℕ) (sums : List ℤ) : Type 0 where
   pub some : Scratch-room room slots keys sums
   pub full : most-entries ≤ room → Scratch-table slots keys sums
 
+-- the products that the small table has room for
+abbrev pub few-products : ℕ
+few-products = 256
+
+-- how many terms the result of step j has
+abbrev pub terms-at : (counts : List ℕ) → (j : ℕ) → ℕ
+terms-at counts j = getD counts (most-models + j) 0
+
 -- what a step asks of it
 pub record Served (s : Held-step) (counts : List ℕ) (slots keys : List ℕ) (sums : List ℤ) : Type 0 where
-  pub product : s .code ≡ 6 → Scratch-room (getD counts (s .a) 0 * getD counts (s .b) 0) slots keys sums
-  pub substitution : s .code ≡ 7 → Scratch-table slots keys sums
-  pub quotient : s .code ≡ 9 → Scratch-table slots keys sums
+  pub product : s .code ≡ multiply-code
+      → Scratch-room (terms-at counts (s .a) * terms-at counts (s .b)) slots keys sums
+  pub substitution : s .code ≡ substitute-code → Scratch-table slots keys sums
+  pub quotient : s .code ≡ quotient-code → Scratch-table slots keys sums
+
+-- the results that a step names have their counts, and none is above a model's most terms
+pub record Counted (s : Held-step) (counts : List ℕ) : Type 0 where
+  pub first : s .code ≡ multiply-code → most-models + s .a < length counts
+  pub second : s .code ≡ multiply-code → most-models + s .b < length counts
+  pub few : (j : ℕ) → getD counts j 0 ≤ most-terms
 
 -- a step that asks no more than there is room for
 pub record Fit (s : Held-step) (room : ℕ) (counts : List ℕ) : Type 0 where
-  pub product : s .code ≡ 6 → getD counts (s .a) 0 * getD counts (s .b) 0 ≤ room
-  pub substitution : s .code ≡ 7 → most-entries ≤ room
-  pub quotient : s .code ≡ 9 → most-entries ≤ room
+  pub product : s .code ≡ multiply-code → terms-at counts (s .a) * terms-at counts (s .b) ≤ room
+  pub substitution : s .code ≡ substitute-code → most-entries ≤ room
+  pub quotient : s .code ≡ quotient-code → most-entries ≤ room
 
 -- ---- a part of a run
 -- the first steps of a book that passes its tests are done
-pub record Begun (b : Book) (i : ℕ) (m : Results) (flat : List ℕ) : Type 0 where
-  pub passes : Held-passes (held-book b)
-  pub so-far : Running (held-book b) i m flat
-  pub within : i ≤ b .«step_count»
+pub record Begun (h : Held-book) (l : StepList) (i : ℕ) (m : Results) (flat : List ℕ) : Type 0 where
+  pub passes : Held-passes h
+  pub same : Same-steps h l
+  pub so-far : Running h i m flat
+  pub within : i ≤ l .count
+
+-- those of some book
+pub record Part (l : StepList) (i : ℕ) (m : Results) (flat : List ℕ) : Type 0 where
+  pub held : Held-book
+  pub begun : Begun held l i m flat
 
 -- where it stopped: at a refusal, at the end, or, with less room, at a step that asks more than there is
-pub record Stopped (b : Book) (room : ℕ) (t : Stop) (m : Results) (flat : List ℕ) : Type 0 where
-  pub ended : (x : Refusal) (y : ℕ) → t .verdict ≡ Refused x y → Ended (held-book b) (stopped (cause x) (t .at)) flat
-  pub going : t .verdict ≡ Accepted → Begun b (t .at) m flat
-  pub whole : most-entries ≤ room → t .verdict ≡ Accepted → t .at ≡ b .«step_count»
+pub record Stopped (h : Held-book) (l : StepList) (room : ℕ) (t : Stop) (m : Results) (flat : List ℕ) : Type 0 where
+  pub ended : (x : Refusal) (y : ℕ) → t .verdict ≡ Refused x y → Ended h (stopped (cause x) (t .at)) flat
+  pub going : t .verdict ≡ Accepted → Begun h l (t .at) m flat
+  pub whole : most-entries ≤ room → t .verdict ≡ Accepted → t .at ≡ l .count

@@ -12,10 +12,11 @@ use lib.ListN.{length, take, drop, getD, length-drop}
 use lib.Seq.{take-all}
 use Rattle.numbers.specs.Fixed.{span-limit}
 use Rattle.calculus.specs.Model as C
-use Rattle.calculus.specs.Model.{most-degree, sound, zero-model}
+use Rattle.calculus.specs.Model.{most-degree, most-terms, sound, zero-model}
 use Rattle.calculus.specs.Refusal as R
 use Rattle.calculus.specs.Refusal.{accepted, stopped, at-place}
 use Rattle.calculus.specs.Operations.{multiply, quotient}
+use Rattle.calculus.specs.Book.{most-models, most-steps}
 use Rattle.calculus.specs.Shares.{all-carried, product-shares}
 use Rattle.model_types.specs.declared.Model.{Model}
 use Rattle.model_types.specs.declared.Refusal.{Refusal}
@@ -27,17 +28,26 @@ use Rattle.model_types.specs.ModelStruct.{view, cause, answer}
 use Rattle.model_types.specs.SharesStruct.{accounted}
 use Rattle.model_slices.specs.HandedModels.{handed}
 use Rattle.model.specs.OperationContracts.{Factors, Proposal}
-use Rattle.format.specs.HeldBook.{Held-step}
-use Rattle.sheet_book.specs.declared.Book.{Book}
-use Rattle.sheet_book.specs.BookStruct.{held-book}
-use Rattle.sheet_results.specs.Results.{Results, Roomy, result, settled-results, settled-rows}
+use Rattle.format.specs.HeldBook.{Held-step, Held-book}
+use Rattle.sheet_results.specs.Results.{Results, Roomy, result, settled-results, settled-rows, most-row-numbers}
+use Rattle.sheet_results.specs.ResultsLaws.{roomy-less}
 use Rattle.sheet_steps.specs.Steps.{step-answer, step-row, names-second, Step-ready}
+use Rattle.sheet_run_laws.specs.declared.StepList.{StepList}
 use Rattle.sheet_run_laws.specs.declared.Stop.{Stop}
-use Rattle.sheet_run_laws.specs.Run.{Running, Ended, Iterated, Iteration, Input-iteration, Scratch-for, Served}
-use Rattle.sheet_run_laws.specs.Run.{Fit}
+use Rattle.sheet_run_laws.specs.Run.{input-code, multiply-code, quotient-code}
+use Rattle.sheet_run_laws.specs.Run.{Ended, Iterated, Iteration, Scratch-for, Served, Counted, Fit}
 use Rattle.sheet_run_laws.specs.Run.{most-entries, Begun, Stopped}
 use Rattle.sheet_run_laws.specs.RunLaws.{first-place, second-place, third-earlier, fourth-earlier, here-small}
-use Rattle.sheet_run_laws.specs.RunLaws.{step-ready, by-code, input-sound, by-input, factors, by-product}
+use Rattle.sheet_run_laws.specs.RunLaws.{
+  model-place,
+  models-few,
+  step-ready,
+  by-code,
+  input-sound,
+  by-input,
+  factors,
+  by-product,
+}
 use Rattle.sheet_run_laws.specs.RunLaws.{proposal, by-quotient, quotient-bounded, quotient-carried}
 use Rattle.sheet_run_laws.specs.RunLaws.{given, step-iterated}
 
@@ -50,39 +60,59 @@ module _ {n d i : ℕ} {s : Held-step} {m : Results} {flat : List ℕ} (t : Iter
   out-of P x = subst (λ n. P n (t .held .d)) (sym (t .vars)) (subst (P n) (sym (t .order)) x)
 
   -- ---- places
-  pub iteration-small : i < 64
+  pub iteration-small : i < most-steps
   iteration-small = here-small (t .passes) (t .at)
 
-  pub iteration-first : s .a < 64
-  iteration-first = first-place (t .passes) (t .at)
+  -- that of a step's result
+  result-room : (j : ℕ) → j < length (t .held .steps) → Roomy (most-models + j + 1) m
+  result-room j h = roomy-less (t .so-far .room) (omega (arith, h))
 
-  pub iteration-second : s .b < 64
-  iteration-second = second-place (t .passes) (t .at)
+  pub iteration-room : Roomy (most-models + i + 1) m
+  iteration-room = result-room i (t .at .within)
 
-  pub iteration-third : s .code ≡ 9 → s .v < 64
-  iteration-third e = omega (arith, third-earlier (t .passes) (t .at) e, iteration-small)
+  pub iteration-model : s .code ≡ input-code → Roomy (s .a + 1) m
+  iteration-model e = roomy-less (t .so-far .room)
+      (omega (arith, model-place (t .passes) (t .at) e, models-few (t .passes)))
 
-  pub iteration-fourth : s .code ≡ 9 → natAbs (s .value) < 64
-  iteration-fourth e = omega (arith, fourth-earlier (t .passes) (t .at) e, iteration-small)
+  pub iteration-first : (s .code ≡ input-code → ⊥) → Roomy (most-models + s .a + 1) m
+  iteration-first z = result-room (s .a) (first-place (t .passes) (t .at) z)
 
-  pub iteration-room : Roomy m
-  iteration-room = t .so-far .room
+  pub iteration-second : Roomy (most-models + s .b + 1) m
+  iteration-second = result-room (s .b) (second-place (t .passes) (t .at))
 
-  pub iteration-rows : length flat ≡ 256
+  pub iteration-third : s .code ≡ quotient-code → Roomy (most-models + s .v + 1) m
+  iteration-third e = result-room (s .v) (omega (arith, third-earlier (t .passes) (t .at) e, t .at .within))
+
+  pub iteration-fourth : s .code ≡ quotient-code → Roomy (most-models + natAbs (s .value) + 1) m
+  iteration-fourth e = result-room (natAbs (s .value))
+      (omega (arith, fourth-earlier (t .passes) (t .at) e, t .at .within))
+
+  pub iteration-rows : length flat ≡ most-row-numbers
   iteration-rows = t .so-far .rows-stored .room
+
+  -- the counts that a step asks for
+  pub iteration-counted : Counted s (m .counts)
+  iteration-counted = record {
+    first = λ e. omega (arith, iteration-first (λ z. omega (arith, z, e)) .counts-long);
+    second = λ e. omega (arith, iteration-second .counts-long);
+    few = t .so-far .room .few;
+  }
 
   -- ---- a step that names at most two results
   module _ (f g : Model)
-      (is-first : view f ≡ cond (leb 3 (s .code)) (view (result n m (s .a))) (zero-model n))
-      (is-second : view g ≡ cond (names-second (s .code)) (view (result n m (s .b))) (zero-model n))
-      (z : s .code ≡ 0 → ⊥) (w : s .code ≡ 6 → ⊥) (o : s .code ≡ 9 → ⊥) where
-    here-first : view f ≡ cond (leb 3 (s .code)) (view (result (t .held .n) m (s .a))) (zero-model (t .held .n))
-    here-first = out-of (λ n d. view f ≡ cond (leb 3 (s .code)) (view (result n m (s .a))) (zero-model n)) is-first
+      (is-first : view f ≡ cond (leb 3 (s .code)) (view (result n m (most-models + s .a))) (zero-model n))
+      (is-second : view g ≡ cond (names-second (s .code)) (view (result n m (most-models + s .b))) (zero-model n))
+      (z : s .code ≡ input-code → ⊥) (w : s .code ≡ multiply-code → ⊥) (o : s .code ≡ quotient-code → ⊥) where
+    here-first : view f ≡ cond (leb 3 (s .code)) (view (result (t .held .n) m (most-models + s .a))) (zero-model (t
+        .held .n))
+    here-first = out-of (λ n d. view f ≡ cond (leb 3 (s .code)) (view (result n m (most-models + s .a))) (zero-model n))
+        is-first
 
     here-second : view g
-        ≡ cond (names-second (s .code)) (view (result (t .held .n) m (s .b))) (zero-model (t .held .n))
+        ≡ cond (names-second (s .code)) (view (result (t .held .n) m (most-models + s .b))) (zero-model (t .held .n))
     here-second =
-        out-of (λ n d. view g ≡ cond (names-second (s .code)) (view (result n m (s .b))) (zero-model n)) is-second
+        out-of (λ n d. view g ≡ cond (names-second (s .code)) (view (result n m (most-models + s .b))) (zero-model n))
+        is-second
 
     pub other-ready : Step-ready n d s f g
     other-ready = into (λ n d. Step-ready n d s f g)
@@ -91,7 +121,7 @@ module _ {n d i : ℕ} {s : Held-step} {m : Results} {flat : List ℕ} (t : Iter
     pub other-iterated : {r : Accounted} {v : Verdict} {m' : Results} {flat' : List ℕ}
         → ((k : C.Model)
         → r ≡ accounted (step-answer n d s k (view f) (view g)) (step-row n d s k (view f) (view g)))
-        → v ≡ r .answer .verdict → m' ≡ settled-results r i m → flat' ≡ settled-rows r i flat
+        → v ≡ r .answer .verdict → m' ≡ settled-results r (most-models + i) m → flat' ≡ settled-rows r i flat
         → Iterated (t .held) i v m' flat'
     other-iterated {r = r} e = step-iterated (t .passes) (t .at) (t .so-far)
         (by-code (t .passes) (t .at) (t .so-far) f g here-first here-second z w o
@@ -99,40 +129,42 @@ module _ {n d i : ℕ} {s : Held-step} {m : Results} {flat : List ℕ} (t : Iter
         → r ≡ accounted (step-answer n d s k (view f) (view g)) (step-row n d s k (view f) (view g))) e))
 
   -- ---- a product
-  module _ (e : s .code ≡ 6) where
-    pub iteration-factors : Factors d (result n m (s .a)) (result n m (s .b))
-    iteration-factors = into (λ n d. Factors d (result n m (s .a)) (result n m (s .b)))
+  module _ (e : s .code ≡ multiply-code) where
+    pub iteration-factors : Factors d (result n m (most-models + s .a)) (result n m (most-models + s .b))
+    iteration-factors = into (λ n d. Factors d (result n m (most-models + s .a)) (result n m (most-models + s .b)))
         (factors (t .passes) (t .at) (t .so-far) e)
 
     pub product-iterated : {r : Accounted} {v : Verdict} {m' : Results} {flat' : List ℕ}
-        → r ≡ accounted (multiply d (view (result n m (s .a))) (view (result n m (s .b))))
-        (λ k. product-shares d (view (result n m (s .a))) (view (result n m (s .b))))
-        → v ≡ r .answer .verdict → m' ≡ settled-results r i m → flat' ≡ settled-rows r i flat
+        → r ≡ accounted (multiply d (view (result n m (most-models + s .a))) (view (result n m (most-models + s .b))))
+        (λ k. product-shares d (view (result n m (most-models + s .a))) (view (result n m (most-models + s .b))))
+        → v ≡ r .answer .verdict → m' ≡ settled-results r (most-models + i) m → flat' ≡ settled-rows r i flat
         → Iterated (t .held) i v m' flat'
     product-iterated {r = r} q = step-iterated (t .passes) (t .at) (t .so-far)
         (by-product (t .passes) (t .at) (t .so-far) e
-        (out-of (λ n d. r ≡ accounted (multiply d (view (result n m (s .a))) (view (result n m (s .b))))
-        (λ k. product-shares d (view (result n m (s .a))) (view (result n m (s .b))))) q))
+        (out-of (λ n d. r ≡ accounted (multiply d (view (result n m (most-models + s .a))) (view (result n m
+        (most-models + s .b))))
+        (λ k. product-shares d (view (result n m (most-models + s .a))) (view (result n m (most-models + s .b))))) q))
 
   -- ---- a quotient
-  module _ (f g k w : Model) (e : s .code ≡ 9) (is-first : view f ≡ view (result n m (s .a)))
-      (is-second : view g ≡ view (result n m (s .b))) (is-third : view k ≡ view (result n m (s .v)))
-      (is-fourth : view w ≡ view (result n m (natAbs (s .value)))) where
+  module _ (f g k w : Model) (e : s .code ≡ quotient-code) (is-first : view f ≡ view (result n m (most-models + s .a)))
+      (is-second : view g ≡ view (result n m (most-models + s .b))) (is-third : view k ≡ view (result n m (most-models +
+      s .v)))
+      (is-fourth : view w ≡ view (result n m (most-models + natAbs (s .value)))) where
     pub iteration-proposal : Proposal d f g k w
     iteration-proposal = into (λ n d. Proposal d f g k w)
         (proposal (t .passes) (t .at) (t .so-far) f g k w e
-        (out-of (λ n d. view f ≡ view (result n m (s .a))) is-first)
-        (out-of (λ n d. view g ≡ view (result n m (s .b))) is-second)
-        (out-of (λ n d. view k ≡ view (result n m (s .v))) is-third)
-        (out-of (λ n d. view w ≡ view (result n m (natAbs (s .value)))) is-fourth))
+        (out-of (λ n d. view f ≡ view (result n m (most-models + s .a))) is-first)
+        (out-of (λ n d. view g ≡ view (result n m (most-models + s .b))) is-second)
+        (out-of (λ n d. view k ≡ view (result n m (most-models + s .v))) is-third)
+        (out-of (λ n d. view w ≡ view (result n m (most-models + natAbs (s .value)))) is-fourth))
 
     module _ {q : Answer} (is-quotient : q ≡ answer (at-place 0 (quotient d (view f) (view g) (view k) (view w)))) where
       divided : q ≡ answer (at-place 0 (given (t .passes) (t .at) (t .so-far)))
       divided = by-quotient (t .passes) (t .at) (t .so-far) f g k w e
-          (out-of (λ n d. view f ≡ view (result n m (s .a))) is-first)
-          (out-of (λ n d. view g ≡ view (result n m (s .b))) is-second)
-          (out-of (λ n d. view k ≡ view (result n m (s .v))) is-third)
-          (out-of (λ n d. view w ≡ view (result n m (natAbs (s .value)))) is-fourth)
+          (out-of (λ n d. view f ≡ view (result n m (most-models + s .a))) is-first)
+          (out-of (λ n d. view g ≡ view (result n m (most-models + s .b))) is-second)
+          (out-of (λ n d. view k ≡ view (result n m (most-models + s .v))) is-third)
+          (out-of (λ n d. view w ≡ view (result n m (most-models + natAbs (s .value)))) is-fourth)
           (out-of (λ n d. q ≡ answer (at-place 0 (quotient d (view f) (view g) (view k) (view w)))) is-quotient)
 
       pub iteration-bounded : q .model .radius ≤ span-limit
@@ -140,25 +172,25 @@ module _ {n d i : ℕ} {s : Held-step} {m : Results} {flat : List ℕ} (t : Iter
 
       pub quotient-iterated : {r : Accounted} {v : Verdict} {m' : Results} {flat' : List ℕ}
           → ((a : R.Answer C.Model) → q ≡ answer (at-place 0 a) → r ≡ accounted a all-carried)
-          → v ≡ r .answer .verdict → m' ≡ settled-results r i m → flat' ≡ settled-rows r i flat
+          → v ≡ r .answer .verdict → m' ≡ settled-results r (most-models + i) m → flat' ≡ settled-rows r i flat
           → Iterated (t .held) i v m' flat'
       quotient-iterated x = step-iterated (t .passes) (t .at) (t .so-far)
           (quotient-carried (t .passes) (t .at) (t .so-far) e divided x)
 
--- ---- an input
-module _ {n d i : ℕ} {s : Held-step} {m : Results} {flat : List ℕ} (k : Model)
-    (t : Input-iteration n d i s m flat k) where
-  pub iteration-input : T (sound most-degree (view k))
-  iteration-input = input-sound (t .iteration .passes) (t .iteration .at) (t .iteration .so-far) k (t .code)
-      (t .is-model)
+  -- ---- an input
+  module _ (k : Model) (e : s .code ≡ input-code) (is-model : view k ≡ view (result n m (s .a))) where
+    here-model : view k ≡ view (result (t .held .n) m (s .a))
+    here-model = out-of (λ n d. view k ≡ view (result n m (s .a))) is-model
 
-  pub input-iterated : {r : Accounted} {m' : Results} {flat' : List ℕ}
-      → r ≡ accounted (accepted (view k)) all-carried
-      → m' ≡ settled-results r i m → flat' ≡ settled-rows r i flat → Running (t .iteration .held) (i + 1) m' flat'
-  unfolding accounted answer at-place
-  input-iterated {r = r} q x y = step-iterated (t .iteration .passes) (t .iteration .at) (t .iteration .so-far)
-      (by-input (t .iteration .passes) (t .iteration .at) (t .iteration .so-far) k (t .code) (t .is-model) q)
-      {v = r .answer .verdict} refl x y .going (ap (λ r. r .answer .verdict) q)
+    pub iteration-input : T (sound most-degree (view k))
+    iteration-input = input-sound (t .passes) (t .at) (t .so-far) k e here-model
+
+    pub input-iterated : {r : Accounted} {v : Verdict} {m' : Results} {flat' : List ℕ}
+        → r ≡ accounted (accepted (view k)) all-carried
+        → v ≡ r .answer .verdict → m' ≡ settled-results r (most-models + i) m → flat' ≡ settled-rows r i flat
+        → Iterated (t .held) i v m' flat'
+    input-iterated q = step-iterated (t .passes) (t .at) (t .so-far)
+        (by-input (t .passes) (t .at) (t .so-far) k e here-model q)
 
 -- ---- scratch memory
 pub fit-served : {s : Held-step} {room : ℕ} {counts slots keys : List ℕ} {sums : List ℤ} → Fit s room counts
@@ -176,7 +208,8 @@ fit-served f l = record {
 }
 
 -- with all the room there is, every step fits
-pub products-few : (a b : ℕ) → a ≤ 64 → b ≤ 64 → a * b ≤ most-entries
+pub products-few : (a b : ℕ) → a ≤ most-terms → b ≤ most-terms → a * b ≤ most-entries
+unfolding most-terms
 products-few a b p q = mul-le-mul p q
 
 -- ---- the parts of the slices that a result begins
@@ -187,39 +220,47 @@ part-all a xs = take-all (length xs - a) (drop a xs) (omega (arith, length-drop 
 -- the model in them is the result
 pub result-part : (n : ℕ) (m : Results) (j : ℕ)
     → handed n (getD (m .counts) j 0) (getD (m .radii) j 0)
-    (take (length (m .keys) - 64 * j) (drop (64 * j) (m .keys)))
-    (take (length (m .coefficients) - 64 * j) (drop (64 * j) (m .coefficients)))
+    (take (length (m .keys) - most-terms * j) (drop (most-terms * j) (m .keys)))
+    (take (length (m .coefficients) - most-terms * j) (drop (most-terms * j) (m .coefficients)))
     ≡ result n m j
 unfolding result
-result-part n m j = ap₂ (handed n (getD (m .counts) j 0) (getD (m .radii) j 0)) (part-all (64 * j) (m .keys))
-    (part-all (64 * j) (m .coefficients))
+result-part n m j = ap₂ (handed n (getD (m .counts) j 0) (getD (m .radii) j 0)) (part-all (most-terms * j) (m .keys))
+    (part-all (most-terms * j) (m .coefficients))
 
 pub factors-part : (n : ℕ) {d : ℕ} (m : Results) (a b : ℕ) → Factors d (result n m a) (result n m b)
     → Factors d
     (handed n (getD (m .counts) a 0) (getD (m .radii) a 0)
-    (take (length (m .keys) - 64 * a) (drop (64 * a) (m .keys)))
-    (take (length (m .coefficients) - 64 * a) (drop (64 * a) (m .coefficients))))
+    (take (length (m .keys) - most-terms * a) (drop (most-terms * a) (m .keys)))
+    (take (length (m .coefficients) - most-terms * a) (drop (most-terms * a) (m .coefficients))))
     (handed n (getD (m .counts) b 0) (getD (m .radii) b 0)
-    (take (length (m .keys) - 64 * b) (drop (64 * b) (m .keys)))
-    (take (length (m .coefficients) - 64 * b) (drop (64 * b) (m .coefficients))))
+    (take (length (m .keys) - most-terms * b) (drop (most-terms * b) (m .keys)))
+    (take (length (m .coefficients) - most-terms * b) (drop (most-terms * b) (m .coefficients))))
 factors-part n {d} m a b f = both (sym (result-part n m a)) (sym (result-part n m b)) f
   where
     both : {p q v w : Model} → p ≡ v → q ≡ w → Factors d p q → Factors d v w
     both {p = p} {w = w} e o f = subst (λ x. Factors d x w) e (subst (Factors d p) o f)
 
 -- and they have the places that its count names
-pub part-holds : {m : Results} → Roomy m → {j : ℕ} → j < 64
-    → (getD (m .counts) j 0 ≤ length (take (length (m .keys) - 64 * j) (drop (64 * j) (m .keys))))
-    × (getD (m .counts) j 0 ≤ length (take (length (m .coefficients) - 64 * j) (drop (64 * j) (m .coefficients))))
-part-holds {m} r {j} h = (
-  omega (arith, r .few j, r .keys-long, h, ap length (part-all (64 * j) (m .keys)), length-drop (64 * j) (m .keys)),
+pub part-holds : {m : Results} (j : ℕ) → Roomy (j + 1) m
+    → (getD (m .counts) j 0 ≤ length (take (length (m .keys) - most-terms * j) (drop (most-terms * j) (m .keys))))
+    × (getD (m .counts) j 0 ≤ length (take (length (m .coefficients) - most-terms * j) (drop (most-terms * j) (m
+    .coefficients))))
+unfolding most-terms
+part-holds {m} j r = (
+  omega (
+    arith,
+    r .few j,
+    r .keys-long,
+    ap length (part-all (most-terms * j) (m .keys)),
+    length-drop (most-terms * j) (m
+        .keys),
+  ),
   omega (
     arith,
     r .few j,
     r .coefficients-long,
-    h,
-    ap length (part-all (64 * j) (m .coefficients)),
-    length-drop (64 * j) (m .coefficients),
+    ap length (part-all (most-terms * j) (m .coefficients)),
+    length-drop (most-terms * j) (m .coefficients),
   ),
 )
 
@@ -244,10 +285,10 @@ scratch-still s' k' z' l a b c = record {
 pub not-both : {A : Type 0} {v : Verdict} {x : Refusal} {y : ℕ} → v ≡ Accepted → v ≡ Refused x y → A
 not-both p q = let z : _≡_ {A = ℕ} 0 1 = cc in absurd (omega arith)
 
-module _ {b : Book} {room i : ℕ} {m : Results} {flat : List ℕ} where
+module _ {h : Held-book} {l : StepList} {room i : ℕ} {m : Results} {flat : List ℕ} where
   -- before a step that asks more room
-  pub stopped-short : Begun b i m flat → (most-entries ≤ room → ⊥)
-      → Stopped b room (record { at = i; verdict = Accepted }) m flat
+  pub stopped-short : Begun h l i m flat → (most-entries ≤ room → ⊥)
+      → Stopped h l room (record { at = i; verdict = Accepted }) m flat
   stopped-short s o = record {
     ended = λ x y e. not-both refl e;
     going = λ e. s;
@@ -255,14 +296,14 @@ module _ {b : Book} {room i : ℕ} {m : Results} {flat : List ℕ} where
   }
 
   -- at the end
-  pub stopped-whole : Begun b i m flat → i ≡ b .«step_count» → Stopped b room (record { at = i; verdict = Accepted })
-      m flat
+  pub stopped-whole : Begun h l i m flat → i ≡ l .count
+      → Stopped h l room (record { at = i; verdict = Accepted }) m flat
   stopped-whole s o = record { ended = λ x y e. not-both refl e; going = λ e. s; whole = λ h e. o }
 
   -- at a refusal
   pub stopped-refused : {v : Verdict} {x : Refusal} {y : ℕ} → v ≡ Refused x y
-      → ((x : Refusal) (y : ℕ) → v ≡ Refused x y → Ended (held-book b) (stopped (cause x) i) flat)
-      → Stopped b room (record { at = i; verdict = v }) m flat
+      → ((x : Refusal) (y : ℕ) → v ≡ Refused x y → Ended h (stopped (cause x) i) flat)
+      → Stopped h l room (record { at = i; verdict = v }) m flat
   stopped-refused q e = record {
     ended = e;
     going = λ p. not-both p q;
@@ -270,8 +311,8 @@ module _ {b : Book} {room i : ℕ} {m : Results} {flat : List ℕ} where
   }
 
 -- with less room, at the end or at a refusal
-pub stopped-on : {b : Book} {room : ℕ} {t : Stop} {m : Results} {flat : List ℕ} → Stopped b room t m flat
-    → (t .verdict ≡ Accepted → t .at ≡ b .«step_count») → Stopped b most-entries t m flat
+pub stopped-on : {h : Held-book} {l : StepList} {room : ℕ} {t : Stop} {m : Results} {flat : List ℕ}
+    → Stopped h l room t m flat → (t .verdict ≡ Accepted → t .at ≡ l .count) → Stopped h l most-entries t m flat
 stopped-on s q = record { ended = s .ended; going = s .going; whole = λ h e. q e }
 
 -- no test is both

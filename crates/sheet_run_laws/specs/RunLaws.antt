@@ -25,7 +25,7 @@ use Rattle.calculus_laws.specs.TestLaws.{and-right}
 use Rattle.calculus.specs.Refusal.{all-from}
 use Rattle.calculus_laws.specs.SoundLaws.{Sound, zero-sound}
 use Rattle.calculus_laws.specs.EachLaws.{All, nil, each-snoc, each-at, each-last}
-use Rattle.calculus.specs.Book.{Step, input, last-code, Book, most-steps, model-sound, step-sound}
+use Rattle.calculus.specs.Book.{Step, input, last-code, Book, most-models, most-steps, model-sound, step-sound}
 use Rattle.calculus.specs.Book.{model-of, result-of, run-step, run-steps, last}
 use Rattle.calculus_laws.specs.RefusalLaws.{weaken}
 use Rattle.calculus.specs.Shares as S
@@ -57,7 +57,7 @@ use Rattle.format.specs.Fields.{limit-a, limit-b, names-variable, v-sound, earl
 use Rattle.format.specs.StepFieldLaws.{Fields, fields-of}
 use Rattle.sheet_results.specs.Results.{Results, Roomy, result, row-at, with-result, with-row, first-rows}
 use Rattle.sheet_results.specs.Results.{settled-results, settled-rows}
-use Rattle.sheet_results.specs.ResultsLaws.{result-here, result-before, roomy-still}
+use Rattle.sheet_results.specs.ResultsLaws.{result-here, result-other, roomy-still}
 use Rattle.sheet_results.specs.ResultsLaws.{settled-put, settled-row, settled-kept, settled-row-kept}
 use Rattle.sheet_results.specs.RowsLaws.{length-row, row-here, row-other, length-rows, rows-at}
 use Rattle.sheet_steps.specs.Steps.{step-answer, step-row, names-second, Step-ready}
@@ -65,7 +65,7 @@ use Rattle.sheet_steps.specs.StepLaws.{radius-small, radius-bounded, only-named
 use Rattle.sheet_steps.specs.StepLaws.{input-is, input-row, product-is, product-row, quotient-is, quotient-row}
 use Rattle.sheet_step_answers.specs.Answers.{accepted-answer}
 use Rattle.sheet_run_laws.specs.LastResult.{last-result}
-use Rattle.sheet_run_laws.specs.Run.{Rows-stored, Good, Running, Ended, Step-at, Iterated}
+use Rattle.sheet_run_laws.specs.Run.{Loaded, Rows-stored, Good, Running, Ended, Step-at, Iterated}
 
 -- ---- any list
 -- the last of a list stands at its last place
@@ -92,6 +92,11 @@ first-limit true u x y z a p q h = absurd (p tt)
 first-limit false true x y z a p q h = h
 first-limit false false x y z a p q h = absurd q
 
+-- the other one of two limits
+second-limit : (t : Bool) (x y a : ℕ) → (T t → ⊥) → a < cond t x y → a < y
+second-limit true x y a p h = absurd (p tt)
+second-limit false x y a p h = h
+
 -- a list that one was added to, at the places that were there and at the last
 getD-before : {A : Type 0} (l : List A) (y x : A) (j : ℕ) → j < length l → getD (l ++ (y ∷ [])) j x ≡ getD l j x
 getD-before l y x j h = List·getD-append l (y ∷ []) x j h
@@ -109,8 +114,8 @@ getD-zeros z (y ∷ l) k (suc i) = getD-zeros z l k i
 
 -- ---- rows
 -- all of them, as they are stored
-pub rows-are : (rows : List S.Shares) {flat : List ℕ} → length rows ≤ 64 → Rows-stored rows flat
-    → first-rows flat 64 ≡ map stored-shares (all-rows rows)
+pub rows-are : (rows : List S.Shares) {flat : List ℕ} → length rows ≤ most-steps → Rows-stored rows flat
+    → first-rows flat most-steps ≡ map stored-shares (all-rows rows)
 unfolding all-rows most-steps
 rows-are rows {flat} h r = ext-getD (stored-shares no-shares) (first-rows flat 64)
     (map stored-shares (rows ++ replicate (64 - length rows) no-shares))
@@ -131,7 +136,7 @@ rows-are rows {flat} h r = ext-getD (stored-shares no-shares) (first-rows flat 6
 
 -- no row yet
 pub no-rows : Rows-stored [] (replicate 256 0)
-unfolding row-at stored-shares no-shares
+unfolding row-at stored-shares no-shares most-steps
 no-rows = record {
   room = refl;
   each = λ j h. λ t. record {
@@ -144,7 +149,8 @@ no-rows = record {
 
 -- one more
 row-more : {rows : List S.Shares} {flat : List ℕ} {i : ℕ} (k : S.Shares) {s : Shares} → Rows-stored rows flat
-    → length rows ≡ i → i < 64 → s ≡ stored-shares k → Rows-stored (rows ++ (k ∷ [])) (with-row s i flat)
+    → length rows ≡ i → i < most-steps → s ≡ stored-shares k → Rows-stored (rows ++ (k ∷ [])) (with-row s i flat)
+unfolding most-steps
 row-more {rows} {flat} {i} k {s} r e l q = record {
   room = length-row s i flat ∙ r .room;
   each = λ j h. elim (ℕ-discrete j i) [
@@ -166,14 +172,14 @@ row-more {rows} {flat} {i} k {s} r e l q = record {
 
 -- ---- structs of sound models
 -- all places of a packed model
-packed-long : {n d : ℕ} {k : C.Model} → Sound n d k → length (listed (pack k)) ≡ 64
+packed-long : {n d : ℕ} {k : C.Model} → Sound n d k → length (listed (pack k)) ≡ most-terms
 unfolding most-terms
 packed-long {k = k} s = ap length (listed-pack k)
     ∙ length-padded zero-term 64 (map pack-term (k .terms))
     (omega (arith, length-map (k .terms) pack-term, s .1 .count))
 
-packed-few : {n d : ℕ} {k : C.Model} → Sound n d k → pack k .count ≤ 64
-unfolding pack most-terms
+packed-few : {n d : ℕ} {k : C.Model} → Sound n d k → pack k .count ≤ most-terms
+unfolding pack
 packed-few s = s .1 .count
 
 -- ---- a held book that passes its tests
@@ -193,17 +199,27 @@ module _ {h : Held-book} (p : Held-passes h) where
   unfolding most-degree
   order = in-limits-of .d-high
 
+  pub steps-few : length (h .steps) ≤ most-steps
+  unfolding most-steps
+  steps-few = in-limits-of .steps-high
+
+  pub models-few : length (h .models) ≤ most-models
+  unfolding most-models
+  models-few = in-limits-of .models
+
   vars : vars-sound (h .n) ≡ true
   vars = vars-within (h .n) (in-limits-of .n-low) (in-limits-of .n-high)
 
   -- no step is done
-  pub running-first : {m : Results} {flat : List ℕ} → Roomy m → Rows-stored [] flat → Running h 0 m flat
+  pub running-first : {m : Results} {flat : List ℕ} → Roomy (most-models + length (h .steps)) m → Loaded h m
+      → Rows-stored [] flat → Running h 0 m flat
   unfolding rows-sound
-  running-first r s = record {
+  running-first r k s = record {
     models = [];
     count = refl;
     good = nil;
     room = r;
+    loaded = k;
     stored = λ j l. absurd (omega (arith, l));
     rest = refl;
     rows = [];
@@ -243,24 +259,25 @@ module _ {h : Held-book} (p : Held-passes h) where
     unfolding outline-of outline
     models-counted = length-replicate (length (h .models)) (zero-model (h .n))
 
-    -- its fields are places of the results
-    pub first-place : s .a < 64
+    -- its fields are places of the results, that of an input apart
+    pub first-place : (s .code ≡ 0 → ⊥) → s .a < length (h .steps)
     unfolding limit-a
-    first-place = omega (
-      arith,
-      ltb→lt (s .a) _ (fields .in-a),
-      under-cond (eqb (s .code) 0) (length (outline-of h .models)) (cond (leb 3 (s .code)) i 1) 64
-          (omega (arith, models-counted, in-limits-of .models))
-          (under-cond (leb 3 (s .code)) i 1 64 (omega (arith, at .within, in-limits-of .steps-high)) (omega arith)),
-    )
+    first-place z =
+        let k = second-limit (eqb (s .code) 0) _ (cond (leb 3 (s .code)) i 1) (s .a) (λ t. z (eqb→eq (s .code) 0 t))
+        (ltb→lt (s .a) _ (fields .in-a)) in
+        omega (
+          arith,
+          k,
+          under-cond (leb 3 (s .code)) i 1 (length (h .steps)) (omega (arith, at .within)) (omega (arith, at .within)),
+        )
 
-    pub second-place : s .b < 64
+    pub second-place : s .b < length (h .steps)
     unfolding limit-b
     second-place = omega (
       arith,
       ltb→lt (s .b) _ (fields .in-b),
-      under-cond ((leb 4 (s .code) && leb (s .code) 7) || eqb (s .code) 9) i 1 64
-          (omega (arith, at .within, in-limits-of .steps-high)) (omega arith),
+      under-cond ((leb 4 (s .code) && leb (s .code) 7) || eqb (s .code) 9) i 1 (length (h .steps))
+          (omega (arith, at .within)) (omega (arith, at .within)),
     )
 
     -- so are the two others of a quotient
@@ -298,7 +315,8 @@ module _ {h : Held-book} (p : Held-passes h) where
     unfolding limit-b
     divisor-earlier e = ltb→lt (s .b) i (subst (λ c. T (ltb (s .b) (limit-b i c))) e (fields .in-b))
 
-    pub here-small : i < 64
+    pub here-small : i < most-steps
+    unfolding most-steps
     here-small = omega (arith, at .within, in-limits-of .steps-high)
 
     -- that of an input is a model
@@ -323,7 +341,7 @@ module _ {h : Held-book} (p : Held-passes h) where
           (l .good) a
 
       -- and as the slices hold it
-      seen : (a : ℕ) → a < i → view (result (h .n) m a) ≡ so-far a
+      seen : (a : ℕ) → a < i → view (result (h .n) m (most-models + a)) ≡ so-far a
       unfolding result-of view-book
       seen a s = l .stored a s
 
@@ -347,12 +365,13 @@ module _ {h : Held-book} (p : Held-passes h) where
       -- ---- a step that names at most two results
       -- one that is named, or the zero model
       operand-good : (t : Bool) (k : Model) (a : ℕ)
-          → view k ≡ cond t (view (result (h .n) m a)) (zero-model (h .n)) → (T t → a < i) → Good h (view k)
+          → view k ≡ cond t (view (result (h .n) m (most-models + a))) (zero-model (h .n)) → (T t → a < i) → Good h
+          (view k)
       operand-good true k a e q = subst (Good h) (sym (e ∙ seen a (q tt))) (so-far-good a)
       operand-good false k a e q = subst (Good h) (sym e) (zero-sound (h .n) (h .d))
 
       operand-is : (t : Bool) (k : Model) (a : ℕ)
-          → view k ≡ cond t (view (result (h .n) m a)) (zero-model (h .n)) → (T t → a < i) → T t
+          → view k ≡ cond t (view (result (h .n) m (most-models + a))) (zero-model (h .n)) → (T t → a < i) → T t
           → view k ≡ so-far a
       operand-is true k a e q u = e ∙ seen a (q tt)
       operand-is false k a e q u = absurd u
@@ -365,8 +384,9 @@ module _ {h : Held-book} (p : Held-passes h) where
       code-small = leb→le (s .code) last-code (fields .in-code)
 
       module _ (f g : Model)
-          (is-first : view f ≡ cond (leb 3 (s .code)) (view (result (h .n) m (s .a))) (zero-model (h .n)))
-          (is-second : view g ≡ cond (names-second (s .code)) (view (result (h .n) m (s .b))) (zero-model (h .n))) where
+          (is-first : view f ≡ cond (leb 3 (s .code)) (view (result (h .n) m (most-models + s .a))) (zero-model (h .n)))
+          (is-second : view g ≡ cond (names-second (s .code)) (view (result (h .n) m (most-models + s .b))) (zero-model
+          (h .n))) where
         first-good : Good h (view f)
         first-good = operand-good (leb 3 (s .code)) f (s .a) is-first first-earlier
 
@@ -407,15 +427,18 @@ module _ {h : Held-book} (p : Held-passes h) where
             ∙ row-is book so-far s step-at k stands o)
 
       -- ---- an input
-      module _ (k : Model) (e : s .code ≡ 0) (is-model : view k ≡ model-of book (s .a)) where
+      module _ (k : Model) (e : s .code ≡ 0) (is-model : view k ≡ view (result (h .n) m (s .a))) where
+        input-seen : view k ≡ model-of book (s .a)
+        input-seen = is-model ∙ l .loaded .each (s .a) (model-place e)
+
         pub input-sound : T (sound most-degree (view k))
         unfolding model-sound view-book
-        input-sound = sound-order (h .d) (view k) order (subst (λ m. T (sound (h .d) m)) (sym is-model)
+        input-sound = sound-order (h .d) (view k) order (subst (λ m. T (sound (h .d) m)) (sym input-seen)
             (and-right (eqb (model-of book (s .a) .vars) (h .n)) _
             (model-passes book passes (s .a) (omega (arith, model-place e, length-map (h .models) view-model)))))
 
         pub by-input : {r : Accounted} → r ≡ accounted (accepted (view k)) all-carried → r ≡ accounted given row
-        by-input q = q ∙ ap₂ accounted (ap accepted is-model ∙ input-is book so-far s step-at stands e)
+        by-input q = q ∙ ap₂ accounted (ap accepted input-seen ∙ input-is book so-far s step-at stands e)
             (input-row book so-far s step-at stands e)
 
       -- ---- a product
@@ -427,18 +450,20 @@ module _ {h : Held-book} (p : Held-passes h) where
         unfolding names-second
         second-factor = by-second 6 e tt
 
-        pub factors : Factors (h .d) (result (h .n) m (s .a)) (result (h .n) m (s .b))
+        pub factors : Factors (h .d) (result (h .n) m (most-models + s .a)) (result (h .n) m (most-models + s .b))
         unfolding result handed
         factors = record {
           order = order;
-          first = seen-sound (result (h .n) m (s .a)) (seen (s .a) first-factor) (so-far-good (s .a));
-          second = seen-sound (result (h .n) m (s .b)) (seen (s .b) second-factor) (so-far-good (s .b));
+          first = seen-sound (result (h .n) m (most-models + s .a)) (seen (s .a) first-factor) (so-far-good (s .a));
+          second = seen-sound (result (h .n) m (most-models + s .b)) (seen (s .b) second-factor) (so-far-good (s .b));
           vars = refl;
         }
 
         pub by-product : {r : Accounted}
-            → r ≡ accounted (multiply (h .d) (view (result (h .n) m (s .a))) (view (result (h .n) m (s .b))))
-            (λ k. product-shares (h .d) (view (result (h .n) m (s .a))) (view (result (h .n) m (s .b))))
+            → r ≡ accounted (multiply (h .d) (view (result (h .n) m (most-models + s .a))) (view (result (h .n) m
+            (most-models + s .b))))
+            (λ k. product-shares (h .d) (view (result (h .n) m (most-models + s .a))) (view (result (h .n) m
+            (most-models + s .b))))
             → r ≡ accounted given row
         unfolding view-book
         by-product q = q
@@ -447,9 +472,10 @@ module _ {h : Held-book} (p : Held-passes h) where
             ∙ ap₂ accounted (product-is book so-far s step-at stands e) (product-row book so-far s step-at stands e)
 
       -- ---- a quotient
-      module _ (f g k w : Model) (e : s .code ≡ 9) (is-first : view f ≡ view (result (h .n) m (s .a)))
-          (is-second : view g ≡ view (result (h .n) m (s .b))) (is-third : view k ≡ view (result (h .n) m (s .v)))
-          (is-fourth : view w ≡ view (result (h .n) m (natAbs (s .value)))) where
+      module _ (f g k w : Model) (e : s .code ≡ 9) (is-first : view f ≡ view (result (h .n) m (most-models + s .a)))
+          (is-second : view g ≡ view (result (h .n) m (most-models + s .b))) (is-third : view k ≡ view (result (h .n) m
+          (most-models + s .v)))
+          (is-fourth : view w ≡ view (result (h .n) m (most-models + natAbs (s .value)))) where
         dividend : view f ≡ so-far (s .a)
         dividend = is-first ∙ seen (s .a) (by-first 9 e tt)
 
@@ -543,19 +569,24 @@ module _ {h : Held-book} (p : Held-passes h) where
 
         -- it is accepted, and put after the others, as its row is
         step-accepted : r .answer .verdict ≡ Accepted
-            → Running h (i + 1) (with-result (r .answer .model) i m) (with-row (r .shares) i flat)
+            → Running h (i + 1) (with-result (r .answer .model) (most-models + i) m) (with-row (r .shares) i flat)
         unfolding at-place _followed-by_ accounted shares-of rows-of
         step-accepted v = record {
           models = l .models ++ (q .model ∷ []);
           count = omega (arith, next-number (l .models) (q .model), l .count);
           good = each-snoc (λ m k. Good h k) (l .good) (q .holds .sound);
-          room = roomy-still (h .n) k i (l .room) here-small few long;
+          room = roomy-still (h .n) k (most-models + i) (l .room) place few long;
+          loaded = record {
+            each = λ a t. ap view (result-other (h .n) k (most-models + i) (l .room) place few a (model-before a t))
+                ∙ l .loaded .each a t;
+          };
           stored = λ j t. elim (ℕ-discrete j i) [
-            | yes o ↦ ap (λ j. view (result (h .n) (with-result k i m) j)) o
-                ∙ result-here (h .n) k i (l .room) here-small long (held-vars (q .holds)) few
+            | yes o ↦ ap (λ j. view (result (h .n) (with-result k (most-models + i) m) (most-models + j))) o
+                ∙ result-here (h .n) k (most-models + i) (l .room) place long (held-vars (q .holds)) few
                 ∙ held-view vars order (q .holds)
                 ∙ sym (getD-last (l .models) (q .model) (zero-model (h .n)) j (l .count ∙ sym o))
-            | no o ↦ ap view (result-before (h .n) k i (l .room) here-small j (omega (arith, t, o)))
+            | no o ↦ ap view (result-other (h .n) k (most-models + i) (l .room) place few (most-models + j)
+                (λ e. o (omega (arith, e))))
                 ∙ l .stored j (omega (arith, t, o))
                 ∙ sym (getD-before (l .models) (q .model) (zero-model (h .n)) j (omega (arith, t, o, l .count)))
           ];
@@ -574,24 +605,31 @@ module _ {h : Held-book} (p : Held-passes h) where
             k : Model
             k = r .answer .model
 
+            place : most-models + i < most-models + length (h .steps)
+            place = omega (arith, at .within)
+
+            model-before : (a : ℕ) → a < length (h .models) → a ≡ most-models + i → ⊥
+            model-before a t e = omega (arith, e, t, models-few)
+
             long : r .answer .model .count ≤ length (listed (r .answer .model))
             long =
                 let e = ap (λ (k : Model). k .count) (q .holds .packed) in
                 let w = ap (λ (k : Model). length (listed k)) (q .holds .packed) in
                 omega (arith, e, w, packed-few (q .holds .sound), packed-long (q .holds .sound))
 
-            few : r .answer .model .count ≤ 64
+            few : r .answer .model .count ≤ most-terms
             few = let e = ap (λ (k : Model). k .count) (q .holds .packed) in
                 omega (arith, e, packed-few (q .holds .sound))
 
         -- what the slices hold once it is put down unless it is refused
         pub step-iterated : {v : Verdict} {m' : Results} {flat' : List ℕ} → v ≡ r .answer .verdict
-            → m' ≡ settled-results r i m → flat' ≡ settled-rows r i flat → Iterated h i v m' flat'
+            → m' ≡ settled-results r (most-models + i) m → flat' ≡ settled-rows r i flat → Iterated h i v m' flat'
         step-iterated {flat' = f} e x y = record {
           going = λ a.
               let c = sym e ∙ a in
-              subst (λ n. Running h (i + 1) n f) (sym (x ∙ settled-put r i m flat c))
-              (subst (Running h (i + 1) (with-result (r .answer .model) i m)) (sym (y ∙ settled-row r i m flat c))
+              subst (λ n. Running h (i + 1) n f) (sym (x ∙ settled-put r (most-models + i) m flat c))
+              (subst (Running h (i + 1) (with-result (r .answer .model) (most-models + i) m))
+              (sym (y ∙ settled-row r i m flat c))
               (step-accepted c));
           ended = λ u w a.
               let c = sym e ∙ a in
@@ -600,7 +638,7 @@ module _ {h : Held-book} (p : Held-passes h) where
 
   -- ---- after the last step
   module _ {m : Results} {flat : List ℕ} (l : Running h (length (h .steps)) m flat) (k : Model)
-      (is-last : view k ≡ view (result (h .n) m (length (h .steps) - 1))) where
+      (is-last : view k ≡ view (result (h .n) m (most-models + (length (h .steps) - 1)))) where
     -- the last result
     abbrev final : C.Model
     final = last (zero-model (h .n)) (l .models)
@@ -645,7 +683,7 @@ module _ {h : Held-book} (p : Held-passes h) where
       is = ap done final-seen
           ∙ ap (λ s. s followed-by (λ results. done (last (zero-model (h .n)) results))) ended;
       rows = l .rows;
-      rows-few = omega (arith, l .rows-count, in-limits-of .steps-high);
+      rows-few = omega (arith, l .rows-count, steps-few);
       rows-stored = l .rows-stored;
       rows-all = all-there;
     }

@@ -1,14 +1,14 @@
 // The steps of a book in order, each after the results so far, as far as the scratch memory for products serves.
 ghost use Rattle.sheet_results.specs.Results.{results};
-ghost use Rattle.sheet_run_laws.specs.Run.{«Scratch-for», Begun, Stopped};
+ghost use Rattle.sheet_run_laws.specs.Run.{«Scratch-for», Part, Stopped};
 use model_types::Key;
 use model_types::Verdict;
-use sheet_book::Book;
+use sheet_run_laws::StepList;
 use sheet_run_laws::Stop;
 
 // The steps from one on, until the end, a refusal, or a step that asks more room than there is.
 pub fn steps(
-    b: Book,
+    l: StepList,
     from: usize,
     room: usize,
     keys: &mut [Key],
@@ -20,25 +20,20 @@ pub fn steps(
     places: &mut [u64],
     sums: &mut [i64],
 ) -> Stop
-    requires { ⌜ Begun b from (results (now keys) (now coefficients) (now counts) (now radii)) (now rows) ⌝ }
+    requires { ⌜ Part l from (results (now keys) (now coefficients) (now counts) (now radii)) (now rows) ⌝ }
     requires { ⌜ Scratch-for room (now slots) (now places) (now sums) ⌝ }
-    ensures { λ r. ⌜ Stopped b room r
+    ensures { λ r. ⌜ ((t : Part l from
+        (results (now (keys .entry)) (now (coefficients .entry)) (now (counts .entry)) (now (radii .entry)))
+        (now (rows .entry))) → Stopped (t .held) l room r
         (results (now (keys .exit)) (now (coefficients .exit)) (now (counts .exit)) (now (radii .exit)))
-        (now (rows .exit)) ⌝ }
+        (now (rows .exit))) ⌝ }
 {
-    let n = b.n;
-    let d = b.d;
-    let count = b.step_count;
+    let n = l.n;
+    let d = l.d;
+    let count = l.count;
     let mut i = from;
     while i < count {
-        let s = b.steps[i];
-        let code = s.code;
-        if code == 0 {
-            let input = b.models[sheet_steps::model_place(s.a)];
-            sheet_run_steps::input_step(input, i, keys, coefficients, counts, radii, rows);
-            i += 1;
-            continue;
-        }
+        let s = l.steps[i];
         let served = sheet_run_room::fits(s, room, counts);
         if !served {
             return Stop {

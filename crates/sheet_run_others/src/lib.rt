@@ -3,8 +3,8 @@ ghost use mathlib.Core.Path.{_≡_};
 ghost use Rattle.sheet_book.specs.BookStruct.{«held-step»};
 ghost use Rattle.sheet_results.specs.Results.{results};
 ghost use Rattle.sheet_steps.specs.Steps.{«names-second»};
-ghost use Rattle.sheet_run_laws.specs.Run.{Iteration, Iterated};
-ghost use Rattle.sheet_run_laws.specs.Run.{Served};
+ghost use Rattle.sheet_run_laws.specs.Run.{Iteration, Iterated, Served};
+ghost use Rattle.sheet_run_laws.specs.Run.{«input-code», «multiply-code», «quotient-code»};
 use model_types::Key;
 use model_types::Verdict;
 use sheet_book::Step;
@@ -37,7 +37,8 @@ pub fn other_step(
     requires { ⌜ Iteration n d i (held-step s) (results (now keys) (now coefficients) (now counts) (now radii))
         (now rows) ⌝ }
     requires { ⌜ Served (held-step s) (now counts) (now slots) (now places) (now sums) ⌝ }
-    requires { ⌜ (held-step s .code ≡ 0 → ⊥) × (held-step s .code ≡ 6 → ⊥) × (held-step s .code ≡ 9 → ⊥) ⌝ }
+    requires { ⌜ (held-step s .code ≡ input-code → ⊥) × (held-step s .code ≡ multiply-code → ⊥)
+        × (held-step s .code ≡ quotient-code → ⊥) ⌝ }
     ensures { λ r. ⌜ ((t : Iteration n d i (held-step s)
         (results (now (keys .entry)) (now (coefficients .entry)) (now (counts .entry)) (now (radii .entry)))
         (now (rows .entry))) → Iterated (t .held) i r
@@ -45,8 +46,8 @@ pub fn other_step(
         (now (rows .exit))) ⌝ }
 {
     let code = s.code;
-    let a = s.a as usize;
-    let b = s.b as usize;
+    let a = sheet_book::MOST_MODELS + s.a as usize;
+    let b = sheet_book::MOST_MODELS + s.b as usize;
     let first = 3 <= code;
     let second = names_second(code);
     let f = sheet_results::operand(n, first, a, keys, coefficients, counts, radii);

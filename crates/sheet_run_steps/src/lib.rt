@@ -1,47 +1,44 @@
 // One step of a run: an input, a product, a quotient, or any other.
 ghost use mathlib.Core.Path.{_≡_};
-ghost use Prim.Native.Nat.{ℕ, _+_, _*_, _<_};
-ghost use lib.Dec.{T};
-ghost use lib.ListN.{length, getD};
-ghost use Rattle.calculus.specs.Model.{«most-degree», sound};
+ghost use Prim.Native.Nat.{_+_, _*_};
+ghost use lib.ListN.{getD};
 ghost use Rattle.calculus.specs.Operations.{multiply};
 ghost use Rattle.calculus.specs.Shares.{«product-shares»};
 ghost use Rattle.model_types.specs.ModelStruct.{view};
 ghost use Rattle.model_types.specs.SharesStruct.{accounted};
 ghost use Rattle.model.specs.OperationContracts.{Factors, «Scratch-room»};
-ghost use Rattle.format.specs.HeldBook.{«Held-step»};
 ghost use Rattle.sheet_book.specs.BookStruct.{«held-step»};
 ghost use Rattle.sheet_results.specs.Results.{results, Roomy, result};
-ghost use Rattle.sheet_run_laws.specs.Run.{Running, Iteration, «Input-iteration», Iterated};
-ghost use Rattle.sheet_run_laws.specs.Run.{Served};
+ghost use Rattle.sheet_run_laws.specs.Run.{Iteration, Iterated, Served};
+ghost use Rattle.sheet_run_laws.specs.Run.{«Input-step», «multiply-code», «quotient-code»};
 use model_types::Accounted;
 use model_types::Key;
-use model_types::Model;
 use model_types::Verdict;
 use sheet_book::Step;
 
-// An input: the model that it names is put at place i.
-pub fn input_step(
-    input: Model,
+// An input: the model that it names is its result, all of its radius carried.
+fn input_step(
+    n: u8,
     i: usize,
+    s: Step,
     keys: &mut [Key],
     coefficients: &mut [i64],
     counts: &mut [usize],
     radii: &mut [u64],
     rows: &mut [u64],
-)
-    requires { ⌜ T (sound most-degree (view input)) ⌝ }
-    requires { ⌜ i < 64 ⌝ }
-    requires { ⌜ Roomy (results (now keys) (now coefficients) (now counts) (now radii)) ⌝ }
-    requires { ⌜ length (now rows) ≡ 256 ⌝ }
-    ensures { λ r. ⌜ ((n d : ℕ) (s : Held-step) (t : Input-iteration n d i s
+) -> Verdict
+    requires { ⌜ Input-step n i (held-step s) (results (now keys) (now coefficients) (now counts) (now radii))
+        (now rows) ⌝ }
+    ensures { λ r. ⌜ ((t : Input-step n i (held-step s)
         (results (now (keys .entry)) (now (coefficients .entry)) (now (counts .entry)) (now (radii .entry)))
-        (now (rows .entry)) input) → Running (t .iteration .held) (i + 1)
+        (now (rows .entry))) → Iterated (t .iteration .held) i r
         (results (now (keys .exit)) (now (coefficients .exit)) (now (counts .exit)) (now (radii .exit)))
         (now (rows .exit))) ⌝ }
 {
-    let c = sheet_steps::input_answer(input);
-    let _v = sheet_results::settled(c, i, keys, coefficients, counts, radii, rows);
+    let a = s.a as usize;
+    let f = sheet_results::result(n, a, keys, coefficients, counts, radii);
+    let c = sheet_steps::input_answer(f);
+    sheet_results::settled(c, i, keys, coefficients, counts, radii, rows)
 }
 
 // The product of two results.
@@ -58,8 +55,8 @@ fn product(
     places: &mut [u64],
     sums: &mut [i64],
 ) -> Accounted
-    requires { ⌜ (a < 64) × (b < 64) ⌝ }
-    requires { ⌜ Roomy (results (now keys) (now coefficients) (now counts) (now radii)) ⌝ }
+    requires { ⌜ Roomy (a + 1) (results (now keys) (now coefficients) (now counts) (now radii))
+        × Roomy (b + 1) (results (now keys) (now coefficients) (now counts) (now radii)) ⌝ }
     requires { ⌜ Factors d (result n (results (now keys) (now coefficients) (now counts) (now radii)) a)
         (result n (results (now keys) (now coefficients) (now counts) (now radii)) b) ⌝ }
     requires { ⌜ Scratch-room (getD (now counts) a 0 * getD (now counts) b 0) (now slots) (now places) (now sums) ⌝ }
@@ -115,15 +112,15 @@ fn product_step(
     requires { ⌜ Iteration n d i (held-step s) (results (now keys) (now coefficients) (now counts) (now radii))
         (now rows) ⌝ }
     requires { ⌜ Served (held-step s) (now counts) (now slots) (now places) (now sums) ⌝ }
-    requires { ⌜ held-step s .code ≡ 6 ⌝ }
+    requires { ⌜ held-step s .code ≡ multiply-code ⌝ }
     ensures { λ r. ⌜ ((t : Iteration n d i (held-step s)
         (results (now (keys .entry)) (now (coefficients .entry)) (now (counts .entry)) (now (radii .entry)))
         (now (rows .entry))) → Iterated (t .held) i r
         (results (now (keys .exit)) (now (coefficients .exit)) (now (counts .exit)) (now (radii .exit)))
         (now (rows .exit))) ⌝ }
 {
-    let a = s.a as usize;
-    let b = s.b as usize;
+    let a = sheet_book::MOST_MODELS + s.a as usize;
+    let b = sheet_book::MOST_MODELS + s.b as usize;
     let c = product(
         n,
         d,
@@ -158,18 +155,18 @@ fn quotient_step(
     requires { ⌜ Iteration n d i (held-step s) (results (now keys) (now coefficients) (now counts) (now radii))
         (now rows) ⌝ }
     requires { ⌜ Served (held-step s) (now counts) (now slots) (now places) (now sums) ⌝ }
-    requires { ⌜ held-step s .code ≡ 9 ⌝ }
+    requires { ⌜ held-step s .code ≡ quotient-code ⌝ }
     ensures { λ r. ⌜ ((t : Iteration n d i (held-step s)
         (results (now (keys .entry)) (now (coefficients .entry)) (now (counts .entry)) (now (radii .entry)))
         (now (rows .entry))) → Iterated (t .held) i r
         (results (now (keys .exit)) (now (coefficients .exit)) (now (counts .exit)) (now (radii .exit)))
         (now (rows .exit))) ⌝ }
 {
-    let a = s.a as usize;
-    let b = s.b as usize;
-    let v = s.v as usize;
+    let a = sheet_book::MOST_MODELS + s.a as usize;
+    let b = sheet_book::MOST_MODELS + s.b as usize;
+    let v = sheet_book::MOST_MODELS + s.v as usize;
     let z = s.value;
-    let last = fixed::magnitude(z) as usize;
+    let last = sheet_book::MOST_MODELS + fixed::magnitude(z) as usize;
     let f = sheet_results::result(n, a, keys, coefficients, counts, radii);
     let g = sheet_results::result(n, b, keys, coefficients, counts, radii);
     let h = sheet_results::result(n, v, keys, coefficients, counts, radii);
@@ -179,7 +176,7 @@ fn quotient_step(
     sheet_results::settled(c, i, keys, coefficients, counts, radii, rows)
 }
 
-// Any step but an input: its verdict. Unless it is refused its result and its row are put at place i.
+// Any step: its verdict. Unless it is refused its result is put after those of the steps before it, and so is its row.
 pub fn step(
     n: u8,
     d: u8,
@@ -197,7 +194,6 @@ pub fn step(
     requires { ⌜ Iteration n d i (held-step s) (results (now keys) (now coefficients) (now counts) (now radii))
         (now rows) ⌝ }
     requires { ⌜ Served (held-step s) (now counts) (now slots) (now places) (now sums) ⌝ }
-    requires { ⌜ (held-step s .code ≡ 0 → ⊥) ⌝ }
     ensures { λ r. ⌜ ((t : Iteration n d i (held-step s)
         (results (now (keys .entry)) (now (coefficients .entry)) (now (counts .entry)) (now (radii .entry)))
         (now (rows .entry))) → Iterated (t .held) i r
@@ -205,7 +201,10 @@ pub fn step(
         (now (rows .exit))) ⌝ }
 {
     let code = s.code;
-    if code == 6 {
+    if code == sheet_run_laws::INPUT {
+        return input_step(n, i, s, keys, coefficients, counts, radii, rows);
+    }
+    if code == sheet_run_laws::MULTIPLY {
         return product_step(
             n,
             d,
@@ -221,7 +220,7 @@ pub fn step(
             sums,
         );
     }
-    if code == 9 {
+    if code == sheet_run_laws::QUOTIENT {
         return quotient_step(
             n,
             d,

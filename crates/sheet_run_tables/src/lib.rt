@@ -1,9 +1,9 @@
 // The steps of a book with scratch memory for products: a small table, or the full one.
 ghost use Rattle.model.specs.OperationContracts.{«most-entries»};
 ghost use Rattle.sheet_results.specs.Results.{results};
-ghost use Rattle.sheet_run_laws.specs.Run.{Begun, Stopped};
+ghost use Rattle.sheet_run_laws.specs.Run.{«few-products», Part, Stopped};
 use model_types::Key;
-use sheet_book::Book;
+use sheet_run_laws::StepList;
 use sheet_run_laws::Stop;
 
 // The products of the small table, and its size. The full one has room for those of 64 terms with 64.
@@ -15,23 +15,25 @@ const FEW_PLACES: usize = FEW_PRODUCTS + 1;
 
 // The first steps, with the small table.
 pub fn small(
-    b: Book,
+    l: StepList,
     keys: &mut [Key],
     coefficients: &mut [i64],
     counts: &mut [usize],
     radii: &mut [u64],
     rows: &mut [u64],
 ) -> Stop
-    requires { ⌜ Begun b 0 (results (now keys) (now coefficients) (now counts) (now radii)) (now rows) ⌝ }
-    ensures { λ r. ⌜ Stopped b 256 r
+    requires { ⌜ Part l 0 (results (now keys) (now coefficients) (now counts) (now radii)) (now rows) ⌝ }
+    ensures { λ r. ⌜ ((t : Part l 0
+        (results (now (keys .entry)) (now (coefficients .entry)) (now (counts .entry)) (now (radii .entry)))
+        (now (rows .entry))) → Stopped (t .held) l few-products r
         (results (now (keys .exit)) (now (coefficients .exit)) (now (counts .exit)) (now (radii .exit)))
-        (now (rows .exit)) ⌝ }
+        (now (rows .exit))) ⌝ }
 {
     let mut slots = [0u16; FEW_SLOTS];
     let mut places = [0u64; FEW_PLACES];
     let mut sums = [0i64; FEW_PLACES];
     sheet_run_loop::steps(
-        b,
+        l,
         0,
         FEW_PRODUCTS,
         keys,
@@ -48,7 +50,7 @@ pub fn small(
 // The steps from one on, with the full table. (It is filled with zeros where it is declared, so that a run that does
 // without it must not come here.)
 pub fn large(
-    b: Book,
+    l: StepList,
     from: usize,
     keys: &mut [Key],
     coefficients: &mut [i64],
@@ -56,16 +58,18 @@ pub fn large(
     radii: &mut [u64],
     rows: &mut [u64],
 ) -> Stop
-    requires { ⌜ Begun b from (results (now keys) (now coefficients) (now counts) (now radii)) (now rows) ⌝ }
-    ensures { λ r. ⌜ Stopped b most-entries r
+    requires { ⌜ Part l from (results (now keys) (now coefficients) (now counts) (now radii)) (now rows) ⌝ }
+    ensures { λ r. ⌜ ((t : Part l from
+        (results (now (keys .entry)) (now (coefficients .entry)) (now (counts .entry)) (now (radii .entry)))
+        (now (rows .entry))) → Stopped (t .held) l most-entries r
         (results (now (keys .exit)) (now (coefficients .exit)) (now (counts .exit)) (now (radii .exit)))
-        (now (rows .exit)) ⌝ }
+        (now (rows .exit))) ⌝ }
 {
     let mut slots = [0u16; model::SLOTS];
     let mut places = [0u64; model::PLACES];
     let mut sums = [0i64; model::PLACES];
     sheet_run_loop::steps(
-        b,
+        l,
         from,
         model::ENTRIES,
         keys,

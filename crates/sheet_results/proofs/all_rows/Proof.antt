@@ -5,6 +5,7 @@ use native.Mathlib.Omega.{arith}
 use borrow.Author.Needs.{needs}
 use lib.ListN.{set}
 use Rattle.model_types.specs.Arrays.{padded}
+use Rattle.calculus.specs.Book.{most-steps}
 use Rattle.calculus.specs.Shares.{no-shares}
 use Rattle.model_types.specs.SharesStruct.{stored-shares}
 use Rattle.sheet_results.specs.Results.{row-at, first-rows}
@@ -80,6 +81,7 @@ loop-again c =
     )
 
 returns : tie.Need-returns Inv-loop μ-loop
+unfolding most-steps
 returns c =
     let l = c .before in
     let e : l .loop .i ≡ 64 = omega arith in

@@ -2,6 +2,7 @@
 use mathlib.Core.Path.{_≡_, _∙_, ap}
 use borrow.Author.Needs.{needs}
 use lib.ListN.{length}
+use Rattle.calculus.specs.Model.{most-terms}
 use Rattle.model_slices.specs.HandedModels.{over}
 use Rattle.sheet_results.specs.ResultsLaws.{take-least}
 use Rattle.sheet_results.proofs.store_named.Statement.{statement}
@@ -17,9 +18,11 @@ least-requires : tie.Need-least-requires
 least-requires c κs = search needs
 
 copy-keys-requires : tie.Need-copy-keys-requires
+unfolding most-terms
 copy-keys-requires c κs = search needs
 
 copy-coefficients-requires : tie.Need-copy-coefficients-requires
+unfolding most-terms
 copy-coefficients-requires c κs = search needs
 
 same-length : tie.Need-same-length

@@ -30,14 +30,22 @@ same-length-5 : tie.Need-same-length-5
 same-length-5 c = search needs
 
 returns : tie.Need-returns
-returns c =
-    let s = c .before .before .before .before .before .before .before .before .before .before .before .small .ensures in
+returns c = λ t.
+    let s = c .before .before .before .before .before .before .before .before .before .before .before .small .ensures t
+    in
     stopped-on s (λ e. not-both e (c .enum-told2 .given .1))
 
 large-requires : tie.Need-large-requires
-large-requires c κs = c .before .before .before .before .before .before .before .before .before .before .before
-    .before .before .before .before .before .before .small .ensures .going (c .before .before .before .before .before
-    .before .enum-told .given .1)
+large-requires c κs =
+    let p = c .before .before .before .before .before .before .before .before .before .before .before .before .before
+    .before .before .before .before .before .before .before .before .before .before .before .before .before .before .pre
+    in
+    record {
+      held = p .held;
+      begun = c .before .before .before .before .before .before .before .before .before .before .before .before .before
+          .before .before .before .before .small .ensures p .going (c .before .before .before .before .before .before
+          .enum-told .given .1);
+    }
 
 same-length-6 : tie.Need-same-length-6
 same-length-6 c = search needs
@@ -55,7 +63,14 @@ same-length-10 : tie.Need-same-length-10
 same-length-10 c = search needs
 
 returns-2 : tie.Need-returns-2
-returns-2 c = search needs
+returns-2 c = λ t. c .before .before .before .before .before .before .before .before .before .large .ensures
+    (record {
+      held = t .held;
+      begun = c .before .before .before .before .before .before .before .before .before .before .before .before .before
+          .before .before .before .before .before .before .before .before .before .before .before .before .before
+          .before .small .ensures t .going (c .before .before .before .before .before .before .before .before
+          .before .before .before .before .before .before .before .before .enum-told .given .1);
+    })
 
 same-length-11 : tie.Need-same-length-11
 same-length-11 c = search needs
@@ -73,9 +88,9 @@ same-length-15 : tie.Need-same-length-15
 same-length-15 c = search needs
 
 returns-3 : tie.Need-returns-3
-returns-3 c =
+returns-3 c = λ t.
     let s = c .before .before .before .before .before .before .before .before .before .before .before .before .small
-    .ensures in
+    .ensures t in
     stopped-on s (λ e. omega (arith, s .going e .within, c .if1 .left))
 
 pub run-spec : {M : Type 1} → statement M

@@ -1,7 +1,9 @@
 -- `other_step` takes out what the code names, and puts the answer.
 use mathlib.Core.Path.{_≡_, _∙_, ap}
 use mathlib.Core.Bool.{cond}
+use Prim.Native.Nat.{_+_}
 use lib.Dec.{leb}
+use Rattle.calculus.specs.Book.{most-models}
 use Rattle.calculus.specs.Model.{zero-model}
 use Rattle.model_types.specs.declared.Model.{Model}
 use Rattle.model_types.specs.ModelStruct.{view}
@@ -18,21 +20,28 @@ use Rattle.sheet_run_others.proofs.other_step.Tie as tie
 cast-a : tie.Need-cast-a
 cast-a c = search needs
 
+add-a : tie.Need-add-a
+add-a c = search needs
+
 cast-b : tie.Need-cast-b
 cast-b c = search needs
+
+add-b : tie.Need-add-b
+add-b c = search needs
 
 names-second-requires : tie.Need-names-second-requires
 names-second-requires c κs = search needs
 
 operand-requires : tie.Need-operand-requires
-unfolding held-step
-operand-requires c κs = let t = c .before .before .before .before .before .before .before .before .before .before
-    .before .before .before .pre .0 in (iteration-first t, iteration-room t)
+unfolding held-step most-models
+operand-requires c κs =
+    let s = c .before .before .before .before .before .before .before .before .before .before .before .before .before in
+    iteration-first (s .pre .0) (s .pre .1 .1 .0)
 
 operand-requires-2 : tie.Need-operand-requires-2
-unfolding held-step
-operand-requires-2 c κs = let t = c .before .before .before .before .before .before .before .before .before .before
-    .before .before .before .before .before .before .before .before .pre .0 in (iteration-second t, iteration-room t)
+unfolding held-step most-models
+operand-requires-2 c κs = iteration-second (c .before .before .before .before .before .before .before .before .before
+    .before .before .before .before .before .before .before .before .before .pre .0)
 
 -- what is taken out
 module _ (c : tie.After-operand2) where
@@ -51,15 +60,19 @@ module _ (c : tie.After-operand2) where
   second = c .operand2 .result
 
   is-first : view first
-      ≡ cond (leb 3 (start .args .s .code)) (view (result (start .args .n) memory (start .args .s .a)))
+      ≡ cond (leb 3 (start .args .s .code)) (view (result (start .args .n) memory (most-models + start .args .s .a)))
       (zero-model (start .args .n))
+  unfolding most-models
   is-first = c .before .before .before .before .before .operand .ensures
 
   is-second : view second
-      ≡ cond (names-second (start .args .s .code)) (view (result (start .args .n) memory (start .args .s .b)))
+      ≡ cond (names-second (start .args .s .code)) (view (result (start .args .n) memory (most-models + start .args .s
+      .b)))
       (zero-model (start .args .n))
+  unfolding most-models
   is-second = c .operand2 .ensures
-      ∙ ap (λ b. cond b (view (result (start .args .n) memory (start .args .s .b))) (zero-model (start .args .n)))
+      ∙ ap (λ b. cond b (view (result (start .args .n) memory (most-models + start .args .s .b))) (zero-model (start
+      .args .n)))
       (c .before .before .before .before .before .before .before .before .before .before .names-second .ensures)
 
 step-answer-requires : tie.Need-step-answer-requires
@@ -123,7 +136,9 @@ other-step-spec =
     tie.close
     (tie.spec
     cast-a
+    add-a
     cast-b
+    add-b
     names-second-requires
     operand-requires
     operand-requires-2

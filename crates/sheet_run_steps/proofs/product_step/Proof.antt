@@ -1,4 +1,6 @@
 -- `product_step` multiplies, and puts the answer.
+use native.Mathlib.Omega.{arith}
+use Rattle.calculus.specs.Book.{most-models}
 use Rattle.sheet_book.specs.BookStruct.{held-step}
 use Rattle.sheet_run_laws.specs.RunIterationLaws.{iteration-small, iteration-first, iteration-second, iteration-room}
 use Rattle.sheet_run_laws.specs.RunIterationLaws.{iteration-rows}
@@ -10,17 +12,25 @@ use Rattle.sheet_run_steps.proofs.product_step.Tie as tie
 cast-a : tie.Need-cast-a
 cast-a c = search needs
 
+add-a : tie.Need-add-a
+add-a c = search needs
+
 cast-b : tie.Need-cast-b
 cast-b c = search needs
 
+add-b : tie.Need-add-b
+add-b c = search needs
+
 product-requires : tie.Need-product-requires
-unfolding held-step
+unfolding held-step most-models
 product-requires c κs =
     let s = c .before .before .before .before .before .before .before .before .before .before .before .before .before
     .before .before in
     let t = s .pre .0 in
-    let e = s .pre .1 .1 in
-    ((iteration-first t, iteration-second t), (iteration-room t, (iteration-factors t e, s .pre .1 .0 .product e)))
+    let e = s .pre .1 .1 in (
+      (iteration-first t (λ z. omega (arith, z, e)), iteration-second t),
+      (iteration-factors t e, s .pre .1 .0 .product e),
+    )
 
 settled-requires : tie.Need-settled-requires
 settled-requires c κs = let t = c .before .before .before .before .before .before .before .before .before .before
@@ -52,7 +62,7 @@ same-length-8 : tie.Need-same-length-8
 same-length-8 c = search needs
 
 returns : tie.Need-returns
-unfolding held-step
+unfolding held-step most-models
 returns c = λ t.
     let w = c .before .before .before .before .before .before .before .before .before .settled .ensures in
     product-iterated t (c .before .before .before .before .before .before .before .before .before .before .before
@@ -66,7 +76,9 @@ product-step-spec =
     tie.close
     (tie.spec
     cast-a
+    add-a
     cast-b
+    add-b
     product-requires
     settled-requires
     same-length
