@@ -27,8 +27,9 @@ use Rattle.model_types.specs.ModelStructLaws.{sound-vars}
 use Rattle.model_limits.specs.Limits.{Packed}
 use Rattle.product_answer.specs.ErrorLaws.{error-fits}
 use Rattle.model_powers.specs.PowersLaws.{part-sound}
-use Rattle.model_substitution.specs.Substitute.{horner-iteration, Iteration, Substitution}
-use Rattle.model_substitution.specs.IterationLaws.{refused-accounted, accepted-shares, iteration-sound}
+use Rattle.model_horner_iteration.specs.HornerIteration.{horner-iteration, Iteration}
+use Rattle.model_horner_iteration.specs.IterationLaws.{refused-accounted, accepted-shares, iteration-sound}
+use Rattle.model_substitution.specs.Substitute.{Substitution}
 use Rattle.model_types.specs.ResultLaws.{Holds, held-view, held-sound, held-vars, Got, got, then-is}
 
 -- ---- g in the place of variable i of f

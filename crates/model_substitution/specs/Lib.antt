@@ -1,4 +1,5 @@
 pub mod Substitute
-pub mod IterationLaws
 pub mod HornerLaws
 pub mod SubstitutionRoomLaws
+pub mod SliceSubstitutionLaws
+pub mod OwnSlicesLaws

@@ -11,7 +11,8 @@ use Rattle.model_types.specs.ModelStructLaws.{limits}
 use Rattle.product_hash_collect.specs.CollectorContracts.{Scratch-table}
 use Rattle.product_room.specs.ProductTerms.{Scratch-room}
 use Rattle.product_room.specs.ProductTermsLaws.{scratch-room, fewer-room}
-use Rattle.model_substitution.specs.Substitute.{Iteration, Substitution}
+use Rattle.model_horner_iteration.specs.HornerIteration.{Iteration}
+use Rattle.model_substitution.specs.Substitute.{Substitution}
 
 module _ {slots keys : List ℕ} {sums : List ℤ} where
   pub iteration-room : {d : ℕ} {h g q : Model} → Iteration d h g q

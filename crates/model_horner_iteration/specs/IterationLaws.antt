@@ -23,7 +23,7 @@ use Rattle.model_types.specs.SharesStruct.{stored-shares, accounted, unless-ref
 use Rattle.model_types.specs.SharesStructLaws.{accounted-by, accounted-answer, accounted-shares}
 use Rattle.model_types.specs.ModelStructLaws.{sound-vars}
 use Rattle.model_addition.specs.Addition.{Operands}
-use Rattle.model_substitution.specs.Substitute.{horner-iteration, Iteration}
+use Rattle.model_horner_iteration.specs.HornerIteration.{horner-iteration, Iteration}
 use Rattle.model_types.specs.ResultLaws.{sound-order, held-view, held-sound, held-vars, Got, got, then-is}
 
 -- ---- answers with shares

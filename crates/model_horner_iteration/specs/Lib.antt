@@ -1,0 +1,4 @@
+pub mod HornerIteration
+pub mod IterationLaws
+pub mod SliceProductLaws
+pub mod SliceHornerLaws
