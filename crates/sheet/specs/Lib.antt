@@ -1,4 +1,5 @@
 pub mod Sheet
+pub mod ReadRun
 pub mod Stepping
 pub mod SteppingLaws
 pub mod Refuted

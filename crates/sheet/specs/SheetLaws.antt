@@ -25,20 +25,19 @@ use Rattle.model_types.specs.ModelStructLaws.{view-pack-sound, refusal-cause}
 use Rattle.format.specs.HeldBook.{Held-book, view-book, Held-passes}
 use Rattle.format.specs.HeldBookLaws.{Held-done, held-tested-done, view-passes}
 use Rattle.format.specs.Format.{read, run-sheet, sheet-rows}
-use Rattle.format.specs.SheetRowLaws.{sheet-rows-none}
 use Rattle.format.specs.WriteBackLaws.{Came, came, read-passes}
 use Rattle.format.specs.SheetClaim.{Sheet-claim}
 use Rattle.format.specs.SheetClaimProof.{sheet-claim}
-use Rattle.sheet_book.specs.declared.Read.{Read}
 use Rattle.sheet_book.specs.declared.Book.{Book}
-use Rattle.sheet_book.specs.BookStruct.{held-book, read-answer, book-verdict}
-use Rattle.sheet_book.specs.BookStructLaws.{held-stored}
+use Rattle.sheet_book.specs.BookStruct.{held-book, book-verdict}
 use Rattle.sheet_book.specs.TestedLaws.{verdict-hands-on, verdict-refused}
 use Rattle.sheet_book.specs.declared.Summary.{Summary}
 use Rattle.sheet_book.specs.declared.Report.{Report}
 use Rattle.sheet_book.specs.ReportStruct.{report}
 use Rattle.sheet_book.specs.SummaryStruct.{refused-summary, run-answer, summary-of}
 use Rattle.sheet_book.specs.SummaryStructLaws.{summary-back}
+use Rattle.sheet.specs.ReadRun.{run-read, report-read, Run-of}
+use Rattle.sheet_run_bytes.specs.RunBytes.{ran-read, ran-sheet}
 use Rattle.sheet.specs.Sheet.{run-held, rows-held, Encloses, Encloses-book}
 use Rattle.model.specs.OperationLaws.{sound-order}
 use Rattle.sheet_running.specs.declared.Ran.{Ran}
@@ -132,6 +131,80 @@ module _ (h : Held-book) {r : Answer} (e : r ≡ answer (last-result (view-book 
       go (done m) q k = let z : _≡_ {A = ℕ} 0 1 = cc in absurd (omega arith)
       go (stopped x i) q k = ap (λ r. refused-summary (r .verdict)) k ∙ sym (ap run-answer (from (stopped x i) q))
 
+-- ---- the same of what was read, which a test may have refused
+module _ {r : Ran} (t : Run-of r) where
+  abbrev o : Result Held-book
+  o = t .read
+
+  read-answered : r .answer ≡ answer (o followed-by (λ h. last-result (view-book h)))
+  unfolding ran-read
+  read-answered = ap (λ r. r .answer) (t .is)
+
+  -- a model is summarized,
+  pub record Summed-read (m : Model) : Type 0 where
+    pub is-sound : T (sound most-degree (view m))
+    pub is-packed : pack (view m) ≡ m
+    pub answers-run : run-answer (done (summary (view m))) ≡ run-answer (run-read o)
+
+  pub summed-read : r .answer .verdict ≡ Accepted → Summed-read (r .answer .model)
+  unfolding run-read _followed-by_ answer
+  summed-read v = go o refl read-answered
+    where
+      go : (a : Result Held-book) → o ≡ a → r .answer ≡ answer (a followed-by (λ h. last-result (view-book h)))
+          → Summed-read (r .answer .model)
+      go (done h) p q =
+          let s = summed h q (t .passes h p) v in
+          record {
+            is-sound = s .is-sound;
+            is-packed = s .is-packed;
+            answers-run = s .answers-run
+                ∙ ap (λ a. run-answer (a followed-by (λ h. run-sound (view-book h)))) (sym p);
+          }
+      go (stopped x i) p q = let z : _≡_ {A = ℕ} 0 1 = cc in absurd (omega arith)
+
+  -- or a refusal handed on,
+  pub stopped-read : {x : Refusal} {y : ℕ} → r .answer .verdict ≡ Refused x y
+      → refused-summary (r .answer .verdict) ≡ run-answer (run-read o)
+  unfolding run-read _followed-by_ answer run-answer
+  stopped-read v = go o refl read-answered
+    where
+      go : (a : Result Held-book) → o ≡ a → r .answer ≡ answer (a followed-by (λ h. last-result (view-book h)))
+          → refused-summary (r .answer .verdict) ≡ run-answer (run-read o)
+      go (done h) p q = step-stopped h q v
+          ∙ ap (λ a. run-answer (a followed-by (λ h. run-sound (view-book h)))) (sym p)
+      go (stopped x i) p q = ap (λ (r : Answer). refused-summary (r .verdict)) q
+          ∙ ap (λ a. run-answer (a followed-by (λ h. run-sound (view-book h)))) (sym p)
+
+  -- beside the rows
+  pub rows-read : {s : Summary} → s ≡ run-answer (run-read o)
+      → record { summary = s; shares = r .shares } ≡ report-read o
+  unfolding ran-read report report-read
+  rows-read q = ap₂ (λ s l. record { summary = s; shares = l }) q (ap (λ r. r .shares) (t .is))
+
+-- a book that passes the tests
+pub book-run : {h : Held-book} {r : Ran} → Held-passes h → r ≡ ran (view-book h) → Run-of r
+unfolding ran ran-read _followed-by_ reported returned
+book-run {h = h} p e = record { read = done h; is = e; passes = λ k q. subst Held-passes (done-same q) p }
+  where
+    done-same : {k : Held-book} → done h ≡ done k → h ≡ k
+    done-same q = cc
+
+pub book-report : {h : Held-book} {r : Ran} (p : Held-passes h) (e : r ≡ ran (view-book h)) {x : Report}
+    → ((t : Run-of r) → x ≡ report-read (t .read))
+    → x ≡ report (run-answer (run-sound (view-book h))) (all-rows (rows-sound (view-book h)))
+unfolding book-run report-read run-read _followed-by_ reported returned
+book-report p e f = f (book-run p e)
+
+-- a sheet
+pub sheet-run : (sheet : List ℕ) {r : Ran} → r ≡ ran-sheet sheet → Run-of r
+unfolding ran-sheet
+sheet-run sheet e = record { read = read sheet; is = e; passes = read-passes sheet }
+
+pub sheet-report : (sheet : List ℕ) {r : Ran} (e : r ≡ ran-sheet sheet) {x : Report}
+    → ((t : Run-of r) → x ≡ report-read (t .read)) → x ≡ report (run-answer (run-sheet sheet)) (sheet-rows sheet)
+unfolding sheet-run report-read run-read run-sheet sheet-rows
+sheet-report sheet e f = f (sheet-run sheet e)
+
 -- ---- what is answered exactly is enclosed
 -- it holds the result of the run
 pub exact-result : (sheet : List ℕ) (r : Summary) (s : B.Summary) → r ≡ run-answer (run-sheet sheet)
@@ -162,43 +235,6 @@ exact-encloses-book h r e s d = subst (Claim (view-book h)) (sym (ap summary-of 
   where
     c : Held-done h (run-sound (view-book h)) s
     c = held-tested-done h (run-sound (view-book h)) s d
-
--- ---- a sheet that is read
-pub record Has-read (sheet : List ℕ) (b : Book) : Type 0 where
-  pub passes : Held-passes (held-book b)
-  pub runs : run-sound (view-book (held-book b)) ≡ run-sheet sheet
-  pub reports : all-rows (rows-sound (view-book (held-book b))) ≡ sheet-rows sheet
-
-pub read-accepted : (sheet : List ℕ) {r : Read} → r ≡ read-answer (read sheet) → r .verdict ≡ Accepted
-    → Has-read sheet (r .book)
-unfolding run-sheet sheet-rows reported returned read-answer _followed-by_
-read-accepted sheet {r = r} e v = go (read sheet) refl e
-  where
-    go : (a : Result Held-book) → read sheet ≡ a → r ≡ read-answer a → Has-read sheet (r .book)
-    go (done h) p q =
-        let k : held-book (r .book) ≡ h = ap (λ r. held-book (r .book)) q ∙ held-stored h in
-        record {
-          passes = subst Held-passes (sym k) (read-passes sheet h p);
-          runs = ap (λ h. run-sound (view-book h)) k
-              ∙ sym (ap (λ a. a followed-by (λ h. run-sound (view-book h))) p);
-          reports = ap (λ h. all-rows (rows-sound (view-book h))) k
-              ∙ sym (ap (λ a. reported (a followed-by (λ h. done (rows-sound (view-book h))))) p);
-        }
-    go (stopped x i) p q = let z : _≡_ {A = ℕ} 0 1 = cc in absurd (omega arith)
-
-pub read-refused : (sheet : List ℕ) {r : Read} {x : Refusal} {y : ℕ} → r ≡ read-answer (read sheet)
-    → r .verdict ≡ Refused x y
-    → report (refused-summary (r .verdict)) (all-rows []) ≡ report (run-answer (run-sheet sheet)) (sheet-rows sheet)
-unfolding run-sheet read-answer run-answer _followed-by_
-read-refused sheet {r = r} e v = go (read sheet) refl e
-  where
-    go : (a : Result Held-book) → read sheet ≡ a → r ≡ read-answer a
-        → report (refused-summary (r .verdict)) (all-rows [])
-        ≡ report (run-answer (run-sheet sheet)) (sheet-rows sheet)
-    go (done h) p q = let z : _≡_ {A = ℕ} 0 1 = cc in absurd (omega arith)
-    go (stopped x i) p q = ap₂ report (ap (λ r. refused-summary (r .verdict)) q
-        ∙ sym (ap (λ a. run-answer (a followed-by (λ h. run-sound (view-book h)))) p))
-        (sym (sheet-rows-none sheet x i p))
 
 -- ---- a book that is tested
 pub tested-accepted : (b : Book) → book-verdict b ≡ Accepted

@@ -11,6 +11,7 @@ ghost use Rattle.sheet_book.specs.SummaryStruct.{«run-answer», «refused-summ
 ghost use Rattle.sheet_book.specs.ReportStruct.{report};
 ghost use Rattle.sheet.specs.Sheet.{Exact, «Exact-book», Encloses, «Encloses-book»};
 ghost use Rattle.sheet.specs.Sheet.{Reports, «Reports-book»};
+ghost use Rattle.sheet.specs.ReadRun.{«report-read», «Run-of»};
 pub use model_types::Model;
 pub use model_types::Refusal;
 pub use model_types::Shares;
@@ -27,6 +28,7 @@ pub use sheet_book::Summary;
 pub use sheet_book::Written;
 pub use sheet_records::Opened;
 pub use sheet_records::Records;
+use sheet_running::Ran;
 
 // ---- reading, writing and stepping: made in rooms of their own
 // A sheet's book, or the first refusal of tests 1 to 6 in their order, with a book of zeros.
@@ -48,14 +50,11 @@ pub use sheet_records::place_after;
 
 // ---- the run
 
-// The run of a book that passed the tests, with its rows: its last result with range and integral, or the refusal of a
-// step.
-fn run_passed(b: Book) -> Report
-    requires { ⌜ Held-passes (held-book b) ⌝ }
-    ensures { λ r. ⌜ r ≡ report (run-answer (run-sound (view-book (held-book b))))
-        (all-rows (rows-sound (view-book (held-book b)))) ⌝ }
+// The report of what a run leads to: its last result with range and integral, or a refusal; and the rows.
+fn summed_up(ran: Ran) -> Report
+    requires { ⌜ Run-of ran ⌝ }
+    ensures { λ r. ⌜ ((t : Run-of ran) → r ≡ report-read (t .read)) ⌝ }
 {
-    let ran = sheet_running::last_result(b);
     let answer = ran.answer;
     let shares = ran.shares;
     let v = answer.verdict;
@@ -69,6 +68,17 @@ fn run_passed(b: Book) -> Report
         summary: sheet_summary::summarized(answer.model),
         shares: shares,
     }
+}
+
+// The run of a book that passed the tests, with its rows: its last result with range and integral, or the refusal of a
+// step.
+fn run_passed(b: Book) -> Report
+    requires { ⌜ Held-passes (held-book b) ⌝ }
+    ensures { λ r. ⌜ r ≡ report (run-answer (run-sound (view-book (held-book b))))
+        (all-rows (rows-sound (view-book (held-book b)))) ⌝ }
+{
+    let ran = sheet_running::last_result(b);
+    summed_up(ran)
 }
 
 // A run that a test refuses: zeros for all steps.
@@ -109,12 +119,8 @@ pub fn run_reported(sheet: &[u8]) -> Report
     ensures exact { λ r. ⌜ Reports (now (sheet .entry)) r ⌝ }
     ensures encloses { λ r. ⌜ Encloses (now (sheet .entry)) (r .summary) ⌝ }
 {
-    let answer = sheet_reader::read(sheet);
-    let v = answer.verdict;
-    let Verdict::Accepted = v else {
-        return refused_report(v);
-    };
-    run_passed(answer.book)
+    let ran = sheet_run_bytes::run_sheet(sheet);
+    summed_up(ran)
 }
 
 // The same for a book.
