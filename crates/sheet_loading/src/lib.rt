@@ -54,8 +54,8 @@ pub fn load_models(
         if taken == 0 {
             break 'models;
         }
-        let total = sheet_decode::byte_at(s, at + format::COUNT_AT) as usize;
-        let radius = sheet_decode::u32_at(s, at) as u64;
+        let total = model_bytes::byte_at(s, at + format::COUNT_AT) as usize;
+        let radius = model_bytes::u32_at(s, at) as u64;
         counts[k] = total;
         radii[k] = radius;
         at += taken;

@@ -56,9 +56,9 @@ module _ {s : List ℕ} {t : Trailer} (p : Head-passes s t) where
   steps-most = in-limits (t .n) (t .d) (t .models) (t .steps) (trailer-limits t (p .limits)) .steps-high
 
   pub zeros-short : t .steps ≤ few-steps → Roomy (most-models + t .steps)
-      (results (replicate 2048 0) (replicate 2048 (pos 0)) (replicate 32 0) (replicate 32 0))
+      (results (replicate 2560 0) (replicate 2560 (pos 0)) (replicate 40 0) (replicate 40 0))
   unfolding most-models most-terms
-  zeros-short f = roomy-zeros 2048 2048 32 32 (16 + t .steps) (omega arith) (omega arith) (omega arith) (omega arith)
+  zeros-short f = roomy-zeros 2560 2560 40 40 (16 + t .steps) (omega arith) (omega arith) (omega arith) (omega arith)
 
   pub zeros-long : Roomy (most-models + t .steps)
       (results (replicate 5120 0) (replicate 5120 (pos 0)) (replicate 80 0) (replicate 80 0))

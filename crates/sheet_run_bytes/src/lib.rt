@@ -16,11 +16,9 @@ use model_types::Verdict;
 use sheet_decode::Trailer;
 use sheet_running::Ran;
 
-// How many steps a short run has at the most. Its arrays are shorter, since an array is filled with zeros first.
-const FEW_STEPS: usize = 16;
-
-// The places of a short run and of any other, a model or a result each, and their terms.
-const SHORT_PLACES: usize = sheet_book::MOST_MODELS + FEW_STEPS;
+// The places of a short run and of any other, a model or a result each, and their terms. The arrays of a short run are
+// shorter, since an array is filled with zeros first.
+const SHORT_PLACES: usize = sheet_book::MOST_MODELS + sheet_running::FEW_STEPS;
 
 const SHORT_TERMS: usize = model_types::MOST_TERMS * SHORT_PLACES;
 
@@ -93,7 +91,7 @@ pub fn run_sheet(sheet: &[u8]) -> Ran
     let Verdict::Refused(refusal, place) = v else {
         let t = sheet_decode::trailer_at(sheet, sheet.len() - format::TRAILER_BYTES);
         let total = t.steps as usize;
-        if total <= FEW_STEPS {
+        if total <= sheet_running::FEW_STEPS {
             return run_short(sheet, t);
         }
         return run_long(sheet, t);

@@ -10,7 +10,7 @@ use Rattle.sheet_running.specs.declared.Ran.{Ran}
 
 -- the steps of a short run
 abbrev pub few-steps : ℕ
-few-steps = 16
+few-steps = 24
 
 -- as an answer, with 64 rows
 unfoldable pub ran : Book → Ran

@@ -24,7 +24,7 @@ pub struct Ran {
 const ALL_ROWS: usize = 4 * sheet_book::MOST_STEPS;
 
 // The places of a book's models and results, where its steps are few, and for any book; and of their terms.
-const FEW_STEPS: usize = 16;
+pub const FEW_STEPS: usize = 24;
 
 const FEW_PLACES: usize = sheet_book::MOST_MODELS + FEW_STEPS;
 

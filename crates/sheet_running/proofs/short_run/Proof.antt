@@ -26,7 +26,7 @@ unfolding most-terms most-models
 load-requires c κs =
     let s = c .before .before .before .before in (
       s .pre .0,
-      roomy-less (roomy-zeros 2048 2048 32 32 32 (lit≤ tt) (lit≤ tt) (lit≤ tt) (lit≤ tt)) (omega (arith, s .pre .1)),
+      roomy-less (roomy-zeros 2560 2560 40 40 40 (lit≤ tt) (lit≤ tt) (lit≤ tt) (lit≤ tt)) (omega (arith, s .pre .1)),
     )
 
 slice-aggregate-run-steps : tie.Need-slice-aggregate-run-steps
