@@ -3,12 +3,13 @@
 use mathlib.Core.Path.{_≡_}
 use mathlib.Core.List.{List, [], _++_, map}
 use Prim.Native.Nat.{ℕ, _+_, _*_, _<_, _≤_}
-use lib.IntN.{ℤ}
+use lib.IntN.{ℤ, natAbs}
 use lib.ListN.{length, drop, getD}
 use Rattle.calculus.specs.Model as C
 use Rattle.calculus.specs.Model.{most-terms, zero-model}
 use Rattle.calculus.specs.Refusal as R
-use Rattle.calculus.specs.Refusal.{stopped}
+use Rattle.calculus.specs.Refusal.{stopped, at-place}
+use Rattle.calculus.specs.Operations.{quotient}
 use Rattle.calculus_laws.specs.SoundLaws.{Sound}
 use Rattle.calculus_laws.specs.EachLaws.{All}
 use Rattle.calculus.specs.Book.{most-models, most-steps, model-of, run-steps}
@@ -20,7 +21,7 @@ use Rattle.model_types.specs.declared.Verdict.the-variants.{Accepted, Refused}
 use Rattle.model_types.specs.Arrays.{first-places}
 use Rattle.model_types.specs.ModelStruct.{view, cause}
 use Rattle.model_types.specs.SharesStruct.{stored-shares}
-use Rattle.model.specs.OperationContracts.{Scratch-table, Scratch-room}
+use Rattle.model.specs.OperationContracts.{Scratch-table, Scratch-room, Proposal, quotient-products}
 use Rattle.format.specs.HeldBook.{Held-step, Held-book, view-book, Held-passes}
 use Rattle.sheet_book.specs.BookStruct.{no-step, held-step}
 use Rattle.sheet_results.specs.Results.{Results, Roomy, result, row-at, most-row-numbers}
@@ -131,8 +132,21 @@ pub record Input-step (n i : ℕ) (s : Held-step) (m : Results) (flat : List ℕ
   pub iteration : Iteration n order i s m flat
   pub code : s .code ≡ input-code
 
+-- four models in flat slices that are the operands of a quotient
+pub record Proposed (n d a b v w : ℕ) (m : Results) : Type 0 where
+  pub first : Roomy (a + 1) m
+  pub second : Roomy (b + 1) m
+  pub third : Roomy (v + 1) m
+  pub fourth : Roomy (w + 1) m
+  pub proposal : Proposal d (result n m a) (result n m b) (result n m v) (result n m w)
+
+-- their quotient
+unfoldable pub quotient-at : (n d a b v w : ℕ) → Results → R.Result C.Model
+quotient-at n d a b v w m = at-place 0 (quotient d (view (result n m a)) (view (result n m b)) (view (result n m v))
+    (view (result n m w)))
+
 -- ---- scratch memory
--- for products of so many pairs of terms; with room for the most it serves a substitution and a quotient too
+-- for products of so many pairs of terms; with room for the most it serves a substitution too
 pub record Scratch-for (room : ℕ) (slots keys : List ℕ) (sums : List ℤ) : Type 0 where
   pub some : Scratch-room room slots keys sums
   pub full : most-entries ≤ room → Scratch-table slots keys sums
@@ -145,24 +159,32 @@ few-products = 256
 abbrev pub terms-at : (counts : List ℕ) → (j : ℕ) → ℕ
 terms-at counts j = getD counts (most-models + j) 0
 
+-- the products that a quotient step asks room for
+abbrev pub products-at : (counts : List ℕ) → Held-step → ℕ
+products-at counts s =
+    quotient-products (terms-at counts (s .b)) (terms-at counts (s .v)) (terms-at counts (natAbs (s .value)))
+
 -- what a step asks of it
 pub record Served (s : Held-step) (counts : List ℕ) (slots keys : List ℕ) (sums : List ℤ) : Type 0 where
   pub product : s .code ≡ multiply-code
       → Scratch-room (terms-at counts (s .a) * terms-at counts (s .b)) slots keys sums
   pub substitution : s .code ≡ substitute-code → Scratch-table slots keys sums
-  pub quotient : s .code ≡ quotient-code → Scratch-table slots keys sums
+  pub quotient : s .code ≡ quotient-code → Scratch-room (products-at counts s) slots keys sums
 
 -- the results that a step names have their counts, and none is above a model's most terms
 pub record Counted (s : Held-step) (counts : List ℕ) : Type 0 where
   pub first : s .code ≡ multiply-code → most-models + s .a < length counts
   pub second : s .code ≡ multiply-code → most-models + s .b < length counts
+  pub divisor : s .code ≡ quotient-code → most-models + s .b < length counts
+  pub proposed : s .code ≡ quotient-code → most-models + s .v < length counts
+  pub inverse : s .code ≡ quotient-code → most-models + natAbs (s .value) < length counts
   pub few : (j : ℕ) → getD counts j 0 ≤ most-terms
 
 -- a step that asks no more than there is room for
 pub record Fit (s : Held-step) (room : ℕ) (counts : List ℕ) : Type 0 where
   pub product : s .code ≡ multiply-code → terms-at counts (s .a) * terms-at counts (s .b) ≤ room
   pub substitution : s .code ≡ substitute-code → most-entries ≤ room
-  pub quotient : s .code ≡ quotient-code → most-entries ≤ room
+  pub quotient : s .code ≡ quotient-code → products-at counts s ≤ room
 
 -- ---- a part of a run
 -- the first steps of a book that passes its tests are done

@@ -28,6 +28,7 @@ use Rattle.model_types.specs.ModelStruct.{view, cause, answer}
 use Rattle.model_types.specs.SharesStruct.{accounted}
 use Rattle.model_slices.specs.HandedModels.{handed}
 use Rattle.model.specs.OperationContracts.{Factors, Proposal}
+use Rattle.model.specs.OperationLaws.{copied-proposal, bare-proposal, bare-quotient}
 use Rattle.format.specs.HeldBook.{Held-step, Held-book}
 use Rattle.sheet_results.specs.Results.{Results, Roomy, result, settled-results, settled-rows, most-row-numbers}
 use Rattle.sheet_results.specs.ResultsLaws.{roomy-less}
@@ -35,7 +36,8 @@ use Rattle.sheet_steps.specs.Steps.{step-answer, step-row, names-second, Step-r
 use Rattle.sheet_run_laws.specs.declared.StepList.{StepList}
 use Rattle.sheet_run_laws.specs.declared.Stop.{Stop}
 use Rattle.sheet_run_laws.specs.Run.{input-code, multiply-code, quotient-code}
-use Rattle.sheet_run_laws.specs.Run.{Ended, Iterated, Iteration, Scratch-for, Served, Counted, Fit}
+use Rattle.sheet_run_laws.specs.Run.{Ended, Iterated, Iteration, Proposed, quotient-at}
+use Rattle.sheet_run_laws.specs.Run.{Scratch-for, Served, Counted, Fit}
 use Rattle.sheet_run_laws.specs.Run.{most-entries, Begun, Stopped}
 use Rattle.sheet_run_laws.specs.RunLaws.{first-place, second-place, third-earlier, fourth-earlier, here-small}
 use Rattle.sheet_run_laws.specs.RunLaws.{
@@ -95,6 +97,9 @@ module _ {n d i : ℕ} {s : Held-step} {m : Results} {flat : List ℕ} (t : Iter
   iteration-counted = record {
     first = λ e. omega (arith, iteration-first (λ z. omega (arith, z, e)) .counts-long);
     second = λ e. omega (arith, iteration-second .counts-long);
+    divisor = λ e. omega (arith, iteration-second .counts-long);
+    proposed = λ e. omega (arith, iteration-third e .counts-long);
+    inverse = λ e. omega (arith, iteration-fourth e .counts-long);
     few = t .so-far .room .few;
   }
 
@@ -177,6 +182,47 @@ module _ {n d i : ℕ} {s : Held-step} {m : Results} {flat : List ℕ} (t : Iter
       quotient-iterated x = step-iterated (t .passes) (t .at) (t .so-far)
           (quotient-carried (t .passes) (t .at) (t .so-far) e divided x)
 
+  -- of the results themselves, the last by its number
+  module _ (e : s .code ≡ quotient-code) (l : ℕ) (o : l ≡ natAbs (s .value)) where
+    abbrev first-at : Model
+    first-at = result n m (most-models + s .a)
+
+    abbrev second-at : Model
+    second-at = result n m (most-models + s .b)
+
+    abbrev third-at : Model
+    third-at = result n m (most-models + s .v)
+
+    abbrev fourth-at : Model
+    fourth-at = result n m (most-models + natAbs (s .value))
+
+    pub iteration-proposed : Proposed n d (most-models + s .a) (most-models + s .b) (most-models + s .v)
+        (most-models + l) m
+    iteration-proposed = record {
+      first = iteration-first (λ z. omega (arith, z, e));
+      second = iteration-second;
+      third = iteration-third e;
+      fourth = subst (λ j. Roomy (most-models + j + 1) m) (sym o) (iteration-fourth e);
+      proposal = subst (λ j. Proposal d first-at second-at third-at (result n m (most-models + j))) (sym o)
+          (iteration-proposal first-at second-at third-at fourth-at e refl refl refl refl);
+    }
+
+    module _ {q : Answer} (h : q ≡ answer (quotient-at n d (most-models + s .a) (most-models + s .b)
+        (most-models + s .v) (most-models + l) m)) where
+      here : q ≡ answer (at-place 0 (quotient d (view first-at) (view second-at) (view third-at) (view fourth-at)))
+      unfolding quotient-at
+      here = h ∙ ap (λ j. answer (at-place 0 (quotient d (view first-at) (view second-at) (view third-at)
+          (view (result n m (most-models + j)))))) o
+
+      pub quotient-within : q .model .radius ≤ span-limit
+      quotient-within = iteration-bounded first-at second-at third-at fourth-at e refl refl refl refl here
+
+      pub quotient-settled : {r : Accounted} {v : Verdict} {m' : Results} {flat' : List ℕ}
+          → ((a : R.Answer C.Model) → q ≡ answer (at-place 0 a) → r ≡ accounted a all-carried)
+          → v ≡ r .answer .verdict → m' ≡ settled-results r (most-models + i) m → flat' ≡ settled-rows r i flat
+          → Iterated (t .held) i v m' flat'
+      quotient-settled = quotient-iterated first-at second-at third-at fourth-at e refl refl refl refl here
+
   -- ---- an input
   module _ (k : Model) (e : s .code ≡ input-code) (is-model : view k ≡ view (result n m (s .a))) where
     here-model : view k ≡ view (result (t .held .n) m (s .a))
@@ -204,7 +250,13 @@ fit-served f l = record {
         sums-room = omega (arith, p, l .some .sums-room);
       };
   substitution = λ e. l .full (f .substitution e);
-  quotient = λ e. l .full (f .quotient e);
+  quotient = λ e.
+      let p = f .quotient e in
+      record {
+        slots-room = omega (arith, p, l .some .slots-room);
+        keys-room = omega (arith, p, l .some .keys-room);
+        sums-room = omega (arith, p, l .some .sums-room);
+      };
 }
 
 -- with all the room there is, every step fits
@@ -263,6 +315,52 @@ part-holds {m} j r = (
     length-drop (most-terms * j) (m .coefficients),
   ),
 )
+
+-- ---- the operands of a quotient: a copy of the first, and the parts of the slices that the others begin
+-- such a part, in k variables and with another radius
+abbrev part-of : (k radius : ℕ) → Results → (j : ℕ) → Model
+part-of k radius m j = handed k (getD (m .counts) j 0) radius
+    (take (length (m .keys) - most-terms * j) (drop (most-terms * j) (m .keys)))
+    (take (length (m .coefficients) - most-terms * j) (drop (most-terms * j) (m .coefficients)))
+
+module _ {n d a b v w : ℕ} {m : Results} (p : Proposed n d a b v w m) (f : Model)
+    (e : view f ≡ view (result n m a)) where
+  copied-vars : f .n ≡ n
+  unfolding view result handed
+  copied-vars = ap (λ (c : C.Model). c .vars) e
+
+  abbrev radius-at : ℕ → ℕ
+  radius-at j = getD (m .radii) j 0
+
+  in-parts : Proposal d (result n m a) (part-of n (radius-at b) m b) (part-of n (radius-at v) m v)
+      (part-of n (radius-at w) m w)
+  in-parts =
+      subst (λ x. Proposal d (result n m a) x (part-of n (radius-at v) m v) (part-of n (radius-at w) m w))
+      (sym (result-part n m b))
+      (subst (λ x. Proposal d (result n m a) (result n m b) x (part-of n (radius-at w) m w)) (sym (result-part n m v))
+      (subst (λ x. Proposal d (result n m a) (result n m b) (result n m v) x) (sym (result-part n m w))
+      (p .proposal)))
+
+  -- they make up a proposal
+  pub parts-proposal : Proposal d f (part-of (f .n) (radius-at b) m b) (part-of (f .n) 0 m v) (part-of (f .n) 0 m w)
+  parts-proposal =
+      subst (λ k. Proposal d f (part-of k (radius-at b) m b) (part-of k 0 m v) (part-of k 0 m w)) (sym copied-vars)
+      (copied-proposal f e (bare-proposal d n _ (radius-at v) _ _ _ (radius-at w) _ _ in-parts))
+
+  -- and have the quotient of the results
+  pub parts-quotient : {q : Answer}
+      → q ≡ answer (at-place 0 (quotient d (view f) (view (part-of (f .n) (radius-at b) m b))
+      (view (part-of (f .n) 0 m v)) (view (part-of (f .n) 0 m w))))
+      → q ≡ answer (quotient-at n d a b v w m)
+  unfolding quotient-at
+  parts-quotient h = h
+      ∙ (λ i. answer (at-place 0 (quotient d (e i) (view (part-of (copied-vars i) (radius-at b) m b))
+      (view (part-of (copied-vars i) 0 m v)) (view (part-of (copied-vars i) 0 m w)))))
+      ∙ ap (λ x. answer (at-place 0 x))
+      (bare-quotient d n _ (radius-at v) _ _ _ (radius-at w) _ _ (view (result n m a))
+      (view (part-of n (radius-at b) m b)))
+      ∙ (λ i. answer (at-place 0 (quotient d (view (result n m a)) (view (result-part n m b i))
+      (view (result-part n m v i)) (view (result-part n m w i)))))
 
 -- the scratch memory still serves as long as the slices keep their lengths
 pub scratch-still : {room : ℕ} {s k : List ℕ} {z : List ℤ} (s' k' : List ℕ) (z' : List ℤ) → Scratch-for room s k z

@@ -2,12 +2,27 @@
 ghost use mathlib.Core.Path.{_≡_};
 ghost use mathlib.Core.Bool.{true};
 ghost use Prim.Native.Nat.{_≤_};
-ghost use Rattle.model.specs.OperationContracts.{«most-entries»};
+ghost use lib.Dec.{leb};
+ghost use Rattle.calculus.specs.Model.{«most-terms»};
+ghost use Rattle.model.specs.OperationContracts.{«most-entries», «quotient-products»};
 ghost use Rattle.sheet_book.specs.BookStruct.{«held-step»};
 ghost use Rattle.sheet_run_laws.specs.Run.{Counted, Fit};
 use sheet_book::Step;
 
-// Whether a table for so many products serves a step. A substitution and a quotient want the full one.
+// Whether there is room for the products of a quotient's forms, where g, h and w have so many terms.
+fn quotient_fits(g: usize, h: usize, w: usize, room: usize) -> bool
+    requires { ⌜ (g ≤ most-terms) × (h ≤ most-terms) × (w ≤ most-terms) ⌝ }
+    ensures { λ r. ⌜ r ≡ leb (quotient-products g h w) room ⌝ }
+{
+    let products = g * h;
+    let others = model_types::MOST_TERMS * w;
+    if room < products {
+        return false;
+    }
+    others <= room
+}
+
+// Whether a table for so many products serves a step. A substitution wants the full one.
 pub fn fits(s: Step, room: usize, counts: &[usize]) -> bool
     requires { ⌜ Counted (held-step s) (now counts) ⌝ }
     ensures { λ r. ⌜ (r ≡ true → Fit (held-step s) room (now (counts .entry))) × (most-entries ≤ room → r ≡ true) ⌝ }
@@ -25,7 +40,14 @@ pub fn fits(s: Step, room: usize, counts: &[usize]) -> bool
         return model::ENTRIES <= room;
     }
     if code == sheet_run_laws::QUOTIENT {
-        return model::ENTRIES <= room;
+        let b = sheet_book::MOST_MODELS + s.b as usize;
+        let v = sheet_book::MOST_MODELS + s.v as usize;
+        let z = s.value;
+        let last = sheet_book::MOST_MODELS + fixed::magnitude(z) as usize;
+        let g = counts[b];
+        let h = counts[v];
+        let w = counts[last];
+        return quotient_fits(g, h, w, room);
     }
     true
 }

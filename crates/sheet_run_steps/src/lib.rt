@@ -4,14 +4,15 @@ ghost use Prim.Native.Nat.{_+_, _*_};
 ghost use lib.ListN.{getD};
 ghost use Rattle.calculus.specs.Operations.{multiply};
 ghost use Rattle.calculus.specs.Shares.{«product-shares»};
-ghost use Rattle.model_types.specs.ModelStruct.{view};
+ghost use Rattle.model_types.specs.ModelStruct.{view, answer};
 ghost use Rattle.model_types.specs.SharesStruct.{accounted};
-ghost use Rattle.model.specs.OperationContracts.{Factors, «Scratch-room»};
+ghost use Rattle.model.specs.OperationContracts.{Factors, «Scratch-room», «quotient-products»};
 ghost use Rattle.sheet_book.specs.BookStruct.{«held-step»};
 ghost use Rattle.sheet_results.specs.Results.{results, Roomy, result};
-ghost use Rattle.sheet_run_laws.specs.Run.{Iteration, Iterated, Served};
+ghost use Rattle.sheet_run_laws.specs.Run.{Iteration, Iterated, Served, Proposed, «quotient-at»};
 ghost use Rattle.sheet_run_laws.specs.Run.{«Input-step», «multiply-code», «quotient-code»};
 use model_types::Accounted;
+use model_types::Answer;
 use model_types::Key;
 use model_types::Verdict;
 use sheet_book::Step;
@@ -137,6 +138,55 @@ fn product_step(
     sheet_results::settled(c, i, keys, coefficients, counts, radii, rows)
 }
 
+// The quotient of four results: the first is copied, the others are read where they stand.
+fn quotient(
+    n: u8,
+    d: u8,
+    a: usize,
+    b: usize,
+    v: usize,
+    last: usize,
+    slots: &mut [u16],
+    places: &mut [u64],
+    sums: &mut [i64],
+    keys: &[Key],
+    coefficients: &[i64],
+    counts: &[usize],
+    radii: &[u64],
+) -> Answer
+    requires { ⌜ Proposed n d a b v last (results (now keys) (now coefficients) (now counts) (now radii)) ⌝ }
+    requires { ⌜ Scratch-room (quotient-products (getD (now counts) b 0) (getD (now counts) v 0)
+        (getD (now counts) last 0)) (now slots) (now places) (now sums) ⌝ }
+    ensures { λ r. ⌜ r ≡ answer (quotient-at n d a b v last (results (now (keys .entry))
+        (now (coefficients .entry)) (now (counts .entry)) (now (radii .entry)))) ⌝ }
+{
+    let fromg = model_types::MOST_TERMS * b;
+    let fromh = model_types::MOST_TERMS * v;
+    let fromw = model_types::MOST_TERMS * last;
+    let countg = counts[b];
+    let counth = counts[v];
+    let countw = counts[last];
+    let radiusg = radii[b];
+    let f = sheet_results::result(n, a, keys, coefficients, counts, radii);
+    model::divided_slices(
+        d,
+        f,
+        countg,
+        radiusg,
+        &keys[fromg..],
+        &coefficients[fromg..],
+        counth,
+        &keys[fromh..],
+        &coefficients[fromh..],
+        countw,
+        &keys[fromw..],
+        &coefficients[fromw..],
+        slots,
+        places,
+        sums,
+    )
+}
+
 // A quotient: all of its radius is carried.
 fn quotient_step(
     n: u8,
@@ -167,11 +217,21 @@ fn quotient_step(
     let v = sheet_book::MOST_MODELS + s.v as usize;
     let z = s.value;
     let last = sheet_book::MOST_MODELS + fixed::magnitude(z) as usize;
-    let f = sheet_results::result(n, a, keys, coefficients, counts, radii);
-    let g = sheet_results::result(n, b, keys, coefficients, counts, radii);
-    let h = sheet_results::result(n, v, keys, coefficients, counts, radii);
-    let w = sheet_results::result(n, last, keys, coefficients, counts, radii);
-    let q = model::divided(d, f, g, h, w, slots, places, sums);
+    let q = quotient(
+        n,
+        d,
+        a,
+        b,
+        v,
+        last,
+        slots,
+        places,
+        sums,
+        keys,
+        coefficients,
+        counts,
+        radii,
+    );
     let c = model::all_carried(q);
     sheet_results::settled(c, i, keys, coefficients, counts, radii, rows)
 }

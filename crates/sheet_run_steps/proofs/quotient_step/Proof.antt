@@ -1,20 +1,18 @@
--- `quotient_step` takes out four results, divides, and puts the answer.
+-- `quotient_step` divides, and puts the answer.
 use mathlib.Core.Path.{_≡_, sym, _∙_, ap, subst}
 use Prim.Native.Nat.{_+_}
 use native.Mathlib.Omega.{arith}
 use lib.IntN.{natAbs}
+use lib.ListN.{getD}
 use mir.Facts.{toZ-ofZ}
 use mir.Syntax.{w64}
 use mir.Val.{toZ, ofZ}
 use Rattle.calculus.specs.Book.{most-models, most-steps}
-use Rattle.model_types.specs.ModelStruct.{view}
+use Rattle.model.specs.OperationContracts.{Scratch-room, quotient-products}
 use Rattle.sheet_book.specs.BookStruct.{held-step}
-use Rattle.sheet_results.specs.Results.{Results, results, Roomy, result}
 use Rattle.sheet_run_laws.specs.RunLaws.{fourth-earlier}
-use Rattle.sheet_run_laws.specs.RunIterationLaws.{iteration-small, iteration-first, iteration-second, iteration-third}
-use Rattle.sheet_run_laws.specs.RunIterationLaws.{iteration-fourth}
-use Rattle.sheet_run_laws.specs.RunIterationLaws.{iteration-room, iteration-rows}
-use Rattle.sheet_run_laws.specs.RunIterationLaws.{iteration-proposal, iteration-bounded, quotient-iterated}
+use Rattle.sheet_run_laws.specs.RunIterationLaws.{iteration-small, iteration-room, iteration-rows}
+use Rattle.sheet_run_laws.specs.RunIterationLaws.{iteration-proposed, quotient-within, quotient-settled}
 use borrow.Author.Needs.{needs}
 use Rattle.sheet_run_steps.proofs.quotient_step.Statement.{statement}
 use Rattle.sheet_run_steps.proofs.quotient_step.Tie as tie
@@ -42,115 +40,57 @@ magnitude-requires c κs = search needs
 
 -- the number that is the last operand
 module _ (c : tie.After-magnitude) where
-  value-place : c .magnitude .result ≡ natAbs (c .before .before .before .before .before .before .before .before
-      .before .before .before .args .s .value)
+  abbrev start : tie.Start
+  start = c .before .before .before .before .before .before .before .before .before .before .before
+
+  value-place : c .magnitude .result ≡ natAbs (start .args .s .value)
   value-place = c .magnitude .ensures ∙ ap natAbs read-back
     where
-      read-back : toZ w64 (ofZ w64 (c .before .before .before .before .before .before .before .before .before .before
-          .before .args .s .value)) ≡ c .before .before .before .before .before .before .before .before .before
-          .before .before .args .s .value
+      read-back : toZ w64 (ofZ w64 (start .args .s .value)) ≡ start .args .s .value
       read-back = toZ-ofZ (record { sfits = c .before .struct-told .given .1 .1 .1 .1 .0 .1 })
 
 -- which is that of an earlier step
 add-last : tie.Need-add-last
 unfolding held-step most-steps
 add-last c =
-    let s = c .before .before .before .before .before .before .before .before .before .before .before in
+    let s = start c in
     let t = s .pre .0 in
     omega (arith, value-place c, fourth-earlier (t .passes) (t .at) (s .pre .1 .1), iteration-small t)
 
-result-requires : tie.Need-result-requires
+quotient-requires : tie.Need-quotient-requires
 unfolding held-step most-models
-result-requires c κs = let s = c .before .before .before .before .before .before .before .before .before .before .before
-    .before .before .before .before in
-    iteration-first (s .pre .0) (λ z. omega (arith, z, s .pre .1 .1))
-
-result-requires-2 : tie.Need-result-requires-2
-unfolding held-step most-models
-result-requires-2 c κs = iteration-second (c .before .before .before .before .before .before .before .before .before
-    .before .before .before .before .before .before .before .before .before .before .before .pre .0)
-
-result-requires-3 : tie.Need-result-requires-3
-unfolding held-step most-models
-result-requires-3 c κs = let s = c .before .before .before .before .before .before .before .before .before .before
-    .before .before .before .before .before .before .before .before .before .before .before .before .before .before
-    .before in
-    iteration-third (s .pre .0) (s .pre .1 .1)
-
-result-requires-4 : tie.Need-result-requires-4
-unfolding held-step most-models
-result-requires-4 c κs =
-    let s = c .before .before .before .before .before .before .before .before .before .before .before .before .before
-    .before .before .before .before .before .before .before .before .before .before .before .before .before .before
-    .before .before .before in
-    subst (λ j. Roomy (16 + j + 1) (results (s .args .keys .now) (s .args .coefficients .now) (s .args .counts .now)
-    (s .args .radii .now))) (sym (value-place (c .before .before .before .before .before .before .before .before .before
-    .before .before .before .before .before .before .before .before .before .before)))
-    (iteration-fourth (s .pre .0) (s .pre .1 .1))
-
--- what is taken out
-module _ (c : tie.After-result4) where
-  abbrev start : tie.Start
-  start = c .before .before .before .before .before .before .before .before .before .before .before .before .before
-      .before .before .before .before .before .before .before .before .before .before .before .before .before .before
-      .before .before .before .before
-
-  abbrev memory : Results
-  memory = results (start .args .keys .now) (start .args .coefficients .now) (start .args .counts .now)
-      (start .args .radii .now)
-
-  is-fourth : view (c .result4 .result)
-      ≡ view (result (start .args .n) memory (most-models + natAbs (start .args .s .value)))
-  unfolding most-models
-  is-fourth = c .result4 .ensures
-      ∙ ap (λ j. view (result (start .args .n) memory (16 + j))) (value-place (c .before .before .before .before .before
-      .before .before .before .before .before .before .before .before .before .before .before .before .before
-      .before .before))
-
-divided-requires : tie.Need-divided-requires
-unfolding held-step most-models
-divided-requires c κs =
-    let o = c .before .before .before in
-    let s = start o in (
-      iteration-proposal (s .pre .0) (o .before .before .before .before .before .before .before .before .before .before
-          .before .before .before .before .before .result .result) (o .before .before .before .before .before .before
-          .before .before .before .before .result2 .result) (o .before .before .before .before .before .result3
-          .result) (o .result4 .result)
-          (s .pre .1 .1)
-          (o .before .before .before .before .before .before .before .before .before .before .before .before .before
-          .before .before .result .ensures) (o .before .before .before .before .before .before .before .before
-          .before .before .result2 .ensures) (o .before .before .before .before .before .result3 .ensures)
-          (is-fourth o),
-      s .pre .1 .0 .quotient (s .pre .1 .1),
+quotient-requires c κs =
+    let m = c .before .before .before .before .before .before .before in
+    let s = start m in
+    let a = s .args in
+    let e = s .pre .1 .1 in (
+      iteration-proposed (s .pre .0) e (m .magnitude .result) (value-place m),
+      subst (λ j. Scratch-room (quotient-products (getD (a .counts .now) (16 + a .s .b) 0)
+          (getD (a .counts .now) (16 + a .s .v) 0) (getD (a .counts .now) (16 + j) 0))
+          (a .slots .now) (a .places .now) (a .sums .now)) (sym (value-place m)) (s .pre .1 .0 .quotient e),
     )
+
+-- where the quotient is made
+module _ (c : tie.After-sums) where
+  abbrev made : tie.After-quotient
+  made = c .before .before .before .before .before
+
+  abbrev number : tie.After-magnitude
+  number = made .before .before .before .before .before .before .before .before
 
 all-carried-requires : tie.Need-all-carried-requires
 unfolding held-step most-models
 all-carried-requires c κs =
-    let o = c .before .before .before .before .before .before .before .before .before in
-    let s = start o in
-    iteration-bounded (s .pre .0) (o .before .before .before .before .before .before .before .before .before .before
-    .before .before .before .before .before .result .result) (o .before .before .before .before .before .before
-    .before .before .before .before .result2 .result) (o .before .before .before .before .before .result3
-    .result) (o .result4 .result)
-    (s .pre .1 .1)
-    (o .before .before .before .before .before .before .before .before .before .before .before .before .before
-    .before .before .result .ensures) (o .before .before .before .before .before .before .before .before .before
-    .before .result2 .ensures) (o .before .before .before .before .before .result3 .ensures) (is-fourth o)
-    (c .before .before .before .before .before .divided .ensures)
+    let m = number c in
+    let s = start m in
+    quotient-within (s .pre .0) (s .pre .1 .1) (m .magnitude .result) (value-place m) (made c .quotient .ensures)
 
 settled-requires : tie.Need-settled-requires
-settled-requires c κs = let t = c .before .before .before .before .before .before .before .before .before .before
+settled-requires c κs =
+    let t = c .before .before .before .before .before .before .before .before .before .before .before .before
     .before .before .before .before .before .before .before .before .before .before .before .before .before .before
-    .before .before .before .before .before .before .before .before .before .before .before .before .before .before
-    .before .before .before .before .before .before .before .before .pre .0 in (
-      iteration-small t,
-      (
-        iteration-room t,
-        iteration-rows
-            t,
-      ),
-    )
+    .before .before .before .before .pre .0 in
+    (iteration-small t, (iteration-room t, iteration-rows t))
 
 same-length : tie.Need-same-length
 same-length c = search needs
@@ -179,21 +119,12 @@ same-length-8 c = search needs
 returns : tie.Need-returns
 unfolding held-step most-models
 returns c = λ t.
-    let o = c .before .before .before .before .before .before .before .before .before .before .before .before .before
-    .before .before .before .before .before .before .before .before .before .before .before .before in
-    let w = c .before .before .before .before .before .before .before .before .before .settled .ensures in
-    quotient-iterated t (o .before .before .before .before .before .before .before .before .before .before .before
-    .before .before .before .before .result .result) (o .before .before .before .before .before .before .before
-    .before .before .before .result2 .result) (o .before .before .before .before .before .result3 .result) (o
-    .result4 .result)
-    (start o .pre .1 .1)
-    (o .before .before .before .before .before .before .before .before .before .before .before .before .before
-    .before .before .result .ensures) (o .before .before .before .before .before .before .before .before .before
-    .before .result2 .ensures) (o .before .before .before .before .before .result3 .ensures) (is-fourth o)
-    (c .before .before .before .before .before .before .before .before .before .before .before .before .before
-    .before .before .before .before .before .before .before .before .divided .ensures) (c .before .before
-    .before .before .before .before .before .before .before .before .before .before .before .before .before
-    .all-carried .ensures) (w .0) (w .1) (w .2)
+    let p = c .before .before .before .before .before .before .before .before .before in
+    let k = p .before .before .before .before .before .before in
+    let m = number (k .before) in
+    let w = p .settled .ensures in
+    quotient-settled t (start m .pre .1 .1) (m .magnitude .result) (value-place m)
+    (made (k .before) .quotient .ensures) (k .all-carried .ensures) (w .0) (w .1) (w .2)
 
 pub quotient-step-spec : {M : Type 1} → statement M
 quotient-step-spec =
@@ -207,11 +138,7 @@ quotient-step-spec =
     add-v
     magnitude-requires
     add-last
-    result-requires
-    result-requires-2
-    result-requires-3
-    result-requires-4
-    divided-requires
+    quotient-requires
     all-carried-requires
     settled-requires
     same-length
