@@ -1,6 +1,6 @@
 // The steps of a book in order: each after the results so far, until the last or until one is refused. The book's
 // models and the results stand in flat slices, and a step copies only those that it names. All products share one
-// table: a small one first, and the full one from the first step on that needs it.
+// table: a small one first, a larger one from the first step on that needs it, and so the full one.
 ghost use Rattle.model.specs.OperationContracts.{«most-entries»};
 ghost use Rattle.sheet_results.specs.Results.{results};
 ghost use Rattle.sheet_run_laws.specs.Run.{Part, Stopped};
@@ -32,8 +32,17 @@ pub fn run(
     let Verdict::Accepted = v else {
         return t;
     };
-    if at < count {
-        return sheet_run_tables::large(l, at, keys, coefficients, counts, radii, rows);
+    if count <= at {
+        return t;
     }
-    t
+    let u = sheet_run_tables::middle(keys, coefficients, counts, radii, rows, l, at);
+    let to = u.at;
+    let w = u.verdict;
+    let Verdict::Accepted = w else {
+        return u;
+    };
+    if to < count {
+        return sheet_run_tables::large(l, to, keys, coefficients, counts, radii, rows);
+    }
+    u
 }

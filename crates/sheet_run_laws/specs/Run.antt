@@ -155,6 +155,10 @@ pub record Scratch-for (room : ℕ) (slots keys : List ℕ) (sums : List ℤ) : 
 abbrev pub few-products : ℕ
 few-products = 256
 
+-- those that the next one has room for
+abbrev pub some-products : ℕ
+some-products = 1024
+
 -- how many terms the result of step j has
 abbrev pub terms-at : (counts : List ℕ) → (j : ℕ) → ℕ
 terms-at counts j = getD counts (most-models + j) 0

@@ -186,8 +186,12 @@ returns-3 c =
       },
       λ k. c .quotient-fits .ensures
           ∙ le-leb (quotient-products g h w) (s .args .room)
-          (omega (arith, k, products-most g h w (few (16 + s .args .s .b)) (few (16 + s .args .s .v))
-          (few (16 + m .magnitude .result)))),
+          (omega (
+            arith,
+            k,
+            products-most g h w (few (16 + s .args .s .b)) (few (16 + s .args .s .v))
+                (few (16 + m .magnitude .result)),
+          )),
     )
 
 returns-4 : tie.Need-returns-4
