@@ -1,16 +1,24 @@
 -- `fault_of` makes three comparisons.
+use mathlib.Core.Path.{_≡_, sym}
+use Prim.Native.Nat.{ℕ, _≤_, _<_}
 use borrow.Author.Tests.{le-leb, lt-leb}
+use Rattle.model_types.specs.declared.Refusal.the-variants.{BadModel}
+use Rattle.model_types.specs.declared.Verdict.the-variants.{Refused}
 use Rattle.sheet_loading.specs.Loading.{fault-of}
 use Rattle.sheet_loading.proofs.fault_of.Statement.{statement}
 use Rattle.sheet_loading.proofs.fault_of.Tie as tie
+
+-- all models pass, and bytes are left
+left-over : (p c e o f t : ℕ) → c ≤ p → e < o → fault-of p c e o f t ≡ Refused BadModel c
+unfolding fault-of
+left-over p c e o f t h l = rw (le-leb c p h, lt-leb o e l)
 
 returns : tie.Need-returns
 unfolding fault-of
 returns c = rw (lt-leb _ _ (c .if1 .taken))
 
 returns-2 : tie.Need-returns-2
-unfolding fault-of
-returns-2 c = rw (le-leb _ _ (c .before .if1 .left), lt-leb _ _ (c .if2 .taken))
+returns-2 c = sym (left-over _ _ _ _ _ _ (c .before .if1 .left) (c .if2 .taken))
 
 returns-3 : tie.Need-returns-3
 unfolding fault-of
