@@ -1,7 +1,7 @@
 -- The range lies inside the symmetric one: what stays in the box by that stays in it by the range.
 use mathlib.Core.Path.{_≡_, ap}
 use mathlib.Core.Bool.{Bool, true, false, not, _&&_}
-use mathlib.Core.List.{List, [], _∷_}
+use mathlib.Core.List.{List}
 use Prim.Native.Nat.{ℕ, zero, suc, _+_, _≤_, max}
 use native.Mathlib.Omega.{arith}
 use lib.Dec.{T, le→leb}
@@ -11,21 +11,16 @@ use Rattle.algebra.specs.Integer.{natAbs-add, natAbs-neg}
 use Rattle.algebra.specs.IntegerRing.{ℤR, ℤO}
 use Rattle.algebra.specs.OrderedLaws.{+-mono, neg-mono}
 use Rattle.numbers.specs.Fixed.{U}
-use Rattle.calculus.specs.Terms.{Terms, select, sum-over, sum-ℕ, size}
+use Rattle.calculus.specs.Terms.{select, sum-ℕ, size}
 use Rattle.calculus.specs.Model.{Model}
 use Rattle.calculus.specs.Operations.{Ends, is-constant, constant-part, even-powers, can-fall, can-rise, below}
 use Rattle.calculus.specs.Operations.{above, range, range-in-box}
 use Rattle.calculus.specs.SymmetricRange.{variation, symmetric-range, symmetric-in-box}
 use Rattle.calculus_laws.specs.TestLaws.{and-left, and-right, both}
-use Rattle.calculus_laws.specs.SumLaws.{ℕ-addition, if-so, sum-select}
+use Rattle.calculus_laws.specs.SumLaws.{ℕ-addition, if-so, sum-select, sum-mono}
 use Rattle.calculus_laws.specs.RangeLaws.{fall, rise, below-sum, above-sum}
 
 -- ---- what can fall or rise is no more than all that varies
-sum-mono : (g h : List ℕ → ℤ → ℕ) → ((k : List ℕ) (c : ℤ) → g k c ≤ h k c) → (p : Terms) → sum-ℕ g p ≤ sum-ℕ h p
-unfolding sum-over
-sum-mono g h l [] = omega arith
-sum-mono g h l (t ∷ p) = omega (arith, l (t .exponents) (t .coefficient), sum-mono g h l p)
-
 fewer : (a b : Bool) (n : ℕ) → if-so ℕ-addition (a && b) n ≤ if-so ℕ-addition a n
 unfolding if-so
 fewer true true n = omega arith
