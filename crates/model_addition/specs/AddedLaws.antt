@@ -55,16 +55,6 @@ module _ (m : Model) (h : T (sound most-degree (view m))) (w : Whole m) where
     rises = rw e at (canonical .rising-terms);
   }
 
--- with all signs turned
-pub negated-sound : (d : ℕ) (f : C.Model) → T (sound d f) → T (sound d (negate f))
-negated-sound d f h = parts-sound d (negate f) vars (negated (negate-sound (f .vars) d f (sound-parts d f h)))
-  where
-    vars : T (between 1 most-vars (negate f .vars))
-    vars = unfold negate vars-sound in subst T (sym (sound-vars d f h)) tt
-
-    negated : S.Sound (f .vars) d (negate f) → S.Sound (negate f .vars) d (negate f)
-    negated k = unfold negate in k
-
 -- ---- two
 module _ (a b : Model) (s : Operands a b) (v : Whole a) (w : Whole b) where
   pub mergeable : Mergeable a b

@@ -11,6 +11,7 @@ use Rattle.model_types.specs.declared.Model.{Model}
 use Rattle.model_types.specs.ModelStruct.{view, answer}
 use Rattle.model_slices.specs.HeldModels.{model-places, held, Room}
 use Rattle.model_limits.specs.Limits.{Packed}
+use Rattle.model_places.specs.SlicePlaces.{Places}
 
 -- two sound models in the same variables
 pub record Operands (a b : Model) : Type 0 where
@@ -20,6 +21,15 @@ pub record Operands (a b : Model) : Type 0 where
 
 -- ---- in slices
 -- two sound models in the same variables
+pub record Sum-from (c : ℕ) (ks : List ℕ) (cs : List ℤ) (d : ℕ) (ks₂ : List ℕ) (cs₂ : List ℤ) : Type 0 where
+  pub vars : ℕ
+  pub radius1 : ℕ
+  pub radius2 : ℕ
+  pub first-places : Places c ks cs
+  pub second-places : Places d ks₂ cs₂
+  pub operands : Operands (held vars c radius1 ks cs) (held vars d radius2 ks₂ cs₂)
+
+-- the same in slices of 64 places
 pub record Sum-of (c : ℕ) (ks : List ℕ) (cs : List ℤ) (d : ℕ) (ks₂ : List ℕ) (cs₂ : List ℤ) : Type 0 where
   pub vars : ℕ
   pub radius1 : ℕ

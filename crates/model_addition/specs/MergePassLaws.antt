@@ -2,7 +2,7 @@
 use mathlib.Core.Path.{_≡_, refl, sym, _∙_, ap, ap₂, subst}
 use mathlib.Core.Bool.{true, false}
 use mathlib.Core.List.{List}
-use Prim.Native.Nat.{ℕ, _+_, _-_, _^_, _≤_, _<_, min}
+use Prim.Native.Nat.{ℕ, _+_, _^_, _≤_, _<_}
 use native.Mathlib.Omega.{arith}
 use lib.Dec.{T}
 use lib.IntN.{ℤ, pos, natAbs}
@@ -19,16 +19,18 @@ use Rattle.model_types.specs.ModelStructLaws.{limits}
 use Rattle.model_types.specs.PairedLaws.{length-paired}
 use Rattle.model_slices.specs.HandedModels.{terms-of}
 use Rattle.model_slices.specs.HeldModels.{held, Room}
-use Rattle.model_slices.specs.HeldModelsLaws.{pair, held-long, held-at, stored-more, own-view}
+use Rattle.model_slices.specs.HeldModelsLaws.{pair, stored-more, own-view}
+use Rattle.model_places.specs.SlicePlaces.{Places}
 use Rattle.model_addition.specs.declared.Next.{Next}
-use Rattle.model_addition.specs.Addition.{Operands, Sum-of, Sum-in}
+use Rattle.model_addition.specs.Addition.{Operands, Sum-from, Sum-of, Sum-in}
 use Rattle.model_addition.specs.Merge.{Takes}
 use Rattle.model_addition.specs.MergeLaws.{Mergeable, Merged, Iteration, nothing-stored, iteration, skip, store}
 use Rattle.model_addition.specs.MergeLaws.{too-many}
 use Rattle.model_addition.specs.AddedLaws.{Whole, coefficient-within, radius-within, mergeable}
 use Rattle.model_addition.specs.AddedLaws.{answer-too-many, sum-packed, sum-answer}
+use Rattle.model_places.specs.SlicePlacesLaws.{places-long, places-at, room-places}
 
-module _ {c d : ℕ} {ks ks₂ : List ℕ} {cs cs₂ : List ℤ} (w : Sum-of c ks cs d ks₂ cs₂) where
+module _ {c d : ℕ} {ks ks₂ : List ℕ} {cs cs₂ : List ℤ} (w : Sum-from c ks cs d ks₂ cs₂) where
   abbrev a : Model
   a = held (w .vars) c (w .radius1) ks cs
 
@@ -44,10 +46,10 @@ module _ {c d : ℕ} {ks ks₂ : List ℕ} {cs cs₂ : List ℤ} (w : Sum-of c k
   second-few = limits most-degree b (w .operands .second) .few
 
   first-whole : Whole a
-  first-whole = held-long (w .vars) c (w .radius1) ks cs (w .first-room) first-few
+  first-whole = places-long (w .vars) c (w .radius1) ks cs (w .first-places) first-few
 
   second-whole : Whole b
-  second-whole = held-long (w .vars) d (w .radius2) ks₂ cs₂ (w .second-room) second-few
+  second-whole = places-long (w .vars) d (w .radius2) ks₂ cs₂ (w .second-places) second-few
 
   lists : Mergeable a b
   lists = mergeable a b (w .operands) first-whole second-whole
@@ -57,27 +59,22 @@ module _ {c d : ℕ} {ks ks₂ : List ℕ} {cs cs₂ : List ℤ} (w : Sum-of c k
   merge-first ks₃ cs₃ = nothing-stored a b
 
   -- ---- the terms that are read
-  module _ (i p : ℕ) (e : p ≡ min i (most-terms - 1)) (h : i < c) where
-    pub first-here : getD (listed a) i zero-term ≡ pair (getD ks p 0) (getD cs p (pos 0))
-    first-here =
-        let q : i ≡ p = omega (arith, e, first-few) in
-        held-at (w .vars) c (w .radius1) ks cs (w .first-room) first-few i h
-        ∙ ap (λ k. pair (getD ks k 0) (getD cs k (pos 0))) q
+  module _ {x : Term} (i : ℕ) (e : i < c → x ≡ pair (getD ks i 0) (getD cs i (pos 0))) (h : i < c) where
+    pub first-here : getD (listed a) i zero-term ≡ x
+    first-here = places-at (w .vars) c (w .radius1) ks cs (w .first-places) i h ∙ sym (e h)
 
-  module _ (j q : ℕ) (e : q ≡ min j (most-terms - 1)) (h : j < d) where
-    pub second-here : getD (listed b) j zero-term ≡ pair (getD ks₂ q 0) (getD cs₂ q (pos 0))
-    second-here =
-        let r : j ≡ q = omega (arith, e, second-few) in
-        held-at (w .vars) d (w .radius2) ks₂ cs₂ (w .second-room) second-few j h
-        ∙ ap (λ k. pair (getD ks₂ k 0) (getD cs₂ k (pos 0))) r
+  module _ {y : Term} (j : ℕ) (e : j < d → y ≡ pair (getD ks₂ j 0) (getD cs₂ j (pos 0))) (h : j < d) where
+    pub second-here : getD (listed b) j zero-term ≡ y
+    second-here = places-at (w .vars) d (w .radius2) ks₂ cs₂ (w .second-places) j h ∙ sym (e h)
 
-  pub merge-fits : (i j p q : ℕ) → p ≡ min i (most-terms - 1) → q ≡ min j (most-terms - 1) → i < c → j < d
-      → natAbs (getD cs p (pos 0)) + natAbs (getD cs₂ q (pos 0)) < 2 ^ 63
+  pub merge-fits : {x y : Term} (i j : ℕ) → (i < c → x ≡ pair (getD ks i 0) (getD cs i (pos 0)))
+      → (j < d → y ≡ pair (getD ks₂ j 0) (getD cs₂ j (pos 0))) → i < c → j < d
+      → natAbs (x .coefficient) + natAbs (y .coefficient) < 2 ^ 63
   unfolding held
-  merge-fits i j p q e f h l = omega (
+  merge-fits i j e f h l = omega (
     arith,
-    ap (λ (t : Term). natAbs (t .coefficient)) (first-here i p e h),
-    ap (λ (t : Term). natAbs (t .coefficient)) (second-here j q f l),
+    ap (λ (t : Term). natAbs (t .coefficient)) (first-here i e h),
+    ap (λ (t : Term). natAbs (t .coefficient)) (second-here j f l),
     coefficient-within a (w .operands .first) first-whole i h,
     coefficient-within b (w .operands .second) second-whole j l,
     span-fits,
@@ -85,11 +82,11 @@ module _ {c d : ℕ} {ks ks₂ : List ℕ} {cs cs₂ : List ℤ} (w : Sum-of c k
 
   -- ---- an iteration
   module _ (ks₃ : List ℕ) (cs₃ : List ℤ) {count i j : ℕ} (m : Merged a b (pad (terms-of count ks₃ cs₃)) count i j) where
-    pub merge-iteration : (p q : ℕ) → p ≡ min i (most-terms - 1) → q ≡ min j (most-terms - 1) → (r : Next)
-        → Takes i c (pair (getD ks p 0) (getD cs p (pos 0))) j d (pair (getD ks₂ q 0) (getD cs₂ q (pos 0))) r
+    pub merge-iteration : {x y : Term} → (i < c → x ≡ pair (getD ks i 0) (getD cs i (pos 0)))
+        → (j < d → y ≡ pair (getD ks₂ j 0) (getD cs₂ j (pos 0))) → (r : Next) → Takes i c x j d y r
         → Iteration a b i j r
     unfolding held
-    merge-iteration p q e f r t = iteration a b lists m _ _ (λ h. first-here i p e h) (λ h. second-here j q f h) r t
+    merge-iteration e f r t = iteration a b lists m _ _ (λ h. first-here i e h) (λ h. second-here j f h) r t
 
     module _ (r : Next) (t : Iteration a b i j r) where
       pub merge-skip : is-nonzero (r .term .coefficient) ≡ false
@@ -120,6 +117,26 @@ module _ {c d : ℕ} {ks ks₂ : List ℕ} {cs cs₂ : List ℤ} (w : Sum-of c k
       sum = λ l. sum-answer a b (w .operands) first-whole second-whole m h;
       many = λ l. absurd (omega (arith, m .few));
     }
+
+-- ---- slices of 64 places have those that a count names
+module _ {c d : ℕ} {ks ks₂ : List ℕ} {cs cs₂ : List ℤ} (w : Sum-of c ks cs d ks₂ cs₂) where
+  pub first-named : Places c ks cs
+  unfolding held
+  first-named = room-places (w .first-room) (limits most-degree _ (w .operands .first) .few)
+
+  pub second-named : Places d ks₂ cs₂
+  unfolding held
+  second-named = room-places (w .second-room) (limits most-degree _ (w .operands .second) .few)
+
+  abbrev pub from-rooms : Sum-from c ks cs d ks₂ cs₂
+  from-rooms = record {
+    vars = w .vars;
+    radius1 = w .radius1;
+    radius2 = w .radius2;
+    first-places = first-named;
+    second-places = second-named;
+    operands = w .operands;
+  }
 
 -- ---- two structs lend their arrays
 module _ {a b : Model} (s : Operands a b) (v : Room (a .keys) (a .coefficients)) (w : Room (b .keys) (b .coefficients))

@@ -1,5 +1,6 @@
 -- The antiderivative of one term by its key, and what the antiderivative of a model is asked of.
 use mathlib.Core.Bool.{Bool, not}
+use mathlib.Core.List.{List}
 use Prim.Native.Nat.{ℕ, _+_, _%_, _≤_}
 use lib.Dec.{T, eqb, ltb}
 use lib.IntN.{ℤ, natAbs}
@@ -10,6 +11,8 @@ use Rattle.calculus.specs.Model.{most-degree, sound}
 use Rattle.model_types.specs.declared.Model.{Model}
 use Rattle.model_types.specs.ModelStruct.{view}
 use Rattle.model_keys.specs.Keys.{key-exponent}
+use Rattle.model_slices.specs.HeldModels.{held}
+use Rattle.model_places.specs.SlicePlaces.{Places}
 
 -- whether its new degree is at most d
 unfoldable pub key-stays : (d key : ℕ) → Bool
@@ -34,3 +37,9 @@ pub record Integrand (d i : ℕ) (f : Model) : Type 0 where
   pub model : T (sound d (view f))
   pub first : 1 ≤ i
   pub last : i ≤ f .n
+
+-- the same where the model lies in slices
+pub record Integrand-in (d i count radius : ℕ) (ks : List ℕ) (cs : List ℤ) : Type 0 where
+  pub vars : ℕ
+  pub places : Places count ks cs
+  pub integrand : Integrand d i (held vars count radius ks cs)

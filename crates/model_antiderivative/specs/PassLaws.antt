@@ -2,15 +2,16 @@
 use mathlib.Core.Path.{_≡_, refl, sym, _∙_, ap, ap₂, subst}
 use mathlib.Core.Bool.{Bool, true, false, not}
 use mathlib.Core.List.{List, [], _∷_, _++_, map}
-use Prim.Native.Nat.{ℕ, _+_, _%_, _≤_, _<_}
+use Prim.Native.Nat.{ℕ, _+_, _%_, _^_, _≤_, _<_}
 use native.Mathlib.Omega.{arith}
 use native.Mathlib.Decide.{decLe}
 use borrow.Author.Tests.{le-leb, lt-leb, lt-ltb, le-ltb}
 use lib.Dec.{T, eqb, leb, ltb, ltb→lt}
-use lib.IntN.{ℤ, natAbs}
+use lib.IntN.{ℤ, pos, natAbs}
 use lib.ListN.{length, getD, set, length-map, length-append}
 use Rattle.polynomial.specs.Polynomial as P
 use Rattle.polynomial.specs.VariableAntiderivativeLaws.{exponent-raise}
+use Rattle.numbers.specs.FixedLaws.{span-fits}
 use Rattle.numbers.specs.Division.{divided-up, nearest}
 use Rattle.calculus.specs.Monomial.{degree, index-of}
 use Rattle.calculus_laws.specs.MonomialLaws.{index-suc, degree-raise, raise-replace, exponent-degree}
@@ -19,20 +20,27 @@ use Rattle.calculus.specs.Key.{key-width, key, key-fits, key-degree}
 use Rattle.calculus.specs.Terms.{Terms, term, select, sum-over, sum-ℕ, size, is-nonzero, drop-zeros}
 use Rattle.calculus_laws.specs.TermsLaws.{length-select}
 use Rattle.calculus_laws.specs.SumLaws.{ℕ-addition, if-so, if-ℕ, if-ℤ, sum-mono}
-use Rattle.calculus.specs.Model.{most-degree, most-terms, span}
+use Rattle.calculus.specs.Model.{most-degree, most-terms, sound, span}
 use Rattle.calculus.specs.Operations.{is-inexact, antiderivative}
 use Rattle.calculus_laws.specs.GrowthLaws.{up, new-exponent, stays, rounding-of, growth-of, growth-of-le, growth-sum}
 use Rattle.calculus_laws.specs.GrowthLaws.{new-coefficient, new-term, antiderivative-terms}
 use Rattle.model_types.specs.declared.Term.{Term}
 use Rattle.model_types.specs.declared.Model.{Model}
-use Rattle.model_types.specs.ModelStruct.{zero-term, view-term, view, pack-term, pad, pack, listed, of-terms}
+use Rattle.model_types.specs.ModelStruct.{zero-term, view-term, view, pack-term, pad, pack, paired, listed}
+use Rattle.model_types.specs.ModelStruct.{of-terms}
 use Rattle.model_types.specs.ModelStructLaws.{read, term-at, length-read, view-terms, map-more, sum-more}
-use Rattle.model_types.specs.ModelStructLaws.{select-in, select-out, packed-more, read-within-span}
+use Rattle.model_types.specs.ModelStructLaws.{select-in, select-out, packed-more, within-span, read-within-span}
 use Rattle.model_types.specs.ModelStructLaws.{Limits, limits, key-fits-at}
+use Rattle.model_slices.specs.HeldModels.{held, Room}
+use Rattle.model_slices.specs.HeldModelsLaws.{pair, own-view}
+use Rattle.model_places.specs.SlicePlaces.{Places}
+use Rattle.model_places.specs.SlicePlacesLaws.{room-places, places-long, places-at}
+use Rattle.model_places.specs.LeftModels.{Zeros}
+use Rattle.model_places.specs.LeftModelsLaws.{zeros-listed}
 use Rattle.model_keys.specs.Keys.{Slot, key-exponent, Raisable, key-raised}
 use Rattle.model_keys.specs.KeyExponentLaws.{monomial-exponent, monomial-raised}
 use Rattle.model_antiderivative.specs.Antiderivatives.{key-stays, key-coefficient, key-rounding, key-growth}
-use Rattle.model_antiderivative.specs.Antiderivatives.{Integrand}
+use Rattle.model_antiderivative.specs.Antiderivatives.{Integrand, Integrand-in}
 
 -- one more is at most d where the number is below it
 next-le : (a d : ℕ) → leb (a + 1) d ≡ ltb a d
@@ -167,9 +175,13 @@ module _ {d i : ℕ} {f : Model} (s : Integrand d i f) (w : f .count ≤ length 
         } ≡ pack-term (new-term d i (next f j))
         unpacked = unfold pack-term in refl
 
-  pub gathered-first : Gathered d i f (pad []) 0 (f .radius) 0
+  gathered-first : Gathered d i f (pad []) 0 (f .radius) 0
   unfolding drop-zeros select sum-over
   gathered-first = record { within = omega arith; stored = refl; counted = refl; grown = omega arith }
+
+  -- in arrays of zeros
+  pub gathered-zeros : {ks : List ℕ} {cs : List ℤ} → Zeros ks cs → Gathered d i f (paired ks cs) 0 (f .radius) 0
+  gathered-zeros z = subst (λ l. Gathered d i f l 0 (f .radius) 0) (sym (zeros-listed z)) gathered-first
 
   module _ {out : List Term} {count radius j : ℕ} (g : Gathered d i f out count radius j) where
     -- there is room
@@ -274,3 +286,53 @@ module _ {d i : ℕ} {f : Model} (s : Integrand d i f) (w : f .count ≤ length 
           dropped : drop-zeros (turned d i f (j + 1)) ≡ drop-zeros (turned d i f j)
           dropped = ap drop-zeros more-turned ∙ (unfold drop-zeros in select-out (λ k c. is-nonzero c) (turned d i f j)
               (new-term d i (next f j)) (subst (λ c. T (not (is-nonzero c))) (sym (coefficient-at j h)) z))
+
+-- ---- a model in slices
+module _ {d i count radius : ℕ} {ks : List ℕ} {cs : List ℤ} (w : Integrand-in d i count radius ks cs) where
+  abbrev integrand : Model
+  integrand = held (w .vars) count radius ks cs
+
+  pub in-limits : Limits integrand
+  in-limits = limits d integrand (w .integrand .model)
+
+  pub in-few : count ≤ most-terms
+  unfolding held
+  in-few = in-limits .few
+
+  pub in-long : count ≤ length (listed integrand)
+  in-long = omega (arith, in-few, places-long (w .vars) count radius ks cs (w .places) in-few)
+
+  -- the term at a place, whose coefficient is within 64 bits
+  module _ (j : ℕ) (h : j < count) where
+    pub in-at : at integrand j ≡ pair (getD ks j 0) (getD cs j (pos 0))
+    in-at = places-at (w .vars) count radius ks cs (w .places) j h
+
+    pub in-small : natAbs (getD cs j (pos 0)) < 2 ^ 63
+    unfolding held
+    in-small = omega (
+      arith,
+      span-fits,
+      in-limits .small,
+      within-span integrand j in-long h,
+      ap (λ (t : Term). natAbs (t .coefficient)) in-at,
+    )
+
+-- ---- a struct lends its arrays
+module _ {d i : ℕ} (f : Model) (s : Integrand d i f) (room : Room (f .keys) (f .coefficients)) where
+  pub own-same : view (held (f .n) (f .count) (f .radius) (f .keys) (f .coefficients)) ≡ view f
+  own-same = own-view f room (limits d f (s .model) .few)
+
+  pub own-integrand : Integrand d i (held (f .n) (f .count) (f .radius) (f .keys) (f .coefficients))
+  unfolding held
+  own-integrand = record {
+    order = s .order;
+    model = subst (λ m. T (sound d m)) (sym own-same) (s .model);
+    first = s .first;
+    last = s .last;
+  }
+
+  pub own-places : Places (f .count) (f .keys) (f .coefficients)
+  own-places = room-places room (limits d f (s .model) .few)
+
+  abbrev pub own-in : Integrand-in d i (f .count) (f .radius) (f .keys) (f .coefficients)
+  own-in = record { vars = f .n; places = own-places; integrand = own-integrand }

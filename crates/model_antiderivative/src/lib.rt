@@ -2,15 +2,18 @@
 ghost use mathlib.Core.Path.{_≡_};
 ghost use Prim.Native.Nat.{_+_, _^_, _<_};
 ghost use lib.IntN.{natAbs};
-ghost use Rattle.calculus.specs.Refusal.{accepted};
+ghost use Rattle.calculus.specs.Refusal.{accepted, done};
 ghost use Rattle.calculus.specs.Operations.{antiderivative, «growth-rounding»};
 ghost use Rattle.calculus.specs.Shares.{«antiderivative-shares»};
 ghost use Rattle.model_keys.specs.Keys.{Slot, «key-exponent»};
-ghost use Rattle.model_types.specs.ModelStruct.{view, pack};
+ghost use Rattle.model_types.specs.ModelStruct.{view, pack, answer};
 ghost use Rattle.model_types.specs.SharesStruct.{accounted};
+ghost use Rattle.model_slices.specs.HeldModels.{held};
+ghost use Rattle.model_places.specs.LeftModels.{Zeros, «left-answer»};
 ghost use Rattle.model_antiderivative.specs.Antiderivatives.{«key-stays», «key-coefficient», «key-growth»};
-ghost use Rattle.model_antiderivative.specs.Antiderivatives.{«key-rounding», Integrand};
+ghost use Rattle.model_antiderivative.specs.Antiderivatives.{«key-rounding», Integrand, «Integrand-in»};
 use model_keys::Key;
+use model_limits::Left;
 use model_types::Accounted;
 use model_types::Answer;
 use model_types::Model;
@@ -87,33 +90,89 @@ fn rounded(d: u8, i: u8, f: Model) -> u64
     sum
 }
 
-// The antiderivative in variable i of a sound model, with order d: one pass over the terms, which stay in order.
-pub fn integrated(d: u8, i: u8, f: Model) -> Model
-    requires { ⌜ Integrand d i f ⌝ }
-    ensures { λ r. ⌜ r ≡ pack (antiderivative d i (view f)) ⌝ }
+// The antiderivative in variable i of a sound model, with order d: one pass over the terms, which stay in order and go
+// into two arrays of zeros.
+pub fn integrated_slices(
+    d: u8,
+    i: u8,
+    total: usize,
+    start: u64,
+    keys: &[Key],
+    coefficients: &[i64],
+    stored: &mut [Key],
+    out: &mut [i64],
+) -> Left
+    requires { ⌜ Integrand-in d i total start (now keys) (now coefficients) ⌝ }
+    requires { ⌜ Zeros (now stored) (now out) ⌝ }
+    ensures { λ r. ⌜ ((w : Integrand-in d i total start (now (keys .entry)) (now (coefficients .entry)))
+        → left-answer (w .vars) r (now (stored .exit)) (now (out .exit))
+        ≡ answer (done (antiderivative d i
+        (view (held (w .vars) total start (now (keys .entry)) (now (coefficients .entry))))))) ⌝ }
 {
-    let total = f.count;
-    let mut keys: [Key; model_types::MOST_TERMS] = [0; model_types::MOST_TERMS];
-    let mut coefficients = [0i64; model_types::MOST_TERMS];
     let mut count = 0;
-    let mut radius = f.radius;
+    let mut radius = start;
     let mut j = 0;
     while j < total {
-        let key = f.keys[j];
-        let c = f.coefficients[j];
+        let key = keys[j];
+        let c = coefficients[j];
         let new = divided(d, i, key, c);
         radius += growth(d, i, key, c);
         j += 1;
         if new != 0 {
-            keys[count] = model_keys::raised(key, i);
-            coefficients[count] = new;
+            stored[count] = model_keys::raised(key, i);
+            out[count] = new;
             count += 1;
         }
     }
-    Model {
-        n: f.n,
+    Left {
         count: count,
         radius: radius,
+        verdict: Verdict::Accepted,
+    }
+}
+
+// The same for two slices of one lifetime, at which a struct lends its arrays.
+fn integrated_arrays<'a>(
+    d: u8,
+    i: u8,
+    total: usize,
+    start: u64,
+    keys: &'a [Key],
+    coefficients: &'a [i64],
+    stored: &mut [Key],
+    out: &mut [i64],
+) -> Left
+    requires { ⌜ Integrand-in d i total start (now keys) (now coefficients) ⌝ }
+    requires { ⌜ Zeros (now stored) (now out) ⌝ }
+    ensures { λ r. ⌜ ((w : Integrand-in d i total start (now (keys .entry)) (now (coefficients .entry)))
+        → left-answer (w .vars) r (now (stored .exit)) (now (out .exit))
+        ≡ answer (done (antiderivative d i
+        (view (held (w .vars) total start (now (keys .entry)) (now (coefficients .entry))))))) ⌝ }
+{
+    integrated_slices(d, i, total, start, keys, coefficients, stored, out)
+}
+
+// The same of a struct.
+pub fn integrated(d: u8, i: u8, f: Model) -> Model
+    requires { ⌜ Integrand d i f ⌝ }
+    ensures { λ r. ⌜ r ≡ pack (antiderivative d i (view f)) ⌝ }
+{
+    let mut keys: [Key; model_types::MOST_TERMS] = [0; model_types::MOST_TERMS];
+    let mut coefficients = [0i64; model_types::MOST_TERMS];
+    let l = integrated_arrays(
+        d,
+        i,
+        f.count,
+        f.radius,
+        &f.keys,
+        &f.coefficients,
+        &mut keys,
+        &mut coefficients,
+    );
+    Model {
+        n: f.n,
+        count: l.count,
+        radius: l.radius,
         keys: keys,
         coefficients: coefficients,
     }

@@ -1,2 +1,3 @@
+pub mod NegateLaws
 pub mod SweepLaws
 pub mod SweepShareLaws

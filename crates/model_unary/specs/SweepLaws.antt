@@ -20,7 +20,9 @@ use Rattle.model_types.specs.ModelStruct.{zero-term, view-term, view, pack-term
 use Rattle.calculus_laws.specs.MonomialKeyLaws.{constant-monomial}
 use Rattle.model_types.specs.ModelStructLaws.{pack-view-term, read, length-read, term-at, view-is, read-within-span}
 use Rattle.model_types.specs.ModelStructLaws.{select-more, select-same, select-iteration, sum-select-le, size-more}
-use Rattle.model_types.specs.ModelStruct.{listed, of-terms}
+use Rattle.model_types.specs.ModelStruct.{paired, listed, of-terms}
+use Rattle.model_places.specs.LeftModels.{Zeros}
+use Rattle.model_places.specs.LeftModelsLaws.{zeros-listed}
 
 -- the test by key and size
 small-test : (t n z : ℕ) (c : ℤ) → n ≤ key-width → z < key-limit
@@ -46,9 +48,13 @@ module _ (t : ℕ) (m : Model) where
     pub counted : count ≡ length (select large (before i))
     pub sum : radius ≡ m .radius + size (select (is-small t) (before i))
 
-  pub swept-first : Swept (pad []) 0 (m .radius) 0
+  swept-first : Swept (pad []) 0 (m .radius) 0
   unfolding select size sum-over
   swept-first = record { within = omega arith; stored = refl; counted = refl; sum = omega arith }
+
+  -- in arrays of zeros
+  pub swept-zeros : {ks : List ℕ} {cs : List ℤ} → Zeros ks cs → Swept (paired ks cs) 0 (m .radius) 0
+  swept-zeros z = subst (λ l. Swept l 0 (m .radius) 0) (sym (zeros-listed z)) swept-first
 
   module _ (w : m .count ≤ length (listed m)) (out : List Term) (count radius i : ℕ) (h : Swept out count radius i)
     where

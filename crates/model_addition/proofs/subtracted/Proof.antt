@@ -8,7 +8,7 @@ use Rattle.calculus.specs.Operations.{negate, add, subtract}
 use Rattle.model_types.specs.declared.Model.{Model}
 use Rattle.model_types.specs.ModelStruct.{view, pack, answer}
 use Rattle.model_types.specs.ModelStructLaws.{view-pack-sound}
-use Rattle.model_addition.specs.AddedLaws.{negated-sound}
+use Rattle.model_unary.specs.NegateLaws.{negated-sound}
 use Rattle.model_addition.proofs.subtracted.Statement.{statement}
 use Rattle.model_addition.proofs.subtracted.Tie as tie
 

@@ -1,0 +1,4 @@
+pub mod SlicePlaces
+pub mod SlicePlacesLaws
+pub mod LeftModels
+pub mod LeftModelsLaws

@@ -1,0 +1,2 @@
+pub mod StoredAnswers
+pub mod StoredAnswersLaws

@@ -1,0 +1,2 @@
+pub mod Addends
+pub mod AddendsLaws

@@ -1,0 +1,2 @@
+pub mod SoundSlices
+pub mod TermCallLaws
