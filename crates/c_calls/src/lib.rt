@@ -5,9 +5,10 @@ ghost use lib.ListN.{length};
 ghost use Rattle.calculus.specs.Model.{«most-terms»};
 ghost use Rattle.model_types.specs.ModelStruct.{view, answer, «integral-answer»};
 ghost use Rattle.model_slices.specs.HandedModels.{«answer-numbers»};
-ghost use Rattle.c_calls.specs.CallCodes.{«model-call», «ends-call», «call-known», «call-fits»};
+ghost use Rattle.c_calls.specs.CallCodes.{«ends-call», «call-known», «call-fits»};
 ghost use Rattle.c_calls.specs.CallCodes.{«ends-call-fits»};
 ghost use Rattle.c_calls.specs.CallCodes.{«called-state», «stored-answer», «ends-alone», «ends-state»};
+ghost use Rattle.c_calls.specs.CallKinds.{«of-two», «of-one», «other-call»};
 ghost use Rattle.c_calls.specs.CallCodes.{«stored-integral», coordinate, coordinates, «point-fits»};
 use model::Answer;
 use model::Bounds;
@@ -30,17 +31,15 @@ const CONSTANT: u8 = 1;
 
 const VARIABLE: u8 = 2;
 
-const NEGATE: u8 = 3;
+pub const NEGATE: u8 = 3;
 
-const ADD: u8 = 4;
+pub const ADD: u8 = 4;
 
-const SUBTRACT: u8 = 5;
+pub const SUBTRACT: u8 = 5;
 
 pub const MULTIPLY: u8 = 6;
 
-const SUBSTITUTE: u8 = 7;
-
-const SWEEP: u8 = 8;
+pub const SWEEP: u8 = 8;
 
 const ANTIDERIVATIVE: u8 = 10;
 
@@ -51,12 +50,35 @@ const INTEGRAL: u8 = 2;
 
 const EVALUATE: u8 = 3;
 
-// The call that a code names, the antiderivative for any that the others do not have. The constructors take the n of
-// the first model, which is handed over beside it: read here, it would have the compiler take the model apart and copy
-// it.
-pub fn model_call(code: u8, d: u8, i: u8, value: i64, n: u8, f: Model, g: Model) -> Answer
+// Whether a code names a call of two models that goes from slices to slices: add, subtract, multiply.
+pub fn of_two(code: u8) -> bool
+    ensures { λ r. ⌜ r ≡ of-two code ⌝ }
+{
+    if code < ADD {
+        return false;
+    }
+    code <= MULTIPLY
+}
+
+// Whether it names one of one model: negate, sweep, antiderivative.
+pub fn of_one(code: u8) -> bool
+    ensures { λ r. ⌜ r ≡ of-one code ⌝ }
+{
+    if code == NEGATE {
+        return true;
+    }
+    if code == SWEEP {
+        return true;
+    }
+    code == ANTIDERIVATIVE
+}
+
+// Any other call that answers with a model, substitute for any code that constant and variable do not have. The
+// constructors take the n of the first model, which is handed over beside it: read here, it would have the compiler
+// take the model apart and copy it.
+pub fn other_call(code: u8, d: u8, i: u8, value: i64, n: u8, f: Model, g: Model) -> Answer
     requires { ⌜ n ≡ f .n ⌝ }
-    ensures { λ r. ⌜ r ≡ answer (model-call code d i value (view f) (view g)) ⌝ }
+    ensures { λ r. ⌜ r ≡ answer (other-call code d i value (view f) (view g)) ⌝ }
 {
     if code == CONSTANT {
         return Model::constant(n, value);
@@ -64,25 +86,7 @@ pub fn model_call(code: u8, d: u8, i: u8, value: i64, n: u8, f: Model, g: Model)
     if code == VARIABLE {
         return Model::variable(n, i);
     }
-    if code == NEGATE {
-        return model::negate(f);
-    }
-    if code == ADD {
-        return model::add(f, g);
-    }
-    if code == SUBTRACT {
-        return model::subtract(f, g);
-    }
-    if code == MULTIPLY {
-        return model::multiply(d, f, g);
-    }
-    if code == SUBSTITUTE {
-        return model::substitute(d, i, f, g);
-    }
-    if code == SWEEP {
-        return model::sweep(f, value);
-    }
-    model::antiderivative(d, i, f)
+    model::substitute(d, i, f, g)
 }
 
 // Two ends with a quotient and a remainder of 0.

@@ -1,32 +1,21 @@
 // A product of two models that are handed over, straight from their slices into those of the answer.
 ghost use mathlib.Core.Bool.{true};
-ghost use mathlib.Core.List.{[], _∷_};
 ghost use mathlib.Core.Path.{_≡_};
 ghost use Prim.Native.Nat.{_≤_};
 ghost use lib.ListN.{length};
 ghost use Rattle.calculus.specs.Calls.{«call-multiply»};
 ghost use Rattle.calculus.specs.Model.{«most-terms»};
 ghost use Rattle.model_types.specs.ModelStruct.{view, answer};
-ghost use Rattle.model_slices.specs.HandedModels.{handed, borrowed, over, «answer-numbers»};
+ghost use Rattle.model_slices.specs.HandedModels.{handed, borrowed, «answer-numbers»};
 ghost use Rattle.model.specs.OperationContracts.{«kept-accounted», «Kept-ready»};
 ghost use Rattle.c_calls.specs.CallCodes.{«called-state», «stored-answer»};
+use model_slice_calls::store_numbers;
 use model_slices::Kept;
 use model_types::Key;
 use model_types::Verdict;
 
 // How many terms an answer may have before it is refused: one more than a model.
 const PLACES: usize = model_types::MOST_TERMS + 1;
-
-// The numbers of an answer.
-fn store_numbers(place: usize, n: u8, count: usize, radius: u64, numbers: &mut [u64])
-    requires { ⌜ answer-numbers ≤ length (now numbers) ⌝ }
-    ensures { λ r. ⌜ now (numbers .exit) ≡ over (place ∷ n ∷ count ∷ radius ∷ []) (now (numbers .entry)) ⌝ }
-{
-    numbers[0] = place as u64;
-    numbers[1] = n as u64;
-    numbers[2] = count as u64;
-    numbers[3] = radius;
-}
 
 // An answer whose terms stand in two arrays goes into the slices; its number.
 fn store(

@@ -8,8 +8,7 @@ ghost use Rattle.c_calls.specs.CallCodes.{«called-state», called, «ends-stat
 use model_types::Key;
 
 // A call that answers with a model: the refusal's number, 0 without one, or MISUSED. The answer's 64 keys and
-// coefficients go into two slices, the refusal's place, n, the count and the radius into the third. A product is
-// made from the slices.
+// coefficients go into two slices, the refusal's place, n, the count and the radius into the third.
 #[no_mangle]
 pub extern "C" fn hechroung_raw_call(
     code: u8,
@@ -40,43 +39,25 @@ pub extern "C" fn hechroung_raw_call(
         (view (handed n2 count2 radius2 (now (keys2 .entry)) (now (coefficients2 .entry)))))
         (now (keys .entry)) (now (coefficients .entry)) (now (numbers .entry)) ⌝ }
 {
-    let room = model_slices::model_room(keys.len(), coefficients.len(), numbers.len());
-    let long1 = keys1.len();
-    let long2 = keys2.len();
-    if !c_calls::call_fits(
+    c_dispatch::call(
         code,
+        d,
+        i,
+        value,
+        n1,
         count1,
-        long1,
-        coefficients1.len(),
+        radius1,
+        keys1,
+        coefficients1,
+        n2,
         count2,
-        long2,
-        coefficients2.len(),
-        room,
-    ) {
-        return c_calls::MISUSED;
-    }
-    if code == c_calls::MULTIPLY {
-        return c_products::multiply(
-            d,
-            n1,
-            count1,
-            radius1,
-            keys1,
-            coefficients1,
-            n2,
-            count2,
-            radius2,
-            keys2,
-            coefficients2,
-            keys,
-            coefficients,
-            numbers,
-        );
-    }
-    let f = model_slices::taken(n1, count1, radius1, keys1, coefficients1);
-    let g = model_slices::taken(n2, count2, radius2, keys2, coefficients2);
-    let a = c_calls::model_call(code, d, i, value, n1, f, g);
-    c_calls::store_answer(a, keys, coefficients, numbers)
+        radius2,
+        keys2,
+        coefficients2,
+        keys,
+        coefficients,
+        numbers,
+    )
 }
 
 // A call that answers with two ends: the refusal's number, 0 without one, or MISUSED. The ends, the quotient and the
@@ -101,19 +82,5 @@ pub extern "C" fn hechroung_raw_ends(
         (view (handed n count radius (now (keys .entry)) (now (coefficients .entry)))))
         (now (ends .entry)) ⌝ }
 {
-    let long = keys.len();
-    if !c_calls::ends_call_fits(
-        code,
-        count,
-        long,
-        coefficients.len(),
-        point.len(),
-        ends.len(),
-    ) {
-        return c_calls::MISUSED;
-    }
-    let f = model_slices::taken(n, count, radius, keys, coefficients);
-    let xs = c_calls::coordinates(point);
-    let b = c_calls::ends_call(code, xs, f);
-    c_calls::store_ends(b, ends)
+    c_dispatch::ends(code, n, count, radius, keys, coefficients, point, ends)
 }

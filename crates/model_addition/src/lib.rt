@@ -114,7 +114,7 @@ pub fn merged_slices(
         → Sum-in (held (w .vars) c (w .radius1) (now (keys1 .entry)) (now (coefficients1 .entry)))
         (held (w .vars) d (w .radius2) (now (keys2 .entry)) (now (coefficients2 .entry)))
         (w .vars) r (now (stored .exit)) (now (out .exit))) ⌝ }
-    ensures clear { λ r. ⌜ (r ≤ 64 → Clear 0 (now (stored .entry)) (now (out .entry))
+    ensures clear { λ r. ⌜ (r ≤ model-places → Clear 0 (now (stored .entry)) (now (out .entry))
         → Clear r (now (stored .exit)) (now (out .exit))) ⌝ }
 {
     let mut count = 0;

@@ -1,11 +1,11 @@
--- `hechroung_raw_ends` tests what it is handed, builds the model and the point, makes the call and stores its answer.
+-- `ends` tests what it is handed, builds the model and the point, makes the call and stores its answer.
 use mathlib.Core.Path.{sym, _∙_}
 use borrow.Author.Needs.{needs}
 use borrow.Author.Tests.{not-true, not-false}
 use Rattle.c_calls.specs.CallCodes.{called-ends}
 use Rattle.c_calls.specs.CallCodesLaws.{fits-ends, ends-call-small}
-use Rattle.exports.proofs.calls.hechroung_raw_ends.Statement.{statement}
-use Rattle.exports.proofs.calls.hechroung_raw_ends.Tie as tie
+use Rattle.c_dispatch.proofs.ends.Statement.{statement}
+use Rattle.c_dispatch.proofs.ends.Tie as tie
 
 ends-call-fits-requires : tie.Need-ends-call-fits-requires
 ends-call-fits-requires c κs = search needs
@@ -49,8 +49,8 @@ returns-2 c =
       sym (e .before .ends-call-fits .ensures) ∙ not-false _ (e .if1 .left),
     )
 
-pub hechroung-raw-ends-spec : {M : Type 1} → statement M
-hechroung-raw-ends-spec =
+pub ends-spec : {M : Type 1} → statement M
+ends-spec =
     tie.close
     (tie.spec
     ends-call-fits-requires
