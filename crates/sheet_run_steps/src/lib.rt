@@ -10,37 +10,12 @@ ghost use Rattle.model.specs.OperationContracts.{Factors, «Scratch-room», «q
 ghost use Rattle.sheet_book.specs.BookStruct.{«held-step»};
 ghost use Rattle.sheet_results.specs.Results.{results, Roomy, result};
 ghost use Rattle.sheet_run_laws.specs.Run.{Iteration, Iterated, Served, Proposed, «quotient-at»};
-ghost use Rattle.sheet_run_laws.specs.Run.{«Input-step», «multiply-code», «quotient-code»};
+ghost use Rattle.sheet_run_laws.specs.Run.{«multiply-code», «quotient-code»};
 use model_types::Accounted;
 use model_types::Answer;
 use model_types::Key;
 use model_types::Verdict;
 use sheet_book::Step;
-
-// An input: the model that it names is its result, all of its radius carried.
-fn input_step(
-    n: u8,
-    i: usize,
-    s: Step,
-    keys: &mut [Key],
-    coefficients: &mut [i64],
-    counts: &mut [usize],
-    radii: &mut [u64],
-    rows: &mut [u64],
-) -> Verdict
-    requires { ⌜ Input-step n i (held-step s) (results (now keys) (now coefficients) (now counts) (now radii))
-        (now rows) ⌝ }
-    ensures { λ r. ⌜ ((t : Input-step n i (held-step s)
-        (results (now (keys .entry)) (now (coefficients .entry)) (now (counts .entry)) (now (radii .entry)))
-        (now (rows .entry))) → Iterated (t .iteration .held) i r
-        (results (now (keys .exit)) (now (coefficients .exit)) (now (counts .exit)) (now (radii .exit)))
-        (now (rows .exit))) ⌝ }
-{
-    let a = s.a as usize;
-    let f = sheet_results::result(n, a, keys, coefficients, counts, radii);
-    let c = sheet_steps::input_answer(f);
-    sheet_results::settled(c, i, keys, coefficients, counts, radii, rows)
-}
 
 // The product of two results.
 fn product(
@@ -262,7 +237,7 @@ pub fn step(
 {
     let code = s.code;
     if code == sheet_run_laws::INPUT {
-        return input_step(n, i, s, keys, coefficients, counts, radii, rows);
+        return sheet_run_inputs::input_step(n, keys, coefficients, counts, radii, rows, i, s);
     }
     if code == sheet_run_laws::MULTIPLY {
         return product_step(

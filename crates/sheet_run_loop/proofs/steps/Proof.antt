@@ -92,7 +92,7 @@ mul-s : tie.Need-mul-s Inv-loop μ-loop
 mul-s c = omega (arith, small c)
 
 element-copy-out-s : tie.Need-element-copy-out-s Inv-loop μ-loop
-element-copy-out-s c = small c
+element-copy-out-s c = omega (arith, small c)
 
 -- ---- a step that asks more room
 fits-requires : tie.Need-fits-requires Inv-loop μ-loop

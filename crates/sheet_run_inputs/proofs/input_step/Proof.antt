@@ -3,8 +3,8 @@ use Rattle.sheet_book.specs.BookStruct.{held-step}
 use Rattle.sheet_run_laws.specs.RunIterationLaws.{iteration-small, iteration-room, iteration-rows, iteration-model}
 use Rattle.sheet_run_laws.specs.RunIterationLaws.{iteration-input, input-iterated}
 use borrow.Author.Needs.{needs}
-use Rattle.sheet_run_steps.proofs.input_step.Statement.{statement}
-use Rattle.sheet_run_steps.proofs.input_step.Tie as tie
+use Rattle.sheet_run_inputs.proofs.input_step.Statement.{statement}
+use Rattle.sheet_run_inputs.proofs.input_step.Tie as tie
 
 cast-a : tie.Need-cast-a
 cast-a c = search needs
