@@ -98,7 +98,7 @@ fn substituted_many(d: u8, i: u8, f: Model, g: Model) -> Answer
     ensures { λ r. ⌜ r ≡ answer (at-place 0 (Op.substitute d i (view f) (view g))) ⌝ }
 {
     let mut slots = [0u16; product_hash_table::SLOTS_EACH * SOME_PRODUCTS + 1];
-    let mut keys = [0u64; GRID_PLACES];
+    let mut keys = [0u64; SOME_PRODUCTS + 1];
     let mut sums = [0i64; GRID_PLACES];
     model_substitution::substituted(d, i, f, g, &mut slots, &mut keys, &mut sums)
 }
@@ -109,7 +109,7 @@ fn substituted_any(d: u8, i: u8, f: Model, g: Model) -> Answer
     ensures { λ r. ⌜ r ≡ answer (at-place 0 (Op.substitute d i (view f) (view g))) ⌝ }
 {
     let mut slots = [0u16; product_hash_table::SLOTS];
-    let mut keys = [0u64; product_sums::PLACES];
+    let mut keys = [0u64; product_hash_table::ENTRY_PLACES];
     let mut sums = [0i64; product_sums::PLACES];
     model_substitution::substituted(d, i, f, g, &mut slots, &mut keys, &mut sums)
 }
@@ -251,7 +251,7 @@ pub fn quotient(d: u8, f: Model, g: Model, h: Model, w: Model) -> Answer
     match v {
         Verdict::Accepted => {
             let mut slots = [0u16; product_hash_table::SLOTS];
-            let mut keys = [0u64; product_sums::PLACES];
+            let mut keys = [0u64; product_hash_table::ENTRY_PLACES];
             let mut sums = [0i64; product_sums::PLACES];
             model_quotient::divided(d, f, g, h, w, &mut slots, &mut keys, &mut sums)
         }
@@ -306,16 +306,15 @@ pub use product_calls::multiplied_slices_accounted;
 // sound models in the same variables and one of these. The table is scratch.
 pub use model_substitution::substituted_accounted;
 
-// The answer of `quotient`, for four sound models in the same variables. The table is scratch.
-pub use model_quotient::divided;
-
-// The same where g, h and w lie in slices, with a table for the products that its forms make.
+// The answer of `quotient`, for four sound models in the same variables of which g, h and w lie in slices. The table is
+// scratch, for the products that its forms make.
 pub use model_quotient::divided_slices;
 
 // Any other operation's answer with the shares of its radius: all is carried.
 pub use model_types::all_carried;
 
-// How long a scratch table's keys and sums are at the least, and how long its slots.
+// How long the slots, the keys and the sums of a scratch table for any product are. The sums serve as a grid too.
+pub use product_hash_table::ENTRY_PLACES;
 pub use product_hash_table::SLOTS;
 pub use product_sums::PLACES;
 

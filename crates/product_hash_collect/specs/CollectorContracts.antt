@@ -83,8 +83,8 @@ pub record Empty-table (products room : ℕ) (slots keys : List ℕ) (sums : Lis
   pub keys-room : room < length keys
   pub sums-room : room < length sums
 
--- the scratch memory for any product: a table, whatever is in it
+-- the scratch memory for any product: a table, whatever is in it; its sums serve as a grid's too
 pub record Scratch-table (slots keys : List ℕ) (sums : List ℤ) : Type 0 where
   pub slots-room : home-slots + 2 * most-entries < length slots
-  pub keys-room : scratch-places ≤ length keys
+  pub keys-room : most-entries < length keys
   pub sums-room : scratch-places ≤ length sums

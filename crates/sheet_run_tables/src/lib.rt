@@ -112,7 +112,7 @@ pub fn large(
         (now (rows .exit))) ⌝ }
 {
     let mut slots = [0u16; model::SLOTS];
-    let mut places = [0u64; model::PLACES];
+    let mut places = [0u64; model::ENTRY_PLACES];
     let mut sums = [0i64; model::PLACES];
     sheet_run_loop::steps(
         l,
