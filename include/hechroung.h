@@ -14,9 +14,12 @@
                          names no call
 
    Memory. The caller owns everything. Nothing is kept after a call, nothing is allocated, and there is no state, so
-   that any number of threads may call at once. A call needs up to 224 KB of stack, the run of a sheet or a book, with
-   shares or without, up to 400 KB, writing and writing back up to 160 KB, opening, a step and a record up to 4 KB (a KB
-   is 1,024 bytes; the functions written out here add what they say). These figures are tested, not proved.
+   that any number of threads may call at once. A call needs up to 160 KB of stack, the run of a sheet or a book, with
+   shares or without, up to 320 KB, writing and writing back up to 160 KB, opening, a step and a record up to 4 KB (a KB
+   is 1,024 bytes; the functions written out here add what they say). The run of a sheet needs up to 144 KB if it has no
+   substitution and none of its steps asks for more than 256 products: a product asks for one for each pair of terms, a
+   quotient for one for each pair of terms of g and h, or for 64 for each term of w. These figures are tested, not
+   proved.
 
    Slices. A slice is a pointer and a length in elements. Nothing is read or written outside the lengths that are given;
    a pointer must be to that many elements, aligned, and a slice that is written must not overlap another one. */
@@ -43,7 +46,7 @@ extern "C" {
 #endif
 
 /* The version of this header, as text and as numbers; hechroung_version() hands out the text. */
-#define HECHROUNG_VERSION "2.0.0"
+#define HECHROUNG_VERSION "2.1.0"
 #define HECHROUNG_VERSION_MAJOR 2
 #define HECHROUNG_VERSION_MINOR 0
 #define HECHROUNG_VERSION_PATCH 0

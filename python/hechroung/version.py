@@ -1,3 +1,3 @@
 """The version of the package, in a module of its own: building reads it without the library."""
 
-VERSION = "2.0.0"
+VERSION = "2.1.0"

@@ -35,7 +35,7 @@ struct sheet_totals {
 /* A sign, 39 digits and a zero at the end. */
 enum { WIDE_TEXT = 41 };
 
-/* Runs a sheet; the pointer may be null where the length is 0. It takes up to 410 KB of stack. */
+/* Runs a sheet; the pointer may be null where the length is 0. It takes up to 330 KB of stack. */
 void sheet_run(const uint8_t *sheet, size_t length, struct sheet_answer *answer);
 
 /* A sentence for a refusal, 1 to 17; null for any other number. */

@@ -26,7 +26,7 @@
 //! [`Refusal`] has the trait `Error` of `core`, before that the one of the standard library, with the feature `std`.
 //! Both features are on by default.
 //!
-//! A call needs up to 224 KB of stack, the run of a sheet or a book up to 400 KB.
+//! A call needs up to 160 KB of stack, the run of a sheet or a book up to 320 KB.
 
 #![no_std]
 #![deny(missing_docs)]

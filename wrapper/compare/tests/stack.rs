@@ -12,19 +12,24 @@ use reference::doubles::Record;
 use reference::generate::{
     self, archive, books, chebyshev, cuts, quotients, Draft, DraftModel, Random,
 };
+use reference::run::trace;
 use reference::sheet;
 use reference::stored::StoredModel;
 use std::arch::asm;
 use std::ffi::{c_int, c_void};
 use std::process::Command;
 
-/// What the header says, in bytes: a single call; a run of a sheet or a book; reading and writing; stepping.
-const CALL: usize = 224 << 10;
-const RUN: usize = 400 << 10;
+/// What the header says, in bytes: a single call; a run of a sheet or a book; the run of a sheet that asks for few
+/// products; reading and writing; stepping.
+const CALL: usize = 160 << 10;
+const RUN: usize = 320 << 10;
+const SMALL_RUN: usize = 144 << 10;
 const WRITE: usize = 160 << 10;
 const STEP: usize = 4 << 10;
 /// Generated sheets and books, and pairs of models.
 const GENERATED: u64 = 1_000;
+/// The most products that a step of a small sheet asks for.
+const FEW_PRODUCTS: usize = 256;
 
 /// What may not be touched below a stack: more than any frame.
 const BELOW: usize = 4 << 20;
@@ -423,6 +428,47 @@ fn heaviest_sheet(n: u8) -> Vec<u8> {
     Draft::new(n, 15, models, steps).bytes()
 }
 
+/// The most products that a step of a sheet asks for: one for each pair of terms. A quotient has three products, and the
+/// difference of which it makes one may have 64 terms. A substitution asks for as many as any product can have. A sheet
+/// that is refused asks for what its steps up to the refused one do.
+fn products_asked(bytes: &[u8]) -> usize {
+    let Ok(book) = sheet::sound_book(bytes) else {
+        return 0;
+    };
+    let trace = trace(&book);
+    let terms = |step: u8| trace.steps[usize::from(step)].model.polynomial.len();
+    let ran = trace.steps.len() + usize::from(trace.refusal.is_some());
+    let asked = book.steps.iter().take(ran).map(|step| match step.code {
+        MULTIPLY => terms(step.a) * terms(step.b),
+        SUBSTITUTE => MOST_TERMS * MOST_TERMS,
+        QUOTIENT => {
+            let last = u8::try_from(step.value).expect("a sound quotient names a step");
+            (terms(step.b) * terms(step.v)).max(MOST_TERMS * terms(last))
+        }
+        _ => 0,
+    });
+    asked.max().unwrap_or(0)
+}
+
+/// As many models and steps as there can be in one variable, where no model has more than 16 terms.
+fn largest_small_sheet() -> Vec<u8> {
+    let model = |constant: i32| DraftModel {
+        radius: 5,
+        terms: (0..16)
+            .map(|power| (power << 28, if power == 0 { constant } else { 3 }))
+            .collect(),
+    };
+    let models = vec![model(1 << 19); MOST_MODELS];
+    let mut steps: Vec<Step> = (0..3).map(|number| Step::one(INPUT, number)).collect();
+    while steps.len() < MOST_STEPS {
+        steps.push(match steps.len() % 2 {
+            0 => Step::two(MULTIPLY, 0, 1),
+            _ => Step::antiderivative(0, 1),
+        });
+    }
+    Draft::new(1, 15, models, steps).bytes()
+}
+
 fn sheets() -> Vec<Vec<u8>> {
     let named = generate::named_sheets().into_iter();
     let generated = (0..GENERATED).map(|number| generate::sheet(7, number));
@@ -704,6 +750,30 @@ fn a_run_stays_within_its_figure() {
         .iter()
         .map(|book| stack.run(|| answer.shares_book(book.handed())));
     most("shares_book", RUN, used);
+}
+
+#[test]
+fn the_run_of_a_small_sheet_stays_within_its_figure() {
+    let mut stack = Stack::new(SMALL_RUN);
+    let mut sheets = sheets();
+    sheets.push(largest_small_sheet());
+    sheets.retain(|sheet| products_asked(sheet) <= FEW_PRODUCTS);
+    assert!(sheets.len() as u64 > GENERATED / 4, "{}", sheets.len());
+    let mut answer = Answer::NONE;
+    let used = sheets.iter().map(|sheet| stack.run(|| answer.run(sheet)));
+    most("small run", SMALL_RUN, used);
+    assert_eq!(answer.number, 0, "the largest small sheet is accepted");
+    let used = sheets
+        .iter()
+        .map(|sheet| stack.run(|| answer.shares(sheet)));
+    most("small shares", SMALL_RUN, used);
+    let mut lines = [0; LONGEST_TEXT];
+    let used = sheets.iter().map(|sheet| {
+        stack.run(|| {
+            raw::print(sheet, &mut lines);
+        })
+    });
+    most("small print", SMALL_RUN, used);
 }
 
 #[test]
