@@ -7,7 +7,7 @@ ghost use Rattle.format.specs.Format.{«run-sheet»};
 ghost use Rattle.sheet_book.specs.BookStruct.{«held-book»};
 ghost use Rattle.sheet_book.specs.SummaryStruct.{«run-answer»};
 ghost use Rattle.sheet.specs.Sheet.{«run-held»};
-ghost use Rattle.model_slices.specs.HandedModels.{«model-room»};
+ghost use Rattle.model_slices.specs.HandedModels.{«model-room», «run-ends»};
 ghost use Rattle.c_books.specs.HandedBooks.{«step-places», «handed-steps», «model-places», «handed-models»};
 ghost use Rattle.c_books.specs.HandedBooks.{«handed-book»};
 ghost use Rattle.c_writes.specs.WriteCalls.{«book-fits»};
@@ -27,7 +27,7 @@ pub extern "C" fn hechroung_raw_run_sheet(
 ) -> u8
     ensures { λ r. ⌜ run-state r (now (keys .exit)) (now (coefficients .exit)) (now (numbers .exit)) (now (ends .exit))
         ≡ called-run (model-room (length (now (keys .entry))) (length (now (coefficients .entry)))
-        (length (now (numbers .entry)))) (leb 6 (length (now (ends .entry))))
+        (length (now (numbers .entry)))) (leb run-ends (length (now (ends .entry))))
         (run-answer (run-sheet (now (sheet .entry))))
         (now (keys .entry)) (now (coefficients .entry)) (now (numbers .entry)) (now (ends .entry)) ⌝ }
 {
@@ -62,7 +62,7 @@ pub extern "C" fn hechroung_raw_run_models(
         (length (now (numbers .entry)))
         && model-room (length (now (keys .entry))) (length (now (coefficients .entry)))
         (length (now (numbers .entry))))
-        (leb 6 (length (now (ends .entry))))
+        (leb run-ends (length (now (ends .entry))))
         (run-answer (run-held (held-book (handed-book n d modelcount stepcount
         (handed-models (now (ns .entry)) (now (counts .entry)) (now (radii .entry)) (now (bookkeys .entry))
         (now (bookcoefficients .entry)))

@@ -9,10 +9,10 @@ ghost use Rattle.sheet_book.specs.BookStruct.{«held-book»};
 ghost use Rattle.sheet_book.specs.SummaryStruct.{«run-answer»};
 ghost use Rattle.sheet_book.specs.ReportStruct.{report};
 ghost use Rattle.sheet.specs.Sheet.{«run-held», «rows-held»};
-ghost use Rattle.model_slices.specs.HandedModels.{«answer-numbers»};
+ghost use Rattle.model_slices.specs.HandedModels.{«answer-numbers», «run-ends»};
 ghost use Rattle.c_books.specs.HandedBooks.{«step-places», «handed-steps», «model-places», «handed-models»};
 ghost use Rattle.c_books.specs.HandedBooks.{«handed-book»};
-ghost use Rattle.c_shares.specs.HandedShares.{«report-room»};
+ghost use Rattle.c_shares.specs.HandedShares.{«report-numbers», «report-room»};
 ghost use Rattle.c_writes.specs.WriteCalls.{«book-fits»};
 ghost use Rattle.c_runs.specs.SheetCalls.{«run-state»};
 ghost use Rattle.exports.specs.ShareCalls.{«report-state», «stored-report», «called-report»};
@@ -29,7 +29,7 @@ fn store_report(
     shares: &mut [u64],
 ) -> u8
     requires { ⌜ (most-terms ≤ length (now keys)) × (most-terms ≤ length (now coefficients))
-        × (answer-numbers ≤ length (now numbers)) × (6 ≤ length (now ends)) × (256 ≤ length (now shares))
+        × (answer-numbers ≤ length (now numbers)) × (run-ends ≤ length (now ends)) × (report-numbers ≤ length (now shares))
         × (r .summary .exact .remainder < 2 ^ 63) ⌝ }
     ensures { λ u. ⌜ report-state (run-state u (now (keys .exit)) (now (coefficients .exit)) (now (numbers .exit))
         (now (ends .exit))) (now (shares .exit))
