@@ -29,8 +29,8 @@ fn store_report(
     shares: &mut [u64],
 ) -> u8
     requires { ⌜ (most-terms ≤ length (now keys)) × (most-terms ≤ length (now coefficients))
-        × (answer-numbers ≤ length (now numbers)) × (run-ends ≤ length (now ends)) × (report-numbers ≤ length (now shares))
-        × (r .summary .exact .remainder < 2 ^ 63) ⌝ }
+        × (answer-numbers ≤ length (now numbers)) × (run-ends ≤ length (now ends))
+        × (report-numbers ≤ length (now shares)) × (r .summary .exact .remainder < 2 ^ 63) ⌝ }
     ensures { λ u. ⌜ report-state (run-state u (now (keys .exit)) (now (coefficients .exit)) (now (numbers .exit))
         (now (ends .exit))) (now (shares .exit))
         ≡ stored-report r (now (keys .entry)) (now (coefficients .entry)) (now (numbers .entry))
