@@ -169,6 +169,11 @@ impl Library {
     }
 
     pub fn multiply(&self, d: u8, f: &Borrowed, g: &Borrowed) -> Answer {
+        self.called(6, d, 0, 0, f, g)
+    }
+
+    /// The call of one model or of two that a code names, with order d, variable i and a value.
+    pub fn called(&self, code: u8, d: u8, i: u8, value: i64, f: &Borrowed, g: &Borrowed) -> Answer {
         let mut answer = Answer::EMPTY;
         let (keys1, keys2, keys) = (
             f.keys(self.layout),
@@ -180,10 +185,10 @@ impl Library {
         // overlaps nothing. The contract asks for nothing else, here and below.
         answer.refusal = unsafe {
             (self.call)(
-                6,
+                code,
                 d,
-                0,
-                0,
+                i,
+                value,
                 f.n,
                 f.count,
                 f.radius,

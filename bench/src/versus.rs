@@ -21,6 +21,8 @@ const PRODUCTS: usize = 64;
 const SHEETS: usize = 16;
 const PRODUCT_ROUNDS: usize = 300;
 const SHEET_ROUNDS: usize = 60;
+/// The code of the antiderivative, in layout 4; the layouts before have another.
+const ANTIDERIVATIVE: u8 = 10;
 /// More than the longest record.
 const ROOM: usize = 1_024;
 
@@ -84,6 +86,14 @@ fn rows(alike: Alike) -> Vec<(&'static str, Measure)> {
         ("product, sparse 1 x 1", product(1, 15, Kind::Kept)),
         ("product, sparse 8 x 8", product(8, 15, Kind::Kept)),
         ("product, sparse 24 x 24", product(24, 15, Kind::Kept)),
+        ("add, dense, 15 terms", call(4, 15)),
+        ("add, dense, 64 terms", call(4, 64)),
+        ("subtract, dense, 15 terms", call(5, 15)),
+        ("negate, dense, 15 terms", call(3, 15)),
+        ("sweep, dense, 15 terms", call(8, 15)),
+        ("substitute, dense, 15 terms", call(7, 15)),
+        ("antiderivative, dense, 64 terms", call(ANTIDERIVATIVE, 64)),
+        ("antiderivative, dense, 4 terms", call(ANTIDERIVATIVE, 4)),
         ("range, sparse, 64 terms", range(64, 15, alike)),
         ("range, dense, 15 terms", range(15, 4, alike)),
         (
@@ -159,6 +169,36 @@ fn product_of(order: u8, factors: impl Fn(&mut Random) -> (Model, Model) + 'stat
             let _ = black_box(builds[way].multiply(order, f, g));
         })
     })
+}
+
+/// The single call that a code names, of dense models in four variables with order 4, in variable 4; a sweep at a
+/// threshold that drops most terms. The second model is so small that it may be put in for a variable.
+fn call(code: u8, terms: usize) -> Measure {
+    const ORDER: u8 = 4;
+    const VARIABLE: u8 = 4;
+    const THRESHOLD: i64 = 50;
+    Box::new(move |builds, random| {
+        let pairs: Vec<_> = (0..PRODUCTS)
+            .map(|_| factors(random, terms, ORDER, Kind::Kept))
+            .map(|(f, g)| (Borrowed::new(f), Borrowed::new(within_box(g))))
+            .collect();
+        let answer = |build: &Library, f, g| build.called(code, ORDER, VARIABLE, THRESHOLD, f, g);
+        for (f, g) in &pairs {
+            let [new, old] = builds.each_ref().map(|build| answer(build, f, g).widened());
+            assert_eq!(new, old, "both builds give one model");
+            assert_eq!(new.refusal, 0, "the call is accepted");
+        }
+        best(PRODUCT_ROUNDS, PRODUCTS, |way, input| {
+            let (f, g) = &pairs[input];
+            let _ = black_box(answer(&builds[way], f, g));
+        })
+    })
+}
+
+/// The model with half of its constant coefficient, so that it may be put in for a variable.
+fn within_box(mut model: Model) -> Model {
+    model.coefficients[0] /= 2;
+    model
 }
 
 fn range(terms: usize, order: u8, alike: Alike) -> Measure {
