@@ -48,7 +48,7 @@ extern "C" {
 /* The version of this header, as text and as numbers; hechroung_version() hands out the text. */
 #define HECHROUNG_VERSION "2.1.0"
 #define HECHROUNG_VERSION_MAJOR 2
-#define HECHROUNG_VERSION_MINOR 0
+#define HECHROUNG_VERSION_MINOR 1
 #define HECHROUNG_VERSION_PATCH 0
 
 /* The number of the layout: of the functions of hechroung_raw.h, their names, codes and slices. A program that hands
