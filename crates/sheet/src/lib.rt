@@ -30,7 +30,7 @@ pub use sheet_records::Opened;
 pub use sheet_records::Records;
 use sheet_running::Ran;
 
-// ---- reading, writing and stepping: made in rooms of their own
+// ---- reading, writing and stepping: made in crates of their own
 // A sheet's book, or the first refusal of tests 1 to 6 in their order, with a book of zeros.
 pub use sheet_reader::read;
 // A book's sheet at the start of a borrowed buffer, its length answered; tests 3, 5, 6 and 11 come first, and a refused
