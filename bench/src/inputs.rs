@@ -233,3 +233,13 @@ pub fn draft_model(random: &mut Random, keys: &[u32]) -> DraftModel {
             .collect(),
     }
 }
+
+/// f, g, h and w of a quotient that is certified: models of this many terms at the same keys with radius 0, all about 1.
+pub fn quotient_models(random: &mut Random, terms: usize, order: u8) -> Vec<DraftModel> {
+    let keys = keys(random, terms, order);
+    let mut exact = || DraftModel {
+        radius: 0,
+        ..draft_model(random, &keys)
+    };
+    (0..4).map(|_| exact()).collect()
+}

@@ -7,6 +7,9 @@ use std::ffi::{c_char, c_int, c_void, CStr, CString};
 
 /// The point of calls that do not look at it.
 static NOWHERE: [i64; MOST_VARS] = [0; MOST_VARS];
+/// The code of the antiderivative, and what it was before layout 4.
+pub const ANTIDERIVATIVE: u8 = 10;
+const ANTIDERIVATIVE_BEFORE: u8 = 9;
 /// Every name is looked up at once, and none is bound to another library.
 const RTLD_NOW: c_int = 2;
 
@@ -51,6 +54,8 @@ enum EitherEnds {
 /// layouts, whatever their width.
 pub struct Library {
     layout: Layout,
+    /// Whether its functions have the names of before layout 4, and with them another code of the antiderivative.
+    before_four: bool,
     call: Call,
     ends: EitherEnds,
     run: Run,
@@ -146,6 +151,7 @@ impl Library {
             let ends = function(library, [c"hechroung_raw_ends", c"hechroung_ends"]);
             Library {
                 layout,
+                before_four: dlsym(library, c"hechroung_raw_call".as_ptr()).is_null(),
                 call: std::mem::transmute::<*mut c_void, Call>(function(
                     library,
                     [c"hechroung_raw_call", c"hechroung_call"],
@@ -174,6 +180,10 @@ impl Library {
 
     /// The call of one model or of two that a code names, with order d, variable i and a value.
     pub fn called(&self, code: u8, d: u8, i: u8, value: i64, f: &Borrowed, g: &Borrowed) -> Answer {
+        let code = match code {
+            ANTIDERIVATIVE if self.before_four => ANTIDERIVATIVE_BEFORE,
+            same => same,
+        };
         let mut answer = Answer::EMPTY;
         let (keys1, keys2, keys) = (
             f.keys(self.layout),

@@ -2,11 +2,11 @@
 //! same inputs, from which the time of a run of the inputs alone is taken away. Each answer is compared with the second
 //! implementation's.
 
-use crate::inputs::{draft_model, keys, VARIABLES};
+use crate::inputs::{quotient_models, VARIABLES};
 use crate::timing::{best, median};
 use hechroung::UNIT;
 use reference::book::{Step, INPUT, MULTIPLY, SUBTRACT};
-use reference::generate::{Draft, DraftModel, Random};
+use reference::generate::{Draft, Random};
 use reference::text;
 use std::hint::black_box;
 
@@ -25,14 +25,8 @@ struct QuotientSheets {
     forms: Vec<u8>,
 }
 
-/// Models of this many terms at the same keys with radius 0, all about 1.
 fn quotient_sheets(random: &mut Random, terms: usize, order: u8) -> QuotientSheets {
-    let keys = keys(random, terms, order);
-    let mut exact = || DraftModel {
-        radius: 0,
-        ..draft_model(random, &keys)
-    };
-    let models: Vec<DraftModel> = (0..4).map(|_| exact()).collect();
+    let models = quotient_models(random, terms, order);
     let mut inputs: Vec<Step> = (0..4).map(|number| Step::one(INPUT, number)).collect();
     inputs.push(Step::constant(UNIT as i32));
     let [f, g, h, w, one] = [0, 1, 2, 3, 4];

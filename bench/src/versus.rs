@@ -11,9 +11,10 @@ mod timing;
 
 use hechroung::{Model, MOST_VARS, UNIT};
 use inputs::{cubic, factors, factors_in, integrand, largest, largest_in, typical, up_to_degree};
-use inputs::{Kind, Parity, STEPS};
-use loaded::{Borrowed, Layout, Library};
-use reference::generate::Random;
+use inputs::{draft_model, keys, quotient_models, Kind, Parity, STEPS, VARIABLES};
+use loaded::{Borrowed, Layout, Library, ANTIDERIVATIVE};
+use reference::book::{Step, INPUT, MULTIPLY};
+use reference::generate::{Draft, Random};
 use std::hint::black_box;
 use timing::{best, median};
 
@@ -21,8 +22,8 @@ const PRODUCTS: usize = 64;
 const SHEETS: usize = 16;
 const PRODUCT_ROUNDS: usize = 300;
 const SHEET_ROUNDS: usize = 60;
-/// The code of the antiderivative, in layout 4; the layouts before have another.
-const ANTIDERIVATIVE: u8 = 10;
+/// How many quotients, or substitutions, a sheet of them has.
+const STEPS_ALIKE: usize = 11;
 /// More than the longest record.
 const ROOM: usize = 1_024;
 
@@ -84,16 +85,32 @@ fn rows(alike: Alike) -> Vec<(&'static str, Measure)> {
         ("product, dense 15 x 15", product(15, 4, Kind::Kept)),
         ("product, dense 4 x 4", product(4, 4, Kind::Kept)),
         ("product, sparse 1 x 1", product(1, 15, Kind::Kept)),
+        (
+            "product, dense 15 x 1",
+            product_of(4, |random| by_one_term(random, 15)),
+        ),
+        (
+            "product, dense 64 x 1",
+            product_of(4, |random| by_one_term(random, 64)),
+        ),
         ("product, sparse 8 x 8", product(8, 15, Kind::Kept)),
         ("product, sparse 24 x 24", product(24, 15, Kind::Kept)),
-        ("add, dense, 15 terms", call(4, 15)),
-        ("add, dense, 64 terms", call(4, 64)),
-        ("subtract, dense, 15 terms", call(5, 15)),
-        ("negate, dense, 15 terms", call(3, 15)),
-        ("sweep, dense, 15 terms", call(8, 15)),
-        ("substitute, dense, 15 terms", call(7, 15)),
-        ("antiderivative, dense, 64 terms", call(ANTIDERIVATIVE, 64)),
-        ("antiderivative, dense, 4 terms", call(ANTIDERIVATIVE, 4)),
+        ("add, dense, 15 terms", call(4, 15, within_box)),
+        ("add, dense, 64 terms", call(4, 64, within_box)),
+        ("subtract, dense, 15 terms", call(5, 15, within_box)),
+        ("negate, dense, 15 terms", call(3, 15, within_box)),
+        ("sweep, dense, 15 terms", call(8, 15, within_box)),
+        ("substitute, dense, 15 terms", call(7, 15, within_box)),
+        ("substitute, 1 term into 15", call(7, 15, of_one_term)),
+        ("substitute, 1 term into 64", call(7, 64, of_one_term)),
+        (
+            "antiderivative, dense, 64 terms",
+            call(ANTIDERIVATIVE, 64, within_box),
+        ),
+        (
+            "antiderivative, dense, 4 terms",
+            call(ANTIDERIVATIVE, 4, within_box),
+        ),
         ("range, sparse, 64 terms", range(64, 15, alike)),
         ("range, dense, 15 terms", range(15, 4, alike)),
         (
@@ -110,6 +127,22 @@ fn rows(alike: Alike) -> Vec<(&'static str, Measure)> {
         ),
         ("evaluate, dense, 15 terms", evaluate(15, 4)),
         ("run, typical", run(typical, alike)),
+        (
+            "run, substitutions, 4 terms",
+            run(|random| substitutions(random, 4), alike),
+        ),
+        (
+            "run, substitutions, 15 terms",
+            run(|random| substitutions(random, 15), alike),
+        ),
+        (
+            "run, quotients, 4 terms",
+            run(|random| quotients(random, 4), alike),
+        ),
+        (
+            "run, quotients, 15 terms",
+            run(|random| quotients(random, 15), alike),
+        ),
         ("run, largest", run(|random| largest(random, STEPS), alike)),
         (
             "run, largest, 1 step",
@@ -172,15 +205,15 @@ fn product_of(order: u8, factors: impl Fn(&mut Random) -> (Model, Model) + 'stat
 }
 
 /// The single call that a code names, of dense models in four variables with order 4, in variable 4; a sweep at a
-/// threshold that drops most terms. The second model is so small that it may be put in for a variable.
-fn call(code: u8, terms: usize) -> Measure {
+/// threshold that drops most terms. The second model is made so small that it may be put in for a variable.
+fn call(code: u8, terms: usize, small: fn(Model) -> Model) -> Measure {
     const ORDER: u8 = 4;
     const VARIABLE: u8 = 4;
     const THRESHOLD: i64 = 50;
     Box::new(move |builds, random| {
         let pairs: Vec<_> = (0..PRODUCTS)
             .map(|_| factors(random, terms, ORDER, Kind::Kept))
-            .map(|(f, g)| (Borrowed::new(f), Borrowed::new(within_box(g))))
+            .map(|(f, g)| (Borrowed::new(f), Borrowed::new(small(g))))
             .collect();
         let answer = |build: &Library, f, g| build.called(code, ORDER, VARIABLE, THRESHOLD, f, g);
         for (f, g) in &pairs {
@@ -199,6 +232,44 @@ fn call(code: u8, terms: usize) -> Measure {
 fn within_box(mut model: Model) -> Model {
     model.coefficients[0] /= 2;
     model
+}
+
+/// Its constant term alone, halved.
+fn of_one_term(model: Model) -> Model {
+    let mut one = Model {
+        n: model.n,
+        count: 1,
+        radius: model.radius,
+        ..Model::ZERO
+    };
+    one.keys[0] = model.keys[0];
+    one.coefficients[0] = model.coefficients[0];
+    within_box(one)
+}
+
+/// A dense factor and one of one term.
+fn by_one_term(random: &mut Random, terms: usize) -> (Model, Model) {
+    let (f, g) = factors(random, terms, 4, Kind::Kept);
+    (f, of_one_term(g))
+}
+
+/// A sheet that puts a model of this many terms into another, over and over.
+fn substitutions(random: &mut Random, terms: usize) -> Vec<u8> {
+    let keys = keys(random, terms, 4);
+    let models = (0..2).map(|_| draft_model(random, &keys)).collect();
+    let mut steps: Vec<Step> = (0..2).map(|number| Step::one(INPUT, number)).collect();
+    steps.push(Step::constant((UNIT / 2) as i32));
+    steps.push(Step::two(MULTIPLY, 1, 2));
+    steps.extend((0..STEPS_ALIKE).map(|_| Step::substitute(0, 3, VARIABLES)));
+    Draft::new(VARIABLES, 4, models, steps).bytes()
+}
+
+/// A sheet of quotients of models of this many terms.
+fn quotients(random: &mut Random, terms: usize) -> Vec<u8> {
+    let models = quotient_models(random, terms, 4);
+    let mut steps: Vec<Step> = (0..4).map(|number| Step::one(INPUT, number)).collect();
+    steps.extend((0..STEPS_ALIKE).map(|_| Step::quotient(0, 1, 2, 3)));
+    Draft::new(VARIABLES, 4, models, steps).bytes()
 }
 
 fn range(terms: usize, order: u8, alike: Alike) -> Measure {
