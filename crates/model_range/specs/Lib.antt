@@ -1,3 +1,4 @@
 pub mod KeyRange
 pub mod RangeSizeLaws
 pub mod RangeLoopLaws
+pub mod RangePassLaws
