@@ -18,8 +18,8 @@ use Rattle.calculus.specs.Terms.{Terms, select, sum-over, sum-ℕ, size}
 use Rattle.calculus.specs.Model.{Model, span}
 use Rattle.calculus.specs.Operations.{common-denominator, has-exact, integral-parts, mixed-part, zero-mixed, exact-part}
 use Rattle.calculus_laws.specs.ExactIntegralLaws.{by-exact}
-use Rattle.model_integral_terms.specs.Rounding.{rule}
-use Rattle.model_integral_terms.specs.IntegralSizeLaws.{integral-within}
+use Rattle.model_integral.specs.Rounding.{rule}
+use Rattle.model_integral.specs.IntegralSizeLaws.{integral-within}
 use Rattle.calculus.specs.Operations.{Ends, Mixed, integral-sum, one-if-any, exact-ends, term-by-term, integral}
 use Rattle.calculus.specs.Operations.{Integral, whole-integral}
 use Rattle.model_types.specs.ModelStructLaws.{sum-abs, sum-select-le}

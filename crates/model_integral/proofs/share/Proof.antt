@@ -10,9 +10,9 @@ use Rattle.algebra.specs.Integer.{natAbs-mul}
 use Rattle.polynomial.specs.IntegralLaws.{divisor-pos}
 use Rattle.fixed.specs.MachineLaws.{answered}
 use Rattle.calculus.specs.Key.{key-width, key-exponents}
-use Rattle.model_integral_terms.specs.Rounding.{rule}
-use Rattle.model_integral_terms.proofs.share.Statement.{statement}
-use Rattle.model_integral_terms.proofs.share.Tie as tie
+use Rattle.model_integral.specs.Rounding.{rule}
+use Rattle.model_integral.proofs.share.Statement.{statement}
+use Rattle.model_integral.proofs.share.Tie as tie
 
 multiplied : (c : tie.After-product)
     → toZ w64 (ofZ w64 (c .product .result)) ≡ c .before .args .coefficient *ℤ c .before .args .scale

@@ -5,8 +5,8 @@ use native.Mathlib.Nat as NatL
 use native.Mathlib.Omega.{arith}
 use lib.Pow.{pow-lt}
 use Rattle.calculus.specs.Key.{key-width}
-use Rattle.model_integral_terms.proofs.volume.Statement.{statement}
-use Rattle.model_integral_terms.proofs.volume.Tie as tie
+use Rattle.model_integral.proofs.volume.Statement.{statement}
+use Rattle.model_integral.proofs.volume.Tie as tie
 
 shl-result : tie.Need-shl-result
 unfolding key-width

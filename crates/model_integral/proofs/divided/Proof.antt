@@ -4,9 +4,9 @@ use borrow.Author.Needs.{needs}
 use mir.Facts.{toZ-ofZ}
 use Rattle.numbers.specs.Division.{floor, ceiling}
 use Rattle.fixed.specs.MachineLaws.{answered}
-use Rattle.model_integral_terms.specs.Rounding.{rule}
-use Rattle.model_integral_terms.proofs.divided.Statement.{statement}
-use Rattle.model_integral_terms.proofs.divided.Tie as tie
+use Rattle.model_integral.specs.Rounding.{rule}
+use Rattle.model_integral.proofs.divided.Statement.{statement}
+use Rattle.model_integral.proofs.divided.Tie as tie
 
 ceiling-divided-requires : tie.Need-ceiling-divided-requires
 ceiling-divided-requires c κs = search needs

@@ -16,7 +16,7 @@ use Rattle.calculus.specs.Terms.{Terms, select, sum-over, sum-ℕ, size}
 use Rattle.calculus.specs.Model.{Model, span}
 use Rattle.calculus.specs.Operations.{integral-sum}
 use Rattle.model_types.specs.ModelStructLaws.{sum-abs, sum-select-le}
-use Rattle.model_integral_terms.specs.Rounding.{rule}
+use Rattle.model_integral.specs.Rounding.{rule}
 
 pub rule-abs : (up : Bool) (z : ℤ) (d : ℕ) → natAbs (rule up z d) ≤ natAbs z
 unfolding rule

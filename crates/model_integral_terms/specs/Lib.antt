@@ -1,2 +1,0 @@
-pub mod Rounding
-pub mod IntegralSizeLaws
