@@ -10,10 +10,10 @@ use Rattle.calculus.specs.Model as C
 use Rattle.calculus.specs.Model.{most-degree, most-terms, sound}
 use Rattle.calculus.specs.Operations as Op
 use Rattle.calculus.specs.Refusal.{done, stopped}
-use Rattle.calculus.specs.Calls.{call-negate, call-sweep, call-antiderivative}
+use Rattle.calculus.specs.Calls.{call-negate, call-sweep, call-antiderivative, call-range, call-integral}
 use Rattle.model_types.specs.declared.Refusal.{Refusal}
 use Rattle.model_types.specs.declared.Verdict.the-variants.{Accepted, Refused}
-use Rattle.model_types.specs.ModelStruct.{view, verdict, answer, cause}
+use Rattle.model_types.specs.ModelStruct.{view, verdict, answer, bounds, integral-answer, cause}
 use Rattle.model_types.specs.ModelStructLaws.{limits}
 use Rattle.model_slices.specs.HandedModels.{handed, borrowed}
 use Rattle.model_slices.specs.HeldModels.{held}
@@ -25,7 +25,7 @@ use Rattle.model_call_tests.specs.AdmissionLaws.{single-passed, sweeping-passed
 use Rattle.model_call_tests.specs.AdmissionLaws.{is-refused}
 use Rattle.model_slice_tests.specs.SliceTestLaws.{slices-places}
 use Rattle.model_antiderivative.specs.Antiderivatives.{Integrand-in}
-use Rattle.model.specs.CallLaws.{negate-is, sweep-is, antiderivative-is}
+use Rattle.model.specs.CallLaws.{negate-is, sweep-is, antiderivative-is, range-is, integral-is}
 use Rattle.model_term_slices.specs.SoundSlices.{Sound-slices, Integrand-slices}
 
 -- as the operations ask it
@@ -60,16 +60,27 @@ module _ (n count radius : ℕ) (ks : List ℕ) (cs : List ℤ) where
       still : T (sound d lying)
       still = places-sound n count radius ks cs named few d h
 
-    -- ---- negate
+    -- ---- negate, range, integral
     module _ (passed : verdict (single-model taken) ≡ Accepted) where
-      pub negate-sound : Sound-slices n count radius ks cs
-      negate-sound =
+      pub single-sound : Sound-slices n count radius ks cs
+      single-sound =
           let h = single-passed taken passed in
           record { places = named most-degree h; model = still most-degree h }
 
+      single-same : lying ≡ taken
+      single-same = same most-degree (single-passed taken passed)
+
       pub negate-passed : answer (done (Op.negate lying)) ≡ answer (call-negate taken)
-      negate-passed = ap (λ m. answer (done (Op.negate m))) (same most-degree (single-passed taken passed))
+      negate-passed = ap (λ m. answer (done (Op.negate m))) single-same
           ∙ ap answer (sym (negate-is taken ∙ goes-on _ _ passed))
+
+      pub range-passed : bounds (done (Op.range lying)) ≡ bounds (call-range taken)
+      range-passed = ap (λ m. bounds (done (Op.range m))) single-same
+          ∙ ap bounds (sym (range-is taken ∙ goes-on _ _ passed))
+
+      pub integral-passed : integral-answer (done (Op.whole-integral lying)) ≡ integral-answer (call-integral taken)
+      integral-passed = ap (λ m. integral-answer (done (Op.whole-integral m))) single-same
+          ∙ ap integral-answer (sym (integral-is taken ∙ goes-on _ _ passed))
 
     -- ---- sweep
     module _ (t : ℤ) (passed : verdict (sweeping t taken) ≡ Accepted) where
@@ -117,3 +128,11 @@ module _ (n count radius : ℕ) (ks : List ℕ) (cs : List ℤ) where
     pub antiderivative-refused : (d i : ℕ) → verdict (integrating d i taken) ≡ Refused r p
         → answer (stopped (cause r) p) ≡ answer (call-antiderivative d i taken)
     antiderivative-refused d i e = ap answer (sym (antiderivative-is taken d i ∙ is-refused _ _ r p e))
+
+    pub range-refused : verdict (single-model taken) ≡ Refused r p
+        → bounds (stopped (cause r) p) ≡ bounds (call-range taken)
+    range-refused e = ap bounds (sym (range-is taken ∙ is-refused _ _ r p e))
+
+    pub integral-refused : verdict (single-model taken) ≡ Refused r p
+        → integral-answer (stopped (cause r) p) ≡ integral-answer (call-integral taken)
+    integral-refused e = ap integral-answer (sym (integral-is taken ∙ is-refused _ _ r p e))

@@ -1,20 +1,23 @@
-// The single calls `negate`, `sweep` and `antiderivative` from slices to slices. They take anything that these can
-// hold, make the tests in document 01's order, store the answer or the refusal with its place, and answer with the
-// number of that, 0 without one.
+// The single calls of one model in slices. They take anything that these can hold, and make the tests in document 01's
+// order. `negate`, `sweep` and `antiderivative` store the answer or the refusal with its place into slices, and answer
+// with the number of that, 0 without one; `range` and `integral` answer with a struct.
 ghost use mathlib.Core.Bool.{true};
 ghost use mathlib.Core.Path.{_≡_};
 ghost use Prim.Native.Nat.{_≤_};
 ghost use lib.ListN.{length};
 ghost use Rattle.calculus.specs.Calls.{«call-negate», «call-sweep», «call-antiderivative»};
+ghost use Rattle.calculus.specs.Calls.{«call-range», «call-integral»};
 ghost use Rattle.calculus.specs.Model.{«most-terms»};
 ghost use Rattle.calculus.specs.Operations as Op;
 ghost use Rattle.calculus.specs.Refusal.{done};
-ghost use Rattle.model_types.specs.ModelStruct.{view, answer};
+ghost use Rattle.model_types.specs.ModelStruct.{view, answer, bounds, «integral-answer»};
 ghost use Rattle.model_slices.specs.HandedModels.{handed, borrowed, «answer-numbers»};
 ghost use Rattle.model_slices.specs.HeldModels.{held};
 ghost use Rattle.model_slice_answers.specs.StoredAnswers.{Stored};
 ghost use Rattle.model_term_slices.specs.SoundSlices.{«Sound-slices», «Integrand-slices»};
 use model_limits::Left;
+use model_types::Bounds;
+use model_types::Integral;
 use model_types::Key;
 use model_types::MOST_TERMS;
 use model_types::Verdict;
@@ -237,5 +240,32 @@ pub fn antiderivative(
         Verdict::Refused(refusal, place) => {
             model_slice_answers::store_refused(refusal, place, outkeys, outcoefficients, numbers)
         }
+    }
+}
+
+// ---- the calls with two ends
+// The range over the box. 5.
+pub fn range(n: u8, count: usize, radius: u64, keys: &[Key], coefficients: &[i64]) -> Bounds
+    requires { ⌜ borrowed count (length (now keys)) (length (now coefficients)) ≡ true ⌝ }
+    ensures { λ r. ⌜ r ≡ bounds (call-range
+        (view (handed n count radius (now (keys .entry)) (now (coefficients .entry))))) ⌝ }
+{
+    let v = model_slice_tests::single_model(n, count, radius, keys, coefficients);
+    match v {
+        Verdict::Accepted => model_range::range_slices(count, radius, keys, coefficients),
+        Verdict::Refused(refusal, place) => model_types::refuse_bounds(refusal, place),
+    }
+}
+
+// The integral over the box. 5.
+pub fn integral(n: u8, count: usize, radius: u64, keys: &[Key], coefficients: &[i64]) -> Integral
+    requires { ⌜ borrowed count (length (now keys)) (length (now coefficients)) ≡ true ⌝ }
+    ensures { λ r. ⌜ r ≡ integral-answer (call-integral
+        (view (handed n count radius (now (keys .entry)) (now (coefficients .entry))))) ⌝ }
+{
+    let v = model_slice_tests::single_model(n, count, radius, keys, coefficients);
+    match v {
+        Verdict::Accepted => model_integral::integral_slices(n, count, radius, keys, coefficients),
+        Verdict::Refused(refusal, place) => model_types::refuse_integral(refusal, place),
     }
 }

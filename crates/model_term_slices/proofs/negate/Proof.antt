@@ -6,7 +6,7 @@ use Rattle.model_types.specs.declared.Verdict.the-variants.{Accepted}
 use Rattle.model_slices.specs.HandedModels.{handed}
 use Rattle.model_call_tests.specs.Admission.{single-model}
 use Rattle.model_slice_answers.specs.StoredAnswersLaws.{stored-same}
-use Rattle.model_term_slices.specs.TermCallLaws.{negate-sound, negate-passed, negate-refused}
+use Rattle.model_term_slices.specs.TermCallLaws.{single-sound, negate-passed, negate-refused}
 use Rattle.model_term_slices.proofs.negate.Statement.{statement}
 use Rattle.model_term_slices.proofs.negate.Tie as tie
 
@@ -29,7 +29,7 @@ enum-told c = search needs
 store-negated-requires : tie.Need-store-negated-requires
 store-negated-requires c κs =
     let t = c .before .before .before in
-    let s = start t in (negate-sound _ _ _ _ _ (s .pre .0) (passed t), s .pre .1)
+    let s = start t in (single-sound _ _ _ _ _ (s .pre .0) (passed t), s .pre .1)
 
 enum-known-v : tie.Need-enum-known-v
 enum-known-v c = search needs
