@@ -3,9 +3,10 @@ ghost use mathlib.Core.Path.{_≡_};
 ghost use Prim.Native.Nat.{_^_, _<_, _≤_};
 ghost use lib.ListN.{length};
 ghost use Rattle.calculus.specs.Model.{«most-terms»};
+ghost use Rattle.calculus.specs.Calls.{«call-evaluate»};
 ghost use Rattle.model_types.specs.ModelStruct.{view, answer, «integral-answer»};
 ghost use Rattle.model_slices.specs.HandedModels.{«answer-numbers»};
-ghost use Rattle.c_calls.specs.CallCodes.{«ends-call», «call-known», «call-fits»};
+ghost use Rattle.c_calls.specs.CallCodes.{«call-known», «call-fits», alone};
 ghost use Rattle.c_calls.specs.CallCodes.{«ends-call-fits»};
 ghost use Rattle.c_calls.specs.CallCodes.{«called-state», «stored-answer», «ends-alone», «ends-state»};
 ghost use Rattle.c_calls.specs.CallKinds.{«of-two», «of-one», «other-call»};
@@ -44,9 +45,9 @@ pub const SWEEP: u8 = 8;
 const ANTIDERIVATIVE: u8 = 10;
 
 // The codes of calls that answer with two ends, which no step does.
-const RANGE: u8 = 1;
+pub const RANGE: u8 = 1;
 
-const INTEGRAL: u8 = 2;
+pub const INTEGRAL: u8 = 2;
 
 const EVALUATE: u8 = 3;
 
@@ -90,7 +91,7 @@ pub fn other_call(code: u8, d: u8, i: u8, value: i64, n: u8, f: Model, g: Model)
 }
 
 // Two ends with a quotient and a remainder of 0.
-fn alone(b: Bounds) -> Integral
+pub fn alone(b: Bounds) -> Integral
     ensures { λ r. ⌜ r ≡ ends-alone b ⌝ }
 {
     let low = b.low;
@@ -130,17 +131,10 @@ pub fn coordinates(point: &[i64]) -> [i64; model_types::MOST_VARS as usize]
     [x1, x2, x3, x4, x5, x6, x7, x8]
 }
 
-// The call that a code names, evaluate for any that the others do not have. Of the three only an integral has a
-// quotient and a remainder.
-pub fn ends_call(code: u8, xs: [i64; model_types::MOST_VARS as usize], f: Model) -> Integral
-    ensures { λ r. ⌜ r ≡ integral-answer (ends-call code xs (view f)) ⌝ }
+// Two ends around the value at a point, of a struct.
+pub fn evaluated(xs: [i64; model_types::MOST_VARS as usize], f: Model) -> Integral
+    ensures { λ r. ⌜ r ≡ integral-answer (alone (call-evaluate xs (view f))) ⌝ }
 {
-    if code == RANGE {
-        return alone(model::range(f));
-    }
-    if code == INTEGRAL {
-        return model::integral(f);
-    }
     alone(model::evaluate(f, xs))
 }
 

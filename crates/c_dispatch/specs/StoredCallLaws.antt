@@ -3,16 +3,19 @@ use mathlib.Core.Path.{_≡_, refl, sym, _∙_, ap, subst}
 use mathlib.Core.Bool.{Bool, true, false, _&&_}
 use mathlib.Core.List.{List}
 use Prim.Native.Nat.{ℕ}
-use lib.Dec.{T}
+use lib.Dec.{T, leb}
 use lib.IntN.{ℤ}
 use borrow.Author.Tests.{ne-eqb}
 use Rattle.calculus.specs.Model.{Model}
 use Rattle.calculus.specs.Calls.{call-negate, call-add, call-subtract, call-multiply, call-sweep, call-antiderivative}
+use Rattle.calculus.specs.Calls.{call-range, call-integral, call-evaluate}
 use Rattle.model_types.specs.declared.Answer.{Answer}
-use Rattle.model_types.specs.ModelStruct.{answer}
+use Rattle.model_types.specs.ModelStruct.{answer, bounds, integral-answer}
 use Rattle.model_slices.specs.HandedModels.{borrowed}
 use Rattle.model_slice_calls.specs.StoredCalls.{Stored}
 use Rattle.c_calls.specs.CallCodes.{Called, called-state, stored-answer, call-known, call-fits}
+use Rattle.c_calls.specs.CallCodes.{alone, ends-alone, ends-call, point-fits, ends-call-fits}
+use Rattle.c_calls.specs.CallCodesLaws.{alone-answer}
 use Rattle.c_calls.specs.CallKinds.{two-call, one-call}
 
 pub stored-called : {a b : Answer} {x : ℕ} {ks ks₂ ns ns₂ : List ℕ} {cs cs₂ : List ℤ} → a ≡ b
@@ -35,6 +38,33 @@ fits-known code c₁ k₁ z₁ c₂ k₂ z₂ room h =
     first : (a b c d : Bool) → T (a && b && c && d) → a ≡ true
     first true b c d t = refl
     first false b c d t = absurd t
+
+-- ---- with two ends
+-- a call that fits has all places of the slices that its count names
+pub fits-slices : (code c k z p e : ℕ) → ends-call-fits code c k z p e ≡ true → borrowed c k z ≡ true
+unfolding ends-call-fits
+fits-slices code c k z p e h =
+    third (leb 1 code) (leb code 3) (borrowed c k z) (point-fits code p) (leb 4 e) (subst T (sym h) tt)
+  where
+    third : (a b c d e : Bool) → T (a && b && c && d && e) → c ≡ true
+    third a b true d e t = refl
+    third true true false d e t = absurd t
+    third true false false d e t = absurd t
+    third false b false d e t = absurd t
+
+module _ (code : ℕ) (xs : List ℤ) (f : Model) where
+  pub ends-range : code ≡ 1 → ends-alone (bounds (call-range f)) ≡ integral-answer (ends-call code xs f)
+  unfolding ends-call
+  ends-range e = alone-answer (call-range f) ∙ sym (ap (λ c. integral-answer (ends-call c xs f)) e)
+
+  pub ends-integral : code ≡ 2 → integral-answer (call-integral f) ≡ integral-answer (ends-call code xs f)
+  unfolding ends-call
+  ends-integral e = sym (ap (λ c. integral-answer (ends-call c xs f)) e)
+
+  pub ends-evaluate : (code ≡ 1 → ⊥) → (code ≡ 2 → ⊥)
+      → integral-answer (alone (call-evaluate xs f)) ≡ integral-answer (ends-call code xs f)
+  unfolding ends-call
+  ends-evaluate a b = rw (ne-eqb code 1 a, ne-eqb code 2 b)
 
 -- ---- of two models
 module _ (code d : ℕ) (f g : Model) where

@@ -4,12 +4,13 @@ ghost use mathlib.Core.Path.{_≡_};
 ghost use Prim.Native.Nat.{_≤_};
 ghost use lib.ListN.{length};
 ghost use Rattle.calculus.specs.Model.{«most-terms»};
-ghost use Rattle.model_types.specs.ModelStruct.{view, answer};
+ghost use Rattle.model_types.specs.ModelStruct.{view, answer, «integral-answer»};
 ghost use Rattle.model_slices.specs.HandedModels.{handed, borrowed, «answer-numbers», «model-room»};
 ghost use Rattle.c_calls.specs.CallKinds.{«two-call», «one-call», «other-call»};
 ghost use Rattle.c_calls.specs.CallCodes.{«model-call», «ends-call», «call-fits», «ends-call-fits»};
 ghost use Rattle.c_calls.specs.CallCodes.{«called-state», called, «stored-answer», «ends-state», «called-ends»};
 ghost use Rattle.c_calls.specs.CallCodes.{coordinates};
+use model_types::Integral;
 use model_types::Key;
 
 // A call of two models: add, subtract, or multiply.
@@ -290,6 +291,32 @@ pub fn call(
     )
 }
 
+// The call with two ends that a code names: range and integral read the slices, and evaluate, for any code that these
+// do not have, a struct. Of the three only an integral has a quotient and a remainder.
+fn ends_call(
+    code: u8,
+    point: &[i64],
+    n: u8,
+    count: usize,
+    radius: u64,
+    keys: &[Key],
+    coefficients: &[i64],
+) -> Integral
+    requires { ⌜ borrowed count (length (now keys)) (length (now coefficients)) ≡ true ⌝ }
+    ensures { λ r. ⌜ r ≡ integral-answer (ends-call code (coordinates (now (point .entry)))
+        (view (handed n count radius (now (keys .entry)) (now (coefficients .entry))))) ⌝ }
+{
+    if code == c_calls::RANGE {
+        return c_calls::alone(model_slice_calls::range(n, count, radius, keys, coefficients));
+    }
+    if code == c_calls::INTEGRAL {
+        return model_slice_calls::integral(n, count, radius, keys, coefficients);
+    }
+    let f = model_slices::taken(n, count, radius, keys, coefficients);
+    let xs = c_calls::coordinates(point);
+    c_calls::evaluated(xs, f)
+}
+
 // A call that answers with two ends: the refusal's number, 0 without one, or MISUSED. The ends, the quotient and the
 // remainder go into the slice; the last two are 0 but for an integral. Evaluate takes the first eight coordinates of
 // the point, the others do not look at it. The place of every refusal is 0.
@@ -322,8 +349,6 @@ pub fn ends(
     ) {
         return c_calls::MISUSED;
     }
-    let f = model_slices::taken(n, count, radius, keys, coefficients);
-    let xs = c_calls::coordinates(point);
-    let b = c_calls::ends_call(code, xs, f);
+    let b = ends_call(code, point, n, count, radius, keys, coefficients);
     c_calls::store_ends(b, ends)
 }
