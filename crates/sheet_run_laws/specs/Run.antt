@@ -21,32 +21,17 @@ use Rattle.model_types.specs.declared.Verdict.the-variants.{Accepted, Refused}
 use Rattle.model_types.specs.Arrays.{first-places}
 use Rattle.model_types.specs.ModelStruct.{view, cause}
 use Rattle.model_types.specs.SharesStruct.{stored-shares}
-use Rattle.model.specs.OperationContracts.{Scratch-table, Scratch-room, Proposal, quotient-products}
+use Rattle.model.specs.OperationContracts.{Proposal, quotient-products}
 use Rattle.format.specs.HeldBook.{Held-step, Held-book, view-book, Held-passes}
 use Rattle.sheet_book.specs.BookStruct.{no-step, held-step}
 use Rattle.sheet_results.specs.Results.{Results, Roomy, result, row-at, most-row-numbers}
 use Rattle.sheet_run_laws.specs.declared.StepList.{StepList}
 use Rattle.sheet_run_laws.specs.declared.Stop.{Stop}
 use Rattle.sheet_run_laws.specs.LastResult.{last-result}
--- the products that the full table has room for
-pub use Rattle.model.specs.OperationContracts.{most-entries}
-
--- ---- the codes of steps that a run tells apart
--- an input
-abbrev pub input-code : ℕ
-input-code = 0
-
--- a product
-abbrev pub multiply-code : ℕ
-multiply-code = 6
-
--- a substitution
-abbrev pub substitute-code : ℕ
-substitute-code = 7
-
--- a quotient
-abbrev pub quotient-code : ℕ
-quotient-code = 9
+-- the codes of steps that a run tells apart
+pub use Rattle.sheet_steps.specs.Steps.{input-code, multiply-code, substitute-code, quotient-code}
+-- the scratch memory for so many products, and how many the full table has room for
+pub use Rattle.model.specs.OperationContracts.{Scratch-room, most-entries}
 
 -- ---- a book whose models stand in flat slices
 -- the steps that a list of steps holds: places beyond the count are not looked at
@@ -146,11 +131,6 @@ quotient-at n d a b v w m = at-place 0 (quotient d (view (result n m a)) (view (
     (view (result n m w)))
 
 -- ---- scratch memory
--- for products of so many pairs of terms; with room for the most it serves a substitution too
-pub record Scratch-for (room : ℕ) (slots keys : List ℕ) (sums : List ℤ) : Type 0 where
-  pub some : Scratch-room room slots keys sums
-  pub full : most-entries ≤ room → Scratch-table slots keys sums
-
 -- the products that the small table has room for
 abbrev pub few-products : ℕ
 few-products = 256
@@ -168,17 +148,18 @@ abbrev pub products-at : (counts : List ℕ) → Held-step → ℕ
 products-at counts s =
     quotient-products (terms-at counts (s .b)) (terms-at counts (s .v)) (terms-at counts (natAbs (s .value)))
 
--- what a step asks of it
+-- what a step asks of it: a substitution multiplies the result that b names by models of at most 64 terms
 pub record Served (s : Held-step) (counts : List ℕ) (slots keys : List ℕ) (sums : List ℤ) : Type 0 where
   pub product : s .code ≡ multiply-code
       → Scratch-room (terms-at counts (s .a) * terms-at counts (s .b)) slots keys sums
-  pub substitution : s .code ≡ substitute-code → Scratch-table slots keys sums
+  pub substitution : s .code ≡ substitute-code → Scratch-room (most-terms * terms-at counts (s .b)) slots keys sums
   pub quotient : s .code ≡ quotient-code → Scratch-room (products-at counts s) slots keys sums
 
 -- the results that a step names have their counts, and none is above a model's most terms
 pub record Counted (s : Held-step) (counts : List ℕ) : Type 0 where
   pub first : s .code ≡ multiply-code → most-models + s .a < length counts
   pub second : s .code ≡ multiply-code → most-models + s .b < length counts
+  pub inner : s .code ≡ substitute-code → most-models + s .b < length counts
   pub divisor : s .code ≡ quotient-code → most-models + s .b < length counts
   pub proposed : s .code ≡ quotient-code → most-models + s .v < length counts
   pub inverse : s .code ≡ quotient-code → most-models + natAbs (s .value) < length counts
@@ -187,7 +168,7 @@ pub record Counted (s : Held-step) (counts : List ℕ) : Type 0 where
 -- a step that asks no more than there is room for
 pub record Fit (s : Held-step) (room : ℕ) (counts : List ℕ) : Type 0 where
   pub product : s .code ≡ multiply-code → terms-at counts (s .a) * terms-at counts (s .b) ≤ room
-  pub substitution : s .code ≡ substitute-code → most-entries ≤ room
+  pub substitution : s .code ≡ substitute-code → most-terms * terms-at counts (s .b) ≤ room
   pub quotient : s .code ≡ quotient-code → products-at counts s ≤ room
 
 -- ---- a part of a run

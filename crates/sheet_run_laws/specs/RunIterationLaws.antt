@@ -25,19 +25,22 @@ use Rattle.model_types.specs.declared.Verdict.the-variants.{Accepted, Refused}
 use Rattle.model_types.specs.declared.Answer.{Answer}
 use Rattle.model_types.specs.declared.Accounted.{Accounted}
 use Rattle.model_types.specs.ModelStruct.{view, cause, answer}
+use Rattle.model_types.specs.ModelStructLaws.{length-view}
 use Rattle.model_types.specs.SharesStruct.{accounted}
 use Rattle.model_slices.specs.HandedModels.{handed}
 use Rattle.model.specs.OperationContracts.{Factors, Proposal}
-use Rattle.model.specs.OperationLaws.{copied-proposal, bare-proposal, bare-quotient}
+use Rattle.model.specs.OperationLaws.{fewer-room, copied-proposal, bare-proposal, bare-quotient}
+-- the scratch memory still serves as long as the slices keep their lengths
+pub use Rattle.model.specs.OperationLaws.{free-room}
 use Rattle.format.specs.HeldBook.{Held-step, Held-book}
 use Rattle.sheet_results.specs.Results.{Results, Roomy, result, settled-results, settled-rows, most-row-numbers}
 use Rattle.sheet_results.specs.ResultsLaws.{roomy-less}
-use Rattle.sheet_steps.specs.Steps.{step-answer, step-row, names-second, Step-ready}
+use Rattle.sheet_steps.specs.Steps.{negate-code, step-answer, step-row, names-second, Step-ready}
 use Rattle.sheet_run_laws.specs.declared.StepList.{StepList}
 use Rattle.sheet_run_laws.specs.declared.Stop.{Stop}
-use Rattle.sheet_run_laws.specs.Run.{input-code, multiply-code, quotient-code}
+use Rattle.sheet_run_laws.specs.Run.{input-code, multiply-code, substitute-code, quotient-code}
 use Rattle.sheet_run_laws.specs.Run.{Ended, Iterated, Iteration, Proposed, quotient-at}
-use Rattle.sheet_run_laws.specs.Run.{Scratch-for, Served, Counted, Fit}
+use Rattle.sheet_run_laws.specs.Run.{Scratch-room, Served, Counted, Fit}
 use Rattle.sheet_run_laws.specs.Run.{most-entries, Begun, Stopped}
 use Rattle.sheet_run_laws.specs.RunLaws.{first-place, second-place, third-earlier, fourth-earlier, here-small}
 use Rattle.sheet_run_laws.specs.RunLaws.{
@@ -97,6 +100,7 @@ module _ {n d i : ℕ} {s : Held-step} {m : Results} {flat : List ℕ} (t : Iter
   iteration-counted = record {
     first = λ e. omega (arith, iteration-first (λ z. omega (arith, z, e)) .counts-long);
     second = λ e. omega (arith, iteration-second .counts-long);
+    inner = λ e. omega (arith, iteration-second .counts-long);
     divisor = λ e. omega (arith, iteration-second .counts-long);
     proposed = λ e. omega (arith, iteration-third e .counts-long);
     inverse = λ e. omega (arith, iteration-fourth e .counts-long);
@@ -105,13 +109,14 @@ module _ {n d i : ℕ} {s : Held-step} {m : Results} {flat : List ℕ} (t : Iter
 
   -- ---- a step that names at most two results
   module _ (f g : Model)
-      (is-first : view f ≡ cond (leb 3 (s .code)) (view (result n m (most-models + s .a))) (zero-model n))
+      (is-first : view f ≡ cond (leb negate-code (s .code)) (view (result n m (most-models + s .a))) (zero-model n))
       (is-second : view g ≡ cond (names-second (s .code)) (view (result n m (most-models + s .b))) (zero-model n))
       (z : s .code ≡ input-code → ⊥) (w : s .code ≡ multiply-code → ⊥) (o : s .code ≡ quotient-code → ⊥) where
-    here-first : view f ≡ cond (leb 3 (s .code)) (view (result (t .held .n) m (most-models + s .a))) (zero-model (t
-        .held .n))
-    here-first = out-of (λ n d. view f ≡ cond (leb 3 (s .code)) (view (result n m (most-models + s .a))) (zero-model n))
-        is-first
+    here-first : view f
+        ≡ cond (leb negate-code (s .code)) (view (result (t .held .n) m (most-models + s .a))) (zero-model (t .held .n))
+    here-first =
+        out-of (λ n d. view f
+        ≡ cond (leb negate-code (s .code)) (view (result n m (most-models + s .a))) (zero-model n)) is-first
 
     here-second : view g
         ≡ cond (names-second (s .code)) (view (result (t .held .n) m (most-models + s .b))) (zero-model (t .held .n))
@@ -122,6 +127,21 @@ module _ {n d i : ℕ} {s : Held-step} {m : Results} {flat : List ℕ} (t : Iter
     pub other-ready : Step-ready n d s f g
     other-ready = into (λ n d. Step-ready n d s f g)
         (step-ready (t .passes) (t .at) (t .so-far) f g here-first here-second z w o)
+
+    -- what a substitution puts in has the count of the result that b names
+    inner-count : s .code ≡ substitute-code → getD (m .counts) (most-models + s .b) 0 ≡ g .count
+    unfolding names-second result handed
+    inner-count e =
+        sym (length-view (result n m (most-models + s .b)))
+        ∙ ap (λ (c : C.Model). length (c .terms))
+        (sym (is-second ∙ ap (λ c. cond (names-second c) (view (result n m (most-models + s .b))) (zero-model n)) e))
+        ∙ length-view g
+
+    -- so that the scratch memory serves it
+    pub other-room : {slots keys : List ℕ} {sums : List ℤ} → Served s (m .counts) slots keys sums
+        → s .code ≡ substitute-code → Scratch-room (most-terms * g .count) slots keys sums
+    other-room {slots} {keys} {sums} r e =
+        subst (λ c. Scratch-room (most-terms * c) slots keys sums) (inner-count e) (r .substitution e)
 
     pub other-iterated : {r : Accounted} {v : Verdict} {m' : Results} {flat' : List ℕ}
         → ((k : C.Model)
@@ -240,23 +260,11 @@ module _ {n d i : ℕ} {s : Held-step} {m : Results} {flat : List ℕ} (t : Iter
 
 -- ---- scratch memory
 pub fit-served : {s : Held-step} {room : ℕ} {counts slots keys : List ℕ} {sums : List ℤ} → Fit s room counts
-    → Scratch-for room slots keys sums → Served s counts slots keys sums
+    → Scratch-room room slots keys sums → Served s counts slots keys sums
 fit-served f l = record {
-  product = λ e.
-      let p = f .product e in
-      record {
-        slots-room = omega (arith, p, l .some .slots-room);
-        keys-room = omega (arith, p, l .some .keys-room);
-        sums-room = omega (arith, p, l .some .sums-room);
-      };
-  substitution = λ e. l .full (f .substitution e);
-  quotient = λ e.
-      let p = f .quotient e in
-      record {
-        slots-room = omega (arith, p, l .some .slots-room);
-        keys-room = omega (arith, p, l .some .keys-room);
-        sums-room = omega (arith, p, l .some .sums-room);
-      };
+  product = λ e. fewer-room l (f .product e);
+  substitution = λ e. fewer-room l (f .substitution e);
+  quotient = λ e. fewer-room l (f .quotient e);
 }
 
 -- with all the room there is, every step fits
@@ -361,22 +369,6 @@ module _ {n d a b v w : ℕ} {m : Results} (p : Proposed n d a b v w m) (f : Mod
       (view (part-of n (radius-at b) m b)))
       ∙ (λ i. answer (at-place 0 (quotient d (view (result n m a)) (view (result-part n m b i))
       (view (result-part n m v i)) (view (result-part n m w i)))))
-
--- the scratch memory still serves as long as the slices keep their lengths
-pub scratch-still : {room : ℕ} {s k : List ℕ} {z : List ℤ} (s' k' : List ℕ) (z' : List ℤ) → Scratch-for room s k z
-    → length s' ≡ length s → length k' ≡ length k → length z' ≡ length z → Scratch-for room s' k' z'
-scratch-still s' k' z' l a b c = record {
-  some = record {
-    slots-room = omega (arith, l .some .slots-room, a);
-    keys-room = omega (arith, l .some .keys-room, b);
-    sums-room = omega (arith, l .some .sums-room, c);
-  };
-  full = λ h. record {
-    slots-room = omega (arith, l .full h .slots-room, a);
-    keys-room = omega (arith, l .full h .keys-room, b);
-    sums-room = omega (arith, l .full h .sums-room, c);
-  };
-}
 
 -- ---- where a part of a run stopped
 -- no verdict is both

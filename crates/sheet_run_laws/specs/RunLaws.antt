@@ -60,6 +60,7 @@ use Rattle.sheet_results.specs.Results.{settled-results, settled-rows}
 use Rattle.sheet_results.specs.ResultsLaws.{result-here, result-other, roomy-still}
 use Rattle.sheet_results.specs.ResultsLaws.{settled-put, settled-row, settled-kept, settled-row-kept}
 use Rattle.sheet_results.specs.RowsLaws.{length-row, row-here, row-other, length-rows, rows-at}
+use Rattle.sheet_steps.specs.Steps.{input-code, negate-code, multiply-code, quotient-code}
 use Rattle.sheet_steps.specs.Steps.{step-answer, step-row, names-second, Step-ready}
 use Rattle.sheet_steps.specs.StepLaws.{radius-small, radius-bounded, only-named, row-named, step-is, row-is}
 use Rattle.sheet_steps.specs.StepLaws.{input-is, input-row, product-is, product-row, quotient-is, quotient-row}
@@ -260,15 +261,17 @@ module _ {h : Held-book} (p : Held-passes h) where
     models-counted = length-replicate (length (h .models)) (zero-model (h .n))
 
     -- its fields are places of the results, that of an input apart
-    pub first-place : (s .code ≡ 0 → ⊥) → s .a < length (h .steps)
+    pub first-place : (s .code ≡ input-code → ⊥) → s .a < length (h .steps)
     unfolding limit-a
     first-place z =
-        let k = second-limit (eqb (s .code) 0) _ (cond (leb 3 (s .code)) i 1) (s .a) (λ t. z (eqb→eq (s .code) 0 t))
+        let k = second-limit (eqb (s .code) 0) _ (cond (leb negate-code (s .code)) i 1) (s .a)
+        (λ t. z (eqb→eq (s .code) input-code t))
         (ltb→lt (s .a) _ (fields .in-a)) in
         omega (
           arith,
           k,
-          under-cond (leb 3 (s .code)) i 1 (length (h .steps)) (omega (arith, at .within)) (omega (arith, at .within)),
+          under-cond (leb negate-code (s .code)) i 1 (length (h .steps)) (omega (arith, at .within))
+              (omega (arith, at .within)),
         )
 
     pub second-place : s .b < length (h .steps)
@@ -281,19 +284,19 @@ module _ {h : Held-book} (p : Held-passes h) where
     )
 
     -- so are the two others of a quotient
-    pub third-earlier : s .code ≡ 9 → s .v < i
+    pub third-earlier : s .code ≡ quotient-code → s .v < i
     unfolding names-variable v-sound
     third-earlier e = ltb→lt (s .v) i (subst (λ c. T (v-sound (outline-of h .vars) i c (s .v))) e (fields .in-v))
 
-    pub fourth-earlier : s .code ≡ 9 → natAbs (s .value) < i
+    pub fourth-earlier : s .code ≡ quotient-code → natAbs (s .value) < i
     unfolding value-sound earlier
     fourth-earlier e = ltb→lt (natAbs (s .value)) i
         (and-right (nonNeg (s .value)) _ (subst (λ c. T (value-sound i c (s .value))) e (fields .in-value)))
 
     -- and what a and b name are results of earlier steps
-    pub first-earlier : T (leb 3 (s .code)) → s .a < i
+    pub first-earlier : T (leb negate-code (s .code)) → s .a < i
     unfolding limit-a
-    first-earlier t = first-limit (eqb (s .code) 0) (leb 3 (s .code)) _ i 1 (s .a)
+    first-earlier t = first-limit (eqb (s .code) 0) (leb negate-code (s .code)) _ i 1 (s .a)
         (λ z. omega (arith, eqb→eq (s .code) 0 z, leb→le 3 (s .code) t)) t (ltb→lt (s .a) _ (fields .in-a))
 
     pub second-earlier : T (names-second (s .code)) → s .b < i
@@ -305,13 +308,13 @@ module _ {h : Held-book} (p : Held-passes h) where
         chosen false y q l = absurd q
 
     -- of a code that is known
-    by-first : (c : ℕ) → s .code ≡ c → T (leb 3 c) → s .a < i
-    by-first c e t = first-earlier (subst (λ c. T (leb 3 c)) (sym e) t)
+    by-first : (c : ℕ) → s .code ≡ c → T (leb negate-code c) → s .a < i
+    by-first c e t = first-earlier (subst (λ c. T (leb negate-code c)) (sym e) t)
 
     by-second : (c : ℕ) → s .code ≡ c → T (names-second c) → s .b < i
     by-second c e t = second-earlier (subst (λ c. T (names-second c)) (sym e) t)
 
-    divisor-earlier : s .code ≡ 9 → s .b < i
+    divisor-earlier : s .code ≡ quotient-code → s .b < i
     unfolding limit-b
     divisor-earlier e = ltb→lt (s .b) i (subst (λ c. T (ltb (s .b) (limit-b i c))) e (fields .in-b))
 
@@ -320,7 +323,7 @@ module _ {h : Held-book} (p : Held-passes h) where
     here-small = omega (arith, at .within, in-limits-of .steps-high)
 
     -- that of an input is a model
-    pub model-place : s .code ≡ 0 → s .a < length (h .models)
+    pub model-place : s .code ≡ input-code → s .a < length (h .models)
     unfolding limit-a
     model-place e = omega (
       arith,
@@ -384,16 +387,17 @@ module _ {h : Held-book} (p : Held-passes h) where
       code-small = leb→le (s .code) last-code (fields .in-code)
 
       module _ (f g : Model)
-          (is-first : view f ≡ cond (leb 3 (s .code)) (view (result (h .n) m (most-models + s .a))) (zero-model (h .n)))
+          (is-first : view f ≡ cond (leb negate-code (s .code)) (view (result (h .n) m (most-models + s .a)))
+          (zero-model (h .n)))
           (is-second : view g ≡ cond (names-second (s .code)) (view (result (h .n) m (most-models + s .b))) (zero-model
           (h .n))) where
         first-good : Good h (view f)
-        first-good = operand-good (leb 3 (s .code)) f (s .a) is-first first-earlier
+        first-good = operand-good (leb negate-code (s .code)) f (s .a) is-first first-earlier
 
         second-good : Good h (view g)
         second-good = operand-good (names-second (s .code)) g (s .b) is-second second-earlier
 
-        pub step-ready : (s .code ≡ 0 → ⊥) → (s .code ≡ 6 → ⊥) → (s .code ≡ 9 → ⊥)
+        pub step-ready : (s .code ≡ input-code → ⊥) → (s .code ≡ multiply-code → ⊥) → (s .code ≡ quotient-code → ⊥)
             → Step-ready (h .n) (h .d) s f g
         step-ready z w o = record {
           vars = vars;
@@ -410,14 +414,15 @@ module _ {h : Held-book} (p : Held-passes h) where
         }
 
         -- what its code gives is the answer of the book's step
-        pub by-code : {r : Accounted} → (s .code ≡ 0 → ⊥) → (s .code ≡ 6 → ⊥) → (s .code ≡ 9 → ⊥)
+        pub by-code : {r : Accounted} → (s .code ≡ input-code → ⊥) → (s .code ≡ multiply-code → ⊥)
+            → (s .code ≡ quotient-code → ⊥)
             → ((k : C.Model) → r ≡ accounted (step-answer (h .n) (h .d) s k (view f) (view g))
             (step-row (h .n) (h .d) s k (view f) (view g)))
             → r ≡ accounted given row
         unfolding view-book
         by-code z w o e =
             let k = model-of book (s .a) in
-            let q = operand-is (leb 3 (s .code)) f (s .a) is-first first-earlier in
+            let q = operand-is (leb negate-code (s .code)) f (s .a) is-first first-earlier in
             let t = operand-is (names-second (s .code)) g (s .b) is-second second-earlier in
             e k
             ∙ ap₂ accounted
@@ -427,7 +432,7 @@ module _ {h : Held-book} (p : Held-passes h) where
             ∙ row-is book so-far s step-at k stands o)
 
       -- ---- an input
-      module _ (k : Model) (e : s .code ≡ 0) (is-model : view k ≡ view (result (h .n) m (s .a))) where
+      module _ (k : Model) (e : s .code ≡ input-code) (is-model : view k ≡ view (result (h .n) m (s .a))) where
         input-seen : view k ≡ model-of book (s .a)
         input-seen = is-model ∙ l .loaded .each (s .a) (model-place e)
 
@@ -442,7 +447,7 @@ module _ {h : Held-book} (p : Held-passes h) where
             (input-row book so-far s step-at stands e)
 
       -- ---- a product
-      module _ (e : s .code ≡ 6) where
+      module _ (e : s .code ≡ multiply-code) where
         first-factor : s .a < i
         first-factor = by-first 6 e tt
 
@@ -472,7 +477,8 @@ module _ {h : Held-book} (p : Held-passes h) where
             ∙ ap₂ accounted (product-is book so-far s step-at stands e) (product-row book so-far s step-at stands e)
 
       -- ---- a quotient
-      module _ (f g k w : Model) (e : s .code ≡ 9) (is-first : view f ≡ view (result (h .n) m (most-models + s .a)))
+      module _ (f g k w : Model) (e : s .code ≡ quotient-code)
+          (is-first : view f ≡ view (result (h .n) m (most-models + s .a)))
           (is-second : view g ≡ view (result (h .n) m (most-models + s .b))) (is-third : view k ≡ view (result (h .n) m
           (most-models + s .v)))
           (is-fourth : view w ≡ view (result (h .n) m (most-models + natAbs (s .value)))) where
@@ -518,7 +524,7 @@ module _ {h : Held-book} (p : Held-passes h) where
       quotient-bounded e =
           radius-bounded (weaken radius-small (step-good book passes i step-at step-passes (l .good))) e
 
-      pub quotient-carried : {r : Answer} {x : Accounted} → s .code ≡ 9 → r ≡ answer (at-place 0 given)
+      pub quotient-carried : {r : Answer} {x : Accounted} → s .code ≡ quotient-code → r ≡ answer (at-place 0 given)
           → ((a : R.Answer C.Model) → r ≡ answer (at-place 0 a) → x ≡ accounted a all-carried)
           → x ≡ accounted given row
       quotient-carried e q k = k given q ∙ ap (accounted given) (quotient-row book so-far s step-at stands e)

@@ -3,15 +3,6 @@
 use model_types::Verdict;
 use sheet_book::Step;
 
-// The codes of steps that a run tells apart.
-pub const INPUT: u8 = 0;
-
-pub const MULTIPLY: u8 = 6;
-
-pub const SUBSTITUTE: u8 = 7;
-
-pub const QUOTIENT: u8 = 9;
-
 // What is left of a book when its models stand in flat slices: n, the order d and the first `count` of its steps.
 pub struct StepList {
     pub n: u8,
@@ -25,3 +16,9 @@ pub struct Stop {
     pub at: usize,
     pub verdict: Verdict,
 }
+
+// The codes of steps that a run tells apart.
+pub use sheet_steps::INPUT;
+pub use sheet_steps::MULTIPLY;
+pub use sheet_steps::QUOTIENT;
+pub use sheet_steps::SUBSTITUTE;

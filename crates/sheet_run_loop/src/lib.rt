@@ -1,6 +1,6 @@
 // The steps of a book in order, each after the results so far, as far as the scratch memory for products serves.
 ghost use Rattle.sheet_results.specs.Results.{results};
-ghost use Rattle.sheet_run_laws.specs.Run.{«Scratch-for», Part, Stopped};
+ghost use Rattle.sheet_run_laws.specs.Run.{«Scratch-room», Part, Stopped};
 use model_types::Key;
 use model_types::Verdict;
 use sheet_run_laws::StepList;
@@ -21,7 +21,7 @@ pub fn steps(
     sums: &mut [i64],
 ) -> Stop
     requires { ⌜ Part l from (results (now keys) (now coefficients) (now counts) (now radii)) (now rows) ⌝ }
-    requires { ⌜ Scratch-for room (now slots) (now places) (now sums) ⌝ }
+    requires { ⌜ Scratch-room room (now slots) (now places) (now sums) ⌝ }
     ensures { λ r. ⌜ ((t : Part l from
         (results (now (keys .entry)) (now (coefficients .entry)) (now (counts .entry)) (now (radii .entry)))
         (now (rows .entry))) → Stopped (t .held) l room r

@@ -13,10 +13,10 @@ use sheet_book::Step;
 fn names_second(code: u8) -> bool
     ensures { λ r. ⌜ r ≡ names-second code ⌝ }
 {
-    if code < 4 {
+    if code < sheet_steps::ADD {
         return false;
     }
-    code <= 7
+    code <= sheet_steps::SUBSTITUTE
 }
 
 // Any other step: what it does not name is not copied.
@@ -48,7 +48,7 @@ pub fn other_step(
     let code = s.code;
     let a = sheet_book::MOST_MODELS + s.a as usize;
     let b = sheet_book::MOST_MODELS + s.b as usize;
-    let first = 3 <= code;
+    let first = sheet_steps::NEGATE <= code;
     let second = names_second(code);
     let f = sheet_results::operand(n, first, a, keys, coefficients, counts, radii);
     let g = sheet_results::operand(n, second, b, keys, coefficients, counts, radii);

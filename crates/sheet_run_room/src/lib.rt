@@ -22,7 +22,8 @@ fn quotient_fits(g: usize, h: usize, w: usize, room: usize) -> bool
     others <= room
 }
 
-// Whether a table for so many products serves a step. A substitution wants the full one.
+// Whether a table for so many products serves a step. A substitution multiplies the result that b names by models of as
+// many terms as any has.
 pub fn fits(s: Step, room: usize, counts: &[usize]) -> bool
     requires { ⌜ Counted (held-step s) (now counts) ⌝ }
     ensures { λ r. ⌜ (r ≡ true → Fit (held-step s) room (now (counts .entry))) × (most-entries ≤ room → r ≡ true) ⌝ }
@@ -37,7 +38,10 @@ pub fn fits(s: Step, room: usize, counts: &[usize]) -> bool
         return products <= room;
     }
     if code == sheet_run_laws::SUBSTITUTE {
-        return model::ENTRIES <= room;
+        let b = sheet_book::MOST_MODELS + s.b as usize;
+        let g = counts[b];
+        let most = model_types::MOST_TERMS * g;
+        return most <= room;
     }
     if code == sheet_run_laws::QUOTIENT {
         let b = sheet_book::MOST_MODELS + s.b as usize;

@@ -32,6 +32,8 @@ use Rattle.model.specs.OperationLaws.{sound-order}
 use Rattle.format.specs.HeldBook.{Held-step, Form, forms, step-of, view-step}
 use Rattle.format.specs.Fields.{names-variable}
 use Rattle.sheet_step_answers.specs.Answers.{accepted-answer}
+use Rattle.sheet_steps.specs.Steps.{input-code, variable-code, negate-code, multiply-code}
+use Rattle.sheet_steps.specs.Steps.{substitute-code, sweep-code, quotient-code, antiderivative-code}
 use Rattle.sheet_steps.specs.Steps.{one-model, two-results, renumbered, form-answer, code-answer, step-answer}
 use Rattle.sheet_steps.specs.Steps.{form-shares, code-shares, step-row, names-second, Step-ready, Direct-ready}
 
@@ -41,15 +43,15 @@ module _ {n d : ℕ} {s : Held-step} {f g : Model} (r : Step-ready n d s f g) wh
   unfolding variable-sound
   in-range t = (between-low 1 n (s .v) t, between-high 1 n (s .v) t)
 
-  of-variable : s .code ≡ 2 → (1 ≤ s .v) × (s .v ≤ n)
+  of-variable : s .code ≡ variable-code → (1 ≤ s .v) × (s .v ≤ n)
   unfolding names-variable
   of-variable e = in-range (r .variable (subst (λ c. T (names-variable c)) (sym e) tt))
 
-  into-variable : s .code ≡ 7 → (1 ≤ s .v) × (s .v ≤ n)
+  into-variable : s .code ≡ substitute-code → (1 ≤ s .v) × (s .v ≤ n)
   unfolding names-variable
   into-variable e = in-range (r .variable (subst (λ c. T (names-variable c)) (sym e) tt))
 
-  along-variable : s .code ≡ 10 → (1 ≤ s .v) × (s .v ≤ n)
+  along-variable : s .code ≡ antiderivative-code → (1 ≤ s .v) × (s .v ≤ n)
   unfolding names-variable
   along-variable e = in-range (r .variable (subst (λ c. T (names-variable c)) (sym e) tt))
 
@@ -60,7 +62,7 @@ module _ {n d : ℕ} {s : Held-step} {f g : Model} (r : Step-ready n d s f g) wh
     vars = r .first-vars ∙ sym (r .second-vars);
   }
 
-  pub substitution : s .code ≡ 7 → Substitution d (s .v) f g
+  pub substitution : s .code ≡ substitute-code → Substitution d (s .v) f g
   substitution e = record {
     order = r .order;
     model = r .first;
@@ -74,7 +76,7 @@ module _ {n d : ℕ} {s : Held-step} {f g : Model} (r : Step-ready n d s f g) wh
   pub swept-sound : T (sound most-degree (view f))
   swept-sound = operands .first
 
-  pub integrand : s .code ≡ 10 → Integrand d (s .v) f
+  pub integrand : s .code ≡ antiderivative-code → Integrand d (s .v) f
   integrand e = record {
     order = r .order;
     model = r .first;
@@ -83,7 +85,8 @@ module _ {n d : ℕ} {s : Held-step} {f g : Model} (r : Step-ready n d s f g) wh
   }
 
   -- what a step asks whose result is all carried
-  pub direct-ready : (s .code ≡ 7 → ⊥) → (s .code ≡ 8 → ⊥) → (s .code ≡ 10 → ⊥) → Direct-ready n s f g
+  pub direct-ready : (s .code ≡ substitute-code → ⊥) → (s .code ≡ sweep-code → ⊥) → (s .code ≡ antiderivative-code → ⊥)
+      → Direct-ready n s f g
   direct-ready q t w = record {
     width = vars-range n (r .vars) .1;
     code = r .code;
@@ -142,7 +145,8 @@ module _ (n d : ℕ) (s : Held-step) (m : C.Model) (f g : Model) where
   accounted-is c a k e i h q = e ∙ sym (ap₂ accounted (gives c i ∙ h) (shared c i ∙ q))
 
   -- any other result is all carried
-  carried-code : (c : ℕ) → (c ≡ 6 → ⊥) → (c ≡ 7 → ⊥) → (c ≡ 8 → ⊥) → (c ≡ 10 → ⊥)
+  carried-code : (c : ℕ) → (c ≡ multiply-code → ⊥) → (c ≡ substitute-code → ⊥) → (c ≡ sweep-code → ⊥)
+      → (c ≡ antiderivative-code → ⊥)
       → code-shares n d s m (view f) (view g) c ≡ all-carried
   unfolding codes
   carried-code zero p q t w = refl
@@ -168,7 +172,8 @@ module _ (n d : ℕ) (s : Held-step) (m : C.Model) (f g : Model) where
 
 -- ---- only what a code names matters to it
 module _ (n d : ℕ) (s : Held-step) (m k f x g y : C.Model) where
-  named-by-code : (c : ℕ) → c ≤ last-code → (c ≡ 0 → ⊥) → (c ≡ 6 → ⊥) → (c ≡ 9 → ⊥) → (T (leb 3 c) → f ≡ x)
+  named-by-code : (c : ℕ) → c ≤ last-code → (c ≡ input-code → ⊥) → (c ≡ multiply-code → ⊥) → (c ≡ quotient-code → ⊥)
+      → (T (leb negate-code c) → f ≡ x)
       → (T (names-second c) → g ≡ y) → code-answer n d s m f g c ≡ code-answer n d s k x y c
   unfolding codes names-second
   named-by-code zero l z w o e q = absurd (z refl)
@@ -188,7 +193,8 @@ module _ (n d : ℕ) (s : Held-step) (m k f x g y : C.Model) where
   named-by-code (suc (suc (suc (suc (suc (suc (suc (suc (suc (suc (suc c))))))))))) l z w o e q = absurd (omega
       (arith, l))
 
-  shares-named : (c : ℕ) → c ≤ last-code → (c ≡ 0 → ⊥) → (c ≡ 6 → ⊥) → (c ≡ 9 → ⊥) → (T (leb 3 c) → f ≡ x)
+  shares-named : (c : ℕ) → c ≤ last-code → (c ≡ input-code → ⊥) → (c ≡ multiply-code → ⊥) → (c ≡ quotient-code → ⊥)
+      → (T (leb negate-code c) → f ≡ x)
       → (T (names-second c) → g ≡ y) → code-shares n d s m f g c ≡ code-shares n d s k x y c
   unfolding codes names-second
   shares-named zero l z w o e q = absurd (z refl)
@@ -208,14 +214,16 @@ module _ (n d : ℕ) (s : Held-step) (m k f x g y : C.Model) where
   shares-named (suc (suc (suc (suc (suc (suc (suc (suc (suc (suc (suc c))))))))))) l z w o e q = absurd (omega
       (arith, l))
 
-  pub only-named : s .code ≤ last-code → (s .code ≡ 0 → ⊥) → (s .code ≡ 6 → ⊥) → (s .code ≡ 9 → ⊥)
-      → (T (leb 3 (s .code)) → f ≡ x) → (T (names-second (s .code)) → g ≡ y)
+  pub only-named : s .code ≤ last-code → (s .code ≡ input-code → ⊥) → (s .code ≡ multiply-code → ⊥)
+      → (s .code ≡ quotient-code → ⊥)
+      → (T (leb negate-code (s .code)) → f ≡ x) → (T (names-second (s .code)) → g ≡ y)
       → step-answer n d s m f g ≡ step-answer n d s k x y
   unfolding step-answer
   only-named = named-by-code (s .code)
 
-  pub row-named : s .code ≤ last-code → (s .code ≡ 0 → ⊥) → (s .code ≡ 6 → ⊥) → (s .code ≡ 9 → ⊥)
-      → (T (leb 3 (s .code)) → f ≡ x) → (T (names-second (s .code)) → g ≡ y)
+  pub row-named : s .code ≤ last-code → (s .code ≡ input-code → ⊥) → (s .code ≡ multiply-code → ⊥)
+      → (s .code ≡ quotient-code → ⊥)
+      → (T (leb negate-code (s .code)) → f ≡ x) → (T (names-second (s .code)) → g ≡ y)
       → step-row n d s m f g ≡ step-row n d s k x y
   unfolding step-row
   row-named = shares-named (s .code)
@@ -232,7 +240,8 @@ form-step f t e = go (eqb (f .unnamed) 0) e
 
 module _ (b : Book) (r : ℕ → C.Model) (s : Held-step) (t : Step) (m : C.Model) where
   -- each but a quotient; the model matters to an input only
-  by-code : (c : ℕ) → step-of (getElem? (forms s) c) ≡ some t → (c ≡ 9 → ⊥) → (c ≡ 0 → m ≡ model-of b (s .a))
+  by-code : (c : ℕ) → step-of (getElem? (forms s) c) ≡ some t → (c ≡ quotient-code → ⊥)
+      → (c ≡ input-code → m ≡ model-of b (s .a))
       → code-answer (b .vars) (b .order) s m (r (s .a)) (r (s .b)) c ≡ run-step b r t
   unfolding codes
   by-code zero h p e = ap accepted (e refl) ∙ ap (run-step b r) (form-step _ t h)
@@ -252,13 +261,13 @@ module _ (b : Book) (r : ℕ → C.Model) (s : Held-step) (t : Step) (m : C.Mode
       no-form e = unfold step-of in let z : _≡_ {A = ℕ} 0 1 = cc in absurd (omega arith)
 
   -- what the code gives is what the step of the book gives
-  pub step-is : view-step s ≡ some t → (s .code ≡ 9 → ⊥) → (s .code ≡ 0 → m ≡ model-of b (s .a))
+  pub step-is : view-step s ≡ some t → (s .code ≡ quotient-code → ⊥) → (s .code ≡ input-code → m ≡ model-of b (s .a))
       → step-answer (b .vars) (b .order) s m (r (s .a)) (r (s .b)) ≡ run-step b r t
   unfolding view-step step-answer
   step-is = by-code (s .code)
 
   -- so are the shares
-  shares-by-code : (c : ℕ) → step-of (getElem? (forms s) c) ≡ some t → (c ≡ 9 → ⊥)
+  shares-by-code : (c : ℕ) → step-of (getElem? (forms s) c) ≡ some t → (c ≡ quotient-code → ⊥)
       → code-shares (b .vars) (b .order) s m (r (s .a)) (r (s .b)) c ≡ step-shares b r t
   unfolding codes
   shares-by-code zero h p = ap (step-shares b r) (form-step _ t h)
@@ -278,7 +287,7 @@ module _ (b : Book) (r : ℕ → C.Model) (s : Held-step) (t : Step) (m : C.Mode
       no-form : {A : Type 0} → step-of none ≡ some t → A
       no-form e = unfold step-of in let z : _≡_ {A = ℕ} 0 1 = cc in absurd (omega arith)
 
-  pub row-is : view-step s ≡ some t → (s .code ≡ 9 → ⊥)
+  pub row-is : view-step s ≡ some t → (s .code ≡ quotient-code → ⊥)
       → step-row (b .vars) (b .order) s m (r (s .a)) (r (s .b)) ≡ step-shares b r t
   unfolding view-step step-row
   row-is = shares-by-code (s .code)
@@ -290,29 +299,29 @@ module _ (b : Book) (r : ℕ → C.Model) (s : Held-step) (t : Step) (h : view-s
   unfolding view-step
   formed c e = ap (λ c. step-of (getElem? (forms s) c)) (sym e) ∙ h
 
-  pub input-is : s .code ≡ 0 → accepted (model-of b (s .a)) ≡ run-step b r t
+  pub input-is : s .code ≡ input-code → accepted (model-of b (s .a)) ≡ run-step b r t
   unfolding forms run-step
   input-is e = ap (run-step b r) (form-step _ t (formed 0 e))
 
-  pub input-row : s .code ≡ 0 → all-carried ≡ step-shares b r t
+  pub input-row : s .code ≡ input-code → all-carried ≡ step-shares b r t
   unfolding forms step-shares
   input-row e = ap (step-shares b r) (form-step _ t (formed 0 e))
 
-  pub product-is : s .code ≡ 6 → Op.multiply (b .order) (r (s .a)) (r (s .b)) ≡ run-step b r t
+  pub product-is : s .code ≡ multiply-code → Op.multiply (b .order) (r (s .a)) (r (s .b)) ≡ run-step b r t
   unfolding forms run-step
   product-is e = ap (run-step b r) (form-step _ t (formed 6 e))
 
-  pub product-row : s .code ≡ 6
+  pub product-row : s .code ≡ multiply-code
       → _≡_ {A = C.Model → Shares} (λ m. product-shares (b .order) (r (s .a)) (r (s .b))) (step-shares b r t)
   unfolding forms step-shares
   product-row e = ap (step-shares b r) (form-step _ t (formed 6 e))
 
-  pub quotient-is : s .code ≡ 9
+  pub quotient-is : s .code ≡ quotient-code
       → Op.quotient (b .order) (r (s .a)) (r (s .b)) (r (s .v)) (r (natAbs (s .value))) ≡ run-step b r t
   unfolding forms run-step
   quotient-is e = ap (run-step b r) (form-step _ t (formed 9 e))
 
-  pub quotient-row : s .code ≡ 9 → all-carried ≡ step-shares b r t
+  pub quotient-row : s .code ≡ quotient-code → all-carried ≡ step-shares b r t
   unfolding forms step-shares
   quotient-row e = ap (step-shares b r) (form-step _ t (formed 9 e))
 

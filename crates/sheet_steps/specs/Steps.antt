@@ -1,4 +1,4 @@
--- What one step gives, the shares of it, and what it asks.
+-- The codes of steps; what one step gives, the shares of it, and what it asks.
 use mathlib.Core.Path.{_≡_}
 use mathlib.Core.Bool.{Bool, true, _&&_}
 use mathlib.Core.List.{[], _∷_}
@@ -19,6 +19,51 @@ use Rattle.model_types.specs.ModelStruct.{view}
 use Rattle.model.specs.OperationContracts.{Operands}
 use Rattle.format.specs.HeldBook.{Held-step, Form, forms}
 use Rattle.format.specs.Fields.{names-variable}
+
+-- ---- the codes of steps
+-- an input
+abbrev pub input-code : ℕ
+input-code = 0
+
+-- a constant
+abbrev pub constant-code : ℕ
+constant-code = 1
+
+-- a variable
+abbrev pub variable-code : ℕ
+variable-code = 2
+
+-- a negation
+abbrev pub negate-code : ℕ
+negate-code = 3
+
+-- a sum
+abbrev pub add-code : ℕ
+add-code = 4
+
+-- a difference
+abbrev pub subtract-code : ℕ
+subtract-code = 5
+
+-- a product
+abbrev pub multiply-code : ℕ
+multiply-code = 6
+
+-- a substitution
+abbrev pub substitute-code : ℕ
+substitute-code = 7
+
+-- a sweep
+abbrev pub sweep-code : ℕ
+sweep-code = 8
+
+-- a quotient
+abbrev pub quotient-code : ℕ
+quotient-code = 9
+
+-- an antiderivative
+abbrev pub antiderivative-code : ℕ
+antiderivative-code = 10
 
 -- ---- what it gives
 -- a book in n variables of order d with the one model m
@@ -65,7 +110,7 @@ step-row n d s m f g = code-shares n d s m f g (s .code)
 -- ---- what it asks
 -- whether a code names a second result, of those that name at most two
 unfoldable pub names-second : (code : ℕ) → Bool
-names-second c = leb 4 c && leb c 7
+names-second c = leb add-code c && leb c substitute-code
 
 -- any step but an input, a product and a quotient: two results, whether it names them or not, that are sound in n
 -- variables for order d; v is a variable where the code names one
@@ -73,9 +118,9 @@ pub record Step-ready (n d : ℕ) (s : Held-step) (f g : Model) : Type 0 where
   pub vars : vars-sound n ≡ true
   pub order : d ≤ most-degree
   pub code : s .code ≤ last-code
-  pub no-input : s .code ≡ 0 → ⊥
-  pub no-product : s .code ≡ 6 → ⊥
-  pub no-quotient : s .code ≡ 9 → ⊥
+  pub no-input : s .code ≡ input-code → ⊥
+  pub no-product : s .code ≡ multiply-code → ⊥
+  pub no-quotient : s .code ≡ quotient-code → ⊥
   pub variable : T (names-variable (s .code)) → T (variable-sound n (s .v))
   pub first : T (sound d (view f))
   pub first-vars : f .n ≡ n
@@ -87,11 +132,11 @@ pub record Step-ready (n d : ℕ) (s : Held-step) (f g : Model) : Type 0 where
 pub record Direct-ready (n : ℕ) (s : Held-step) (f g : Model) : Type 0 where
   pub width : n ≤ key-width
   pub code : s .code ≤ last-code
-  pub no-input : s .code ≡ 0 → ⊥
-  pub no-product : s .code ≡ 6 → ⊥
-  pub no-substitution : s .code ≡ 7 → ⊥
-  pub no-sweep : s .code ≡ 8 → ⊥
-  pub no-quotient : s .code ≡ 9 → ⊥
-  pub no-antiderivative : s .code ≡ 10 → ⊥
-  pub variable : s .code ≡ 2 → (1 ≤ s .v) × (s .v ≤ n)
+  pub no-input : s .code ≡ input-code → ⊥
+  pub no-product : s .code ≡ multiply-code → ⊥
+  pub no-substitution : s .code ≡ substitute-code → ⊥
+  pub no-sweep : s .code ≡ sweep-code → ⊥
+  pub no-quotient : s .code ≡ quotient-code → ⊥
+  pub no-antiderivative : s .code ≡ antiderivative-code → ⊥
+  pub variable : s .code ≡ variable-code → (1 ≤ s .v) × (s .v ≤ n)
   pub operands : Operands f g

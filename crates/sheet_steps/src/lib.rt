@@ -1,22 +1,46 @@
 // One step of a book, a product and a quotient apart: the operation that its code names, on the model or the results
 // that its fields name.
 ghost use mathlib.Core.Path.{_≡_};
-ghost use Prim.Native.Nat.{ℕ, _-_, min};
+ghost use Prim.Native.Nat.{ℕ, _-_, _*_, min};
 ghost use lib.Dec.{T};
 ghost use Rattle.calculus.specs.Model as C;
-ghost use Rattle.calculus.specs.Model.{«most-degree», sound};
+ghost use Rattle.calculus.specs.Model.{«most-degree», «most-terms», sound};
 ghost use Rattle.calculus.specs.Refusal.{accepted, «at-place»};
 ghost use Rattle.calculus.specs.Shares.{«all-carried»};
 ghost use Rattle.calculus.specs.Book.{«most-models»};
 ghost use Rattle.model_types.specs.ModelStruct.{view, answer};
 ghost use Rattle.model_types.specs.SharesStruct.{accounted};
-ghost use Rattle.model.specs.OperationContracts.{«Scratch-table»};
+ghost use Rattle.model.specs.OperationContracts.{«Scratch-room»};
 ghost use Rattle.sheet_book.specs.BookStruct.{«held-step»};
+ghost use Rattle.sheet_steps.specs.Steps.{«substitute-code»};
 ghost use Rattle.sheet_steps.specs.Steps.{«step-answer», «step-row», «Step-ready», «Direct-ready»};
 use model_types::Accounted;
 use model_types::Answer;
 use model_types::Model;
 use sheet_book::Step;
+
+// The codes of steps.
+pub const INPUT: u8 = 0;
+
+pub const CONSTANT: u8 = 1;
+
+pub const VARIABLE: u8 = 2;
+
+pub const NEGATE: u8 = 3;
+
+pub const ADD: u8 = 4;
+
+pub const SUBTRACT: u8 = 5;
+
+pub const MULTIPLY: u8 = 6;
+
+pub const SUBSTITUTE: u8 = 7;
+
+pub const SWEEP: u8 = 8;
+
+pub const QUOTIENT: u8 = 9;
+
+pub const ANTIDERIVATIVE: u8 = 10;
 
 // Where a book has model a. A number beyond the places is that of the last: only a step that is no input has one.
 pub fn model_place(a: u8) -> usize
@@ -47,17 +71,17 @@ fn direct_answer(n: u8, s: Step, f: Model, g: Model) -> Answer
 {
     let code = s.code;
     match code {
-        1 => sheet_step_answers::accepted(model_types::constant_of(n, s.value)),
-        2 => sheet_step_answers::accepted(model_types::variable_of(n, s.v)),
-        3 => sheet_step_answers::accepted(model::negated(f)),
-        4 => model::added(f, g),
+        CONSTANT => sheet_step_answers::accepted(model_types::constant_of(n, s.value)),
+        VARIABLE => sheet_step_answers::accepted(model_types::variable_of(n, s.v)),
+        NEGATE => sheet_step_answers::accepted(model::negated(f)),
+        ADD => model::added(f, g),
         _ => model::subtracted(f, g),
     }
 }
 
 // What a step gives that names no model and at most two results, a product apart, with the results that a and b name,
 // and where its radius came from. A result that the code does not name may be any sound one. A substitution uses the
-// scratch table.
+// scratch table, in each product of which g is multiplied by a model of no more terms than any has.
 pub fn step_answer(
     n: u8,
     d: u8,
@@ -69,15 +93,16 @@ pub fn step_answer(
     sums: &mut [i64],
 ) -> Accounted
     requires { ⌜ Step-ready n d (held-step s) f g ⌝ }
-    requires { ⌜ (held-step s .code ≡ 7 → Scratch-table (now slots) (now keys) (now sums)) ⌝ }
+    requires { ⌜ (held-step s .code ≡ substitute-code
+        → Scratch-room (most-terms * g .count) (now slots) (now keys) (now sums)) ⌝ }
     ensures { λ r. ⌜ ((m : C.Model) → r ≡ accounted (step-answer n d (held-step s) m (view f) (view g))
         (step-row n d (held-step s) m (view f) (view g))) ⌝ }
 {
     let code = s.code;
     match code {
-        7 => model::substituted_accounted(d, s.v, f, g, slots, keys, sums),
-        8 => model::swept_accounted(f, fixed::magnitude(s.value)),
-        10 => model::integrated_accounted(d, s.v, f),
+        SUBSTITUTE => model::substituted_accounted(d, s.v, f, g, slots, keys, sums),
+        SWEEP => model::swept_accounted(f, fixed::magnitude(s.value)),
+        ANTIDERIVATIVE => model::integrated_accounted(d, s.v, f),
         _ => model::all_carried(direct_answer(n, s, f, g)),
     }
 }

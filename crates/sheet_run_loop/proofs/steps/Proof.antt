@@ -10,8 +10,8 @@ use Rattle.sheet_book.specs.declared.Step.{Step}
 use Rattle.sheet_book.specs.BookStruct.{no-step, held-step}
 use Rattle.sheet_results.specs.Results.{results}
 use Rattle.sheet_run_laws.specs.declared.StepList.{StepList}
-use Rattle.sheet_run_laws.specs.Run.{Iteration, Begun, Part, Scratch-for}
-use Rattle.sheet_run_laws.specs.RunIterationLaws.{iteration-counted, fit-served, scratch-still}
+use Rattle.sheet_run_laws.specs.Run.{Iteration, Begun, Part, Scratch-room}
+use Rattle.sheet_run_laws.specs.RunIterationLaws.{iteration-counted, fit-served, free-room}
 use Rattle.sheet_run_laws.specs.RunIterationLaws.{stopped-short, stopped-whole, stopped-refused, true-false}
 use Rattle.sheet_run_laws.specs.MemoryLaws.{few-steps, step-here}
 use Rattle.sheet_run_loop.proofs.steps.Statement.{statement}
@@ -22,7 +22,7 @@ abbrev Inv-loop : tie.InvT-loop
 Inv-loop from room keys₀ coefficients₀ counts₀ radii₀ rows₀ slots₀ places₀ sums₀ l n d count i₀ keys coefficients
     counts radii rows slots places sums i =
     ((t : Part l from (results keys₀ coefficients₀ counts₀ radii₀) rows₀)
-    → Begun (t .held) l i (results keys coefficients counts radii) rows) × Scratch-for room slots places sums
+    → Begun (t .held) l i (results keys coefficients counts radii) rows) × Scratch-room room slots places sums
     × (length keys ≡ length keys₀) × (length coefficients ≡ length coefficients₀) × (length counts ≡ length counts₀)
     × (length radii ≡ length radii₀) × (length rows ≡ length rows₀) × (length slots ≡ length slots₀)
     × (length places ≡ length places₀) × (length sums ≡ length sums₀)
@@ -240,7 +240,7 @@ loop-again c =
         so-far = k .ensures (here s t) .going (c .enum-told .given .1);
         within = omega (arith, inside s);
       },
-      scratch-still _ _ _ (l .1) x y z,
+      free-room (l .1) x y z,
       k .kept .1 .1 .1 .1 .0 ∙ l .2,
       k .kept .1 .1 .1 .1 .1 .0 ∙ l .3,
       k .kept .1 .1 .1 .1 .1 .1 .0 ∙ l .4,

@@ -9,10 +9,10 @@ use Rattle.model_types.specs.declared.Model.{Model}
 use Rattle.model_types.specs.ModelStruct.{view}
 use Rattle.sheet_book.specs.BookStruct.{held-step}
 use Rattle.sheet_results.specs.Results.{Results, results, result}
-use Rattle.sheet_steps.specs.Steps.{names-second}
+use Rattle.sheet_steps.specs.Steps.{negate-code, names-second}
 use Rattle.sheet_run_laws.specs.RunIterationLaws.{iteration-small, iteration-first, iteration-second, iteration-room}
 use Rattle.sheet_run_laws.specs.RunIterationLaws.{iteration-rows}
-use Rattle.sheet_run_laws.specs.RunIterationLaws.{other-ready, other-iterated}
+use Rattle.sheet_run_laws.specs.RunIterationLaws.{other-ready, other-room, other-iterated}
 use borrow.Author.Needs.{needs}
 use Rattle.sheet_run_others.proofs.other_step.Statement.{statement}
 use Rattle.sheet_run_others.proofs.other_step.Tie as tie
@@ -60,7 +60,8 @@ module _ (c : tie.After-operand2) where
   second = c .operand2 .result
 
   is-first : view first
-      ≡ cond (leb 3 (start .args .s .code)) (view (result (start .args .n) memory (most-models + start .args .s .a)))
+      ≡ cond (leb negate-code (start .args .s .code)) (view (result (start .args .n) memory
+      (most-models + start .args .s .a)))
       (zero-model (start .args .n))
   unfolding most-models
   is-first = c .before .before .before .before .before .operand .ensures
@@ -82,7 +83,7 @@ step-answer-requires c κs =
     let s = start o in
     let p = s .pre .1 .1 in (
       other-ready (s .pre .0) (first o) (second o) (is-first o) (is-second o) (p .0) (p .1) (p .2),
-      s .pre .1 .0 .substitution,
+      other-room (s .pre .0) (first o) (second o) (is-first o) (is-second o) (p .0) (p .1) (p .2) (s .pre .1 .0),
     )
 
 settled-requires : tie.Need-settled-requires

@@ -8,11 +8,12 @@ use lib.ListN.{length, getD}
 use mir.Facts.{toZ-ofZ}
 use mir.Syntax.{w64}
 use mir.Val.{toZ, ofZ}
+use Rattle.calculus.specs.Model.{most-terms}
 use Rattle.calculus.specs.Book.{most-models}
 use Rattle.model.specs.OperationContracts.{quotient-products}
 use Rattle.model.specs.OperationLaws.{products-most}
 use Rattle.sheet_book.specs.BookStruct.{held-step}
-use Rattle.sheet_run_laws.specs.Run.{most-entries}
+use Rattle.sheet_run_laws.specs.Run.{multiply-code, substitute-code, quotient-code, most-entries}
 use Rattle.sheet_run_laws.specs.RunIterationLaws.{products-few}
 use borrow.Author.Needs.{needs}
 use Rattle.sheet_run_room.proofs.fits.Statement.{statement}
@@ -31,7 +32,7 @@ add-b : tie.Need-add-b
 add-b c = search needs
 
 -- the counts of a product's factors
-module _ (s : tie.Start) (e : s .args .s .code ≡ 6) where
+module _ (s : tie.Start) (e : s .args .s .code ≡ multiply-code) where
   first-there : 16 + s .args .s .a < length (s .args .counts .now)
   unfolding held-step most-models
   first-there = s .pre .first e
@@ -81,21 +82,63 @@ returns c =
           0) (s .args .room) (omega (arith, h, few s e)),
     )
 
+-- ---- a substitution
+-- the count of what it puts in
+module _ (s : tie.Start) (e : s .args .s .code ≡ substitute-code) where
+  inner-there : 16 + s .args .s .b < length (s .args .counts .now)
+  unfolding held-step most-models
+  inner-there = s .pre .inner e
+
+  inner-few : 64 * getD (s .args .counts .now) (16 + s .args .s .b) 0 ≤ most-entries
+  unfolding most-terms
+  inner-few = let p = s .pre .few (16 + s .args .s .b) in omega (arith, p)
+
+-- where it is read
+module _ (c : tie.After-struct-known3) where
+  abbrev beginning : tie.Start
+  beginning = c .before .before .before .before
+
+  is-substitution : beginning .args .s .code ≡ substitute-code
+  is-substitution = c .before .if2 .taken
+
+cast-b-2 : tie.Need-cast-b-2
+cast-b-2 c = search needs
+
+add-b-2 : tie.Need-add-b-2
+add-b-2 c = search needs
+
+mul-g : tie.Need-mul-g
+mul-g c = let h = inner-there (beginning c) (is-substitution c) in search needs
+
+shared-slice-read-g : tie.Need-shared-slice-read-g
+shared-slice-read-g c =
+    let m = c .before in
+    let h = inner-there (beginning m) (is-substitution m) in
+    search needs
+
+mul-most : tie.Need-mul-most
+mul-most c =
+    let m = c .before in
+    let p = inner-few (beginning m) (is-substitution m) in
+    search needs
+
 returns-2 : tie.Need-returns-2
-unfolding held-step
+unfolding held-step most-models most-terms
 returns-2 c =
-    let e = c .if2 .taken in (
+    let s = beginning (c .before) in
+    let e = is-substitution (c .before) in
+    let g = getD (s .args .counts .now) (16 + s .args .s .b) 0 in (
       λ t. record {
         product = λ q. absurd (omega (arith, q, e));
-        substitution = λ q. leb-true _ _ t;
+        substitution = λ q. leb-true (64 * g) (s .args .room) t;
         quotient = λ q. absurd (omega (arith, q, e));
       },
-      λ h. le-leb _ _ h,
+      λ h. le-leb (64 * g) (s .args .room) (omega (arith, h, inner-few s e)),
     )
 
 -- ---- a quotient
 -- the counts of its operands
-module _ (s : tie.Start) (e : s .args .s .code ≡ 9) where
+module _ (s : tie.Start) (e : s .args .s .code ≡ quotient-code) where
   divisor-there : 16 + s .args .s .b < length (s .args .counts .now)
   unfolding held-step most-models
   divisor-there = s .pre .divisor e
@@ -113,7 +156,7 @@ module _ (c : tie.After-magnitude) where
   abbrev entry : tie.Start
   entry = c .before .before .before .before .before .before .before .before
 
-  is-quotient : entry .args .s .code ≡ 9
+  is-quotient : entry .args .s .code ≡ quotient-code
   is-quotient = c .before .before .before .before .if3 .taken
 
   value-place : c .magnitude .result ≡ natAbs (entry .args .s .value)
@@ -125,11 +168,11 @@ module _ (c : tie.After-magnitude) where
   last-there : 16 + c .magnitude .result < length (entry .args .counts .now)
   last-there = omega (arith, value-place, inverse-there entry is-quotient)
 
-cast-b-2 : tie.Need-cast-b-2
-cast-b-2 c = search needs
+cast-b-3 : tie.Need-cast-b-3
+cast-b-3 c = search needs
 
-add-b-2 : tie.Need-add-b-2
-add-b-2 c = search needs
+add-b-3 : tie.Need-add-b-3
+add-b-3 c = search needs
 
 cast-v : tie.Need-cast-v
 cast-v c = search needs
@@ -143,11 +186,11 @@ magnitude-requires c κs = search needs
 add-last : tie.Need-add-last
 add-last c = let h = last-there c in search needs
 
-mul-g : tie.Need-mul-g
-mul-g c = let h = divisor-there (entry c) (is-quotient c) in search needs
+mul-g-2 : tie.Need-mul-g-2
+mul-g-2 c = let h = divisor-there (entry c) (is-quotient c) in search needs
 
-shared-slice-read-g : tie.Need-shared-slice-read-g
-shared-slice-read-g c = let m = c .before in let h = divisor-there (entry m) (is-quotient m) in search needs
+shared-slice-read-g-2 : tie.Need-shared-slice-read-g-2
+shared-slice-read-g-2 c = let m = c .before in let h = divisor-there (entry m) (is-quotient m) in search needs
 
 mul-h : tie.Need-mul-h
 mul-h c = let m = c .before in let h = proposed-there (entry m) (is-quotient m) in search needs
@@ -219,15 +262,20 @@ fits-spec =
     shared-slice-read-y
     mul-products
     returns
-    returns-2
     cast-b-2
     add-b-2
+    mul-g
+    shared-slice-read-g
+    mul-most
+    returns-2
+    cast-b-3
+    add-b-3
     cast-v
     add-v
     magnitude-requires
     add-last
-    mul-g
-    shared-slice-read-g
+    mul-g-2
+    shared-slice-read-g-2
     mul-h
     shared-slice-read-h
     mul-w

@@ -16,10 +16,7 @@ slice-aggregate-steps-3 c = search needs
 steps-requires : tie.Need-steps-requires
 steps-requires c κs = (
   c .before .before .before .before .before .before .before .before .before .before .before .before .pre,
-  record {
-    some = record { slots-room = lit≤ tt; keys-room = lit≤ tt; sums-room = lit≤ tt };
-    full = λ h. record { slots-room = lit≤ tt; keys-room = lit≤ tt; sums-room = lit≤ tt };
-  },
+  record { slots-room = lit≤ tt; keys-room = lit≤ tt; sums-room = lit≤ tt },
 )
 
 same-length : tie.Need-same-length

@@ -1,5 +1,4 @@
 -- `middle` has the table between as scratch.
-use native.Mathlib.Omega.{arith}
 use lib.Dec.{lit≤}
 use borrow.Author.Needs.{needs}
 use Rattle.sheet_run_tables.proofs.middle.Statement.{statement}
@@ -17,10 +16,7 @@ slice-aggregate-steps-3 c = search needs
 steps-requires : tie.Need-steps-requires
 steps-requires c κs = (
   c .before .before .before .before .before .before .before .before .before .before .before .before .pre,
-  record {
-    some = record { slots-room = lit≤ tt; keys-room = lit≤ tt; sums-room = lit≤ tt };
-    full = λ h. absurd (omega (arith, h));
-  },
+  record { slots-room = lit≤ tt; keys-room = lit≤ tt; sums-room = lit≤ tt },
 )
 
 same-length : tie.Need-same-length

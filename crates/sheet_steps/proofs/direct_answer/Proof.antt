@@ -15,6 +15,7 @@ use Rattle.model_types.specs.declared.Model.{Model}
 use Rattle.model_types.specs.ModelStruct.{view, pack, answer}
 use Rattle.sheet_step_answers.specs.Answers.{accepted-answer}
 use Rattle.sheet_book.specs.BookStruct.{held-step}
+use Rattle.sheet_steps.specs.Steps.{constant-code, variable-code, negate-code, add-code, subtract-code}
 use Rattle.sheet_steps.specs.Steps.{code-answer, step-answer}
 use Rattle.sheet_steps.specs.StepLaws.{codes, accepted-is, answered-is}
 use Rattle.sheet_steps.proofs.direct_answer.Statement.{statement}
@@ -82,7 +83,7 @@ returns c = λ d m.
     let s = t .before .before .args .s in
     let read-back : toZ w64 (ofZ w64 (s .value)) ≡ s .value =
     toZ-ofZ (record { sfits = t .struct-told .given .1 .1 .1 .1 .0 .1 }) in
-    accepts (t .before .before) d m 1 _ (c .accepted .ensures)
+    accepts (t .before .before) d m constant-code _ (c .accepted .ensures)
     (c .before .constant-of .ensures ∙ ap (λ z. pack (Op.constant (t .before .before .args .n) z)) read-back)
     (t .before .match .keys1) refl
 
@@ -90,20 +91,21 @@ returns-2 : tie.Need-returns-2
 unfolding codes held-step
 returns-2 c = λ d m.
     let w = c .before .before in
-    accepts (w .before) d m 2 _ (c .accepted2 .ensures) (c .before .variable-of .ensures) (w .match .keys2) refl
+    accepts (w .before) d m variable-code _ (c .accepted2 .ensures) (c .before .variable-of .ensures)
+    (w .match .keys2) refl
 
 returns-3 : tie.Need-returns-3
 unfolding codes
 returns-3 c = λ d m.
     let w = c .before .before in
-    accepts (w .before) d m 3 _ (c .accepted3 .ensures) (c .before .negated .ensures) (w .match .keys3) refl
+    accepts (w .before) d m negate-code _ (c .accepted3 .ensures) (c .before .negated .ensures) (w .match .keys3) refl
 
 returns-4 : tie.Need-returns-4
 unfolding codes
-returns-4 c = λ d m. answers (c .before .before) d m 4 _ (c .added .ensures) (c .before .match .keys4) refl
+returns-4 c = λ d m. answers (c .before .before) d m add-code _ (c .added .ensures) (c .before .match .keys4) refl
 
 -- no other code is left
-is-difference : (m : tie.At-match-rest) → m .before .args .s .code ≡ 5
+is-difference : (m : tie.At-match-rest) → m .before .args .s .code ≡ subtract-code
 unfolding held-step
 is-difference m =
     let r = m .match .rest in
@@ -116,7 +118,7 @@ is-difference m =
 returns-5 : tie.Need-returns-5
 unfolding codes
 returns-5 c = λ d m.
-    answers (c .before .before) d m 5 _ (c .subtracted .ensures) (is-difference (c .before)) refl
+    answers (c .before .before) d m subtract-code _ (c .subtracted .ensures) (is-difference (c .before)) refl
 
 pub direct-answer-spec : {M : Type 1} → statement M
 direct-answer-spec =

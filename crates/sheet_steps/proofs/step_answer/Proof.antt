@@ -15,8 +15,8 @@ use Rattle.calculus.specs.Shares.{Shares, sweep-shares}
 use Rattle.model_types.specs.declared.Accounted.{Accounted}
 use Rattle.model_types.specs.ModelStruct.{view}
 use Rattle.model_types.specs.SharesStruct.{accounted}
-use Rattle.model.specs.OperationLaws.{substitution-room}
 use Rattle.sheet_book.specs.BookStruct.{held-step}
+use Rattle.sheet_steps.specs.Steps.{substitute-code, sweep-code, antiderivative-code}
 use Rattle.sheet_steps.specs.Steps.{code-answer, code-shares, step-answer, step-row, Direct-ready}
 use Rattle.sheet_steps.specs.StepLaws.{substitution, swept-sound, integrand, direct-ready, codes}
 use Rattle.sheet_steps.specs.StepLaws.{accounted-is, direct-bounded, carried-is}
@@ -33,8 +33,7 @@ unfolding held-step
 substituted-accounted-requires c κs =
     let p = start (c .before .before .before .before) .pre in
     let e = c .before .before .before .match .keys1 in
-    let s = substitution (p .0) e in
-    (s, substitution-room s (p .1 e))
+    (substitution (p .0) e, p .1 e)
 
 magnitude-requires : tie.Need-magnitude-requires
 magnitude-requires c κs = search needs
@@ -107,7 +106,8 @@ returns : tie.Need-returns
 unfolding codes held-step
 returns c =
     let m = substituted c .before .before .before .before in
-    λ k. answers (start (m .before)) k 7 _ _ (substituted c .substituted-accounted .ensures) (m .match .keys1) refl refl
+    λ k. answers (start (m .before)) k substitute-code _ _ (substituted c .substituted-accounted .ensures)
+    (m .match .keys1) refl refl
 
 returns-2 : tie.Need-returns-2
 unfolding codes held-step
@@ -116,7 +116,7 @@ returns-2 c =
     let s = start (t .before .before) in
     let read-back : toZ w64 (ofZ w64 (s .args .s .value)) ≡ s .args .s .value =
     toZ-ofZ (record { sfits = t .struct-told .given .1 .1 .1 .1 .0 .1 }) in
-    λ k. answers s k 8 _ _
+    λ k. answers s k sweep-code _ _
     (c .swept-accounted .ensures
     ∙ ap (λ k. accounted (accepted (Op.sweep k (view (s .args .f)))) (λ m. sweep-shares k (view (s .args .f))))
     (c .before .magnitude .ensures ∙ ap natAbs read-back))
@@ -126,7 +126,8 @@ returns-3 : tie.Need-returns-3
 unfolding codes held-step
 returns-3 c =
     let m = c .before in
-    λ k. answers (start (m .before)) k 10 _ _ (c .integrated-accounted .ensures) (m .match .keys3) refl refl
+    λ k. answers (start (m .before)) k antiderivative-code _ _ (c .integrated-accounted .ensures) (m .match .keys3)
+    refl refl
 
 returns-4 : tie.Need-returns-4
 returns-4 c =
