@@ -4,6 +4,7 @@ ghost use Prim.Native.Nat.{_≤_};
 ghost use lib.ListN.{length};
 ghost use Rattle.model_types.specs.ModelStruct.{bounds};
 ghost use Rattle.c_cuts.specs.CutCalls.{«handed-cut», «cut-fits», «cut-state», «stored-cut»};
+ghost use Rattle.c_cuts.specs.CutCalls.{«called-cut»};
 use model_types::Bounds;
 use model_types::Key;
 
@@ -56,4 +57,33 @@ pub fn store_cut(b: Bounds, ends: &mut [i64], numbers: &mut [u64]) -> u8
     ends[1] = high;
     numbers[0] = model_slices::verdict_place(v) as u64;
     model_slices::verdict_number(v)
+}
+
+// The range of a model, variable i cut into 2^k pieces, with order d: the refusal's number, 0 without one, or MISUSED.
+// The two ends go into one slice, the refusal's place into the other.
+pub fn range_cut(
+    d: u8,
+    i: u8,
+    k: u8,
+    n: u8,
+    count: usize,
+    radius: u64,
+    keys: &[Key],
+    coefficients: &[i64],
+    ends: &mut [i64],
+    numbers: &mut [u64],
+) -> u8
+    ensures { λ r. ⌜ cut-state r (now (ends .exit)) (now (numbers .exit))
+        ≡ called-cut
+        (cut-fits count (length (now (keys .entry))) (length (now (coefficients .entry)))
+        (length (now (ends .entry))) (length (now (numbers .entry))))
+        (handed-cut d i k n count radius (now (keys .entry)) (now (coefficients .entry)))
+        (now (ends .entry)) (now (numbers .entry)) ⌝ }
+{
+    let long = keys.len();
+    if !cut_fits(count, long, coefficients.len(), ends.len(), numbers.len()) {
+        return c_calls::MISUSED;
+    }
+    let b = handed_cut(d, i, k, n, count, radius, keys, coefficients);
+    store_cut(b, ends, numbers)
 }

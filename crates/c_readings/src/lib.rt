@@ -11,6 +11,7 @@ ghost use Rattle.model_slices.specs.HandedModels.{handed};
 ghost use Rattle.c_readings.specs.HandedReadings.{«reading-of», «row-of», «readings-fit»};
 ghost use Rattle.c_readings.specs.HandedReadings.{«numbers-end», «any-contradicts», «number-of»};
 ghost use Rattle.c_readings.specs.HandedReadings.{«finding-numbers», «readings-state», «stored-finding»};
+ghost use Rattle.c_readings.specs.HandedReadings.{«called-readings»};
 use model_types::Contradiction;
 use model_types::Finding;
 use model_types::Key;
@@ -143,4 +144,42 @@ pub fn store_finding(f: Finding, numbers: &mut [u64]) -> u8
     numbers[1] = any;
     numbers[2] = number as u64;
     model_slices::verdict_number(v)
+}
+
+// A row of readings held against a model: the refusal's number, 0 without one, or MISUSED. The row has as many readings
+// as there are low values, with eight coordinates of `points` each and a high value. The refusal's place, 1 or 0 for
+// whether a reading contradicts, and the number of the first that does go into the last slice.
+pub fn hold(
+    n: u8,
+    count: usize,
+    radius: u64,
+    keys: &[Key],
+    coefficients: &[i64],
+    points: &[i64],
+    lows: &[i64],
+    highs: &[i64],
+    numbers: &mut [u64],
+) -> u8
+    ensures { λ r. ⌜ readings-state r (now (numbers .exit))
+        ≡ called-readings
+        (readings-fit count (length (now (keys .entry))) (length (now (coefficients .entry)))
+        (length (now (points .entry))) (length (now (lows .entry))) (length (now (highs .entry)))
+        (length (now (numbers .entry))))
+        (call-readings (view (handed n count radius (now (keys .entry)) (now (coefficients .entry))))
+        (map view-reading (row-of (now (points .entry)) (now (lows .entry)) (now (highs .entry)))))
+        (now (numbers .entry)) ⌝ }
+{
+    if !readings_fit(
+        count,
+        keys.len(),
+        coefficients.len(),
+        points.len(),
+        lows.len(),
+        highs.len(),
+        numbers.len(),
+    ) {
+        return c_calls::MISUSED;
+    }
+    let f = handed_readings(n, count, radius, keys, coefficients, points, lows, highs);
+    store_finding(f, numbers)
 }

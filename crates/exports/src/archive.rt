@@ -26,10 +26,7 @@ pub extern "C" fn hechroung_raw_store_model(
         (view (handed n count radius (now (keys .entry)) (now (coefficients .entry))))
         (now (buffer .entry)) (now (numbers .entry)) ⌝ }
 {
-    if !c_archive::store_fits(count, keys.len(), coefficients.len(), numbers.len()) {
-        return c_calls::MISUSED;
-    }
-    c_archive::store(n, count, radius, keys, coefficients, buffer, numbers)
+    c_archive::store_model(n, count, radius, keys, coefficients, buffer, numbers)
 }
 
 // The model that the first `terms` terms of an archived one make, or all if there are fewer: the refusal's number, 0
@@ -49,9 +46,5 @@ pub extern "C" fn hechroung_raw_restore_model(
         (restored-call (now (bytes .entry)) terms)
         (now (keys .entry)) (now (coefficients .entry)) (now (numbers .entry)) ⌝ }
 {
-    if !model_slices::model_room(keys.len(), coefficients.len(), numbers.len()) {
-        return c_calls::MISUSED;
-    }
-    let a = c_archive::restore(bytes, terms);
-    c_calls::store_answer(a, keys, coefficients, numbers)
+    c_archive::restore_model(bytes, terms, keys, coefficients, numbers)
 }

@@ -31,14 +31,15 @@ pub extern "C" fn hechroung_raw_curve(
         (handed-curve (now (coefficients2 .entry)) radius2))
         (now (coefficients .entry)) (now (numbers .entry)) ⌝ }
 {
-    let room = c_curves::curve_room(coefficients.len(), numbers.len());
-    if !c_curves::curve_fits(code, coefficients1.len(), coefficients2.len(), room) {
-        return c_calls::MISUSED;
-    }
-    let f = c_curves::handed_curve(coefficients1, radius1);
-    let g = c_curves::handed_curve(coefficients2, radius2);
-    let a = c_curves::curve_call(code, f, g);
-    c_curves::store_curve(a, coefficients, numbers)
+    c_curve_calls::curve(
+        code,
+        coefficients1,
+        radius1,
+        coefficients2,
+        radius2,
+        coefficients,
+        numbers,
+    )
 }
 
 // The range of a curve: the refusal's number, 0 without one, or MISUSED. Both ends go into the slice. The place of
@@ -53,12 +54,7 @@ pub extern "C" fn hechroung_raw_range_of_curve(
         ≡ called-range (range-fits (length (now (coefficients .entry))) (length (now (ends .entry))))
         (call-range (handed-curve (now (coefficients .entry)) radius)) (now (ends .entry)) ⌝ }
 {
-    if !c_curves::range_fits(coefficients.len(), ends.len()) {
-        return c_calls::MISUSED;
-    }
-    let f = c_curves::handed_curve(coefficients, radius);
-    let b = model_curves::range(f);
-    c_curves::store_bounds(b, ends)
+    c_curve_calls::range_of_curve(coefficients, radius, ends)
 }
 
 // A curve in powers: the refusal's number, 0 without one, or MISUSED. The model goes into three slices as the answer of
@@ -79,13 +75,7 @@ pub extern "C" fn hechroung_raw_curve_to_powers(
         (call-to-powers (handed-curve (now (coefficients .entry)) radius))
         (now (keys .entry)) (now (outcoefficients .entry)) (now (numbers .entry)) ⌝ }
 {
-    let room = model_slices::model_room(keys.len(), outcoefficients.len(), numbers.len());
-    if !c_curves::to_powers_fits(coefficients.len(), room) {
-        return c_calls::MISUSED;
-    }
-    let f = c_curves::handed_curve(coefficients, radius);
-    let a = model_curves::to_powers(f);
-    c_calls::store_answer(a, keys, outcoefficients, numbers)
+    c_curve_calls::to_powers(coefficients, radius, keys, outcoefficients, numbers)
 }
 
 // A model in powers of one variable as a curve: the refusal's number, 0 without one, or MISUSED. The curve goes into
@@ -107,12 +97,13 @@ pub extern "C" fn hechroung_raw_curve_from_powers(
         (call-from-powers (view (handed n count radius (now (keys .entry)) (now (coefficients .entry)))))
         (now (outcoefficients .entry)) (now (outnumbers .entry)) ⌝ }
 {
-    let room = c_curves::curve_room(outcoefficients.len(), outnumbers.len());
-    let long = keys.len();
-    if !c_curves::from_powers_fits(count, long, coefficients.len(), room) {
-        return c_calls::MISUSED;
-    }
-    let f = model_slices::taken(n, count, radius, keys, coefficients);
-    let a = model_curves::from_powers(f);
-    c_curves::store_curve(a, outcoefficients, outnumbers)
+    c_curve_calls::from_powers(
+        n,
+        count,
+        radius,
+        keys,
+        coefficients,
+        outcoefficients,
+        outnumbers,
+    )
 }

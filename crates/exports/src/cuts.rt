@@ -26,10 +26,5 @@ pub extern "C" fn hechroung_raw_range_cut(
         (handed-cut d i k n count radius (now (keys .entry)) (now (coefficients .entry)))
         (now (ends .entry)) (now (numbers .entry)) ⌝ }
 {
-    let long = keys.len();
-    if !c_cuts::cut_fits(count, long, coefficients.len(), ends.len(), numbers.len()) {
-        return c_calls::MISUSED;
-    }
-    let b = c_cuts::handed_cut(d, i, k, n, count, radius, keys, coefficients);
-    c_cuts::store_cut(b, ends, numbers)
+    c_cuts::range_cut(d, i, k, n, count, radius, keys, coefficients, ends, numbers)
 }

@@ -24,9 +24,5 @@ pub extern "C" fn hechroung_raw_from_doubles(
         (handed-doubles c0 c1 c2 radius)
         (now (keys .entry)) (now (coefficients .entry)) (now (numbers .entry)) ⌝ }
 {
-    if !model_slices::model_room(keys.len(), coefficients.len(), numbers.len()) {
-        return c_calls::MISUSED;
-    }
-    let a = c_doubles::handed_doubles(c0, c1, c2, radius);
-    c_calls::store_answer(a, keys, coefficients, numbers)
+    c_doubles::from_doubles(c0, c1, c2, radius, keys, coefficients, numbers)
 }

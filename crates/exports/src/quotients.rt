@@ -32,17 +32,15 @@ pub extern "C" fn hechroung_raw_divide(
         (now (coefficients .entry)))
         (now (outkeys .entry)) (now (outcoefficients .entry)) (now (outnumbers .entry)) ⌝ }
 {
-    let models = c_books::model_places(
-        ns.len(),
-        counts.len(),
-        radii.len(),
-        keys.len(),
-        coefficients.len(),
-    );
-    let room = model_slices::model_room(outkeys.len(), outcoefficients.len(), outnumbers.len());
-    if !c_quotients::quotient_fits(models, room) {
-        return c_calls::MISUSED;
-    }
-    let a = c_quotients::handed_quotient(d, ns, counts, radii, keys, coefficients);
-    c_calls::store_answer(a, outkeys, outcoefficients, outnumbers)
+    c_quotients::divide(
+        d,
+        ns,
+        counts,
+        radii,
+        keys,
+        coefficients,
+        outkeys,
+        outcoefficients,
+        outnumbers,
+    )
 }

@@ -33,17 +33,15 @@ pub extern "C" fn hechroung_raw_hold(
         (map view-reading (row-of (now (points .entry)) (now (lows .entry)) (now (highs .entry)))))
         (now (numbers .entry)) ⌝ }
 {
-    if !c_readings::readings_fit(
+    c_readings::hold(
+        n,
         count,
-        keys.len(),
-        coefficients.len(),
-        points.len(),
-        lows.len(),
-        highs.len(),
-        numbers.len(),
-    ) {
-        return c_calls::MISUSED;
-    }
-    let f = c_readings::handed_readings(n, count, radius, keys, coefficients, points, lows, highs);
-    c_readings::store_finding(f, numbers)
+        radius,
+        keys,
+        coefficients,
+        points,
+        lows,
+        highs,
+        numbers,
+    )
 }

@@ -69,24 +69,7 @@ pub extern "C" fn hechroung_raw_run_models(
         (handed-steps (now (fields .entry)) (now (values .entry)))))))
         (now (keys .entry)) (now (coefficients .entry)) (now (numbers .entry)) (now (ends .entry)) ⌝ }
 {
-    let models = c_books::model_places(
-        ns.len(),
-        counts.len(),
-        radii.len(),
-        bookkeys.len(),
-        bookcoefficients.len(),
-    );
-    let steps = c_books::step_places(fields.len(), values.len());
-    if !c_writes::book_fits(modelcount, models, stepcount, steps, numbers.len()) {
-        return c_calls::MISUSED;
-    }
-    if !model_slices::model_room(keys.len(), coefficients.len(), numbers.len()) {
-        return c_calls::MISUSED;
-    }
-    if ends.len() < c_runs::ENDS {
-        return c_calls::MISUSED;
-    }
-    let b = c_books::handed_book(
+    c_book_runs::run_models(
         n,
         d,
         modelcount,
@@ -98,7 +81,9 @@ pub extern "C" fn hechroung_raw_run_models(
         bookcoefficients,
         fields,
         values,
-    );
-    let s = sheet::run_book(b);
-    c_runs::store_summary(s, keys, coefficients, numbers, ends)
+        keys,
+        coefficients,
+        numbers,
+        ends,
+    )
 }

@@ -1,45 +1,19 @@
 // Sheets and books in memory, run as in runs.rt, with where the radius of each step came from.
 ghost use mathlib.Core.Path.{_≡_};
 ghost use mathlib.Core.Bool.{_&&_};
-ghost use Prim.Native.Nat.{_^_, _<_, _≤_};
 ghost use lib.ListN.{length};
-ghost use Rattle.calculus.specs.Model.{«most-terms»};
 ghost use Rattle.format.specs.Format.{«run-sheet», «sheet-rows»};
 ghost use Rattle.sheet_book.specs.BookStruct.{«held-book»};
 ghost use Rattle.sheet_book.specs.SummaryStruct.{«run-answer»};
 ghost use Rattle.sheet_book.specs.ReportStruct.{report};
 ghost use Rattle.sheet.specs.Sheet.{«run-held», «rows-held»};
-ghost use Rattle.model_slices.specs.HandedModels.{«answer-numbers», «run-ends»};
 ghost use Rattle.c_books.specs.HandedBooks.{«step-places», «handed-steps», «model-places», «handed-models»};
 ghost use Rattle.c_books.specs.HandedBooks.{«handed-book»};
-ghost use Rattle.c_shares.specs.HandedShares.{«report-numbers», «report-room»};
+ghost use Rattle.c_shares.specs.HandedShares.{«report-room»};
 ghost use Rattle.c_writes.specs.WriteCalls.{«book-fits»};
 ghost use Rattle.c_runs.specs.SheetCalls.{«run-state»};
-ghost use Rattle.exports.specs.ShareCalls.{«report-state», «stored-report», «called-report»};
+ghost use Rattle.c_book_runs.specs.ShareCalls.{«report-state», «called-report»};
 use model_types::Key;
-use sheet::Report;
-
-// What a run with its rows answers goes into the slices; the refusal's number.
-fn store_report(
-    r: Report,
-    keys: &mut [Key],
-    coefficients: &mut [i64],
-    numbers: &mut [u64],
-    ends: &mut [i64],
-    shares: &mut [u64],
-) -> u8
-    requires { ⌜ (most-terms ≤ length (now keys)) × (most-terms ≤ length (now coefficients))
-        × (answer-numbers ≤ length (now numbers)) × (run-ends ≤ length (now ends))
-        × (report-numbers ≤ length (now shares)) × (r .summary .exact .remainder < 2 ^ 63) ⌝ }
-    ensures { λ u. ⌜ report-state (run-state u (now (keys .exit)) (now (coefficients .exit)) (now (numbers .exit))
-        (now (ends .exit))) (now (shares .exit))
-        ≡ stored-report r (now (keys .entry)) (now (coefficients .entry)) (now (numbers .entry))
-        (now (ends .entry)) (now (shares .entry)) ⌝ }
-{
-    c_shares::store_rows(r, shares);
-    let s = r.summary;
-    c_runs::store_summary(s, keys, coefficients, numbers, ends)
-}
 
 // A sheet is run as by hechroung_raw_run_sheet, and besides where the radius of each of 64 steps came from goes into
 // the fifth slice: row i from place 4 × i on as carried, rounding, swept and slack.
@@ -61,17 +35,7 @@ pub extern "C" fn hechroung_raw_shares_sheet(
         (now (keys .entry)) (now (coefficients .entry)) (now (numbers .entry)) (now (ends .entry))
         (now (shares .entry)) ⌝ }
 {
-    if !c_shares::report_room(
-        keys.len(),
-        coefficients.len(),
-        numbers.len(),
-        ends.len(),
-        shares.len(),
-    ) {
-        return c_calls::MISUSED;
-    }
-    let r = sheet::run_reported(sheet);
-    store_report(r, keys, coefficients, numbers, ends, shares)
+    c_book_runs::shares_sheet(sheet, keys, coefficients, numbers, ends, shares)
 }
 
 // A book in memory is run as by hechroung_raw_run_models, and the rows go into the last slice as a sheet's do.
@@ -114,27 +78,7 @@ pub extern "C" fn hechroung_raw_shares_models(
         (now (keys .entry)) (now (coefficients .entry)) (now (numbers .entry)) (now (ends .entry))
         (now (shares .entry)) ⌝ }
 {
-    let models = c_books::model_places(
-        ns.len(),
-        counts.len(),
-        radii.len(),
-        bookkeys.len(),
-        bookcoefficients.len(),
-    );
-    let steps = c_books::step_places(fields.len(), values.len());
-    if !c_writes::book_fits(modelcount, models, stepcount, steps, numbers.len()) {
-        return c_calls::MISUSED;
-    }
-    if !c_shares::report_room(
-        keys.len(),
-        coefficients.len(),
-        numbers.len(),
-        ends.len(),
-        shares.len(),
-    ) {
-        return c_calls::MISUSED;
-    }
-    let b = c_books::handed_book(
+    c_book_runs::shares_models(
         n,
         d,
         modelcount,
@@ -146,7 +90,10 @@ pub extern "C" fn hechroung_raw_shares_models(
         bookcoefficients,
         fields,
         values,
-    );
-    let r = sheet::run_book_reported(b);
-    store_report(r, keys, coefficients, numbers, ends, shares)
+        keys,
+        coefficients,
+        numbers,
+        ends,
+        shares,
+    )
 }
