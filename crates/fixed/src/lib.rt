@@ -78,12 +78,14 @@ fn complement(z: i64) -> i64
     -1 - z
 }
 
-// The size of z. That of the least number fits too, since the answer has no sign.
+// The size of z. That of the least number fits too, since the answer has no sign: of -(n + 1) the number before it, n,
+// is taken first.
 pub fn magnitude(z: i64) -> u64
     ensures { λ r. ⌜ r ≡ natAbs z ⌝ }
 {
     if z < 0 {
-        complement(z) as u64 + 1
+        let before = -1 - z;
+        before as u64 + 1
     } else {
         z as u64
     }
