@@ -1,4 +1,5 @@
 -- Laws: of tests and answers, of monomials and keys, of terms.
+pub mod FilledLaws
 pub mod TestLaws
 pub mod RefusalLaws
 pub mod MonomialLaws

@@ -4,7 +4,7 @@ use mathlib.Core.List.{List, [], _∷_, _++_, append-assoc, append-nil}
 use Prim.Native.Nat.{ℕ, zero, suc, _+_, _-_, _*_, _<_, _≤_}
 use native.Mathlib.Omega.{arith}
 use lib.IntN.{natAbs}
-use lib.ListN.{length, getD, take, replicate, length-append, length-replicate}
+use lib.ListN.{length, getD, take, length-append, length-replicate, List·getD-eq-default}
 use Rattle.numbers.specs.Fixed.{U, round-up}
 use Rattle.numbers.specs.FixedLaws.{round-up-ok}
 use Rattle.calculus.specs.Terms.{size, select}
@@ -17,6 +17,7 @@ use Rattle.calculus.specs.Operations.{is-small, growth-rounding, growth-swept}
 use Rattle.calculus.specs.Book.{Step, input, constant, variable, negate, add, subtract, multiply, substitute}
 use Rattle.calculus.specs.Book.{sweep, quotient, antiderivative, Book, most-steps, tested, result-of}
 use Rattle.calculus.specs.Book.{run-step, run-steps}
+use Rattle.calculus_laws.specs.FilledLaws.{filled-after}
 use Rattle.calculus_laws.specs.RefusalLaws.{If-accepted, holds, vacuous, require-accepted, then-accepted}
 use Rattle.calculus_laws.specs.EnclosureLaws.{limited-accepted}
 use Rattle.calculus_laws.specs.BookLaws.{Passes, tested-passes, next-number}
@@ -235,30 +236,12 @@ module _ (book : Book) where
   before-stopped r i h = omega (arith, stopped-from [] (book .steps) r i h)
 
 -- ---- among the 64 rows
-rows-front : (l : List Shares) (i : ℕ) → i < length l → getD (all-rows l) i no-shares ≡ getD l i no-shares
+rows-kept : (l : List Shares) (i : ℕ) → getD (all-rows l) i no-shares ≡ getD l i no-shares
 unfolding all-rows
-rows-front l i h = go l i h
-  where
-    go : (k : List Shares) (i : ℕ) → i < length k
-        → getD (k ++ replicate (most-steps - length l) no-shares) i no-shares ≡ getD k i no-shares
-    go [] i h = absurd (omega arith)
-    go (s ∷ k) zero h = refl
-    go (s ∷ k) (suc i) h = go k i (omega arith)
+rows-kept l i = filled-after no-shares l (most-steps - length l) i
 
 rows-after : (l : List Shares) (i : ℕ) → length l ≤ i → getD (all-rows l) i no-shares ≡ no-shares
-unfolding all-rows
-rows-after l i h = go l i h
-  where
-    zeros-at : (n i : ℕ) → getD (replicate n no-shares) i no-shares ≡ no-shares
-    zeros-at zero i = refl
-    zeros-at (suc n) zero = refl
-    zeros-at (suc n) (suc i) = zeros-at n i
-
-    go : (k : List Shares) (i : ℕ) → length k ≤ i
-        → getD (k ++ replicate (most-steps - length l) no-shares) i no-shares ≡ no-shares
-    go [] i h = zeros-at (most-steps - length l) i
-    go (s ∷ k) zero h = absurd (omega arith)
-    go (s ∷ k) (suc i) h = go k i (omega arith)
+rows-after l i h = rows-kept l i ∙ List·getD-eq-default l no-shares {n = i} h
 
 module _ (book : Book) (p : Passes book) where
   rows-are : shares-rows book ≡ all-rows (rows-sound book)
@@ -272,7 +255,7 @@ module _ (book : Book) (p : Passes book) where
       (getD (results-before book) i (zero-model (book .vars)))
   unfolding results-before rows-sound
   row-is i h = ap (λ l. getD l i no-shares) rows-are
-      ∙ rows-front (run-shares book [] (book .steps)) i (omega (arith, counted book [] (book .steps)))
+      ∙ rows-kept (run-shares book [] (book .steps)) i
       ∙ row-at book [] (book .steps) i h
 
   -- whose radius times U is its sum;
@@ -280,7 +263,7 @@ module _ (book : Book) (p : Passes book) where
       → Accounts (getD (shares-rows book) i no-shares) (getD (results-before book) i (zero-model (book .vars)))
   unfolding results-before rows-sound
   row-accounts i h = ap shares-sum (ap (λ l. getD l i no-shares) rows-are
-      ∙ rows-front (run-shares book [] (book .steps)) i (omega (arith, counted book [] (book .steps))))
+      ∙ rows-kept (run-shares book [] (book .steps)) i)
       ∙ sum-at book [] (book .steps) i h
 
   -- from a refused step on, and beyond the steps, rows are zeros

@@ -18,7 +18,6 @@ pub use model_types::Bounds;
 pub use model_types::Integral;
 pub use model_types::Model;
 pub use model_types::Refusal;
-pub use model_types::Term;
 pub use model_types::Verdict;
 
 // The number of a refusal in the documents' table: 1 to 17.

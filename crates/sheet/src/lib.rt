@@ -15,7 +15,6 @@ ghost use Rattle.sheet.specs.ReadRun.{«report-read», «Run-of»};
 pub use model_types::Model;
 pub use model_types::Refusal;
 pub use model_types::Shares;
-pub use model_types::Term;
 pub use model_types::Verdict;
 pub use sheet_book::Book;
 pub use sheet_book::Ends;

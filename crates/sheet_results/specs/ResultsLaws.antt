@@ -13,6 +13,7 @@ use lib.Seq.{take-all, drop-length, length-take-le, drop-at, drop-append-le, tak
 use lib.Seq.{drop-drop, drop-append-seam}
 use lib.Seq.{getD-set-same, getD-set-other}
 use Rattle.calculus.specs.Model.{most-terms, zero-model}
+use Rattle.calculus_laws.specs.FilledLaws.{filled-at}
 use Rattle.model_types.specs.declared.Term.{Term}
 use Rattle.model_types.specs.declared.Model.{Model}
 use Rattle.model_types.specs.Arrays.{first-places}
@@ -275,11 +276,6 @@ roomy-less r h = record {
 }
 
 -- ---- slices of zeros
-zeros-at : (n j : ℕ) → _≡_ {A = ℕ} (getD (replicate n 0) j 0) 0
-zeros-at zero j = refl
-zeros-at (suc n) zero = refl
-zeros-at (suc n) (suc j) = zeros-at n j
-
 pub roomy-zeros : (k z c r places : ℕ) → most-terms * places ≤ k → most-terms * places ≤ z → places ≤ c → places ≤ r
     → Roomy places (results (replicate k 0) (replicate z (pos 0)) (replicate c 0) (replicate r 0))
 roomy-zeros k z c r places a b d e = record {
@@ -287,7 +283,7 @@ roomy-zeros k z c r places a b d e = record {
   coefficients-long = omega (arith, length-replicate z (pos 0), b);
   counts-long = omega (arith, length-replicate {A = ℕ} c 0, d);
   radii-long = omega (arith, length-replicate {A = ℕ} r 0, e);
-  few = λ j. omega (arith, zeros-at c j);
+  few = λ j. omega (arith, filled-at {A = ℕ} 0 c j);
 }
 
 -- ---- the struct at a place, taken out

@@ -21,6 +21,7 @@ use Rattle.calculus.specs.Refusal as R
 use Rattle.calculus.specs.Refusal.{accepted, refused, done, stopped, at-place, _followed-by_}
 use Rattle.calculus.specs.Operations.{multiply, quotient}
 use Rattle.calculus.specs.Tests.{vars-sound, variable-sound}
+use Rattle.calculus_laws.specs.FilledLaws.{filled-after}
 use Rattle.calculus_laws.specs.TestLaws.{and-right}
 use Rattle.calculus.specs.Refusal.{all-from}
 use Rattle.calculus_laws.specs.SoundLaws.{Sound, zero-sound}
@@ -105,14 +106,6 @@ getD-before l y x j h = List·getD-append l (y ∷ []) x j h
 getD-last : {A : Type 0} (l : List A) (y x : A) (j : ℕ) → length l ≡ j → getD (l ++ (y ∷ [])) j x ≡ y
 getD-last l y x j e = getD-at l y [] x j e
 
--- zeros after what is there are zeros
-getD-zeros : {A : Type 0} (z : A) (l : List A) (k i : ℕ) → getD (l ++ replicate k z) i z ≡ getD l i z
-getD-zeros z [] zero i = refl
-getD-zeros z [] (suc k) zero = refl
-getD-zeros z [] (suc k) (suc i) = getD-zeros z [] k i
-getD-zeros z (y ∷ l) k zero = refl
-getD-zeros z (y ∷ l) k (suc i) = getD-zeros z l k i
-
 -- ---- rows
 -- all of them, as they are stored
 pub rows-are : (rows : List S.Shares) {flat : List ℕ} → length rows ≤ most-steps → Rows-stored rows flat
@@ -125,7 +118,7 @@ rows-are rows {flat} h r = ext-getD (stored-shares no-shares) (first-rows flat 6
     let k : j < 64 = omega (arith, l, length-rows flat 64) in
     rows-at flat 64 j (stored-shares no-shares) k
     ∙ r .each j k
-    ∙ ap stored-shares (sym (getD-zeros no-shares rows (64 - length rows) j))
+    ∙ ap stored-shares (sym (filled-after no-shares rows (64 - length rows) j))
     ∙ sym (List·getD-map stored-shares (rows ++ replicate (64 - length rows) no-shares) j no-shares))
   where
     whole : length (map stored-shares (rows ++ replicate (64 - length rows) no-shares)) ≡ 64
