@@ -19,9 +19,10 @@ use Rattle.product_grid_index.specs.Degrees.{Top-degree}
 use Rattle.product_grid_index.specs.DigitLaws.{digits-sum}
 use Rattle.product_grid_index.specs.DegreeLaws.{degree-most, degree-plus, word-plus}
 use Rattle.product_grid_fill.specs.Filling.{All-fit, Summed-up}
-use Rattle.product_grid_scan.specs.Rising.{Scan-ready, Scanned, grid-terms}
+use Rattle.product_rising.specs.Rising.{Scanned}
+use Rattle.product_grid_scan.specs.GridTerms.{Scan-ready, grid-terms}
 use Rattle.product_grid.specs.GridContracts.{Grid-ready, Zeros}
-use Rattle.product_grid.specs.SameSumsLaws.{scanned-gathering}
+use Rattle.product_rising.specs.SameSumsLaws.{scanned-gathering}
 use Rattle.product_grid.specs.GridWalkLaws.{Keyed}
 use Rattle.product_grid.specs.GridSumsLaws.{Reached, keyed-products, sums-rising, first-distinct, same-sums}
 use Rattle.product_grid.specs.GridSumsLaws.{sums-small}

@@ -29,8 +29,8 @@ use Rattle.product_grid_index.specs.Grid.{place, Gridded}
 use Rattle.product_grid_index.specs.DigitLaws.{Digits, read-first, read-second, read-third, read-fourth}
 use Rattle.product_grid_index.specs.GridDigitLaws.{digits-place, digits-gridded}
 use Rattle.product_grid_fill.specs.Filling.{Summed-up}
-use Rattle.product_grid_scan.specs.Rising.{grid-terms}
-use Rattle.product_grid_scan.specs.RisingLaws.{steps-side, steps-left, steps-more}
+use Rattle.product_grid_scan.specs.GridTerms.{grid-terms}
+use Rattle.product_grid_scan.specs.GridTermsLaws.{steps-side, steps-left, steps-more}
 use Rattle.product_grid.specs.GridWalkLaws.{Keyed, none, more, keyed-append, among-absent, Seen, key-of}
 use Rattle.product_grid.specs.GridWalkLaws.{grid-rises, grid-keyed, grid-among}
 

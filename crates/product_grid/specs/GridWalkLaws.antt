@@ -16,9 +16,10 @@ use Rattle.calculus_laws.specs.TestLaws.{both}
 use Rattle.calculus_laws.specs.TermsLaws.{every-head, every-tail}
 use Rattle.product_sums.specs.TermArrays.{at-key}
 use Rattle.product_sums.specs.InsertLaws.{less-key}
-use Rattle.product_grid_scan.specs.Rising.{in-turn, steps-within, first-step, second-step, third-step, fourth-step}
-use Rattle.product_grid_scan.specs.Rising.{row-terms, line-terms, plane-terms, grid-terms}
-use Rattle.product_grid_scan.specs.RisingLaws.{steps-left}
+use Rattle.product_rising.specs.Rising.{in-turn}
+use Rattle.product_grid_scan.specs.GridTerms.{steps-within, first-step, second-step, third-step, fourth-step}
+use Rattle.product_grid_scan.specs.GridTerms.{row-terms, line-terms, plane-terms, grid-terms}
+use Rattle.product_grid_scan.specs.GridTermsLaws.{steps-left}
 
 -- ---- keys that rise, from the least on and below the end
 pub data Rises (end : ℕ) : ℕ → Terms → Type 0 where

@@ -1,2 +1,2 @@
-pub mod Rising
-pub mod RisingLaws
+pub mod GridTerms
+pub mod GridTermsLaws

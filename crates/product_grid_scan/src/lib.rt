@@ -1,13 +1,11 @@
 // What an order keeps of the sums in a grid: rounded, without zeros, in the order of their keys, and what it loses. A
 // place tells its exponents, and beside each sum stands the degree that its pairs of terms brought: that one keeps or
 // sweeps. No place is looked at whose degree no product has.
-ghost use Prim.Native.Nat.{_+_, _<_};
-ghost use mathlib.Core.List.{[], _∷_};
 ghost use mathlib.Core.Path.{_≡_};
-ghost use Rattle.product_sums.specs.TermArrays.{«at-key»};
-ghost use Rattle.product_grid_scan.specs.Rising.{«steps-within», «row-terms», «line-terms», «plane-terms»};
-ghost use Rattle.product_grid_scan.specs.Rising.{Room, Bare, Part, «Row-ready», «Line-ready», «Plane-ready»};
-ghost use Rattle.product_grid_scan.specs.Rising.{«Scan-ready», «grid-terms», Scanned};
+ghost use Rattle.product_rising.specs.Rising.{Room, Part, Scanned};
+ghost use Rattle.product_grid_scan.specs.GridTerms.{«steps-within», «row-terms», «line-terms», «plane-terms»};
+ghost use Rattle.product_grid_scan.specs.GridTerms.{«Row-ready», «Line-ready», «Plane-ready»};
+ghost use Rattle.product_grid_scan.specs.GridTerms.{«Scan-ready», «grid-terms»};
 use product_sums::Gathered;
 
 // The count that says that a product has more terms than a model can hold.
@@ -21,58 +19,6 @@ const SECOND: u64 = 1 << 50;
 const THIRD: u64 = 1 << 43;
 
 const FOURTH: u64 = 1 << 36;
-
-// ---- one sum
-// The sum z of one monomial, by its key without a degree and the degree: rounded and put after the n that are kept, or
-// swept. A sum of 0 is rounded to 0 and leaves nothing, so nobody asks for it. Once there are too many, no more is put
-// anywhere.
-fn push(
-    keys: &mut [u64],
-    coefficients: &mut [i64],
-    n: usize,
-    key: u64,
-    degree: u8,
-    z: i64,
-    d: u64,
-) -> Gathered
-    requires { ⌜ Room n (now keys) (now coefficients) ⌝ }
-    requires { ⌜ Bare key ⌝ }
-    ensures { λ r. ⌜ Part d (at-key (key + degree) z ∷ []) n (now (keys .entry)) (now (coefficients .entry))
-        (now (keys .exit)) (now (coefficients .exit)) r ⌝ }
-{
-    let own = degree as u64;
-    if d < own {
-        return Gathered {
-            count: n,
-            rounding: 0,
-            swept: fixed::magnitude(z),
-        };
-    }
-    let rounded = fixed::round(z);
-    let c = rounded.coefficient;
-    let residual = rounded.residual;
-    if c == 0 {
-        return Gathered {
-            count: n,
-            rounding: residual,
-            swept: 0,
-        };
-    }
-    if model_types::MOST_TERMS < n {
-        return Gathered {
-            count: n,
-            rounding: residual,
-            swept: 0,
-        };
-    }
-    keys[n] = key + own;
-    coefficients[n] = c;
-    Gathered {
-        count: n + 1,
-        rounding: residual,
-        swept: 0,
-    }
-}
 
 // ---- the places of a grid, variable by variable: each walk begins with the key of the exponents so far, and with how
 // many rows, lines or places stand before it; left is how much of the largest degree these exponents leave
@@ -108,8 +54,9 @@ fn row(
         let place = at + i;
         let z = sums[place];
         let more = FOURTH * i as u64;
-        let degree = degrees[place];
-        let p = push(kept, coefficients, count, key + more, degree, z, d);
+        let degree = degrees[place] as u64;
+        let bare = key + more;
+        let p = product_rising::push(kept, coefficients, count, bare + degree, degree, z, d);
         count = p.count;
         rounding += p.rounding;
         swept += p.swept;

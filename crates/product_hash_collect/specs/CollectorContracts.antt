@@ -5,7 +5,7 @@ use Prim.Native.Nat.{ℕ, _+_, _*_, _^_, _<_, _≤_}
 use lib.Dec.{T}
 use lib.IntN.{ℤ, natAbs}
 use lib.ListN.{length, getD}
-use Rattle.calculus.specs.Terms.{Terms, every, size}
+use Rattle.calculus.specs.Terms.{Terms, every, size, rising}
 use Rattle.calculus.specs.Model.{Model, most-terms, most-degree, fits}
 use Rattle.model_keys.specs.Keys.{wide-width}
 use Rattle.product_hash_slots.specs.Slots.{Told, home-slots}
@@ -64,6 +64,8 @@ pub record Held-factors (ka : List ℕ) (ca : List ℤ) (na : ℕ) (kb : List �
   pub vars-few : vars ≤ wide-width
   pub first-fits : T (every (λ k c. fits vars most-degree k) (first .terms))
   pub second-fits : T (every (λ k c. fits vars most-degree k) (second .terms))
+  pub first-rising : T (rising (first .terms))
+  pub second-rising : T (rising (second .terms))
   pub first-held : terms na ka ca ≡ wide-terms (first .terms)
   pub second-held : terms nb kb cb ≡ wide-terms (second .terms)
   pub first-few : na ≤ most-terms

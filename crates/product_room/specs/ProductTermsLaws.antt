@@ -7,17 +7,18 @@ use native.Mathlib.Nat as NatL
 use native.Mathlib.Omega.{arith}
 use lib.IntN.{ℤ, pos}
 use lib.ListN.{length, getD, replicate, length-replicate, getD-replicate, List·getD-eq-default}
-use Rattle.calculus.specs.Terms.{Terms}
+use Rattle.calculus.specs.Terms.{Terms, size}
 use Rattle.calculus.specs.Model.{most-terms, most-degree}
 use Rattle.product_hash_table.specs.Table.{entries, most-entries}
-use Rattle.product_sums.specs.TermArrays.{scratch-places}
+use Rattle.product_sums.specs.TermArrays.{terms, scratch-places}
 use Rattle.product_sums.specs.declared.Gathered.{Gathered}
 use Rattle.product_sums.specs.Kept.{Gathering}
 use Rattle.product_sums.specs.ProductSums.{accumulated-all}
 use Rattle.product_hash_collect.specs.CollectorContracts.{Collected, Held-factors, Empty-table, Scratch-table}
 use Rattle.product_hash_collect.specs.FactorArrayLaws.{monomial-at, first-key, first-monomial, second-key}
 use Rattle.product_hash_collect.specs.FactorArrayLaws.{second-monomial}
-use Rattle.product_hash_collect.specs.FactorArrayLaws.{factors-size}
+use Rattle.product_hash_collect.specs.FactorArrayLaws.{factors-size, factors-keys, first-keys-rise, second-keys-rise}
+use Rattle.product_rising.specs.Rising.{Room, One-ready}
 use Rattle.product_grid_index.specs.declared.Extents.{Extents}
 use Rattle.product_grid_index.specs.declared.Sides.{Sides}
 use Rattle.product_grid_index.specs.Grid.{Low, extents, sides-for, place, Gridded}
@@ -83,12 +84,47 @@ module _ {slots keys : List ℕ} {sums : List ℤ} where
       sums-room = omega (arith, c, t .sums-room);
     }
 
+-- ---- places for what is kept
+pub none-kept : {kept : List ℕ} {coefficients : List ℤ} → Kept-room kept coefficients → Room 0 kept coefficients
+none-kept r = record {
+  taken = omega arith;
+  kept-room = r .kept-room;
+  coefficients-room = r .coefficients-room;
+}
+
 -- ---- two lists of terms
 module _ {ka : List ℕ} {ca : List ℤ} {na : ℕ} {kb : List ℕ} {cb : List ℤ} {nb : ℕ}
     (h : Held-factors ka ca na kb cb nb) where
   pub products-few : na * nb ≤ most-entries
   unfolding most-terms
   products-few = NatL.mul-le-mul (h .first-few) (h .second-few)
+
+  -- ---- where one of them is a single term
+  pub first-one : na ≡ 1 → One-ready ka ca kb cb nb
+  first-one e = record {
+    first-key = omega (arith, h .first-keys);
+    first-coefficient = omega (arith, h .first-coefficients);
+    few = h .second-few;
+    keys-long = h .second-keys;
+    coefficients-long = h .second-coefficients;
+    keys-fit = λ j l. omega (arith, factors-keys h 0 j (omega arith) l .small);
+    keys-rise = second-keys-rise h;
+    small = rw e at (factors-size h);
+  }
+
+  pub second-one : nb ≡ 1 → One-ready kb cb ka ca na
+  second-one e = record {
+    first-key = omega (arith, h .second-keys);
+    first-coefficient = omega (arith, h .second-coefficients);
+    few = h .first-few;
+    keys-long = h .first-keys;
+    coefficients-long = h .first-coefficients;
+    keys-fit = λ i l. omega (arith, factors-keys h i 0 l (omega arith) .small);
+    keys-rise = first-keys-rise h;
+    small =
+        let s = rw e at (factors-size h) in
+        rw (NatL.mul-comm (size (terms 1 kb cb)) (size (terms na ka ca))) s;
+  }
 
   first-parts : (i : ℕ) → i < na → Parts 15 (getD ka i 0)
   unfolding most-degree

@@ -10,7 +10,7 @@ use lib.ListN.{length}
 use Rattle.numbers.specs.Fixed.{span-limit}
 use Rattle.numbers.specs.FixedLaws.{span-square-fits}
 use Rattle.calculus.specs.Key.{key-width}
-use Rattle.calculus.specs.Terms.{every, size}
+use Rattle.calculus.specs.Terms.{every, size, rising}
 use Rattle.calculus.specs.Model.{most-terms, most-degree, fits, sound, span}
 use Rattle.calculus.specs.Operations.{multiply}
 use Rattle.calculus.specs.Shares.{product-shares}
@@ -41,6 +41,9 @@ module _ (d n count radius : ℕ) (keys : List ℕ) (cs : List ℤ) (h : T (soun
     pub fitting : T (every (λ k c. fits n d k) (view (handed n count radius keys cs) .terms))
     unfolding view handed
     fitting = sound-parts d (view (handed n count radius keys cs)) h .0 .fitting
+
+    pub rises : T (rising (view (handed n count radius keys cs) .terms))
+    rises = sound-parts d (view (handed n count radius keys cs)) h .0 .rising-terms
 
     module _ (lk : count ≤ length keys) (lc : count ≤ length cs) where
       unfoldable pub sound-handed : Handed count keys cs
@@ -92,6 +95,8 @@ module _ (d n count1 radius1 : ℕ) (keys1 : List ℕ) (cs1 : List ℤ) (count2 
                   (fitting d n count1 radius1 keys1 cs1 (h .first));
               second-fits = fits-more n d most-degree (view g .terms) (h .order)
                   (fitting d n count2 radius2 keys2 cs2 (h .second));
+              first-rising = rises d n count1 radius1 keys1 cs1 (h .first);
+              second-rising = rises d n count2 radius2 keys2 cs2 (h .second);
               first-held = uf .held;
               second-held = ug .held;
               first-few = lf .few;

@@ -81,7 +81,7 @@ pub fn multiplied_slices(
     let mut kb = [0u64; model_types::MOST_TERMS];
     let a = unpack(count1, keys1, coefficients1, &mut ka);
     let b = unpack(count2, keys2, coefficients2, &mut kb);
-    let r = product_terms::kept_in_scratch(
+    let r = product_strategy::kept_in_scratch(
         d as u64,
         &ka,
         coefficients1,

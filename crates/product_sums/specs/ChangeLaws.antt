@@ -8,7 +8,8 @@ use lib.IntN.{ℤ, _+ℤ_, _*ℤ_}
 use Rattle.algebra.specs.Lexicographic.{same, less}
 use Rattle.algebra.specs.IntegerRing.{ℤR}
 use Rattle.polynomial.specs.Polynomial.{Term, add-exponents, times, product}
-use Rattle.calculus.specs.Terms.{Terms, term, every, select, map-coefficients, map-monomials}
+use Rattle.calculus.specs.Terms.{Terms, term, every, select, map-coefficients, map-monomials, rising-from, rising}
+use Rattle.calculus_laws.specs.TestLaws.{and-left, and-right, both}
 use Rattle.calculus_laws.specs.TermsLaws.{on-monomials, every-head, every-tail}
 use Rattle.product_sums.specs.TermArrays.{accumulated}
 use Rattle.product_sums.specs.AccumulatedLaws.{every-accumulated}
@@ -136,3 +137,22 @@ module _ (u : List ℕ → List ℕ) where
         ap (inserted (change t)) (sorted-change p q h (every-tail (on-monomials fit) t q g))
         ∙ inserted-change t (sorted-into p q) (every-head (on-monomials fit) t q g)
         (every-sorted (on-monomials fit) p q h (every-tail (on-monomials fit) t q g))
+
+    -- those that rise still do
+    rising-from-change : (k : List ℕ) (p : Terms) → T (fit k) → T (every (on-monomials fit) p)
+        → T (rising-from k p) → T (rising-from (u k) (map-monomials u p))
+    unfolding rising-from map-monomials
+    rising-from-change k [] f h r = tt
+    rising-from-change k (t ∷ p) f h r =
+        let g = every-head (on-monomials fit) t p h in
+        both (less (u k) (u (t .exponents))) _
+        (rw (order k (t .exponents) f g) (and-left (less k (t .exponents)) _ r))
+        (rising-from-change (t .exponents) p g (every-tail (on-monomials fit) t p h)
+        (and-right (less k (t .exponents)) _ r))
+
+    pub rising-change : (p : Terms) → T (every (on-monomials fit) p) → T (rising p) → T (rising (map-monomials u p))
+    unfolding rising map-monomials
+    rising-change [] h r = tt
+    rising-change (t ∷ p) h r =
+        rising-from-change (t .exponents) p (every-head (on-monomials fit) t p h)
+        (every-tail (on-monomials fit) t p h) r

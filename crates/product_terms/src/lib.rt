@@ -1,76 +1,15 @@
-// What an order keeps of all products of two lists of terms held by wide keys: they are summed in a grid where the
-// monomials are few, else in a table, in scratch memory or in room of its own.
-ghost use Prim.Native.Nat.{_*_};
+// What an order keeps of all products of two lists of terms held by wide keys, without scratch memory: no two of them
+// meet where one list is a single term; else they are summed in a grid where the monomials are few, and in a table
+// where they are not.
 ghost use Rattle.product_sums.specs.TermArrays.{terms};
 ghost use Rattle.product_sums.specs.ProductSums.{«Product-gathered»};
 ghost use Rattle.product_hash_collect.specs.CollectorContracts.{«Held-factors»};
-ghost use Rattle.product_room.specs.ProductTerms.{«Scratch-room», «Kept-room»};
+ghost use Rattle.product_room.specs.ProductTerms.{«Kept-room»};
 use product_grid_index::Sides;
 use product_sums::Gathered;
 
-// Up to so many products a table is as fast as a grid, whose size has to be found first.
-const GRID_FROM: usize = 256;
-
 // The terms that order d keeps of the products of each of the first na terms with each of the first nb, rising, with
-// the two shares of what it loses. The scratch memory serves as a grid or as a table, whatever is in it.
-pub fn kept_in_scratch(
-    d: u64,
-    ka: &[u64],
-    ca: &[i64],
-    na: usize,
-    kb: &[u64],
-    cb: &[i64],
-    nb: usize,
-    slots: &mut [u16],
-    keys: &mut [u64],
-    sums: &mut [i64],
-    kept: &mut [u64],
-    coefficients: &mut [i64],
-) -> Gathered
-    requires { ⌜ Held-factors (now ka) (now ca) na (now kb) (now cb) nb ⌝ }
-    requires { ⌜ Scratch-room (na * nb) (now slots) (now keys) (now sums) ⌝ }
-    requires { ⌜ Kept-room (now kept) (now coefficients) ⌝ }
-    ensures { λ r. ⌜ Product-gathered d na (now (ka .entry)) (now (ca .entry))
-        nb (now (kb .entry)) (now (cb .entry)) (now (kept .exit)) (now (coefficients .exit)) r ⌝ }
-{
-    let products = na * nb;
-    if products <= GRID_FROM {
-        return product_in_table::in_scratch_table(
-            d,
-            ka,
-            ca,
-            na,
-            kb,
-            cb,
-            nb,
-            slots,
-            keys,
-            sums,
-            kept,
-            coefficients,
-        );
-    }
-    let s: Sides = product_strategy::grid_for(ka, ca, na, kb, cb, nb);
-    if product_strategy::in_grid(s.size, products, sums.len()) {
-        return product_grid::gathered(s, d, ka, ca, na, kb, cb, nb, sums, kept, coefficients);
-    }
-    product_in_table::in_scratch_table(
-        d,
-        ka,
-        ca,
-        na,
-        kb,
-        cb,
-        nb,
-        slots,
-        keys,
-        sums,
-        kept,
-        coefficients,
-    )
-}
-
-// The same terms and shares, without scratch memory.
+// the two shares of what it loses.
 pub fn kept_alone(
     d: u64,
     ka: &[u64],
@@ -87,6 +26,12 @@ pub fn kept_alone(
     ensures { λ r. ⌜ Product-gathered d na (now (ka .entry)) (now (ca .entry))
         nb (now (kb .entry)) (now (cb .entry)) (now (kept .exit)) (now (coefficients .exit)) r ⌝ }
 {
+    if na == 1 {
+        return product_rising::one_times(d, ka, ca, kb, cb, nb, kept, coefficients);
+    }
+    if nb == 1 {
+        return product_rising::one_times(d, kb, cb, ka, ca, na, kept, coefficients);
+    }
     let products = na * nb;
     if products <= product_own_room::FEWEST_PRODUCTS {
         return product_own_room::in_smallest_table(d, ka, ca, na, kb, cb, nb, kept, coefficients);

@@ -4,9 +4,11 @@ use Prim.Native.Nat.{ℕ, _+_, _-_, _*_, _<_}
 use native.Mathlib.Omega.{arith}
 use borrow.Author.Needs.{needs}
 use Rattle.calculus.specs.Terms.{Terms}
-use Rattle.product_grid_scan.specs.Rising.{steps-within, third-step, row-terms, Row-ready, Part}
-use Rattle.product_grid_scan.specs.RisingLaws.{row-ready, Held, held-none, held-more, held-room}
-use Rattle.product_grid_scan.specs.RisingLaws.{held-rounding, held-swept}
+use Rattle.product_rising.specs.Rising.{Part}
+use Rattle.product_grid_scan.specs.GridTerms.{steps-within, third-step, row-terms, Row-ready}
+use Rattle.product_rising.specs.RisingLaws.{Held, held-none, held-more, held-room}
+use Rattle.product_grid_scan.specs.GridTermsLaws.{row-ready}
+use Rattle.product_rising.specs.RisingLaws.{held-rounding, held-swept}
 use Rattle.product_grid_scan.proofs.line.Statement.{statement}
 use Rattle.product_grid_scan.proofs.line.Tie as tie
 use Rattle.product_grid_scan.proofs.line.Reads as reads

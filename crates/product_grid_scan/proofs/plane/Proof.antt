@@ -4,9 +4,11 @@ use Prim.Native.Nat.{ℕ, _+_, _-_, _*_, _<_}
 use native.Mathlib.Omega.{arith}
 use borrow.Author.Needs.{needs}
 use Rattle.calculus.specs.Terms.{Terms}
-use Rattle.product_grid_scan.specs.Rising.{steps-within, second-step, line-terms, Line-ready, Part}
-use Rattle.product_grid_scan.specs.RisingLaws.{line-ready, Held, held-none, held-more, held-room}
-use Rattle.product_grid_scan.specs.RisingLaws.{held-rounding, held-swept}
+use Rattle.product_rising.specs.Rising.{Part}
+use Rattle.product_grid_scan.specs.GridTerms.{steps-within, second-step, line-terms, Line-ready}
+use Rattle.product_rising.specs.RisingLaws.{Held, held-none, held-more, held-room}
+use Rattle.product_grid_scan.specs.GridTermsLaws.{line-ready}
+use Rattle.product_rising.specs.RisingLaws.{held-rounding, held-swept}
 use Rattle.product_grid_scan.proofs.plane.Statement.{statement}
 use Rattle.product_grid_scan.proofs.plane.Tie as tie
 use Rattle.product_grid_scan.proofs.plane.Reads as reads

@@ -1,7 +1,7 @@
 -- `row` keeps what order d keeps of the sums in a row, one after the other.
-use mathlib.Core.Path.{_≡_}
+use mathlib.Core.Path.{_≡_, sym}
 use mathlib.Core.List.{[], _∷_}
-use Prim.Native.Nat.{ℕ, _+_, _-_, _*_, _<_}
+use Prim.Native.Nat.{ℕ, _+_, _-_, _*_, _^_, _<_}
 use native.Mathlib.Omega.{arith}
 use borrow.Author.Needs.{needs}
 use lib.IntN.{pos}
@@ -9,13 +9,15 @@ use lib.ListN.{getD}
 use mir.Facts.{toZ-ofZ}
 use Rattle.calculus.specs.Terms.{Terms}
 use Rattle.product_sums.specs.TermArrays.{at-key}
-use Rattle.product_grid_scan.specs.Rising.{fourth-step, Part}
-use Rattle.product_grid_scan.specs.RisingLaws.{Held, held-none, held-more, held-room, held-rounding, held-swept}
+use Rattle.product_rising.specs.Rising.{Part}
+use Rattle.product_grid_scan.specs.GridTerms.{fourth-step, Bare}
+use Rattle.product_grid_scan.specs.GridTermsLaws.{byte-fits, own-degree, own-key}
+use Rattle.product_rising.specs.RisingLaws.{Held, held-none, held-more, held-room, held-rounding, held-swept}
 use Rattle.product_grid_scan.proofs.row.Statement.{statement}
 use Rattle.product_grid_scan.proofs.row.Tie as tie
 use Rattle.product_grid_scan.proofs.row.Reads as reads
 use Rattle.product_grid_scan.proofs.row.Lts as lts
-use Rattle.product_grid_scan.proofs.push.Reads as push-reads
+use Rattle.product_rising.proofs.push.Reads as push-reads
 
 abbrev Inv-loop : tie.InvT-loop
 Inv-loop sums degrees at n key d k₀ c₀ from m₀ r₀ w₀ i₀ kept coefficients count rounding swept i =
@@ -44,15 +46,42 @@ mul-more c = search needs
 shared-slice-read-degree : tie.Need-shared-slice-read-degree Inv-loop μ-loop
 shared-slice-read-degree c = search needs
 
+-- once a degree is read: each is a byte
+module _ (g : tie.After-shared-slice-known2 Inv-loop μ-loop) where
+  abbrev at-loop : tie.At-loop Inv-loop μ-loop
+  at-loop = g .before .before .before
+
+  abbrev begin : tie.Start Inv-loop μ-loop
+  begin = at-loop .before .before .before
+
+  byte : (j : ℕ) → getD (begin .args .degrees .now) j 0 < 2 ^ 8
+  byte j = omega (arith, g .shared-slice-known2 .given j .fits)
+
+  -- the key without it
+  abbrev key : ℕ
+  key = begin .args .key + fourth-step * at-loop .loop .i
+
+  bare : Bare key
+  bare = omega (arith, begin .pre .0 .bare)
+
+  short : key < 2 ^ 64
+  short = omega (arith, begin .pre .0 .keys, g .before .before .loop-test .taken)
+
+cast-degree : tie.Need-cast-degree Inv-loop μ-loop
+cast-degree c = record { fits = byte-fits _ (byte c _) }
+
+add-bare : tie.Need-add-bare Inv-loop μ-loop
+add-bare c = search needs
+
 add-push : tie.Need-add-push Inv-loop μ-loop
-add-push c = search needs
+add-push c =
+    let g = c .before .before in record { fits = own-key _ _ (bare g) (short g) (byte g _) }
 
 push-requires : tie.Need-push-requires Inv-loop μ-loop
 push-requires c κs =
-    let l = c .before .before .before .before .before in
-    let s = l .before .before .before in (
-      held-room _ _ _ _ _ _ _ _ _ _ _ _ (l .loop .inv) (s .pre .1),
-      omega (arith, s .pre .0 .bare),
+    let g = c .before .before in (
+      held-room _ _ _ _ _ _ _ _ _ _ _ _ (at-loop g .loop .inv) (begin g .pre .1),
+      sym (own-degree (key g) _ (bare g) (byte g _)),
     )
 
 -- once a sum is pushed
@@ -139,6 +168,8 @@ row-spec =
     shared-slice-copy-out-z
     mul-more
     shared-slice-read-degree
+    cast-degree
+    add-bare
     add-push
     push-requires
     add-rounding

@@ -5,10 +5,13 @@ use native.Mathlib.Omega.{arith}
 use borrow.Author.Needs.{needs}
 use Rattle.calculus.specs.Terms.{Terms, size}
 use Rattle.calculus.specs.Model.{most-terms}
-use Rattle.product_grid_scan.specs.Rising.{in-turn, steps-within, first-step, plane-terms, grid-terms}
-use Rattle.product_grid_scan.specs.Rising.{Plane-ready, Part}
-use Rattle.product_grid_scan.specs.RisingLaws.{steps-left, plane-ready, Held, held-none, held-more, held-room}
-use Rattle.product_grid_scan.specs.RisingLaws.{held-rounding, held-swept, scanned-many, scanned-few}
+use Rattle.product_rising.specs.Rising.{in-turn}
+use Rattle.product_grid_scan.specs.GridTerms.{steps-within, first-step, plane-terms, grid-terms}
+use Rattle.product_rising.specs.Rising.{Part}
+use Rattle.product_grid_scan.specs.GridTerms.{Plane-ready}
+use Rattle.product_rising.specs.RisingLaws.{Held, held-none, held-more, held-room}
+use Rattle.product_grid_scan.specs.GridTermsLaws.{steps-left, plane-ready}
+use Rattle.product_rising.specs.RisingLaws.{held-rounding, held-swept, scanned-many, scanned-few}
 use Rattle.product_grid_scan.proofs.scan.Statement.{statement}
 use Rattle.product_grid_scan.proofs.scan.Tie as tie
 use Rattle.product_grid_scan.proofs.scan.Reads as reads

@@ -1,6 +1,6 @@
 -- `steps` takes the smaller of the side and one more than what is left.
 use native.Mathlib.Omega.{arith}
-use Rattle.product_grid_scan.specs.RisingLaws.{steps-short, steps-whole}
+use Rattle.product_grid_scan.specs.GridTermsLaws.{steps-short, steps-whole}
 use borrow.Author.Needs.{needs}
 use Rattle.product_grid_scan.proofs.steps.Statement.{statement}
 use Rattle.product_grid_scan.proofs.steps.Tie as tie

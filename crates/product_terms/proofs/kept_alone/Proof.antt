@@ -1,11 +1,13 @@
 -- `kept_alone` chooses between a grid and a table, each large enough.
 use native.Mathlib.Omega.{arith}
 use borrow.Author.Needs.{needs}
-use Rattle.product_room.specs.ProductTermsLaws.{products-few}
+use Rattle.product_room.specs.ProductTermsLaws.{first-one, second-one, none-kept, products-few}
+use Rattle.product_rising.specs.OneTermLaws.{turned-gathered}
 use Rattle.product_terms.proofs.kept_alone.Statement.{statement}
 use Rattle.product_terms.proofs.kept_alone.Tie as tie
 use Rattle.product_terms.proofs.kept_alone.Reads as reads
 use Rattle.product_terms.proofs.kept_alone.Lts as lts
+use Rattle.product_rising.proofs.one_times.Reads as one-times-reads
 use Rattle.product_strategy.proofs.grid_for.Reads as grid-for-reads
 use Rattle.product_strategy.proofs.in_grid.Reads as in-grid-reads
 use Rattle.product_own_room.proofs.in_half_table.Reads as in-half-table-reads
@@ -15,14 +17,12 @@ use Rattle.product_own_room.proofs.in_small_grid.Reads as in-small-grid-reads
 use Rattle.product_own_room.proofs.in_small_table.Reads as in-small-table-reads
 use Rattle.product_own_room.proofs.in_smallest_table.Reads as in-smallest-table-reads
 
-mul-products : tie.Need-mul-products
-mul-products c = let p = products-few (c .before .before .before .pre .0) in search needs
-
-in-smallest-table-requires : tie.Need-in-smallest-table-requires
-in-smallest-table-requires c κs =
+-- where the first or the second factor is one term
+one-times-requires : tie.Need-one-times-requires
+one-times-requires c κs =
     let t = c .before .before in
     let s = t .before .before .before .before in
-    (s .pre .0, (omega (arith, t .if1 .taken), s .pre .1))
+    (first-one (s .pre .0) (t .if1 .taken), none-kept (s .pre .1))
 
 same-length : tie.Need-same-length
 same-length c = search needs
@@ -31,13 +31,15 @@ same-length-2 : tie.Need-same-length-2
 same-length-2 c = search needs
 
 returns : tie.Need-returns
-returns c = search needs
+returns c =
+    let o = c .before .before .before in
+    rw (o .before .before .before .if1 .taken) (o .one-times .ensures)
 
-in-small-table-requires : tie.Need-in-small-table-requires
-in-small-table-requires c κs =
+one-times-requires-2 : tie.Need-one-times-requires-2
+one-times-requires-2 c κs =
     let t = c .before .before in
     let s = t .before .before .before .before .before in
-    (s .pre .0, (omega (arith, t .if2 .taken), s .pre .1))
+    (second-one (s .pre .0) (t .if2 .taken), none-kept (s .pre .1))
 
 same-length-3 : tie.Need-same-length-3
 same-length-3 c = search needs
@@ -46,19 +48,20 @@ same-length-4 : tie.Need-same-length-4
 same-length-4 c = search needs
 
 returns-2 : tie.Need-returns-2
-returns-2 c = search needs
+returns-2 c =
+    let o = c .before .before .before in
+    let t = o .before .before .before in
+    let s = t .before .before .before .before .before in
+    rw (t .if2 .taken) (turned-gathered (second-one (s .pre .0) (t .if2 .taken)) (o .one-times2 .ensures))
 
-grid-for-requires : tie.Need-grid-for-requires
-grid-for-requires c κs = search needs
+mul-products : tie.Need-mul-products
+mul-products c = let p = products-few (c .before .before .before .before .before .pre .0) in search needs
 
-in-grid-requires : tie.Need-in-grid-requires
-in-grid-requires c κs = products-few (c .before .before .before .before .before .before .pre .0)
-
-in-small-grid-requires : tie.Need-in-small-grid-requires
-in-small-grid-requires c κs =
-    let k = c .before .before .before .before .before .before in
-    let s = c .before .before .before .before .before .before .before .before .before .before .before .before in
-    (s .pre .0, (k .grid-for .ensures, (omega (arith, c .before .before .if4 .taken), s .pre .1)))
+in-smallest-table-requires : tie.Need-in-smallest-table-requires
+in-smallest-table-requires c κs =
+    let t = c .before .before in
+    let s = t .before .before .before .before .before .before in
+    (s .pre .0, (omega (arith, t .if3 .taken), s .pre .1))
 
 same-length-5 : tie.Need-same-length-5
 same-length-5 c = search needs
@@ -69,13 +72,11 @@ same-length-6 c = search needs
 returns-3 : tie.Need-returns-3
 returns-3 c = search needs
 
-in-large-grid-requires : tie.Need-in-large-grid-requires
-in-large-grid-requires c κs =
-    let k = c .before .before .before .before .before .before in
-    let s = c .before .before .before .before .before .before .before .before .before .before .before .before in
-    let t = c .before .before .before .before in
-    let fits = t .before .in-grid .ensures (t .if3 .taken) in
-    (s .pre .0, (k .grid-for .ensures, (omega (arith, fits .1), s .pre .1)))
+in-small-table-requires : tie.Need-in-small-table-requires
+in-small-table-requires c κs =
+    let t = c .before .before in
+    let s = t .before .before .before .before .before .before .before in
+    (s .pre .0, (omega (arith, t .if4 .taken), s .pre .1))
 
 same-length-7 : tie.Need-same-length-7
 same-length-7 c = search needs
@@ -86,11 +87,17 @@ same-length-8 c = search needs
 returns-4 : tie.Need-returns-4
 returns-4 c = search needs
 
-in-half-table-requires : tie.Need-in-half-table-requires
-in-half-table-requires c κs =
-    let t = c .before .before in
-    let s = t .before .before .before .before .before .before .before .before .before in
-    (s .pre .0, (omega (arith, t .if5 .taken), s .pre .1))
+grid-for-requires : tie.Need-grid-for-requires
+grid-for-requires c κs = search needs
+
+in-grid-requires : tie.Need-in-grid-requires
+in-grid-requires c κs = products-few (c .before .before .before .before .before .before .before .before .pre .0)
+
+in-small-grid-requires : tie.Need-in-small-grid-requires
+in-small-grid-requires c κs =
+    let k = c .before .before .before .before .before .before in
+    let s = k .before .before .before .before .before .before .before .before in
+    (s .pre .0, (k .grid-for .ensures, (omega (arith, c .before .before .if6 .taken), s .pre .1)))
 
 same-length-9 : tie.Need-same-length-9
 same-length-9 c = search needs
@@ -101,8 +108,13 @@ same-length-10 c = search needs
 returns-5 : tie.Need-returns-5
 returns-5 c = search needs
 
-in-large-table-requires : tie.Need-in-large-table-requires
-in-large-table-requires c κs = search needs
+in-large-grid-requires : tie.Need-in-large-grid-requires
+in-large-grid-requires c κs =
+    let k = c .before .before .before .before .before .before in
+    let s = k .before .before .before .before .before .before .before .before in
+    let t = c .before .before .before .before in
+    let fits = t .before .in-grid .ensures (t .if5 .taken) in
+    (s .pre .0, (k .grid-for .ensures, (omega (arith, fits .1), s .pre .1)))
 
 same-length-11 : tie.Need-same-length-11
 same-length-11 c = search needs
@@ -113,34 +125,69 @@ same-length-12 c = search needs
 returns-6 : tie.Need-returns-6
 returns-6 c = search needs
 
+in-half-table-requires : tie.Need-in-half-table-requires
+in-half-table-requires c κs =
+    let t = c .before .before in
+    let s = t .before .before .before .before .before .before .before .before .before .before .before in
+    (s .pre .0, (omega (arith, t .if7 .taken), s .pre .1))
+
+same-length-13 : tie.Need-same-length-13
+same-length-13 c = search needs
+
+same-length-14 : tie.Need-same-length-14
+same-length-14 c = search needs
+
+returns-7 : tie.Need-returns-7
+returns-7 c = search needs
+
+in-large-table-requires : tie.Need-in-large-table-requires
+in-large-table-requires c κs = search needs
+
+same-length-15 : tie.Need-same-length-15
+same-length-15 c = search needs
+
+same-length-16 : tie.Need-same-length-16
+same-length-16 c = search needs
+
+returns-8 : tie.Need-returns-8
+returns-8 c = search needs
+
 pub kept-alone-spec : {M : Type 1} → statement M
 kept-alone-spec =
     tie.close
     (tie.spec
-    mul-products
-    in-smallest-table-requires
+    one-times-requires
     same-length
     same-length-2
     returns
-    in-small-table-requires
+    one-times-requires-2
     same-length-3
     same-length-4
     returns-2
-    grid-for-requires
-    in-grid-requires
-    in-small-grid-requires
+    mul-products
+    in-smallest-table-requires
     same-length-5
     same-length-6
     returns-3
-    in-large-grid-requires
+    in-small-table-requires
     same-length-7
     same-length-8
     returns-4
-    in-half-table-requires
+    grid-for-requires
+    in-grid-requires
+    in-small-grid-requires
     same-length-9
     same-length-10
     returns-5
-    in-large-table-requires
+    in-large-grid-requires
     same-length-11
     same-length-12
-    returns-6)
+    returns-6
+    in-half-table-requires
+    same-length-13
+    same-length-14
+    returns-7
+    in-large-table-requires
+    same-length-15
+    same-length-16
+    returns-8)

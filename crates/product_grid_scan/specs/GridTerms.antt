@@ -1,21 +1,14 @@
--- What an order keeps of the sums in a grid: in which order they are looked at, what is asked, and what is promised.
+-- What an order keeps of the sums in a grid: in which order they are looked at, and what is asked.
 use mathlib.Core.Path.{_≡_}
-use mathlib.Core.List.{List, [], _∷_, _++_}
-use Prim.Native.Nat.{ℕ, zero, suc, _+_, _-_, _*_, _%_, _^_, min, _<_, _≤_}
+use mathlib.Core.List.{List, [], _∷_}
+use Prim.Native.Nat.{ℕ, _+_, _-_, _*_, _%_, _^_, min, _<_, _≤_}
 use lib.IntN.{ℤ, pos}
 use lib.ListN.{length, getD}
 use Rattle.calculus.specs.Terms.{Terms, size}
-use Rattle.calculus.specs.Model.{most-terms}
-use Rattle.product_sums.specs.TermArrays.{at-key, terms}
-use Rattle.product_sums.specs.declared.Gathered.{Gathered}
-use Rattle.product_sums.specs.Kept.{wide-kept, wide-rounding, wide-swept, counted}
+use Rattle.product_sums.specs.TermArrays.{at-key}
+use Rattle.product_rising.specs.Rising.{in-turn}
 
 -- ---- the sums in a grid, variable by variable
--- the first n parts, one after the other
-unfoldable pub in-turn : (part : ℕ → Terms) (n : ℕ) → Terms
-in-turn part zero = []
-in-turn part (suc n) = in-turn part n ++ part n
-
 -- how many exponents there are on a side that leave the degree at most so much
 unfoldable pub steps-within : (side left : ℕ) → ℕ
 steps-within side left = min side (left + 1)
@@ -62,12 +55,6 @@ grid-terms sums degrees first second third fourth most =
     (steps-within first most)
 
 -- ---- what is asked
--- places for one more than the most terms, of which n are taken
-pub record Room (n : ℕ) (kept : List ℕ) (coefficients : List ℤ) : Type 0 where
-  pub taken : n ≤ most-terms + 1
-  pub kept-room : most-terms < length kept
-  pub coefficients-room : most-terms < length coefficients
-
 -- a key without its degree
 abbrev pub Bare : ℕ → Type 0
 Bare key = key % 2 ^ 8 ≡ 0
@@ -107,21 +94,3 @@ pub record Scan-ready (sums : List ℤ) (degrees : List ℕ) (first second third
   pub short-third : third ≤ 2 ^ 8
   pub low : most < 127
   pub small : size (grid-terms sums degrees first second third fourth most) < 2 ^ 63
-
--- ---- what is promised
--- what is kept of q stands after the n that were kept, unless there are too many
-pub record Part (d : ℕ) (q : Terms) (n : ℕ) (kept-before : List ℕ) (coefficients-before : List ℤ)
-    (kept : List ℕ) (coefficients : List ℤ) (r : Gathered) : Type 0 where
-  pub from : n ≤ r .count
-  pub most : r .count ≤ most-terms + 1
-  pub few : r .count ≤ most-terms → r .count ≡ n + length (wide-kept d q)
-  pub many : most-terms < r .count → most-terms < n + length (wide-kept d q)
-  pub following : r .count ≤ most-terms
-      → terms (r .count) kept coefficients ≡ terms n kept-before coefficients-before ++ wide-kept d q
-  pub rounding : r .rounding ≡ wide-rounding d q
-  pub swept : r .swept ≡ wide-swept d q
-
--- what is kept of the sums zs stands in their order
-pub record Scanned (d : ℕ) (zs : Terms) (kept : List ℕ) (coefficients : List ℤ) (r : Gathered) : Type 0 where
-  pub answered : r ≡ counted (length (wide-kept d zs)) (wide-rounding d zs) (wide-swept d zs)
-  pub terms : length (wide-kept d zs) ≤ most-terms → terms (r .count) kept coefficients ≡ wide-kept d zs

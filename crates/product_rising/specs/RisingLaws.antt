@@ -1,20 +1,17 @@
 -- What is kept of parts, one after the other, and how large it can be.
-use mathlib.Core.Path.{_≡_, refl, sym, _∙_, ap}
+use mathlib.Core.Path.{_≡_, refl, sym, _∙_, ap, subst}
 use mathlib.Core.Bool.{Bool, not}
 use mathlib.Core.List.{List, [], _∷_, _++_, append-nil, append-assoc}
-use Prim.Native.Nat.{ℕ, zero, suc, _+_, _-_, _*_, _^_, _<_, _≤_}
-use native.Mathlib.Nat.{mul-le-mul, mul-le-mul-right, add-mul, min-le-left, min-le-right, min-eq-left, min-eq-right}
+use Prim.Native.Nat.{ℕ, zero, suc, _+_, _<_, _≤_}
 use native.Mathlib.Decide.{decLt}
 use native.Mathlib.Numerals.{add-one}
 use native.Mathlib.Omega.{arith}
 use lib.Dec.{leb}
-use lib.IntN.{ℤ, natAbs}
+use lib.IntN.{ℤ}
 use lib.ListN.{length, set, length-append}
 use Rattle.polynomial.specs.Polynomial.{Term}
 use Rattle.calculus.specs.Terms.{Terms, select, size}
 use Rattle.calculus.specs.Model.{most-terms}
-use Rattle.calculus_laws.specs.SumLaws.{ℕ-addition, sum-++}
-use Rattle.model_keys.specs.Keys.{wide-degree}
 use Rattle.product_sums.specs.TermArrays.{at-key, terms}
 use Rattle.product_sums.specs.TermArrayLaws.{terms-push}
 use Rattle.product_sums.specs.declared.Gathered.{Gathered}
@@ -23,9 +20,7 @@ use Rattle.product_sums.specs.Wide.{degree-byte}
 use Rattle.product_sums.specs.Kept.{wide-within-order, wide-above-order, wide-kept, wide-rounding, wide-swept}
 use Rattle.product_sums.specs.GatherLaws.{kept-append, rounding-append, swept-append, size-select, residuals-le}
 use Rattle.product_sums.specs.GatherLaws.{kept-none, rounding-none, swept-none, counted-few, counted-many}
-use Rattle.product_grid_scan.specs.Rising.{in-turn, steps-within, first-step, second-step, third-step}
-use Rattle.product_grid_scan.specs.Rising.{row-terms, line-terms, plane-terms, Room, Bare, Row-ready, Line-ready}
-use Rattle.product_grid_scan.specs.Rising.{Plane-ready, Scan-ready, Part, Scanned}
+use Rattle.product_rising.specs.Rising.{in-turn, Room, Part, Scanned}
 
 -- ---- how large it can be
 module _ (part : ℕ → Terms) where
@@ -54,127 +49,6 @@ module _ (d : ℕ) (q : Terms) where
   pub swept-within : wide-swept d q ≤ size q
   unfolding wide-swept wide-above-order
   swept-within = size-select (λ k z. not (leb (degree-byte k) d)) q
-
--- ---- a key without its degree, and a degree
-pub own-degree : (key degree : ℕ) → Bare key → degree < 2 ^ 8 → wide-degree (key + degree) ≡ degree
-unfolding wide-degree
-own-degree key degree b l = omega arith
-
--- ---- steps
-pub steps-side : (side left : ℕ) → steps-within side left ≤ side
-unfolding steps-within
-steps-side side left = min-le-left side (left + 1)
-
-pub steps-left : (side left : ℕ) → steps-within side left ≤ left + 1
-unfolding steps-within
-steps-left side left = min-le-right side (left + 1)
-
-pub steps-short : (side left : ℕ) → left < side → left + 1 ≡ steps-within side left
-unfolding steps-within
-steps-short side left h = sym (min-eq-right (omega arith))
-
-pub steps-whole : (side left : ℕ) → side ≤ left → side ≡ steps-within side left
-unfolding steps-within
-steps-whole side left h = sym (min-eq-left (omega arith))
-
-pub steps-more : (side left i : ℕ) → i < side → i ≤ left → i < steps-within side left
-steps-more side left i h l = elim (decLt left side) [
-  | yes c ↦ omega (arith, steps-short side left c)
-  | no c ↦ omega (arith, steps-whole side left (omega arith))
-]
-
--- places before the next one of a wider side
-next-side : (a m n side : ℕ) → a < n → m ≤ side → a * side + m ≤ n * side
-next-side a m n side h l =
-    let k : (a + 1) * side ≤ n * side = mul-le-mul-right side (omega arith) in omega (arith, add-mul a 1 side)
-
--- of a line
-module _ (sums : List ℤ) (degrees : List ℕ) (fourth at n key left : ℕ)
-    (h : Line-ready sums degrees fourth at n key left) (i : ℕ) (iteration : i < n) where
-  pub row-ready : Row-ready sums degrees ((at + i) * fourth) (steps-within fourth (left - i)) (key + third-step * i)
-  row-ready =
-      let m = steps-within fourth (left - i) in
-      let few : m ≤ left - i + 1 = steps-left fourth (left - i) in
-      let next : (at + i) * fourth + m ≤ (at + n) * fourth =
-      next-side (at + i) m (at + n) fourth (omega arith) (steps-side fourth (left - i)) in
-      record {
-        places = omega (arith, next, h .places);
-        marks = omega (arith, next, h .marks);
-        bare = omega (arith, h .bare);
-        keys = omega (arith, few, h .keys, h .low, iteration);
-        small =
-            omega (
-              arith,
-              size-in-turn-step (λ j.
-                  row-terms sums degrees ((at + j) * fourth) (steps-within fourth (left - j))
-                  (key + third-step * j)) i n iteration,
-              h .small,
-            );
-      }
-
--- of a plane
-module _ (sums : List ℤ) (degrees : List ℕ) (third fourth at n key left : ℕ)
-    (h : Plane-ready sums degrees third fourth at n key left) (i : ℕ) (iteration : i < n) where
-  pub line-ready : Line-ready sums degrees fourth ((at + i) * third) (steps-within third (left - i))
-      (key + second-step * i) (left - i)
-  line-ready =
-      let m = steps-within third (left - i) in
-      let few : m ≤ left - i + 1 = steps-left third (left - i) in
-      let next : (at + i) * third + m ≤ (at + n) * third =
-      next-side (at + i) m (at + n) third (omega arith) (steps-side third (left - i)) in
-      let inside : ((at + i) * third + m) * fourth ≤ (at + n) * third * fourth = mul-le-mul-right fourth next in
-      let short : (at + n) * third ≤ 2 ^ 16 * 2 ^ 8 = mul-le-mul (h .below) (h .short-third) in
-      record {
-        places = omega (arith, inside, h .places);
-        marks = omega (arith, inside, h .marks);
-        bare = omega (arith, h .bare);
-        below = omega (arith, next, short);
-        keys = omega (arith, few, h .keys, h .low, iteration);
-        few = few;
-        low = omega (arith, h .low);
-        small =
-            omega (
-              arith,
-              size-in-turn-step (λ j.
-                  line-terms sums degrees fourth ((at + j) * third) (steps-within third (left - j))
-                  (key + second-step * j) (left - j)) i n iteration,
-              h .small,
-            );
-      }
-
--- of a grid
-module _ (sums : List ℤ) (degrees : List ℕ) (first second third fourth most : ℕ)
-    (h : Scan-ready sums degrees first second third fourth most) (i : ℕ) (iteration : i < steps-within first most) where
-  pub plane-ready : Plane-ready sums degrees third fourth (i * second) (steps-within second (most - i)) (first-step * i)
-      (most - i)
-  plane-ready =
-      let m = steps-within second (most - i) in
-      let few : m ≤ most - i + 1 = steps-left second (most - i) in
-      let last : i ≤ most = omega (arith, iteration, steps-left first most) in
-      let next : i * second + m ≤ first * second =
-      next-side i m first second (omega (arith, iteration, steps-side first most)) (steps-side second (most - i)) in
-      let near : i * second + m ≤ 2 ^ 7 * second =
-      next-side i m (2 ^ 7) second (omega (arith, last, h .low)) (steps-side second (most - i)) in
-      let inside : (i * second + m) * third * fourth ≤ first * second * third * fourth =
-      mul-le-mul-right fourth (mul-le-mul-right third next) in
-      record {
-        places = omega (arith, inside, h .places);
-        marks = omega (arith, inside, h .marks);
-        bare = omega arith;
-        below = omega (arith, near, h .short-second);
-        short-third = h .short-third;
-        keys = omega (arith, few, last, h .low);
-        few = few;
-        low = omega (arith, h .low);
-        small =
-            omega (
-              arith,
-              size-in-turn-step (λ j.
-                  plane-terms sums degrees third fourth (j * second) (steps-within second (most - j)) (first-step * j)
-                  (most - j)) i (steps-within first most) iteration,
-              h .small,
-            );
-      }
 
 -- ---- parts
 -- none yet
@@ -310,6 +184,14 @@ module _ (part : ℕ → Terms) (n d from : ℕ) (kept₀ : List ℕ) (coefficie
       kept-room = rw (h .kept-long) (r .kept-room);
       coefficients-room = rw (h .coefficients-long) (r .coefficients-room);
     }
+
+    -- all of them
+    pub held-end : n ≤ i → Part d (in-turn part n) from kept₀ coefficients₀ kept coefficients
+        (record { count = count; rounding = rounding; swept = swept })
+    held-end g =
+        let e : i ≡ n = omega (arith, h .on) in
+        subst (λ m. Part d (in-turn part m) from kept₀ coefficients₀ kept coefficients
+        (record { count = count; rounding = rounding; swept = swept })) e (h .done)
 
     -- one more
     module _ (iteration : i < n) (kept₁ : List ℕ) (coefficients₁ : List ℤ) (r : Gathered)

@@ -15,12 +15,12 @@ use Rattle.model_keys.specs.Keys.{wide-degree}
 use Rattle.product_sums.specs.TermArrays.{at-key}
 use Rattle.product_sums.specs.KeptTermLaws.{low-rounding, low-swept, low-zero, low-nonzero}
 use Rattle.product_sums.specs.KeptTermLaws.{high-rounding, high-swept, high-kept}
-use Rattle.product_grid_scan.specs.RisingLaws.{own-degree, part-nothing, part-late, part-put}
+use Rattle.product_rising.specs.RisingLaws.{part-nothing, part-late, part-put}
 use borrow.Author.Needs.{needs}
-use Rattle.product_grid_scan.proofs.push.Statement.{statement}
-use Rattle.product_grid_scan.proofs.push.Tie as tie
-use Rattle.product_grid_scan.proofs.push.Reads as reads
-use Rattle.product_grid_scan.proofs.push.Lts as lts
+use Rattle.product_rising.proofs.push.Statement.{statement}
+use Rattle.product_rising.proofs.push.Tie as tie
+use Rattle.product_rising.proofs.push.Reads as reads
+use Rattle.product_rising.proofs.push.Lts as lts
 use Rattle.fixed.proofs.magnitude.Reads as magnitude-reads
 use Rattle.fixed.proofs.round.Reads as round-reads
 
@@ -39,10 +39,10 @@ module _ (r : tie.After-round) where
   residual-is = ap (λ (q : Rounded). q .residual) rounded-is
 
   abbrev k : ℕ
-  k = s .args .key + s .args .degree
+  k = s .args .key
 
   low : wide-degree k ≤ s .args .d
-  low = omega (arith, own-degree (s .args .key) (s .args .degree) (s .pre .1) (omega arith), r .before .if1 .left)
+  low = omega (arith, s .pre .1, r .before .if1 .left)
 
 fits-c : (t : tie.After-struct-told) → SFits w64 (t .before .round .result .coefficient)
 fits-c t = record { sfits = t .struct-told .given .0 .1 }
@@ -55,11 +55,10 @@ unfolding most-terms
 returns c =
     let s = c .before .before .before in
     let a = s .args in
-    let high : a .d < wide-degree (a .key + a .degree) =
-    omega (arith, own-degree (s .args .key) (s .args .degree) (s .pre .1) (omega arith), c .before .if1 .taken) in
-    part-nothing (a .d) _ (a .n) _ _ (s .pre .0) _ _ (high-rounding (a .d) (a .key + a .degree) (a .z) high)
-    (rw (toZ-ofZ (s .fits .z)) at (c .magnitude .ensures) ∙ high-swept (a .d) (a .key + a .degree) (a .z) high)
-    (high-kept (a .d) (a .key + a .degree) (a .z) high)
+    let high : a .d < wide-degree (a .key) = omega (arith, s .pre .1, c .before .if1 .taken) in
+    part-nothing (a .d) _ (a .n) _ _ (s .pre .0) _ _ (high-rounding (a .d) (a .key) (a .z) high)
+    (rw (toZ-ofZ (s .fits .z)) at (c .magnitude .ensures) ∙ high-swept (a .d) (a .key) (a .z) high)
+    (high-kept (a .d) (a .key) (a .z) high)
 
 round-requires : tie.Need-round-requires
 round-requires c κs = search needs
@@ -82,11 +81,6 @@ returns-3 c =
     part-late (a .d) _ (a .n) _ _ (s r .pre .0) _ _ (residual-is r ∙ low-rounding (a .d) (k r) (a .z) (low r))
     (low-swept (a .d) (k r) (a .z) (low r)) (c .if3 .taken)
 
-add-keys : tie.Need-add-keys
-add-keys c =
-    let s = c .before .before .before .before .before .before in
-    record { fits = omega (arith, s .pre .1) }
-
 mul-keys : tie.Need-mul-keys
 mul-keys c = search needs
 
@@ -105,8 +99,8 @@ slice-set-from-c c =
     let s = c .before .before .before .before .before .before in
     omega (arith, c .if3 .left, s .pre .0 .coefficients-room)
 
-add-t15 : tie.Need-add-t15
-add-t15 c = search needs
+add-next : tie.Need-add-next
+add-next c = search needs
 
 same-length : tie.Need-same-length
 same-length c = search needs
@@ -123,7 +117,7 @@ returns-4 c =
     let stays : round (a .z) ≡ pos 0 → ⊥ = λ e. c .before .if2 .left (ap (ofZ w64) (coefficient-is r ∙ e)) in
     rw (toZ-ofZ (fits-c t))
     (part-put (a .d) _ (a .n) _ _ (s r .pre .0) _ _ (residual-is r ∙ low-rounding (a .d) (k r) (a .z) (low r))
-    (low-swept (a .d) (k r) (a .z) (low r)) (k r) _ (omega (arith, c .if3 .left))
+    (low-swept (a .d) (k r) (a .z) (low r)) _ _ (omega (arith, c .if3 .left))
     (low-nonzero (a .d) (k r) (a .z) (low r) stays
     ∙ ap (λ x. at-key (k r) x ∷ []) (sym (coefficient-is r))))
 
@@ -136,12 +130,11 @@ push-spec =
     round-requires
     returns-2
     returns-3
-    add-keys
     mul-keys
     slice-write-keys
     mul-c
     slice-set-from-c
-    add-t15
+    add-next
     same-length
     same-length-2
     returns-4)

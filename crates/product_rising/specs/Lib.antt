@@ -1,0 +1,4 @@
+pub mod Rising
+pub mod RisingLaws
+pub mod SameSumsLaws
+pub mod OneTermLaws
