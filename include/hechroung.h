@@ -16,10 +16,10 @@
    Memory. The caller owns everything. Nothing is kept after a call, nothing is allocated, and there is no state, so
    that any number of threads may call at once. A call needs up to 160 KB of stack, the run of a sheet or a book, with
    shares or without, up to 320 KB, writing and writing back up to 160 KB, opening, a step and a record up to 4 KB (a KB
-   is 1,024 bytes; the functions written out here add what they say). The run of a sheet needs up to 144 KB if it has no
-   substitution and none of its steps asks for more than 256 products: a product asks for one for each pair of terms, a
-   quotient for one for each pair of terms of g and h, or for 64 for each term of w. These figures are tested, not
-   proved.
+   is 1,024 bytes; the functions written out here add what they say). The run of a sheet needs up to 144 KB if none
+   of its steps asks for more than 256 products: a product asks for one for each pair of terms, a substitution for 64
+   for each term of what is put in, a quotient for one for each pair of terms of g and h, or for 64 for each term of w.
+   These figures are tested, not proved.
 
    Slices. A slice is a pointer and a length in elements. Nothing is read or written outside the lengths that are given;
    a pointer must be to that many elements, aligned, and a slice that is written must not overlap another one. */

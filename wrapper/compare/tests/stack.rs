@@ -429,8 +429,8 @@ fn heaviest_sheet(n: u8) -> Vec<u8> {
 }
 
 /// The most products that a step of a sheet asks for: one for each pair of terms. A quotient has three products, and the
-/// difference of which it makes one may have 64 terms. A substitution asks for as many as any product can have. A sheet
-/// that is refused asks for what its steps up to the refused one do.
+/// difference of which it makes one may have 64 terms. So may what a substitution multiplies by the model that is put in.
+/// A sheet that is refused asks for what its steps up to the refused one do.
 fn products_asked(bytes: &[u8]) -> usize {
     let Ok(book) = sheet::sound_book(bytes) else {
         return 0;
@@ -440,7 +440,7 @@ fn products_asked(bytes: &[u8]) -> usize {
     let ran = trace.steps.len() + usize::from(trace.refusal.is_some());
     let asked = book.steps.iter().take(ran).map(|step| match step.code {
         MULTIPLY => terms(step.a) * terms(step.b),
-        SUBSTITUTE => MOST_TERMS * MOST_TERMS,
+        SUBSTITUTE => MOST_TERMS * terms(step.b),
         QUOTIENT => {
             let last = u8::try_from(step.value).expect("a sound quotient names a step");
             (terms(step.b) * terms(step.v)).max(MOST_TERMS * terms(last))
@@ -450,20 +450,23 @@ fn products_asked(bytes: &[u8]) -> usize {
     asked.max().unwrap_or(0)
 }
 
-/// As many models and steps as there can be in one variable, where no model has more than 16 terms.
+/// As many models and steps as there can be in one variable, where no model has more than 16 terms, and the one that is
+/// put into another no more than 4.
 fn largest_small_sheet() -> Vec<u8> {
-    let model = |constant: i32| DraftModel {
+    let model = |terms: u32| DraftModel {
         radius: 5,
-        terms: (0..16)
-            .map(|power| (power << 28, if power == 0 { constant } else { 3 }))
+        terms: (0..terms)
+            .map(|power| (power << 28, if power == 0 { 1 << 19 } else { 3 }))
             .collect(),
     };
-    let models = vec![model(1 << 19); MOST_MODELS];
+    let mut models = vec![model(16); MOST_MODELS];
+    models[2] = model(4);
     let mut steps: Vec<Step> = (0..3).map(|number| Step::one(INPUT, number)).collect();
     while steps.len() < MOST_STEPS {
-        steps.push(match steps.len() % 2 {
+        steps.push(match steps.len() % 3 {
             0 => Step::two(MULTIPLY, 0, 1),
-            _ => Step::antiderivative(0, 1),
+            1 => Step::antiderivative(0, 1),
+            _ => Step::substitute(0, 2, 1),
         });
     }
     Draft::new(1, 15, models, steps).bytes()
