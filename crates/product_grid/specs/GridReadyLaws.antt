@@ -2,14 +2,14 @@
 use mathlib.Core.Path.{_≡_, _∙_, ap₂}
 use mathlib.Core.List.{List, []}
 use Prim.Native.Nat.{ℕ, _+_, _^_, _<_, _≤_}
-use native.Mathlib.Decide.{decLt}
 use native.Mathlib.Omega.{arith}
 use lib.IntN.{ℤ, pos}
-use lib.ListN.{length, getD, replicate, length-replicate, getD-replicate, List·getD-eq-default}
+use lib.ListN.{length, getD, replicate, length-replicate}
 use Rattle.algebra.specs.IntegerRing.{ℤR}
 use Rattle.polynomial.specs.Polynomial.{product}
 use Rattle.calculus.specs.Terms.{Terms, size}
 use Rattle.product_sums.specs.TermArrays.{terms, scratch-places}
+use Rattle.product_sums.specs.TermArrayLaws.{filled-at}
 use Rattle.product_sums.specs.declared.Gathered.{Gathered}
 use Rattle.product_sums.specs.ProductSums.{Product-gathered}
 use Rattle.product_sums.specs.ProductsLaws.{size-product}
@@ -29,17 +29,11 @@ use Rattle.product_grid.specs.GridSumsLaws.{sums-small}
 
 -- an array of zeros
 pub fresh-zeros : (n size : ℕ) → Zeros size (replicate n (pos 0))
-fresh-zeros n size i h = elim (decLt i n) [
-  | yes l ↦ getD-replicate n i (pos 0) (pos 0) l
-  | no l ↦ List·getD-eq-default (replicate n (pos 0)) (pos 0) {n = i} (rw length-replicate (omega arith))
-]
+fresh-zeros n size i h = filled-at (pos 0) n i
 
 -- an array of zeros for degrees
 pub fresh-short : (n : ℕ) (i : ℕ) → getD {A = ℕ} (replicate n 0) i 0 < 2 ^ 8
-fresh-short n i = elim (decLt i n) [
-  | yes l ↦ rw (getD-replicate {A = ℕ} n i 0 0 l) (omega arith)
-  | no l ↦ rw (List·getD-eq-default {A = ℕ} (replicate n 0) 0 {n = i} (rw length-replicate (omega arith))) (omega arith)
-]
+fresh-short n i = rw (filled-at {A = ℕ} 0 n i) (omega arith)
 
 module _ {s : Sides} {ka : List ℕ} {ca : List ℤ} {na : ℕ} {kb : List ℕ} {cb : List ℤ} {nb : ℕ} {sums : List ℤ}
     {kept : List ℕ} {coefficients : List ℤ} (q : Grid-ready s ka ca na kb cb nb sums kept coefficients) where

@@ -10,7 +10,7 @@ use Rattle.calculus.specs.Model.{Model, most-terms, most-degree, fits}
 use Rattle.model_keys.specs.Keys.{wide-width}
 use Rattle.product_hash_slots.specs.Slots.{Told, home-slots}
 use Rattle.product_sums.specs.TermArrays.{terms, scratch-places}
-use Rattle.product_hash_table.specs.Table.{entries, most-entries, Table}
+use Rattle.product_hash_table.specs.Table.{entries, most-entries, slots-each, Table}
 use Rattle.product_sums.specs.Wide.{wide-terms}
 use Rattle.product_sums.specs.ProductSums.{accumulated-all}
 
@@ -76,12 +76,12 @@ pub record Held-factors (ka : List ℕ) (ca : List ℤ) (na : ℕ) (kb : List �
   pub second-coefficients : nb ≤ length cb
   pub small : size (first .terms) * size (second .terms) < 2 ^ 63
 
--- an empty table with room for so many products or more: for each, four home slots and two below its entry
+-- an empty table with room for so many products or more
 pub record Empty-table (products room : ℕ) (slots keys : List ℕ) (sums : List ℤ) : Type 0 where
   pub enough : products ≤ room
   pub few : room ≤ most-entries
   pub empty : (s : ℕ) → getD slots s 0 ≡ 0
-  pub slots-room : 6 * room < length slots
+  pub slots-room : slots-each * room < length slots
   pub keys-room : room < length keys
   pub sums-room : room < length sums
 

@@ -21,6 +21,14 @@ entries n keys sums = terms n (drop 1 keys) (drop 1 sums)
 abbrev pub most-entries : ℕ
 most-entries = 4096
 
+-- how many slots a search can begin at, for each entry that there can be
+abbrev pub homes-each : ℕ
+homes-each = 4
+
+-- how many slots there are for each: two more, where a search that passes its entry goes on
+abbrev pub slots-each : ℕ
+slots-each = homes-each + 2
+
 -- the search for a key comes to entry i, past full slots only
 pub record Reached (homes : ℕ) (slots : List ℕ) (key i : ℕ) : Type 0 where
   pub steps : ℕ

@@ -4,6 +4,7 @@ use Prim.Native.Nat.{ℕ, _*_, _<_}
 use lib.IntN.{ℤ}
 use lib.ListN.{length}
 use Rattle.calculus.specs.Model.{most-terms}
+use Rattle.product_hash_table.specs.Table.{slots-each}
 
 -- for how many products the largest of the smaller tables has room
 abbrev pub half-products : ℕ
@@ -23,7 +24,7 @@ few-places = 2401
 
 -- the scratch memory for so many products: a table, whatever is in it
 pub record Scratch-room (products : ℕ) (slots keys : List ℕ) (sums : List ℤ) : Type 0 where
-  pub slots-room : 6 * products < length slots
+  pub slots-room : slots-each * products < length slots
   pub keys-room : products < length keys
   pub sums-room : products < length sums
 

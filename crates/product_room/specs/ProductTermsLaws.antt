@@ -2,15 +2,15 @@
 use mathlib.Core.Path.{_≡_, sym, subst, ap}
 use Prim.Native.Nat.{ℕ, _+_, _*_, _≤_, _<_}
 use mathlib.Core.List.{List, []}
-use native.Mathlib.Decide.{decLt}
 use native.Mathlib.Nat as NatL
 use native.Mathlib.Omega.{arith}
 use lib.IntN.{ℤ, pos}
-use lib.ListN.{length, getD, replicate, length-replicate, getD-replicate, List·getD-eq-default}
+use lib.ListN.{length, getD, replicate, length-replicate}
 use Rattle.calculus.specs.Terms.{Terms, size}
 use Rattle.calculus.specs.Model.{most-terms, most-degree}
-use Rattle.product_hash_table.specs.Table.{entries, most-entries}
+use Rattle.product_hash_table.specs.Table.{entries, most-entries, slots-each}
 use Rattle.product_sums.specs.TermArrays.{terms, scratch-places}
+use Rattle.product_sums.specs.TermArrayLaws.{filled-at}
 use Rattle.product_sums.specs.declared.Gathered.{Gathered}
 use Rattle.product_sums.specs.Kept.{Gathering}
 use Rattle.product_sums.specs.ProductSums.{accumulated-all}
@@ -37,19 +37,13 @@ pub collected-gathering : {homes most n d : ℕ} {q : Terms} {slots keys : List 
 collected-gathering c g = rw (c .sum) at g
 
 -- ---- a table of zeros
-zeros : (n s : ℕ) → getD {A = ℕ} (replicate n 0) s 0 ≡ 0
-zeros n s = elim (decLt s n) [
-  | yes h ↦ getD-replicate n s 0 0 h
-  | no h ↦ List·getD-eq-default (replicate n 0) 0 {n = s} (rw length-replicate (omega arith))
-]
-
 pub zeros-empty : (products room : ℕ) → products ≤ room → room ≤ most-entries
-    → Empty-table products room (replicate (6 * room + 1) 0) (replicate (room + 1) 0)
+    → Empty-table products room (replicate (slots-each * room + 1) 0) (replicate (room + 1) 0)
     (replicate (room + 1) (pos 0))
 zeros-empty products room e l = record {
   enough = e;
   few = l;
-  empty = zeros (6 * room + 1);
+  empty = filled-at 0 (slots-each * room + 1);
   slots-room = rw length-replicate (omega arith);
   keys-room = rw length-replicate (omega arith);
   sums-room = rw length-replicate (omega arith);

@@ -4,6 +4,7 @@ use Prim.Native.Nat.{ℕ, _+_, _*_}
 use native.Mathlib.Omega.{arith}
 use borrow.Author.Needs.{needs}
 use lib.ListN.{length, take, length-take}
+use Rattle.product_hash_table.specs.Table.{slots-each}
 use Rattle.product_room.specs.ProductTermsLaws.{products-few}
 use Rattle.product_in_table.proofs.in_scratch_table.Statement.{statement}
 use Rattle.product_in_table.proofs.in_scratch_table.Tie as tie
@@ -14,7 +15,7 @@ use Rattle.product_in_table.proofs.in_table.Reads as in-table-reads
 
 -- how many slots are used
 abbrev used : tie.Start → ℕ
-used s = 6 * (s .args .na * s .args .nb) + 1
+used s = slots-each * (s .args .na * s .args .nb) + 1
 
 -- the part is within the scratch memory
 part-long : (s : tie.Start) → length (take (used s) (s .args .slots .now)) ≡ used s
