@@ -9,7 +9,7 @@ use Rattle.algebra.specs.IntegerRing.{ℤR}
 use Rattle.polynomial.specs.Polynomial.{product}
 use Rattle.calculus.specs.Terms.{Terms, size}
 use Rattle.product_sums.specs.TermArrays.{terms, scratch-places}
-use Rattle.product_sums.specs.TermArrayLaws.{filled-at}
+use Rattle.calculus_laws.specs.FilledLaws.{filled-at}
 use Rattle.product_sums.specs.declared.Gathered.{Gathered}
 use Rattle.product_sums.specs.ProductSums.{Product-gathered}
 use Rattle.product_sums.specs.ProductsLaws.{size-product}

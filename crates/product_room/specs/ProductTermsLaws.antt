@@ -10,7 +10,7 @@ use Rattle.calculus.specs.Terms.{Terms, size}
 use Rattle.calculus.specs.Model.{most-terms, most-degree}
 use Rattle.product_hash_table.specs.Table.{entries, most-entries, slots-each}
 use Rattle.product_sums.specs.TermArrays.{terms, scratch-places}
-use Rattle.product_sums.specs.TermArrayLaws.{filled-at}
+use Rattle.calculus_laws.specs.FilledLaws.{filled-at}
 use Rattle.product_sums.specs.declared.Gathered.{Gathered}
 use Rattle.product_sums.specs.Kept.{Gathering}
 use Rattle.product_sums.specs.ProductSums.{accumulated-all}

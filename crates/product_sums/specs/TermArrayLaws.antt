@@ -4,16 +4,10 @@ use mathlib.Core.List.{List, [], _∷_, _++_}
 use Prim.Native.Nat.{ℕ, zero, suc, _<_, _≤_}
 use native.Mathlib.Omega.{arith}
 use lib.IntN.{ℤ, pos}
-use lib.ListN.{length, getD, drop, set, replicate, drop-of-length-le}
+use lib.ListN.{length, getD, drop, set, drop-of-length-le}
 use lib.Seq.{drop-cons}
 use Rattle.calculus.specs.Terms.{Terms}
 use Rattle.product_sums.specs.TermArrays.{at-key, none, terms}
-
--- what stands everywhere in an array that is filled with it, and past its end by default
-pub filled-at : {A : Type 0} (z : A) (n i : ℕ) → getD (replicate n z) i z ≡ z
-filled-at z zero i = refl
-filled-at z (suc n) zero = refl
-filled-at z (suc n) (suc i) = filled-at z n i
 
 pub terms-length : (n : ℕ) (keys : List ℕ) (sums : List ℤ) → n ≤ length keys → n ≤ length sums
     → length (terms n keys sums) ≡ n
