@@ -71,8 +71,7 @@ fn rise(key: Key, coefficient: i64) -> u64
     fixed::magnitude(coefficient)
 }
 
-// ---- the range
-// Of a model in slices.
+// The range of a model in slices.
 pub fn range_slices(count: usize, radius: u64, keys: &[Key], coefficients: &[i64]) -> Bounds
     requires { ⌜ Lies count radius (now keys) (now coefficients) ⌝ }
     ensures { λ r. ⌜ ((w : Lies count radius (now (keys .entry)) (now (coefficients .entry)))
@@ -110,7 +109,7 @@ fn range_arrays<'a>(count: usize, radius: u64, keys: &'a [Key], coefficients: &'
     range_slices(count, radius, keys, coefficients)
 }
 
-// Of a struct.
+// The range.
 pub fn range_of(m: Model) -> Bounds
     requires { ⌜ T (sound most-degree (view m)) ⌝ }
     ensures { λ r. ⌜ r ≡ bounds (done (range (view m))) ⌝ }
@@ -118,33 +117,12 @@ pub fn range_of(m: Model) -> Bounds
     range_arrays(m.count, m.radius, &m.keys, &m.coefficients)
 }
 
-// ---- whether the range lies from -U to U
-// Of a model in slices.
-pub fn in_box_slices(count: usize, radius: u64, keys: &[Key], coefficients: &[i64]) -> bool
-    requires { ⌜ Lies count radius (now keys) (now coefficients) ⌝ }
-    ensures { λ r. ⌜ ((w : Lies count radius (now (keys .entry)) (now (coefficients .entry)))
-        → r ≡ range-in-box
-        (view (held (w .vars) count radius (now (keys .entry)) (now (coefficients .entry))))) ⌝ }
-{
-    let ends = range_slices(count, radius, keys, coefficients);
-    let unit = fixed::unit();
-    fixed::negated(unit) <= ends.low && ends.high <= unit
-}
-
-// The same for two slices of one lifetime.
-fn in_box_arrays<'a>(count: usize, radius: u64, keys: &'a [Key], coefficients: &'a [i64]) -> bool
-    requires { ⌜ Lies count radius (now keys) (now coefficients) ⌝ }
-    ensures { λ r. ⌜ ((w : Lies count radius (now (keys .entry)) (now (coefficients .entry)))
-        → r ≡ range-in-box
-        (view (held (w .vars) count radius (now (keys .entry)) (now (coefficients .entry))))) ⌝ }
-{
-    in_box_slices(count, radius, keys, coefficients)
-}
-
-// Of a struct.
+// Whether the range lies from -U to U.
 pub fn in_box(m: Model) -> bool
     requires { ⌜ T (sound most-degree (view m)) ⌝ }
     ensures { λ r. ⌜ r ≡ range-in-box (view m) ⌝ }
 {
-    in_box_arrays(m.count, m.radius, &m.keys, &m.coefficients)
+    let ends = range_of(m);
+    let unit = fixed::unit();
+    fixed::negated(unit) <= ends.low && ends.high <= unit
 }
