@@ -11,6 +11,7 @@ ghost use Rattle.model_slices.specs.HeldModels.{Room};
 ghost use Rattle.model_evaluation.specs.Evaluate.{Evaluation, «Iteration-of», «Iterated-in», «Put-of», «Put-in»};
 use model_horner::Passed;
 use model_limits::Left;
+use model_powers::Powers;
 use model_types::Bounds;
 use model_types::Key;
 use model_types::Model;
@@ -86,12 +87,13 @@ fn put_constant<'a>(
     ensures { λ r. ⌜ Put-in i x count radius (now (keys .entry)) (now (coefficients .entry)) r
         (now (stored .exit)) (now (out .exit)) ⌝ }
 {
-    let mut k = model_powers::largest_exponent(i, count, keys);
-    let mut c = model_powers::part(i, k, count, keys, coefficients, stored, out);
+    let p: Powers = model_powers::by_powers(i, count, keys);
+    let mut k = p.largest;
+    let mut c = model_powers::part(i, k, p, count, keys, coefficients, stored, out);
     let mut e = 0;
     while 0 < k {
         k -= 1;
-        let d = model_powers::part(i, k, count, keys, coefficients, others, added);
+        let d = model_powers::part(i, k, p, count, keys, coefficients, others, added);
         let iteration = put_iteration(x, c, e, stored, out, d, others, added, spare, products);
         let v = iteration.verdict;
         let Verdict::Accepted = v else {

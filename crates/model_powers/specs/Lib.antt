@@ -1,3 +1,4 @@
 pub mod Powers
 pub mod PowersLaws
 pub mod PowerPassLaws
+pub mod PowerChainLaws

@@ -1,11 +1,10 @@
 -- The passes over a model that lies in slices: each iteration is that of the pass over its struct.
 use mathlib.Core.Path.{_≡_, sym, _∙_, ap, subst}
 use mathlib.Core.List.{List}
-use Prim.Native.Nat.{ℕ, _+_, _≤_, _<_, max}
-use lib.Dec.{T}
+use Prim.Native.Nat.{ℕ, _+_, _-_, _≤_, _<_, max}
 use lib.IntN.{ℤ, pos}
 use lib.ListN.{length, getD, set}
-use Rattle.calculus.specs.Model.{most-degree, most-terms, sound}
+use Rattle.calculus.specs.Model.{most-degree, most-terms}
 use Rattle.calculus.specs.Operations.{largest-exponent, part}
 use Rattle.model_keys.specs.Keys.{key-exponent, key-without, Slot}
 use Rattle.model_types.specs.declared.Term.{Term}
@@ -14,8 +13,8 @@ use Rattle.model_types.specs.ModelStruct.{zero-term, view, pad, pack, listed}
 use Rattle.model_types.specs.ModelStructLaws.{limits}
 use Rattle.model_slices.specs.HandedModels.{terms-of}
 use Rattle.model_slices.specs.HeldModels.{held, Room}
-use Rattle.model_slices.specs.HeldModelsLaws.{pair, held-whole, held-at, stored-more, own-view}
-use Rattle.model_powers.specs.Powers.{In-variable, Keys-of, Part-of}
+use Rattle.model_slices.specs.HeldModelsLaws.{pair, held-whole, held-at, stored-more}
+use Rattle.model_powers.specs.Powers.{Keys-of, Part-of}
 use Rattle.model_powers.specs.PowersLaws as P
 
 -- ---- the largest exponent
@@ -33,18 +32,18 @@ module _ {i count : ℕ} {ks : List ℕ} (w : Keys-of i count ks) where
   pub keys-slot : Slot i
   keys-slot = P.slot (w .variable)
 
-  pub largest-first : P.Largest i keyed 0 0
+  pub largest-first : P.Largest i keyed 0 count
   unfolding held
   largest-first = P.largest-first (w .variable) keys-whole
 
-  pub largest-iteration : {largest j more : ℕ} → P.Largest i keyed largest j → j < count
-      → more ≡ max largest (key-exponent i (getD ks j 0)) → P.Largest i keyed more (j + 1)
+  pub largest-iteration : {largest j more : ℕ} → P.Largest i keyed largest j → 0 < j → j - 1 < count
+      → more ≡ max largest (key-exponent i (getD ks (j - 1) 0)) → P.Largest i keyed more (j - 1)
   unfolding held
-  largest-iteration {largest = largest} {j = j} l h e = P.largest-iteration (w .variable) keys-whole l h
+  largest-iteration {largest = largest} {j = j} l z h e = P.largest-iteration (w .variable) keys-whole l z h
       (e ∙ ap (λ (t : Term). max largest (key-exponent i (t .key)))
-      (sym (held-at (w .vars) count (w .radius) ks (w .coefficients) (w .room) keys-few j h)))
+      (sym (held-at (w .vars) count (w .radius) ks (w .coefficients) (w .room) keys-few (j - 1) h)))
 
-  pub largest-end : {largest j : ℕ} → P.Largest i keyed largest j → count ≤ j
+  pub largest-end : {largest j : ℕ} → P.Largest i keyed largest j → j ≤ 0
       → largest ≡ largest-exponent i (view keyed .terms)
   unfolding held
   largest-end l h = P.largest-end (w .variable) keys-whole l h
@@ -96,28 +95,3 @@ module _ {i total : ℕ} {ks : List ℕ} {cs : List ℤ} (w : Part-of i total ks
     pub part-end : total ≤ j → held (w .vars) count 0 ks₂ cs₂ ≡ pack (part i k (view parted))
     unfolding held
     part-end h = P.taken-end (w .variable) part-whole l h
-
--- ---- a struct lends its arrays
-module _ {i : ℕ} {f : Model} (s : In-variable i f) (room : Room (f .keys) (f .coefficients)) where
-  -- they hold the model that it holds
-  pub borrowed-view : view (held (f .n) (f .count) (f .radius) (f .keys) (f .coefficients)) ≡ view f
-  borrowed-view = own-view f room (limits most-degree f (s .model) .few)
-
-  pub borrowed-variable : In-variable i (held (f .n) (f .count) (f .radius) (f .keys) (f .coefficients))
-  borrowed-variable = record {
-    model = subst (λ m. T (sound most-degree m)) (sym borrowed-view) (s .model);
-    first = s .first;
-    last = unfold held in s .last;
-  }
-
-  abbrev pub borrowed-keys : Keys-of i (f .count) (f .keys)
-  borrowed-keys = record {
-    vars = f .n;
-    radius = f .radius;
-    coefficients = f .coefficients;
-    room = room;
-    variable = borrowed-variable;
-  }
-
-  abbrev pub borrowed-part : Part-of i (f .count) (f .keys) (f .coefficients)
-  borrowed-part = record { vars = f .n; radius = f .radius; room = room; variable = borrowed-variable }

@@ -3,7 +3,7 @@
 use mathlib.Core.Path.{_≡_, refl, sym, _∙_, ap, ap₂, subst}
 use mathlib.Core.Bool.{Bool}
 use mathlib.Core.List.{List, [], _∷_, _++_, map, map-append}
-use Prim.Native.Nat.{ℕ, _+_, _≤_, _<_, max}
+use Prim.Native.Nat.{ℕ, _+_, _-_, _≤_, _<_, max}
 use native.Mathlib.Omega.{arith}
 use lib.Dec.{T, not-T, eqb, eqb→eq, eqb-refl}
 use lib.IntN.{ℤ, natAbs}
@@ -91,10 +91,10 @@ module _ (i : ℕ) (f : Model) where
   abbrev parted : ℕ → ℕ → Terms
   parted k j = part-terms i k (before j)
 
-  -- what is found after j terms: their largest exponent
+  -- what is found of the terms from j on: their largest exponent
   pub record Largest (largest j : ℕ) : Type 0 where
     pub within : j ≤ f .count
-    pub found : largest ≡ largest-exponent i (before j)
+    pub found : largest-exponent i (view f .terms) ≡ max (largest-exponent i (before j)) largest
 
   -- what is stored after j terms
   pub record Taken (k : ℕ) (out : List Term) (count j : ℕ) : Type 0 where
@@ -128,23 +128,35 @@ module _ {i : ℕ} {f : Model} (s : In-variable i f) (w : f .count ≤ length (l
         (a ∙ sym (monomial-without (f .n) i key-at width (s .first) (s .last) fits-at)) b
 
   -- ---- the largest exponent
-  pub largest-first : Largest i f 0 0
-  unfolding largest-exponent
-  largest-first = record { within = omega arith; found = refl }
+  pub largest-first : Largest i f 0 (f .count)
+  largest-first = record {
+    within = omega arith;
+    found = omega (arith, ap (largest-exponent i) (view-terms f w));
+  }
 
   module _ {largest j : ℕ} (l : Largest i f largest j) where
-    pub largest-iteration : (h : j < f .count) {more : ℕ} → more ≡ max largest (key-exponent i (key-at j h))
-        → Largest i f more (j + 1)
-    largest-iteration h e = record {
+    pub largest-iteration : 0 < j → (h : j - 1 < f .count) {more : ℕ}
+        → more ≡ max largest (key-exponent i (key-at (j - 1) h)) → Largest i f more (j - 1)
+    largest-iteration z h e = record {
       within = omega arith;
-      found = e ∙ ap₂ max (l .found) (sym (exponent-at j h)) ∙ sym (largest-snoc i (before i f j) (next i f j))
-          ∙ ap (largest-exponent i) (sym (read-more (f .n) j (listed f) (omega arith)));
+      found = omega (arith, l .found, last-one, exponent-at (j - 1) h, e);
     }
+      where
+        again : j ≡ j - 1 + 1
+        again = omega (arith, z)
 
-    pub largest-end : f .count ≤ j → largest ≡ largest-exponent i (view f .terms)
+        last-one : largest-exponent i (before i f j)
+            ≡ max (largest-exponent i (before i f (j - 1))) (exponent (index-of i) (next i f (j - 1) .exponents))
+        last-one = ap (λ j. largest-exponent i (before i f j)) again
+            ∙ ap (largest-exponent i) (read-more (f .n) (j - 1) (listed f) (omega (arith, h, w)))
+            ∙ largest-snoc i (before i f (j - 1)) (next i f (j - 1))
+
+    pub largest-end : j ≤ 0 → largest ≡ largest-exponent i (view f .terms)
+    unfolding largest-exponent
     largest-end h =
-        let e : j ≡ f .count = omega (arith, l .within) in
-        l .found ∙ ap (λ c. largest-exponent i (before i f c)) e ∙ ap (largest-exponent i) (sym (view-terms f w))
+        let e : j ≡ 0 = omega (arith, h) in
+        let none : largest-exponent i (before i f j) ≡ 0 = ap (λ j. largest-exponent i (before i f j)) e in
+        omega (arith, l .found, none)
 
   -- ---- the terms of one power
   module _ {k : ℕ} where

@@ -16,6 +16,7 @@ ghost use Rattle.model_slices.specs.HeldModels.{«model-places», held, Room};
 ghost use Rattle.product_answer.specs.KeptProduct.{«model-unless»};
 ghost use Rattle.model_horner_iteration.specs.HornerIteration.{«Kept-in»};
 ghost use Rattle.model_substitution.specs.Substitute.{Substitution, «Substitution-of»};
+use model_powers::Powers;
 use model_slices::Kept;
 use model_types::Accounted;
 use model_types::Answer;
@@ -80,13 +81,14 @@ fn put_in<'a>(
         (view (held n count radius (now (keys .entry)) (now (coefficients .entry))))
         (view (held n count2 radius2 (now (keys2 .entry)) (now (coefficients2 .entry)))))) ⌝ }
 {
-    let mut k = model_powers::largest_exponent(i, count, keys);
-    let mut c = model_powers::part(i, k, count, keys, coefficients, remaining, rest);
+    let p: Powers = model_powers::by_powers(i, count, keys);
+    let mut k = p.largest;
+    let mut c = model_powers::part(i, k, p, count, keys, coefficients, remaining, rest);
     let mut e = 0;
     let mut last = Shares::ZERO;
     while 0 < k {
         k -= 1;
-        let t = model_powers::part(i, k, count, keys, coefficients, others, added);
+        let t = model_powers::part(i, k, p, count, keys, coefficients, others, added);
         let r = model_horner_iteration::iterated(
             d,
             n,

@@ -11,6 +11,7 @@ use mir.Val.{toZ, ofZ}
 use Rattle.calculus.specs.Operations.{part}
 use Rattle.model_types.specs.ModelStruct.{view, pack}
 use Rattle.model_slices.specs.HeldModels.{held, Room}
+use Rattle.model_powers.specs.Powers.{exponents}
 use Rattle.model_evaluation.specs.Evaluate.{Put-of, Put-in}
 use Rattle.model_evaluation.specs.PutCoordinateLaws as P
 use Rattle.model_evaluation.specs.SliceIterationLaws.{put-keys, put-part, put-first, put-few, put-iterating}
@@ -20,15 +21,16 @@ use Rattle.model_evaluation.proofs.put_constant.Statement.{statement}
 use Rattle.model_evaluation.proofs.put_constant.Tie as tie
 
 abbrev Inv-loop : tie.InvT-loop
-Inv-loop i x count radius keys coefficients stored₀ out₀ others₀ added₀ spare₀ products₀ k₀ c₀ e₀ stored out others
+Inv-loop i x count radius keys coefficients stored₀ out₀ others₀ added₀ spare₀ products₀ p k₀ c₀ e₀ stored out others
     added spare products k c e =
     Room stored out × Room others added × Room spare products
     × ((w : Put-of i (toZ w64 x) count radius keys coefficients)
     → P.Left i (toZ w64 x) (held (w .vars) count radius keys coefficients) k (held (w .vars) c e stored out))
+    × (k < exponents)
 
 abbrev μ-loop : tie.MeasureT-loop
-μ-loop i x count radius keys coefficients stored₀ out₀ others₀ added₀ spare₀ products₀ k₀ c₀ e₀ stored out others added
-    spare products k c e = k
+μ-loop i x count radius keys coefficients stored₀ out₀ others₀ added₀ spare₀ products₀ p k₀ c₀ e₀ stored out others
+    added spare products k c e = k
 
 module _ (s : tie.Start Inv-loop μ-loop) where
   -- the coordinate, as a loop holds it
@@ -46,27 +48,29 @@ module _ (s : tie.Start Inv-loop μ-loop) where
   given = subst (λ z. Put-of (s .args .i) z (s .args .count) (s .args .radius) (s .args .keys .now)
       (s .args .coefficients .now)) (sym back) (s .pre .0)
 
-largest-exponent-requires : tie.Need-largest-exponent-requires Inv-loop μ-loop
-largest-exponent-requires c κs = put-keys (given (c .before .before .before .before))
+by-powers-requires : tie.Need-by-powers-requires Inv-loop μ-loop
+by-powers-requires c κs = put-keys (given (c .before .before .before .before))
 
 part-requires : tie.Need-part-requires Inv-loop μ-loop
 part-requires c κs =
-    let s = c .before .before .before .before .before .before .before in
-    (put-part (given s), s .pre .1 .0)
+    let b = c .before .before in
+    let s = b .before .before .before .before .before in
+    let q = b .by-powers .ensures .0 in
+    (put-part (given s), ((q .low, q), s .pre .1 .0))
 
 -- ---- before the first iteration
 module _ (c : tie.After-part Inv-loop μ-loop) where
-  abbrev found : tie.After-largest-exponent Inv-loop μ-loop
+  abbrev found : tie.After-by-powers Inv-loop μ-loop
   found = c .before .before .before
 
   abbrev begin : tie.Start Inv-loop μ-loop
   begin = found .before .before .before .before .before
 
   abbrev first-keys : List ℕ
-  first-keys = c .part .last .1 .1 .1 .1 .1 .0
+  first-keys = c .part .last .1 .1 .1 .1 .1 .1 .0
 
   abbrev firsts : List ℤ
-  firsts = c .part .last .1 .1 .1 .1 .1 .1 .0
+  firsts = c .part .last .1 .1 .1 .1 .1 .1 .1 .0
 
   first-room : Room first-keys firsts
   first-room = record {
@@ -81,12 +85,16 @@ loop-holds c =
       first-room p,
       s .pre .1 .1 .0,
       s .pre .1 .1 .1,
-      λ w. put-first w (found p .largest-exponent .ensures (put-keys w)) _ _ _ (p .part .ensures .0 (put-part w)),
+      λ w. put-first w (found p .by-powers .ensures .1 (put-keys w)) _ _ _ (p .part .ensures (put-part w)),
+      found p .by-powers .ensures .0 .low,
     )
 
 -- ---- an iteration
+abbrev entry : tie.At-loop Inv-loop μ-loop → tie.After-part Inv-loop μ-loop
+entry l = l .before .before .before .before
+
 abbrev start : tie.At-loop Inv-loop μ-loop → tie.Start Inv-loop μ-loop
-start l = begin (l .before .before .before .before)
+start l = begin (entry l)
 
 sub-k : tie.Need-sub-k Inv-loop μ-loop
 sub-k c = omega arith
@@ -94,7 +102,8 @@ sub-k c = omega arith
 part-requires-2 : tie.Need-part-requires-2 Inv-loop μ-loop
 part-requires-2 c κs =
     let l = c .before .before .before in
-    (put-part (given (start l)), l .loop .inv .1)
+    let q = found (entry l) .by-powers .ensures .0 in
+    (put-part (given (start l)), ((omega (arith, l .loop .inv .4), q), l .loop .inv .1))
 
 -- the terms of the next power
 module _ (c : tie.After-part2 Inv-loop μ-loop) where
@@ -105,10 +114,10 @@ module _ (c : tie.After-part2 Inv-loop μ-loop) where
   loop = iteration .before
 
   abbrev next-keys : List ℕ
-  next-keys = c .part2 .last .1 .1 .1 .1 .1 .0
+  next-keys = c .part2 .last .1 .1 .1 .1 .1 .1 .0
 
   abbrev nexts : List ℤ
-  nexts = c .part2 .last .1 .1 .1 .1 .1 .1 .0
+  nexts = c .part2 .last .1 .1 .1 .1 .1 .1 .1 .0
 
   next-room : Room next-keys nexts
   next-room = record {
@@ -123,7 +132,7 @@ module _ (c : tie.After-part2 Inv-loop μ-loop) where
     next-is : held (w .vars) (c .part2 .result) 0 next-keys nexts
         ≡ pack (part (start loop .args .i) (loop .loop .k - 1) (view (held (w .vars) (start loop .args .count)
         (start loop .args .radius) (start loop .args .keys .now) (start loop .args .coefficients .now))))
-    next-is = c .part2 .ensures .0 (put-part w)
+    next-is = c .part2 .ensures (put-part w)
 
 put-iteration-requires : tie.Need-put-iteration-requires Inv-loop μ-loop
 put-iteration-requires c κs =
@@ -229,6 +238,7 @@ loop-again c =
       λ w. put-goes-on w _ _ _ _ (l .loop .inv .3 w) _ _ _ (next-is p w) (some p) _ _
           (t .put-iteration .ensures (put-iterating w _ _ _ _ (l .loop .inv .3 w) _ _ _ (next-is p w) (l .loop .inv .0)
           (next-room p))) (c .enum-told .given .1),
+      omega (arith, l .loop .inv .4),
     )
 
 capped-sum-requires : tie.Need-capped-sum-requires Inv-loop μ-loop
@@ -293,7 +303,7 @@ put-constant-spec =
     (tie.spec
     Inv-loop
     μ-loop
-    largest-exponent-requires
+    by-powers-requires
     part-requires
     loop-holds
     sub-k

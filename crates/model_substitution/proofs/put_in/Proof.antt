@@ -11,6 +11,7 @@ use Rattle.calculus.specs.Model.{most-terms}
 use Rattle.calculus.specs.Operations.{part}
 use Rattle.model_types.specs.ModelStruct.{view, pack}
 use Rattle.model_slices.specs.HeldModels.{held, Room}
+use Rattle.model_powers.specs.Powers.{exponents}
 use Rattle.product_room.specs.ProductTerms.{Scratch-room}
 use Rattle.product_room.specs.ProductTermsLaws.{free-room}
 use Rattle.model_substitution.specs.HornerLaws.{Left, left-fits, radius-within}
@@ -22,35 +23,39 @@ use Rattle.model_substitution.proofs.put_in.Tie as tie
 
 abbrev Inv-loop : tie.InvT-loop
 Inv-loop d i n count radius keys coefficients count2 radius2 keys2 coefficients2 slots₀ table₀ sums₀ stored₀ out₀
-    others₀ added₀ spare₀ products₀ k₀ c₀ e₀ last₀ slots table sums stored out others added spare products k c e last =
+    others₀ added₀ spare₀ products₀ p k₀ c₀ e₀ last₀ slots table sums stored out others added spare products k c e
+    last =
     Room stored out × Room others added × Room spare products
     × (length slots ≡ length slots₀)
     × (length table ≡ length table₀)
     × (length sums ≡ length sums₀)
     × Left d i (held n count radius keys coefficients) (held n count2 radius2 keys2 coefficients2) k
     (held n c e stored out) last
+    × (k < exponents)
 
 abbrev μ-loop : tie.MeasureT-loop
 μ-loop d i n count radius keys coefficients count2 radius2 keys2 coefficients2 slots₀ table₀ sums₀ stored₀ out₀ others₀
-    added₀ spare₀ products₀ k₀ c₀ e₀ last₀ slots table sums stored out others added spare products k c e last = k
+    added₀ spare₀ products₀ p k₀ c₀ e₀ last₀ slots table sums stored out others added spare products k c e last = k
 
-largest-exponent-requires : tie.Need-largest-exponent-requires Inv-loop μ-loop
-largest-exponent-requires c κs = put-keys (c .before .before .before .before .before .before .before .pre .0)
+by-powers-requires : tie.Need-by-powers-requires Inv-loop μ-loop
+by-powers-requires c κs = put-keys (c .before .before .before .before .before .before .before .pre .0)
 
 part-requires : tie.Need-part-requires Inv-loop μ-loop
 part-requires c κs =
-    let s = c .before .before .before .before .before .before .before .before .before .before in
-    (put-part (s .pre .0), s .pre .1 .1 .0)
+    let b = c .before .before in
+    let s = b .before .before .before .before .before .before .before .before in
+    let q = b .by-powers .ensures .0 in
+    (put-part (s .pre .0), ((q .low, q), s .pre .1 .1 .0))
 
 -- ---- before the first iteration
 module _ (c : tie.After-part Inv-loop μ-loop) where
-  abbrev found : tie.After-largest-exponent Inv-loop μ-loop
+  abbrev found : tie.After-by-powers Inv-loop μ-loop
   found = c .before .before .before
 
   abbrev begin : tie.Start Inv-loop μ-loop
   begin = found .before .before .before .before .before .before .before .before
 
-  first-room : Room (c .part .last .1 .1 .1 .1 .1 .0) (c .part .last .1 .1 .1 .1 .1 .1 .0)
+  first-room : Room (c .part .last .1 .1 .1 .1 .1 .1 .0) (c .part .last .1 .1 .1 .1 .1 .1 .1 .0)
   first-room = record {
     keys = let a = begin .pre .1 .1 .0 .keys in search needs;
     coefficients = let a = begin .pre .1 .1 .0 .coefficients in search needs;
@@ -67,12 +72,16 @@ loop-holds c =
       refl,
       refl,
       refl,
-      put-first w (found p .largest-exponent .ensures (put-keys w)) _ _ _ (p .part .ensures .0 (put-part w)),
+      put-first w (found p .by-powers .ensures .1 (put-keys w)) _ _ _ (p .part .ensures (put-part w)),
+      found p .by-powers .ensures .0 .low,
     )
 
 -- ---- an iteration
+abbrev entry : tie.At-loop Inv-loop μ-loop → tie.After-part Inv-loop μ-loop
+entry l = l .before .before .before .before
+
 abbrev start : tie.At-loop Inv-loop μ-loop → tie.Start Inv-loop μ-loop
-start l = begin (l .before .before .before .before)
+start l = begin (entry l)
 
 sub-k : tie.Need-sub-k Inv-loop μ-loop
 sub-k c = omega arith
@@ -80,7 +89,8 @@ sub-k c = omega arith
 part-requires-2 : tie.Need-part-requires-2 Inv-loop μ-loop
 part-requires-2 c κs =
     let l = c .before .before .before in
-    (put-part (start l .pre .0), l .loop .inv .1)
+    let q = found (entry l) .by-powers .ensures .0 in
+    (put-part (start l .pre .0), ((omega (arith, l .loop .inv .7), q), l .loop .inv .1))
 
 -- the terms of the next power
 module _ (c : tie.After-part2 Inv-loop μ-loop) where
@@ -91,10 +101,10 @@ module _ (c : tie.After-part2 Inv-loop μ-loop) where
   loop = iteration .before
 
   abbrev next-keys : List ℕ
-  next-keys = c .part2 .last .1 .1 .1 .1 .1 .0
+  next-keys = c .part2 .last .1 .1 .1 .1 .1 .1 .0
 
   abbrev nexts : List ℤ
-  nexts = c .part2 .last .1 .1 .1 .1 .1 .1 .0
+  nexts = c .part2 .last .1 .1 .1 .1 .1 .1 .1 .0
 
   next-room : Room next-keys nexts
   next-room = record {
@@ -108,7 +118,7 @@ module _ (c : tie.After-part2 Inv-loop μ-loop) where
   next-is : held (start loop .args .n) (c .part2 .result) 0 next-keys nexts
       ≡ pack (part (start loop .args .i) (loop .loop .k - 1) (view (held (start loop .args .n) (start loop .args .count)
       (start loop .args .radius) (start loop .args .keys .now) (start loop .args .coefficients .now))))
-  next-is = c .part2 .ensures .0 (put-part (start loop .pre .0))
+  next-is = c .part2 .ensures (put-part (start loop .pre .0))
 
 iterated-requires : tie.Need-iterated-requires Inv-loop μ-loop
 iterated-requires c κs =
@@ -242,6 +252,7 @@ loop-again c =
       sums-long t,
       put-goes-on (start l .pre .0) _ _ _ _ (l .loop .inv .6) _ _ _ (next-is p) (some p) _ _ (t .iterated .ensures)
           (c .before .enum-told .given .1),
+      omega (arith, l .loop .inv .7),
     )
 
 -- ---- after the loop
@@ -329,7 +340,7 @@ put-in-spec =
     (tie.spec
     Inv-loop
     μ-loop
-    largest-exponent-requires
+    by-powers-requires
     part-requires
     loop-holds
     sub-k
