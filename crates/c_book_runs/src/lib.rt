@@ -1,28 +1,25 @@
 // Books in memory that are handed over, run; and runs of sheets and of books with where the radius of each step came
+// from.
 ghost use mathlib.Core.Path.{_≡_};
 ghost use mathlib.Core.Bool.{_&&_};
 ghost use lib.Dec.{leb};
 ghost use lib.ListN.{length};
-ghost use Rattle.format.specs.Format.{«run-sheet»};
+ghost use Prim.Native.Nat.{_^_, _<_, _≤_};
+ghost use Rattle.calculus.specs.Model.{«most-terms»};
+ghost use Rattle.format.specs.Format.{«run-sheet», «sheet-rows»};
 ghost use Rattle.sheet_book.specs.BookStruct.{«held-book»};
 ghost use Rattle.sheet_book.specs.SummaryStruct.{«run-answer»};
-ghost use Rattle.sheet.specs.Sheet.{«run-held»};
-ghost use Rattle.model_slices.specs.HandedModels.{«model-room», «run-ends»};
+ghost use Rattle.sheet_book.specs.ReportStruct.{report};
+ghost use Rattle.sheet.specs.Sheet.{«run-held», «rows-held»};
+ghost use Rattle.model_slices.specs.HandedModels.{«model-room», «answer-numbers», «run-ends»};
 ghost use Rattle.c_books.specs.HandedBooks.{«step-places», «handed-steps», «model-places», «handed-models»};
 ghost use Rattle.c_books.specs.HandedBooks.{«handed-book»};
 ghost use Rattle.c_writes.specs.WriteCalls.{«book-fits»};
 ghost use Rattle.c_runs.specs.SheetCalls.{«run-state», «called-run»};
-ghost use Prim.Native.Nat.{_^_, _<_, _≤_};
-ghost use Rattle.calculus.specs.Model.{«most-terms»};
-ghost use Rattle.format.specs.Format.{«sheet-rows»};
-ghost use Rattle.sheet_book.specs.ReportStruct.{report};
-ghost use Rattle.sheet.specs.Sheet.{«rows-held»};
-ghost use Rattle.model_slices.specs.HandedModels.{«answer-numbers»};
 ghost use Rattle.c_shares.specs.HandedShares.{«report-numbers», «report-room»};
 ghost use Rattle.c_book_runs.specs.ShareCalls.{«report-state», «stored-report», «called-report»};
 use model_types::Key;
 use sheet::Report;
-// from.
 
 // A book in memory is run: the refusal's number, 0 without one, or MISUSED. The result goes into the slices as a
 // sheet's does.
@@ -114,7 +111,7 @@ fn store_report(
     c_runs::store_summary(s, keys, coefficients, numbers, ends)
 }
 
-// A sheet is run as by hechroung_raw_run_sheet, and besides where the radius of each of 64 steps came from goes into
+// A sheet is run as by c_runs::run_sheet, and besides where the radius of each of 64 steps came from goes into
 // the fifth slice: row i from place 4 × i on as carried, rounding, swept and slack.
 pub fn shares_sheet(
     sheet: &[u8],
@@ -146,7 +143,7 @@ pub fn shares_sheet(
     store_report(r, keys, coefficients, numbers, ends, shares)
 }
 
-// A book in memory is run as by hechroung_raw_run_models, and the rows go into the last slice as a sheet's do.
+// A book in memory is run as by run_models, and the rows go into the last slice as a sheet's do.
 pub fn shares_models(
     n: u8,
     d: u8,

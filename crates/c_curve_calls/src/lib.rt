@@ -1,4 +1,5 @@
 // Calls on curves in Chebyshev polynomials that are handed over, and their conversion to and from powers: each tests
+// the slices, makes the call and stores its answer.
 ghost use mathlib.Core.Path.{_≡_};
 ghost use lib.ListN.{length};
 ghost use Rattle.chebyshev.specs.CurveCalls.{«call-range», «call-to-powers», «call-from-powers»};
@@ -10,7 +11,6 @@ ghost use Rattle.c_curves.specs.HandedCurves.{«curve-state», «called-curve»
 ghost use Rattle.c_curves.specs.HandedCurves.{«range-fits», «range-state», «called-range»};
 ghost use Rattle.c_curves.specs.HandedCurves.{«to-powers-fits», «from-powers-fits»};
 use model_types::Key;
-// the slices, makes the call and stores its answer.
 
 // A call that answers with a curve: the refusal's number, 0 without one, or MISUSED. Sixteen coefficients go into a
 // slice, the refusal's place and the radius into another one.

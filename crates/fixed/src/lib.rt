@@ -78,8 +78,8 @@ fn complement(z: i64) -> i64
     -1 - z
 }
 
-// The size of z. That of the least number fits too, since the answer has no sign: of -(n + 1) the number before it, n,
-// is taken first.
+// The size of z. That of the least number fits too, since the answer has no sign: -(n + 1) is first made n, as by
+// `complement`.
 pub fn magnitude(z: i64) -> u64
     ensures { λ r. ⌜ r ≡ natAbs z ⌝ }
 {

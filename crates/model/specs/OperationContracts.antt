@@ -9,7 +9,6 @@ pub use Rattle.model_proposal.specs.Proposal.{Proposal}
 unfoldable pub use Rattle.model_proposal.specs.Proposal.{quotient-products}
 -- the products that the full table has room for
 pub use Rattle.product_hash_table.specs.Table.{most-entries}
-pub use Rattle.product_hash_collect.specs.CollectorContracts.{Scratch-table}
 pub use Rattle.product_calls.specs.SliceContracts.{Scratch-room, Kept-room, Kept-ready}
 -- the answer of a product in arrays is one that callers look into
 unfoldable pub use Rattle.product_calls.specs.SliceContracts.{kept-model, kept-accounted}

@@ -8,7 +8,6 @@ pub use Rattle.model_integral.specs.IntegralPartsLaws.{ends-within, exact-withi
 pub use Rattle.model_call_tests.specs.CallStructLaws.{vars-view}
 pub use Rattle.product_calls.specs.SliceContracts.{scratch-room, fewer-room, free-room}
 pub use Rattle.model_multiplication.specs.FactorRoomLaws.{factors-room}
-pub use Rattle.model_substitution.specs.SubstitutionRoomLaws.{substitution-room}
 pub use Rattle.model_proposal.specs.SliceFormLaws.{products-most}
 pub use Rattle.model_quotient.specs.LentLaws.{copied-proposal, bare-proposal, bare-quotient}
 pub use Rattle.product_calls.specs.KeptModelLaws.{kept-vars, kept-counted, kept-radius, refused-vars, refused-count}

@@ -1,4 +1,4 @@
--- The same loop over a model that lies in slices: each iteration is that of the loop over its struct.
+-- The loop over a model that lies in slices, by the laws over the struct that holds it.
 use mathlib.Core.Path.{_≡_, sym, _∙_, ap, ap₂}
 use mathlib.Core.List.{List}
 use Prim.Native.Nat.{ℕ, _+_, _^_, _≤_, _<_}

@@ -22,8 +22,8 @@ fn quotient_fits(g: usize, h: usize, w: usize, room: usize) -> bool
     others <= room
 }
 
-// Whether a table for so many products serves a step. A substitution multiplies the result that b names by models of as
-// many terms as any has.
+// Whether a table for so many products serves a step. A substitution multiplies the result that b names by models of up
+// to 64 terms.
 pub fn fits(s: Step, room: usize, counts: &[usize]) -> bool
     requires { ⌜ Counted (held-step s) (now counts) ⌝ }
     ensures { λ r. ⌜ (r ≡ true → Fit (held-step s) room (now (counts .entry))) × (most-entries ≤ room → r ≡ true) ⌝ }

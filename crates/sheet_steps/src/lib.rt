@@ -81,7 +81,7 @@ fn direct_answer(n: u8, s: Step, f: Model, g: Model) -> Answer
 
 // What a step gives that names no model and at most two results, a product apart, with the results that a and b name,
 // and where its radius came from. A result that the code does not name may be any sound one. A substitution uses the
-// scratch table, in each product of which g is multiplied by a model of no more terms than any has.
+// scratch table: each of its products is g by a model of at most 64 terms.
 pub fn step_answer(
     n: u8,
     d: u8,

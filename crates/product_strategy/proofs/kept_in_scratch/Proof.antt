@@ -1,4 +1,4 @@
--- `kept_in_scratch` chooses between a grid and a table.
+-- `kept_in_scratch` chooses between one pass, a grid and a table.
 use native.Mathlib.Omega.{arith}
 use borrow.Author.Needs.{needs}
 use Rattle.product_room.specs.ProductTermsLaws.{first-one, second-one, none-kept, products-few, grid-ready}

@@ -1,4 +1,4 @@
--- `kept_alone` chooses between a grid and a table, each large enough.
+-- `kept_alone` chooses between one pass, a grid and a table, each large enough.
 use native.Mathlib.Omega.{arith}
 use borrow.Author.Needs.{needs}
 use Rattle.product_room.specs.ProductTermsLaws.{first-one, second-one, none-kept, products-few}
