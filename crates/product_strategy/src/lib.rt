@@ -73,25 +73,11 @@ pub fn kept_in_scratch(
         return product_rising::one_times(d, kb, cb, ka, ca, na, kept, coefficients);
     }
     let products = na * nb;
-    if products <= GRID_FROM {
-        return product_in_table::in_scratch_table(
-            d,
-            ka,
-            ca,
-            na,
-            kb,
-            cb,
-            nb,
-            slots,
-            keys,
-            sums,
-            kept,
-            coefficients,
-        );
-    }
-    let s: Sides = grid_for(ka, ca, na, kb, cb, nb);
-    if in_grid(s.size, products, sums.len()) {
-        return product_grid::gathered(s, d, ka, ca, na, kb, cb, nb, sums, kept, coefficients);
+    if GRID_FROM < products {
+        let s: Sides = grid_for(ka, ca, na, kb, cb, nb);
+        if in_grid(s.size, products, sums.len()) {
+            return product_grid::gathered(s, d, ka, ca, na, kb, cb, nb, sums, kept, coefficients);
+        }
     }
     product_in_table::in_scratch_table(
         d,

@@ -53,28 +53,6 @@ returns-2 c =
 mul-products : tie.Need-mul-products
 mul-products c = search needs
 
-in-scratch-table-requires : tie.Need-in-scratch-table-requires
-in-scratch-table-requires c κs = search needs
-
-same-length-5 : tie.Need-same-length-5
-same-length-5 c = search needs
-
-same-length-6 : tie.Need-same-length-6
-same-length-6 c = search needs
-
-same-length-7 : tie.Need-same-length-7
-same-length-7 c = search needs
-
-same-length-8 : tie.Need-same-length-8
-same-length-8 c = search needs
-
-same-length-9 : tie.Need-same-length-9
-same-length-9 c = search needs
-
-returns-3 : tie.Need-returns-3
-returns-3 c =
-    c .before .before .before .before .before .before .before .before .in-scratch-table .ensures
-
 grid-for-requires : tie.Need-grid-for-requires
 grid-for-requires c κs = search needs
 
@@ -91,6 +69,27 @@ gathered-requires c κs =
     grid-ready (s .pre .0) _ (k .grid-for .ensures) (omega (arith, fits .1)) (omega (arith, fits .0))
     (s .pre .1 .1)
 
+same-length-5 : tie.Need-same-length-5
+same-length-5 c = search needs
+
+same-length-6 : tie.Need-same-length-6
+same-length-6 c = search needs
+
+same-length-7 : tie.Need-same-length-7
+same-length-7 c = search needs
+
+returns-3 : tie.Need-returns-3
+returns-3 c = c .before .before .before .before .gathered .ensures
+
+in-scratch-table-requires : tie.Need-in-scratch-table-requires
+in-scratch-table-requires c κs = search needs
+
+same-length-8 : tie.Need-same-length-8
+same-length-8 c = search needs
+
+same-length-9 : tie.Need-same-length-9
+same-length-9 c = search needs
+
 same-length-10 : tie.Need-same-length-10
 same-length-10 c = search needs
 
@@ -101,30 +100,7 @@ same-length-12 : tie.Need-same-length-12
 same-length-12 c = search needs
 
 returns-4 : tie.Need-returns-4
-returns-4 c =
-    c .before .before .before .before .gathered .ensures
-
-in-scratch-table-requires-2 : tie.Need-in-scratch-table-requires-2
-in-scratch-table-requires-2 c κs = search needs
-
-same-length-13 : tie.Need-same-length-13
-same-length-13 c = search needs
-
-same-length-14 : tie.Need-same-length-14
-same-length-14 c = search needs
-
-same-length-15 : tie.Need-same-length-15
-same-length-15 c = search needs
-
-same-length-16 : tie.Need-same-length-16
-same-length-16 c = search needs
-
-same-length-17 : tie.Need-same-length-17
-same-length-17 c = search needs
-
-returns-5 : tie.Need-returns-5
-returns-5 c =
-    c .before .before .before .before .before .before .before .before .in-scratch-table2 .ensures
+returns-4 c = c .before .before .before .before .before .before .before .before .in-scratch-table .ensures
 
 pub kept-in-scratch-spec : {M : Type 1} → statement M
 kept-in-scratch-spec =
@@ -139,24 +115,17 @@ kept-in-scratch-spec =
     same-length-4
     returns-2
     mul-products
-    in-scratch-table-requires
-    same-length-5
-    same-length-6
-    same-length-7
-    same-length-8
-    same-length-9
-    returns-3
     grid-for-requires
     in-grid-requires
     gathered-requires
+    same-length-5
+    same-length-6
+    same-length-7
+    returns-3
+    in-scratch-table-requires
+    same-length-8
+    same-length-9
     same-length-10
     same-length-11
     same-length-12
-    returns-4
-    in-scratch-table-requires-2
-    same-length-13
-    same-length-14
-    same-length-15
-    same-length-16
-    same-length-17
-    returns-5)
+    returns-4)
