@@ -1,5 +1,3 @@
 pub mod Substitute
-pub mod HornerLaws
 pub mod SubstitutionRoomLaws
-pub mod SliceSubstitutionLaws
 pub mod OwnSlicesLaws

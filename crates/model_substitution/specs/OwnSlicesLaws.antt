@@ -32,7 +32,7 @@ use Rattle.model_slices.specs.HeldModels.{model-places, held, Room}
 use Rattle.model_slices.specs.HeldModelsLaws.{own-view}
 use Rattle.product_answer.specs.KeptProduct.{model-unless}
 use Rattle.model_horner_iteration.specs.HornerIteration.{Kept-in}
-use Rattle.model_substitution.specs.Substitute.{Substitution, Substitution-of}
+use Rattle.model_substitution_slices.specs.Substituting.{Substitution, Substitution-of}
 
 -- ---- the answer as a struct
 -- its model, its verdict and its shares

@@ -1,7 +1,5 @@
--- The scratch memory for a substitution has room for each iteration of Horner's rule, where g is multiplied by a model
--- of at most 64 terms; and the scratch memory for any product has room for a substitution.
+-- The scratch memory for any product has room for a substitution.
 use Prim.Native.Nat.{ℕ, _*_}
-use native.Mathlib.Nat as NatL
 use native.Mathlib.Omega.{arith}
 use mathlib.Core.List.{List}
 use lib.IntN.{ℤ}
@@ -10,16 +8,10 @@ use Rattle.model_types.specs.declared.Model.{Model}
 use Rattle.model_types.specs.ModelStructLaws.{limits}
 use Rattle.product_hash_collect.specs.CollectorContracts.{Scratch-table}
 use Rattle.product_room.specs.ProductTerms.{Scratch-room}
-use Rattle.product_room.specs.ProductTermsLaws.{scratch-room, fewer-room}
-use Rattle.model_horner_iteration.specs.HornerIteration.{Iteration}
+use Rattle.product_room.specs.ProductTermsLaws.{scratch-room}
 use Rattle.model_substitution.specs.Substitute.{Substitution}
 
 module _ {slots keys : List ℕ} {sums : List ℤ} where
-  pub iteration-room : {d : ℕ} {h g q : Model} → Iteration d h g q
-      → Scratch-room (most-terms * g .count) slots keys sums
-      → Scratch-room (h .count * g .count) slots keys sums
-  iteration-room s t = fewer-room t (NatL.mul-le-mul (limits _ _ (s .factors .first) .few) (omega arith))
-
   pub substitution-room : {d i : ℕ} {f g : Model} → Substitution d i f g → Scratch-table slots keys sums
       → Scratch-room (most-terms * g .count) slots keys sums
   unfolding most-terms

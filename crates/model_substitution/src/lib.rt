@@ -1,22 +1,17 @@
-// Substitution by Horner's rule.
+// Substitution: two models lend their arrays, and the answer is packed as a struct.
 ghost use mathlib.Core.Path.{_≡_};
-ghost use mathlib.Core.Bool.{true};
-ghost use Prim.Native.Nat.{_*_, _^_, _≤_, _<_};
-ghost use Rattle.numbers.specs.Fixed.{«span-limit»};
+ghost use Prim.Native.Nat.{_*_, _≤_};
 ghost use Rattle.calculus.specs.Model.{«most-terms»};
 ghost use Rattle.calculus.specs.Refusal.{«at-place»};
-ghost use Rattle.calculus.specs.Operations.{«range-in-box», substitute};
-ghost use Rattle.calculus.specs.Shares as S;
-ghost use Rattle.calculus.specs.Shares.{carrying, «substitute-shares»};
+ghost use Rattle.calculus.specs.Operations.{substitute};
+ghost use Rattle.calculus.specs.Shares.{«substitute-shares»};
 ghost use Rattle.model_types.specs.declared.Verdict.the-variants.{Accepted};
 ghost use Rattle.model_types.specs.ModelStruct.{view, answer};
-ghost use Rattle.model_types.specs.SharesStruct.{«stored-shares», accounted};
+ghost use Rattle.model_types.specs.SharesStruct.{accounted};
 ghost use Rattle.product_room.specs.ProductTerms.{«Scratch-room»};
 ghost use Rattle.model_slices.specs.HeldModels.{«model-places», held, Room};
 ghost use Rattle.product_answer.specs.KeptProduct.{«model-unless»};
-ghost use Rattle.model_horner_iteration.specs.HornerIteration.{«Kept-in»};
-ghost use Rattle.model_substitution.specs.Substitute.{Substitution, «Substitution-of»};
-use model_powers::Powers;
+ghost use Rattle.model_substitution.specs.Substitute.{Substitution};
 use model_slices::Kept;
 use model_types::Accounted;
 use model_types::Answer;
@@ -26,110 +21,6 @@ use model_types::Refusal;
 use model_types::Shares;
 use model_types::Verdict;
 
-// U × e more under carried.
-fn carrying(e: u64, s: Shares) -> Shares
-    requires { ⌜ s .carried < 2 ^ 63 ⌝ }
-    requires { ⌜ e ≤ span-limit ⌝ }
-    ensures { λ r. ⌜ ((t : S.Shares) → s ≡ stored-shares t → r ≡ stored-shares (carrying e t)) ⌝ }
-{
-    let carried = s.carried + model_types::times_unit(e);
-    Shares {
-        carried: carried,
-        rounding: s.rounding,
-        swept: s.swept,
-        slack: s.slack,
-    }
-}
-
-// ---- in slices
-// g in the place of variable i of f, with order d: Horner's rule from the highest power down, with the shares of its
-// last product and the radius of f. What is left goes into the slices after the table; the others are at hand for each
-// power's terms and for products. The table is scratch for all products, in each of which g is multiplied by a model of
-// no more terms than any has.
-fn put_in<'a>(
-    d: u8,
-    i: u8,
-    n: u8,
-    count: usize,
-    radius: u64,
-    keys: &'a [Key],
-    coefficients: &'a [i64],
-    count2: usize,
-    radius2: u64,
-    keys2: &[Key],
-    coefficients2: &[i64],
-    slots: &mut [u16],
-    table: &mut [u64],
-    sums: &mut [i64],
-    remaining: &mut [Key],
-    rest: &mut [i64],
-    others: &mut [Key],
-    added: &mut [i64],
-    spare: &mut [Key],
-    products: &mut [i64],
-) -> Kept
-    requires { ⌜ Substitution-of d i n count radius (now keys) (now coefficients)
-        count2 radius2 (now keys2) (now coefficients2) ⌝ }
-    requires { ⌜ Scratch-room (most-terms * count2) (now slots) (now table) (now sums) ⌝ }
-    requires { ⌜ Room (now remaining) (now rest) ⌝ }
-    requires { ⌜ Room (now others) (now added) ⌝ }
-    requires { ⌜ Room (now spare) (now products) ⌝ }
-    ensures { λ r. ⌜ Kept-in n r (now (remaining .exit)) (now (rest .exit)) (accounted (substitute d i
-        (view (held n count radius (now (keys .entry)) (now (coefficients .entry))))
-        (view (held n count2 radius2 (now (keys2 .entry)) (now (coefficients2 .entry)))))
-        (λ m. substitute-shares d i
-        (view (held n count radius (now (keys .entry)) (now (coefficients .entry))))
-        (view (held n count2 radius2 (now (keys2 .entry)) (now (coefficients2 .entry)))))) ⌝ }
-{
-    let p: Powers = model_powers::by_powers(i, count, keys);
-    let mut k = p.largest;
-    let mut c = model_powers::part(i, k, p, count, keys, coefficients, remaining, rest);
-    let mut e = 0;
-    let mut last = Shares::ZERO;
-    while 0 < k {
-        k -= 1;
-        let t = model_powers::part(i, k, p, count, keys, coefficients, others, added);
-        let r = model_horner_iteration::iterated(
-            d,
-            n,
-            c,
-            e,
-            remaining,
-            rest,
-            count2,
-            radius2,
-            keys2,
-            coefficients2,
-            t,
-            others,
-            added,
-            slots,
-            table,
-            sums,
-            spare,
-            products,
-        );
-        let v = r.verdict;
-        let Verdict::Accepted = v else {
-            return r;
-        };
-        c = r.count;
-        e = r.radius;
-        last = r.shares;
-    }
-    let all = carrying(radius, last);
-    let left = model_limits::limited_slices(c, fixed::capped_sum(e, radius), rest);
-    let w = left.verdict;
-    let shares = model_types::unless_refused(w, all);
-    Kept {
-        count: left.count,
-        radius: left.radius,
-        shares: shares,
-        verdict: w,
-    }
-}
-
-// ---- as a struct
 // The model that slices hold: zeros stand after its terms.
 fn packed(n: u8, count: usize, radius: u64, keys: &[Key], coefficients: &[i64]) -> Model
     requires { ⌜ (count ≤ model-places) × Room (now keys) (now coefficients) ⌝ }
@@ -198,7 +89,7 @@ pub fn substituted_accounted(
     let mut spare: [Key; model_types::MOST_TERMS] = [0; model_types::MOST_TERMS];
     let mut products = [0i64; model_types::MOST_TERMS];
     let inner = g.keys;
-    let k = put_in(
+    let k: Kept = model_substitution_slices::put_in(
         d,
         i,
         f.n,

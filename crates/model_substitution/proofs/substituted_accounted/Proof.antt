@@ -8,7 +8,7 @@ use Rattle.model_types.specs.ModelStruct.{view, cause}
 use Rattle.model_types.specs.ResultLaws.{sound-order}
 use Rattle.model_slices.specs.HeldModels.{Room}
 use Rattle.model_horner_iteration.specs.HornerIteration.{Kept-in}
-use Rattle.model_substitution.specs.HornerLaws.{outside}
+use Rattle.model_substitution_slices.specs.HornerLaws.{outside}
 use Rattle.model_substitution.specs.OwnSlicesLaws.{kept-answer, own-of, answers, own-answer, own-few}
 use Rattle.model_substitution.proofs.substituted_accounted.Statement.{statement}
 use Rattle.model_substitution.proofs.substituted_accounted.Tie as tie

@@ -29,9 +29,9 @@ use Rattle.model_limits.specs.LimitLaws.{packed-radius, limited-capped}
 use Rattle.product_room.specs.ProductTerms.{Scratch-room}
 use Rattle.model_powers.specs.Powers.{In-variable, Keys-of, Part-of}
 use Rattle.model_horner_iteration.specs.HornerIteration.{horner-iteration, Iteration-of, Kept-in}
-use Rattle.model_substitution.specs.Substitute.{Substitution, Substitution-of}
-use Rattle.model_substitution.specs.SubstitutionRoomLaws.{iteration-room}
-use Rattle.model_substitution.specs.HornerLaws as H
+use Rattle.model_substitution_slices.specs.Substituting.{Substitution, Substitution-of}
+use Rattle.model_substitution_slices.specs.IterationRoomLaws.{iteration-room}
+use Rattle.model_substitution_slices.specs.HornerLaws as H
 
 module _ {d i n count radius count₂ radius₂ : ℕ} {ks ks₂ : List ℕ} {cs cs₂ : List ℤ}
     (w : Substitution-of d i n count radius ks cs count₂ radius₂ ks₂ cs₂) where
@@ -97,38 +97,11 @@ module _ {d i n count radius count₂ radius₂ : ℕ} {ks ks₂ : List ℕ} {cs
       unfolding held most-terms
       put-few = H.left-packed s l .few
 
-      pub put-packed : (r : ℕ) → Packed (held n c r ks₃ cs₃)
+      pub put-packed : Packed (held n c e ks₃ cs₃)
+      put-packed = H.left-packed s l
+
+      pub put-end : k ≤ 0 → {r : Kept} → ((t : S.Shares) → p ≡ stored-shares t
+          → Kept-in n r ks₃ cs₃ (accounted (widen radius (view (held n c e ks₃ cs₃))) (λ m. carrying radius t)))
+          → Kept-in n r ks₃ cs₃ whole
       unfolding held
-      put-packed r = packed-radius (held n c e ks₃ cs₃) r (H.left-packed s l)
-
-      abbrev last : Answer
-      last = answer (at-place 0 (widen radius (view (held n c e ks₃ cs₃))))
-
-      widens : limited (view (held n c (capped (e + radius)) ks₃ cs₃)) ≡ widen radius (view (held n c e ks₃ cs₃))
-      unfolding held view widen
-      widens = limited-capped n (e + radius) _
-
-      pub put-end : k ≤ 0 → {b : ℕ} → b ≡ capped (e + radius) → {r : Left}
-          → Left-in n r ks₃ cs₃ (answer (at-place 0 (limited (view (held n c b ks₃ cs₃)))))
-          → {a x : Shares} → ((t : S.Shares) → p ≡ stored-shares t → a ≡ stored-shares (carrying radius t))
-          → x ≡ unless-refused (r .verdict) a
-          → Kept-in n (record { count = r .count; radius = r .radius; shares = x; verdict = r .verdict }) ks₃ cs₃ whole
-      put-end z q {r = r} a {a = all} u x =
-          let b : Left-in n r ks₃ cs₃ last = left q a in
-          let e : record { answer = last; shares = unless-refused (last .verdict) all } ≡ whole = end z u in
-          record {
-            verdict = b .verdict ∙ ap (λ (a : Accounted). a .answer .verdict) e;
-            shares = x ∙ ap (λ v. unless-refused v all) (b .verdict) ∙ ap (λ (a : Accounted). a .shares) e;
-            model = λ v. b .model v ∙ ap (λ (a : Accounted). a .answer .model) e;
-          }
-        where
-          left : {b : ℕ} → b ≡ capped (e + radius)
-              → Left-in n r ks₃ cs₃ (answer (at-place 0 (limited (view (held n c b ks₃ cs₃)))))
-              → Left-in n r ks₃ cs₃ last
-          left q a = subst (Left-in n r ks₃ cs₃)
-              (ap (λ b. answer (at-place 0 (limited (view (held n c b ks₃ cs₃))))) q
-              ∙ ap (λ m. answer (at-place 0 m)) widens) a
-
-          end : k ≤ 0 → ((t : S.Shares) → p ≡ stored-shares t → all ≡ stored-shares (carrying radius t))
-              → record { answer = last; shares = unless-refused (last .verdict) all } ≡ whole
-          end z u = unfold held in H.left-end s l z refl u refl
+      put-end z {r = r} a = subst (Kept-in n r ks₃ cs₃) (H.left-end s l z) (a (l .shares) (l .stored))

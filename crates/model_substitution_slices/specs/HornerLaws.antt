@@ -29,7 +29,7 @@ use Rattle.product_answer.specs.ErrorLaws.{error-fits}
 use Rattle.model_powers.specs.PowersLaws.{part-sound}
 use Rattle.model_horner_iteration.specs.HornerIteration.{horner-iteration, Iteration}
 use Rattle.model_horner_iteration.specs.IterationLaws.{refused-accounted, accepted-shares, iteration-sound}
-use Rattle.model_substitution.specs.Substitute.{Substitution}
+use Rattle.model_substitution_slices.specs.Substituting.{Substitution}
 use Rattle.model_types.specs.ResultLaws.{Holds, held-view, held-sound, held-vars, Got, got, then-is}
 
 -- ---- g in the place of variable i of f
@@ -211,20 +211,15 @@ module _ {d i : ℕ} {f g : Model} (s : Substitution d i f g) where
       none : k ≡ 0
       none = omega arith
 
-      end-answer : {r : Answer} → r ≡ answer (at-place 0 (widen (f .radius) (view h)))
-          → r ≡ answer (at-place 0 (whole d i f g))
+      end-answer : widen (f .radius) (view h) ≡ whole d i f g
       unfolding horner view _then_
-      end-answer e = e ∙ ap (λ m. answer (at-place 0 (widen (f .radius) m))) (held-view vars (s .order) (l .holds))
-          ∙ ap (λ a. answer (at-place 0 a))
-          (ap (λ j. down d i f g j (l .model) then wider d i f g) (sym none) ∙ l .rest)
+      end-answer = ap (widen (f .radius)) (held-view vars (s .order) (l .holds))
+          ∙ ap (λ j. down d i f g j (l .model) then wider d i f g) (sym none) ∙ l .rest
 
       end-shares : carrying (f .radius) (l .shares) ≡ all-shares d i f g
       unfolding horner-shares view
       end-shares = ap (λ j. shares-down d i f g j (l .model) (l .shares)) (sym none) ∙ l .shares-rest
 
-      pub left-end : {r : Answer} {a x : Shares} → r ≡ answer (at-place 0 (widen (f .radius) (view h)))
-          → ((t : S.Shares) → p ≡ stored-shares t → a ≡ stored-shares (carrying (f .radius) t))
-          → x ≡ unless-refused (r .verdict) a
-          → record { answer = r; shares = x } ≡ accounted (whole d i f g) (λ m. all-shares d i f g)
-      left-end {r} e u x = accounted-by (whole d i f g) (all-shares d i f g) (end-answer e)
-          (x ∙ ap (unless-refused (r .verdict)) (u (l .shares) (l .stored) ∙ ap stored-shares end-shares))
+      pub left-end : accounted (widen (f .radius) (view h)) (λ m. carrying (f .radius) (l .shares))
+          ≡ accounted (whole d i f g) (λ m. all-shares d i f g)
+      left-end = ap₂ (λ a s. accounted a (λ m. s)) end-answer end-shares

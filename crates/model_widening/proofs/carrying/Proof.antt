@@ -8,8 +8,8 @@ use Rattle.calculus.specs.Shares.{carrying}
 use Rattle.model_types.specs.declared.Shares.{Shares}
 use Rattle.model_types.specs.SharesStruct.{stored-shares}
 use Rattle.model_types.specs.SharesStructLaws.{times-fits}
-use Rattle.model_substitution.proofs.carrying.Statement.{statement}
-use Rattle.model_substitution.proofs.carrying.Tie as tie
+use Rattle.model_widening.proofs.carrying.Statement.{statement}
+use Rattle.model_widening.proofs.carrying.Tie as tie
 
 times-unit-requires : tie.Need-times-unit-requires
 times-unit-requires c κs = times-fits _ (c .pre .1)

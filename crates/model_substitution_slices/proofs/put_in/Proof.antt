@@ -14,12 +14,12 @@ use Rattle.model_slices.specs.HeldModels.{held, Room}
 use Rattle.model_powers.specs.Powers.{exponents}
 use Rattle.product_room.specs.ProductTerms.{Scratch-room}
 use Rattle.product_room.specs.ProductTermsLaws.{free-room}
-use Rattle.model_substitution.specs.HornerLaws.{Left, left-fits, radius-within}
-use Rattle.model_substitution.specs.SliceSubstitutionLaws.{put-keys, put-part, put-first, put-iteration}
-use Rattle.model_substitution.specs.SliceSubstitutionLaws.{put-room, put-stops, put-goes-on}
-use Rattle.model_substitution.specs.SliceSubstitutionLaws.{put-few, put-packed, put-end}
-use Rattle.model_substitution.proofs.put_in.Statement.{statement}
-use Rattle.model_substitution.proofs.put_in.Tie as tie
+use Rattle.model_substitution_slices.specs.HornerLaws.{Left, left-fits, radius-within}
+use Rattle.model_substitution_slices.specs.SliceSubstitutionLaws.{put-keys, put-part, put-first, put-iteration}
+use Rattle.model_substitution_slices.specs.SliceSubstitutionLaws.{put-room, put-stops, put-goes-on}
+use Rattle.model_substitution_slices.specs.SliceSubstitutionLaws.{put-few, put-packed, put-end}
+use Rattle.model_substitution_slices.proofs.put_in.Statement.{statement}
+use Rattle.model_substitution_slices.proofs.put_in.Tie as tie
 
 abbrev Inv-loop : tie.InvT-loop
 Inv-loop d i n count radius keys coefficients count2 radius2 keys2 coefficients2 slots₀ table₀ sums₀ stored₀ out₀
@@ -256,26 +256,18 @@ loop-again c =
     )
 
 -- ---- after the loop
-carrying-requires : tie.Need-carrying-requires Inv-loop μ-loop
+widened-requires : tie.Need-widened-requires Inv-loop μ-loop
 unfolding held
-carrying-requires c κs =
-    let l = c .before in
-    let s = start l .pre .0 .models in
-    (left-fits s (l .loop .inv .6), omega (arith, radius-within s (l .loop .inv .6)))
+widened-requires c κs =
+    let l = c .before .before in
+    let w = start l .pre .0 in
+    let i = l .loop .inv in (
+      (put-few w _ _ _ _ (i .6), i .0 .coefficients),
+      (left-fits (w .models) (i .6), omega (arith, radius-within (w .models) (i .6))),
+    )
 
-capped-sum-requires : tie.Need-capped-sum-requires Inv-loop μ-loop
-capped-sum-requires c κs = search needs
-
-limited-slices-requires : tie.Need-limited-slices-requires Inv-loop μ-loop
-limited-slices-requires c κs =
-    let l = c .before .before .before .before in
-    (put-few (start l .pre .0) _ _ _ _ (l .loop .inv .6), l .loop .inv .0 .coefficients)
-
-unless-refused-requires : tie.Need-unless-refused-requires Inv-loop μ-loop
-unless-refused-requires c κs = search needs
-
-abbrev left : tie.After-unless-refused Inv-loop μ-loop → tie.At-loop Inv-loop μ-loop
-left c = c .before .before .before .before .before .before
+abbrev left : tie.After-widened Inv-loop μ-loop → tie.At-loop Inv-loop μ-loop
+left c = c .before .before .before
 
 same-length-10 : tie.Need-same-length-10 Inv-loop μ-loop
 same-length-10 c = left c .loop .inv .3
@@ -328,11 +320,8 @@ returns-2 c =
     let s = start l in
     let w = s .pre .0 in
     let i = l .loop .inv in
-    let a = c .before .before .before .before in
-    put-end w _ _ _ _ (i .6) (omega (arith, a .before .loop-test .left))
-    (c .before .before .before .capped-sum .ensures)
-    (c .before .limited-slices .ensures (s .args .n) _ (i .0) (put-packed w _ _ _ _ (i .6) _))
-    (a .carrying .ensures) (c .unless-refused .ensures)
+    put-end w _ _ _ _ (i .6) (omega (arith, c .before .before .loop-test .left))
+    (c .widened .ensures (s .args .n) _ (i .0) (put-packed w _ _ _ _ (i .6)))
 
 pub put-in-spec : {M : Type 1} → statement M
 put-in-spec =
@@ -360,10 +349,7 @@ put-in-spec =
     returns
     loop-less
     loop-again
-    carrying-requires
-    capped-sum-requires
-    limited-slices-requires
-    unless-refused-requires
+    widened-requires
     same-length-10
     same-length-11
     same-length-12

@@ -1,0 +1,4 @@
+pub mod Substituting
+pub mod HornerLaws
+pub mod IterationRoomLaws
+pub mod SliceSubstitutionLaws
