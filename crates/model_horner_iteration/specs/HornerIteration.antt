@@ -10,12 +10,11 @@ use Rattle.calculus.specs.Refusal as R
 use Rattle.calculus.specs.Refusal.{_then_}
 use Rattle.calculus.specs.Operations.{multiply, add}
 use Rattle.model_types.specs.declared.Model.{Model}
-use Rattle.model_types.specs.declared.Verdict.the-variants.{Accepted}
-use Rattle.model_types.specs.declared.Accounted.{Accounted}
 use Rattle.model_types.specs.ModelStruct.{view}
-use Rattle.model_slices.specs.declared.Kept.{Kept}
 use Rattle.model_slices.specs.HeldModels.{held, Room}
 use Rattle.product_answer.specs.ProductFactors.{Factors}
+-- what its product asks, and what both leave
+pub use Rattle.model_horner_product.specs.HornerProduct.{Factors-of, Kept-in}
 
 -- h times g with order d, then q added
 unfoldable pub horner-iteration : (d : ℕ) (h g q : C.Model) → R.Answer C.Model
@@ -28,15 +27,7 @@ pub record Iteration (d : ℕ) (h g q : Model) : Type 0 where
   pub vars : h .n ≡ q .n
 
 -- ---- in slices
--- two factors in n variables
-pub record Factors-of (d n c e : ℕ) (ks : List ℕ) (cs : List ℤ) (count radius : ℕ) (ks₂ : List ℕ)
-    (cs₂ : List ℤ) : Type 0
-  where
-    pub first-room : Room ks cs
-    pub second-room : Room ks₂ cs₂
-    pub factors : Factors d (held n c e ks cs) (held n count radius ks₂ cs₂)
-
--- the same and what is added, radius 0
+-- two factors in n variables, and what is added, radius 0
 pub record Iteration-of (d n c e : ℕ) (ks : List ℕ) (cs : List ℤ) (count radius : ℕ) (ks₂ : List ℕ) (cs₂ : List ℤ)
     (t : ℕ) (ks₃ : List ℕ) (cs₃ : List ℤ) : Type 0
   where
@@ -44,9 +35,3 @@ pub record Iteration-of (d n c e : ℕ) (ks : List ℕ) (cs : List ℤ) (count r
     pub second-room : Room ks₂ cs₂
     pub third-room : Room ks₃ cs₃
     pub iteration : Iteration d (held n c e ks cs) (held n count radius ks₂ cs₂) (held n t 0 ks₃ cs₃)
-
--- an answer with its shares, of which the terms lie in slices: unless it is refused these hold its model
-pub record Kept-in (n : ℕ) (k : Kept) (ks : List ℕ) (cs : List ℤ) (a : Accounted) : Type 0 where
-  pub verdict : k .verdict ≡ a .answer .verdict
-  pub shares : k .shares ≡ a .shares
-  pub model : k .verdict ≡ Accepted → held n (k .count) (k .radius) ks cs ≡ a .answer .model

@@ -1,4 +1,3 @@
 pub mod HornerIteration
 pub mod IterationLaws
-pub mod SliceProductLaws
 pub mod SliceHornerLaws

@@ -2,74 +2,18 @@
 // next power's terms added. After the terms that a count names any numbers may stand.
 ghost use mathlib.Core.Path.{_≡_};
 ghost use Prim.Native.Nat.{_*_};
-ghost use Rattle.calculus.specs.Operations.{multiply};
 ghost use Rattle.calculus.specs.Shares.{«product-shares»};
 ghost use Rattle.model_types.specs.ModelStruct.{view};
 ghost use Rattle.model_types.specs.SharesStruct.{accounted};
 ghost use Rattle.model_slices.specs.HeldModels.{held, Room};
 ghost use Rattle.product_room.specs.ProductTerms.{«Scratch-room»};
-ghost use Rattle.model_horner_iteration.specs.HornerIteration.{«horner-iteration», «Factors-of», «Iteration-of»};
+ghost use Rattle.model_horner_iteration.specs.HornerIteration.{«horner-iteration», «Iteration-of»};
 ghost use Rattle.model_horner_iteration.specs.HornerIteration.{«Kept-in»};
 use model_slices::Kept;
 use model_types::Key;
 use model_types::Refusal;
 use model_types::Shares;
 use model_types::Verdict;
-
-// h times g with order d: its terms go into the last two slices, unless it is refused. The table is scratch.
-fn product(
-    d: u8,
-    n: u8,
-    many: usize,
-    around: u64,
-    keys1: &[Key],
-    values1: &[i64],
-    count: usize,
-    radius: u64,
-    keys2: &[Key],
-    values2: &[i64],
-    slots: &mut [u16],
-    keys: &mut [u64],
-    sums: &mut [i64],
-    stored: &mut [Key],
-    out: &mut [i64],
-) -> Kept
-    requires { ⌜ Factors-of d n many around (now keys1) (now values1) count radius (now keys2) (now values2) ⌝ }
-    requires { ⌜ Scratch-room (many * count) (now slots) (now keys) (now sums) ⌝ }
-    requires { ⌜ Room (now stored) (now out) ⌝ }
-    ensures { λ k. ⌜ Kept-in n k (now (stored .exit)) (now (out .exit)) (accounted (multiply d
-        (view (held n many around (now (keys1 .entry)) (now (values1 .entry))))
-        (view (held n count radius (now (keys2 .entry)) (now (values2 .entry)))))
-        (λ m. product-shares d
-        (view (held n many around (now (keys1 .entry)) (now (values1 .entry))))
-        (view (held n count radius (now (keys2 .entry)) (now (values2 .entry)))))) ⌝ }
-{
-    let mut kept = [0u64; model_types::MOST_TERMS + 1];
-    let mut rounded = [0i64; model_types::MOST_TERMS + 1];
-    let k = product_slices::multiplied_slices(
-        d,
-        n,
-        many,
-        around,
-        keys1,
-        values1,
-        count,
-        radius,
-        keys2,
-        values2,
-        slots,
-        keys,
-        sums,
-        &mut kept,
-        &mut rounded,
-    );
-    let v = k.verdict;
-    let Verdict::Accepted = v else {
-        return k;
-    };
-    product_answer::store_first(k.count, &kept, &rounded, stored, out);
-    k
-}
 
 // h times g with order d, then q added, with the shares of the product, whose radius the sum keeps. The sum goes into
 // the slices in which h lay; the last two are at hand for the product's terms, and the table for the product.
@@ -105,7 +49,7 @@ pub fn iterated<'a>(
         (view (held n c e (now (keys1 .entry)) (now (coefficients1 .entry))))
         (view (held n count radius (now (keys2 .entry)) (now (coefficients2 .entry)))))) ⌝ }
 {
-    let k = product(
+    let k = model_horner_product::product(
         d,
         n,
         c,

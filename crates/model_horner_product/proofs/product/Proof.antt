@@ -7,10 +7,10 @@ use lib.Dec.{lit≤}
 use lib.ListN.{length}
 use Rattle.calculus.specs.Model.{most-terms}
 use Rattle.model_types.specs.declared.Verdict.the-variants.{Accepted}
-use Rattle.model_horner_iteration.specs.SliceProductLaws.{handed-factors, first-long, second-long, handed-product}
-use Rattle.model_horner_iteration.specs.SliceProductLaws.{product-stops, product-stored}
-use Rattle.model_horner_iteration.proofs.product.Statement.{statement}
-use Rattle.model_horner_iteration.proofs.product.Tie as tie
+use Rattle.model_horner_product.specs.SliceProductLaws.{handed-factors, first-long, second-long, handed-product}
+use Rattle.model_horner_product.specs.SliceProductLaws.{product-stops, product-stored}
+use Rattle.model_horner_product.proofs.product.Statement.{statement}
+use Rattle.model_horner_product.proofs.product.Tie as tie
 
 slice-aggregate-multiplied-slices : tie.Need-slice-aggregate-multiplied-slices
 slice-aggregate-multiplied-slices c = search needs

@@ -26,7 +26,7 @@ use Rattle.product_sums.specs.TermArrayLaws.{terms-length}
 use Rattle.product_answer.specs.PackedTerms.{narrowed-term, narrow-keys, narrow-coefficients, packed}
 use Rattle.product_answer.specs.ProductFactors.{Factors}
 use Rattle.product_answer.specs.KeptProduct.{model-unless, kept-model, kept-accounted, Kept-ready}
-use Rattle.model_horner_iteration.specs.HornerIteration.{Factors-of, Kept-in}
+use Rattle.model_horner_product.specs.HornerProduct.{Factors-of, Kept-in}
 
 -- ---- the factors
 -- what slices hold is what they hand over, to every call

@@ -1,0 +1,2 @@
+pub mod HornerProduct
+pub mod SliceProductLaws
