@@ -19,7 +19,6 @@ use Rattle.calculus_laws.specs.TestLaws.{and-left, and-right, both}
 use Rattle.calculus_laws.specs.TermsLaws.{length-select}
 use Rattle.calculus_laws.specs.CanonicalLaws.{Same-coefficients, coefficient-at, coefficient-nil}
 use Rattle.product_sums.specs.TermArrays.{at-key, terms}
-use Rattle.product_sums.specs.TermArrayLaws.{terms-length}
 use Rattle.product_sums.specs.InsertLaws.{less-key}
 use Rattle.product_sums.specs.declared.Gathered.{Gathered}
 use Rattle.product_sums.specs.Wide.{degree-byte}
