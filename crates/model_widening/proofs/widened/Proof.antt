@@ -1,11 +1,12 @@
 -- `widened` adds the radius to both, and tests the limits.
+use native.Mathlib.Omega.{arith}
 use borrow.Author.Needs.{needs}
 use Rattle.model_widening.specs.WideningLaws.{widened-packed, widened-in}
 use Rattle.model_widening.proofs.widened.Statement.{statement}
 use Rattle.model_widening.proofs.widened.Tie as tie
 
 carrying-requires : tie.Need-carrying-requires
-carrying-requires c κs = c .pre .1
+carrying-requires c κs = (c .pre .1 .0, omega (arith, c .pre .1 .1))
 
 capped-sum-requires : tie.Need-capped-sum-requires
 capped-sum-requires c κs = search needs
