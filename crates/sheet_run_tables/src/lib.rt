@@ -13,7 +13,7 @@ const FEW_SLOTS: usize = model::SLOTS_EACH * FEW_PRODUCTS + 1;
 
 const FEW_PLACES: usize = FEW_PRODUCTS + 1;
 
-// Those of the next one, which serves a quotient of 16 terms: 64 for each of w.
+// Those of the next one, which serves a quotient of 16 terms and a substitution of one of 16: 64 for each.
 const SOME_PRODUCTS: usize = 1024;
 
 const SOME_SLOTS: usize = model::SLOTS_EACH * SOME_PRODUCTS + 1;
