@@ -1,92 +1,52 @@
--- Sums of models in slices: what the merge and the limits leave, the second with its signs turned, and the calls.
+-- Sums of models in slices: what the merge and the limits leave, and the calls.
 use mathlib.Core.Path.{_≡_, refl, sym, _∙_, ap, ap₂, subst}
 use mathlib.Core.Bool.{true, false}
-use mathlib.Core.List.{List, [], _∷_, _++_}
-use Prim.Native.Nat.{ℕ, zero, suc, _+_, _^_, _≤_, _<_}
-use native.Mathlib.Omega.{arith}
+use mathlib.Core.List.{List}
+use Prim.Native.Nat.{ℕ, _+_, _≤_, _<_}
 use lib.Dec.{T, leb}
-use lib.IntN.{ℤ, pos, natAbs, negℤ}
-use lib.ListN.{length, take, drop, getD, replicate, length-append, length-map}
-use lib.Seq.{length-take-le}
+use lib.IntN.{ℤ}
+use lib.ListN.{length}
 use Rattle.numbers.specs.Fixed.{span-limit}
-use Rattle.numbers.specs.FixedLaws.{span-fits}
 use Rattle.calculus.specs.Model as C
 use Rattle.calculus.specs.Model.{most-degree, most-terms, sound, span}
-use Rattle.calculus.specs.Operations as Op
-use Rattle.calculus.specs.Operations.{limited, add, subtract, negate}
-use Rattle.calculus.specs.Refusal.{over-span, too-many-terms, stopped, at-place}
+use Rattle.calculus.specs.Operations.{limited, add, subtract}
+use Rattle.calculus.specs.Refusal.{stopped, at-place}
 use Rattle.calculus.specs.Calls.{call-add, call-subtract}
-use Rattle.model_types.specs.declared.Term.{Term}
 use Rattle.model_types.specs.declared.Model.{Model}
 use Rattle.model_types.specs.declared.Answer.{Answer}
 use Rattle.model_types.specs.declared.Refusal.{Refusal}
 use Rattle.model_types.specs.declared.Refusal.the-variants.{OverSpan, TooManyTerms}
 use Rattle.model_types.specs.declared.Verdict.the-variants.{Accepted, Refused}
-use Rattle.model_types.specs.ModelStruct.{view, verdict, answer, cause, of-terms, pad}
+use Rattle.model_types.specs.ModelStruct.{view, verdict, answer, cause}
 use Rattle.model_types.specs.ModelStructLaws.{limits}
-use Rattle.model_slices.specs.HandedModels.{terms-of, handed, borrowed, over}
+use Rattle.model_slices.specs.HandedModels.{handed, borrowed}
 use Rattle.model_slices.specs.HeldModels.{held, Clear}
 use Rattle.model_slices.specs.HeldModelsLaws.{clear-struct}
 use Rattle.model_limits.specs.Limits.{Packed}
 use Rattle.model_limits.specs.LimitLaws.{answer-within, answer-over}
 use Rattle.model_limits.specs.declared.Left.{Left}
 use Rattle.model_places.specs.SlicePlaces.{Places}
-use Rattle.model_places.specs.SlicePlacesLaws.{places-long, places-view, places-sound}
-use Rattle.model_places.specs.LeftModels.{left-model, unless-refused, left-answer}
-use Rattle.model_places.specs.LeftModelsLaws.{lies-small, left-refused}
-use Rattle.model_unary.specs.NegateLaws.{turned, turned-places, turned-view, negated-sound}
+use Rattle.model_places.specs.SlicePlacesLaws.{places-view, places-sound}
+use Rattle.model_places.specs.LeftModels.{unless-refused, left-answer}
+use Rattle.model_places.specs.LeftModelsLaws.{left-refused}
 use Rattle.model_call_tests.specs.Admission.{two-models}
 use Rattle.model_call_tests.specs.AdmissionLaws.{two-passed, goes-on, is-refused}
 use Rattle.model_slice_tests.specs.SliceTestLaws.{slices-places}
-use Rattle.model_addition.specs.Addition.{Operands, Sum-from, Sum-in}
-use Rattle.model_addition.specs.AddedLaws.{radius-within}
+use Rattle.model_addition.specs.Addition.{Sum-in}
+use Rattle.model_slice_results.specs.Addends.{Addends}
 use Rattle.model.specs.CallLaws.{add-is, subtract-is}
-use Rattle.model_sum_slices.specs.Addends.{Addends}
 
+-- ---- what is left
 module _ {n c₁ e₁ : ℕ} {ks₁ : List ℕ} {cs₁ : List ℤ} {c₂ e₂ : ℕ} {ks₂ : List ℕ} {cs₂ : List ℤ}
     (w : Addends n c₁ e₁ ks₁ cs₁ c₂ e₂ ks₂ cs₂) where
-  abbrev first : Model
-  first = held n c₁ e₁ ks₁ cs₁
+  -- the sum
+  abbrev whole : Answer
+  whole = answer (at-place 0 (add (view (held n c₁ e₁ ks₁ cs₁)) (view (held n c₂ e₂ ks₂ cs₂))))
 
-  abbrev second : Model
-  second = held n c₂ e₂ ks₂ cs₂
-
-  first-few : c₁ ≤ most-terms
-  unfolding held
-  first-few = limits most-degree first (w .operands .first) .few
-
-  pub second-few : c₂ ≤ most-terms
-  unfolding held
-  second-few = limits most-degree second (w .operands .second) .few
-
-  -- a coefficient of the second is within 64 bits
-  pub second-small : (i : ℕ) → i < c₂ → natAbs (getD cs₂ i (pos 0)) < 2 ^ 63
-  second-small = lies-small (record { vars = n; places = w .second; model = w .operands .second })
-
-  abbrev pub sum-from : Sum-from c₁ ks₁ cs₁ c₂ ks₂ cs₂
-  sum-from = record {
-    vars = n;
-    radius1 = e₁;
-    radius2 = e₂;
-    first-places = w .first;
-    second-places = w .second;
-    operands = w .operands;
-  }
-
-  -- the sum of the radii is within 64 bits
-  pub radii-fit : e₁ + e₂ < 2 ^ 64
-  unfolding held
-  radii-fit = omega (
-    arith,
-    radius-within first (w .operands .first) (places-long n c₁ e₁ ks₁ cs₁ (w .first) first-few),
-    radius-within second (w .operands .second) (places-long n c₂ e₂ ks₂ cs₂ (w .second) second-few),
-    span-fits,
-  )
-
-  -- ---- what is left
-  module _ {count : ℕ} {ks : List ℕ} {cs : List ℤ} (s : Sum-in first second n count ks cs) where
+  module _ {count : ℕ} {ks : List ℕ} {cs : List ℤ}
+      (s : Sum-in (held n c₁ e₁ ks₁ cs₁) (held n c₂ e₂ ks₂ cs₂) n count ks cs) where
     pub left-many : 64 < count → (l : Left) → l .verdict ≡ Refused TooManyTerms 0
-        → left-answer n l ks cs ≡ answer (at-place 0 (add (view first) (view second)))
+        → left-answer n l ks cs ≡ whole
     unfolding cause
     left-many h l v = left-refused n l ks cs TooManyTerms 0 v ∙ sym (s .many h)
 
@@ -96,71 +56,23 @@ module _ {n c₁ e₁ : ℕ} {ks₁ : List ℕ} {cs₁ : List ℤ} {c₂ e₂ : 
       packed = s .packed h
 
       sum-is : answer (at-place 0 (limited (view (held n count (e₁ + e₂) ks cs))))
-          ≡ answer (at-place 0 (add (view first) (view second)))
+          ≡ whole
       unfolding held
       sum-is = s .sum h
 
       pub left-over : leb (span (view (held n count (e₁ + e₂) ks cs))) span-limit ≡ false → (l : Left)
           → l .verdict ≡ Refused OverSpan 0
-          → left-answer n l ks cs ≡ answer (at-place 0 (add (view first) (view second)))
+          → left-answer n l ks cs ≡ whole
       unfolding cause
       left-over f l v = left-refused n l ks cs OverSpan 0 v ∙ sym (answer-over _ packed f) ∙ sum-is
 
       pub left-within : leb (span (view (held n count (e₁ + e₂) ks cs))) span-limit ≡ true → Clear count ks cs
           → left-answer n (record { count = count; radius = e₁ + e₂; verdict = Accepted }) ks cs
-          ≡ answer (at-place 0 (add (view first) (view second)))
+          ≡ whole
       unfolding left-answer unless-refused
       left-within f z =
           ap (λ (m : Model). record { model = m; verdict = Accepted }) (clear-struct n (e₁ + e₂) z)
           ∙ sym (answer-within _ packed f) ∙ sum-is
-
-  -- ---- the second with its signs turned into an array
-  front : (c : ℕ) (ks : List ℕ) (l r : List ℤ) → c ≤ length l → terms-of c ks (l ++ r) ≡ terms-of c ks l
-  unfolding terms-of
-  front zero ks l r h = refl
-  front (suc c) [] l r h = refl
-  front (suc c) (k ∷ ks) [] r h = absurd (omega arith)
-  front (suc c) (k ∷ ks) (z ∷ l) r h =
-      ap (λ (t : List Term). record { key = k; coefficient = z } ∷ t) (front c ks l r (omega arith))
-
-  module _ {cs₃ : List ℤ} (e : cs₃ ≡ over (turned c₂ cs₂) (replicate most-terms (pos 0))) where
-    turned-long : length (turned c₂ cs₂) ≡ c₂
-    turned-long = length-map (take c₂ cs₂) negℤ ∙ length-take-le c₂ cs₂ (w .second .coefficients)
-
-    same-held : held n c₂ e₂ ks₂ cs₃ ≡ held n c₂ e₂ ks₂ (turned c₂ cs₂)
-    unfolding held over
-    same-held = ap (λ (l : List Term). of-terms n c₂ e₂ (pad l))
-        (ap (terms-of c₂ ks₂) e ∙ front c₂ ks₂ (turned c₂ cs₂) _ (omega (arith, turned-long)))
-
-    pub negated-view : view (held n c₂ e₂ ks₂ cs₃) ≡ negate (view second)
-    negated-view = ap view same-held ∙ turned-view n c₂ e₂ ks₂ cs₂ (w .second) second-few
-
-    pub turned-addends : Addends n c₁ e₁ ks₁ cs₁ c₂ e₂ ks₂ cs₃
-    turned-addends = record {
-      first = w .first;
-      second = record {
-        keys = w .second .keys;
-        coefficients = subst (λ (l : List ℤ). c₂ ≤ length l) (sym e) long;
-      };
-      operands = record {
-        first = w .operands .first;
-        second = subst (λ (m : C.Model). T (sound most-degree m)) (sym negated-view)
-            (negated-sound most-degree (view second) (w .operands .second));
-        vars = unfold held in refl;
-      };
-    }
-      where
-        long : c₂ ≤ length (over (turned c₂ cs₂) (replicate most-terms (pos 0)))
-        long = unfold over in omega (
-          arith,
-          turned-long,
-          length-append (turned c₂ cs₂) (drop (length (turned c₂ cs₂)) (replicate most-terms (pos 0))),
-        )
-
-    pub difference-is : answer (at-place 0 (add (view first) (view (held n c₂ e₂ ks₂ cs₃))))
-        ≡ answer (at-place 0 (subtract (view first) (view second)))
-    unfolding subtract
-    difference-is = ap (λ (m : C.Model). answer (at-place 0 (add (view first) m))) negated-view
 
 -- ---- the calls
 module _ (n₁ c₁ e₁ : ℕ) (ks₁ : List ℕ) (cs₁ : List ℤ) (n₂ c₂ e₂ : ℕ) (ks₂ : List ℕ) (cs₂ : List ℤ) where

@@ -1,2 +1,1 @@
-pub mod Addends
 pub mod AddendsLaws

@@ -15,7 +15,7 @@ ghost use Rattle.model_slices.specs.HeldModels.{held};
 ghost use Rattle.model_places.specs.LeftModels.{Zeros, «left-answer»};
 ghost use Rattle.model_slice_answers.specs.StoredAnswers.{Stored};
 ghost use Rattle.model_addition.specs.Addition.{«Sum-from»};
-ghost use Rattle.model_sum_slices.specs.Addends.{Addends};
+ghost use Rattle.model_slice_results.specs.Addends.{Addends};
 use model_limits::Left;
 use model_types::Key;
 use model_types::MOST_TERMS;

@@ -2,7 +2,7 @@
 use borrow.Author.Needs.{needs}
 use Rattle.calculus.specs.Model.{most-terms}
 use Rattle.model_slice_answers.specs.StoredAnswersLaws.{stored-same}
-use Rattle.model_sum_slices.specs.AddendsLaws.{second-few, second-small, turned-addends, difference-is}
+use Rattle.model_slice_results.specs.DifferenceLaws.{second-few, second-small, turned-addends, difference-is}
 use Rattle.model_sum_slices.proofs.store_difference.Statement.{statement}
 use Rattle.model_sum_slices.proofs.store_difference.Tie as tie
 

@@ -3,7 +3,7 @@ use mathlib.Core.Path.{refl}
 use borrow.Author.Needs.{needs}
 use Rattle.calculus.specs.Model.{most-terms}
 use Rattle.model_slice_answers.specs.StoredAnswersLaws.{stored-same}
-use Rattle.model_sum_slices.specs.AddendsLaws.{sum-from, radii-fit}
+use Rattle.model_slice_results.specs.DifferenceLaws.{sum-from, radii-fit}
 use Rattle.model_sum_slices.proofs.store_sum.Statement.{statement}
 use Rattle.model_sum_slices.proofs.store_sum.Tie as tie
 

@@ -10,7 +10,8 @@ use Rattle.model_types.specs.Arrays.{padded}
 use Rattle.model_slices.specs.HandedModels.{terms-of}
 use Rattle.model_slices.specs.HeldModels.{Room, Clear}
 use Rattle.model_places.specs.LeftModelsLaws.{zeros-room}
-use Rattle.model_sum_slices.specs.AddendsLaws.{sum-from, left-many, left-over, left-within}
+use Rattle.model_slice_results.specs.DifferenceLaws.{sum-from}
+use Rattle.model_sum_slices.specs.AddendsLaws.{left-many, left-over, left-within}
 use Rattle.model_sum_slices.proofs.sum_into.Statement.{statement}
 use Rattle.model_sum_slices.proofs.sum_into.Tie as tie
 

@@ -1,0 +1,3 @@
+pub mod Addends
+pub mod DifferenceLaws
+pub mod LeftProductLaws
