@@ -248,12 +248,7 @@ pub fn quotient(d: u8, f: Model, g: Model, h: Model, w: Model) -> Answer
 {
     let v = model_call_tests::dividing(d, f, g, h, w);
     match v {
-        Verdict::Accepted => {
-            let mut slots = [0u16; product_hash_table::SLOTS];
-            let mut keys = [0u64; product_hash_table::ENTRY_PLACES];
-            let mut sums = [0i64; product_sums::PLACES];
-            model_quotient::divided(d, f, g, h, w, &mut slots, &mut keys, &mut sums)
-        }
+        Verdict::Accepted => model_quotient_room::divided_alone(d, f, g, h, w),
         Verdict::Refused(refusal, place) => model_types::refuse(refusal, place),
     }
 }
@@ -305,8 +300,8 @@ pub use product_calls::multiplied_slices_accounted;
 // sound models in the same variables and one of these. The table is scratch.
 pub use model_substitution::substituted_accounted;
 
-// The answer of `quotient`, for four sound models in the same variables of which g, h and w lie in slices. The table is
-// scratch, for the products that its forms make.
+// The answer of `quotient`, for four sound models in the same variables that lie in slices. The table is scratch, for
+// the products that its forms make.
 pub use model_quotient::divided_slices;
 
 // Any other operation's answer with the shares of its radius: all is carried.

@@ -16,11 +16,10 @@ use Rattle.model_types.specs.declared.Answer.{Answer}
 use Rattle.model_types.specs.ModelStruct.{view, answer}
 use Rattle.model_types.specs.ModelStructLaws.{limits}
 use Rattle.model_slices.specs.HandedModels.{handed}
-use Rattle.product_hash_table.specs.Table.{most-entries}
 use Rattle.model_multiplication.specs.OwnArraysLaws.{Whole, handed-own}
-use Rattle.model_proposal.specs.Proposal.{Proposal, quotient-products}
+use Rattle.model_proposal.specs.Proposal.{Proposal}
 use Rattle.model_proposal.specs.FormLaws.{bare-vars, bare-struct}
-use Rattle.model_proposal.specs.SliceFormLaws.{handed-bare, products-most}
+use Rattle.model_proposal.specs.SliceFormLaws.{handed-bare}
 
 -- ---- a proposal without its radii
 module _ (d n c3 r3 : ℕ) (ks3 : List ℕ) (cs3 : List ℤ) (c4 r4 : ℕ) (ks4 : List ℕ) (cs4 : List ℤ) where
@@ -74,12 +73,16 @@ copied-proposal {d} {f} k e s = record {
     vars : f .n ≡ k .n
     vars = unfold view in sym (ap (λ (c : C.Model). c .vars) e)
 
--- ---- structs: f, and three that lend their arrays
-module _ {d : ℕ} {f g h w : Model} (s : Proposal d f g h w) (wg : Whole g) (wh : Whole h) (ww : Whole w) where
+-- ---- structs that lend their arrays
+module _ {d : ℕ} {f g h w : Model} (s : Proposal d f g h w)
+    (wf : Whole f) (wg : Whole g) (wh : Whole h) (ww : Whole w) where
   -- one of them, taken in the variables of f
   lent : (m : Model) → Whole m → m .n ≡ f .n
       → handed (f .n) (m .count) (m .radius) (m .keys) (m .coefficients) ≡ m
   lent m whole e = ap (λ n. handed n (m .count) (m .radius) (m .keys) (m .coefficients)) (sym e) ∙ handed-own m whole
+
+  abbrev first : Model
+  first = handed (f .n) (f .count) (f .radius) (f .keys) (f .coefficients)
 
   abbrev second : Model
   second = handed (f .n) (g .count) (g .radius) (g .keys) (g .coefficients)
@@ -89,6 +92,9 @@ module _ {d : ℕ} {f g h w : Model} (s : Proposal d f g h w) (wg : Whole g) (wh
 
   abbrev fourth : Model
   fourth = handed (f .n) (w .count) (w .radius) (w .keys) (w .coefficients)
+
+  first-own : first ≡ f
+  first-own = handed-own f wf
 
   second-own : second ≡ g
   second-own = lent g wg (s .divisor-vars)
@@ -106,10 +112,11 @@ module _ {d : ℕ} {f g h w : Model} (s : Proposal d f g h w) (wg : Whole g) (wh
       (subst (λ x. Proposal d f g h x) (sym fourth-own) s))
 
   -- what they lend is a proposal
-  pub lent-proposal : Proposal d f second (handed (f .n) (h .count) 0 (h .keys) (h .coefficients))
+  pub lent-proposal : Proposal d first second (handed (f .n) (h .count) 0 (h .keys) (h .coefficients))
       (handed (f .n) (w .count) 0 (w .keys) (w .coefficients))
   lent-proposal = bare-proposal d (f .n) (h .count) (h .radius) (h .keys) (h .coefficients)
-      (w .count) (w .radius) (w .keys) (w .coefficients) whole-proposal
+      (w .count) (w .radius) (w .keys) (w .coefficients)
+      (subst (λ x. Proposal d x second third fourth) (sym first-own) whole-proposal)
 
   -- with all places that the counts name
   long : (m : Model) → Whole m → T (sound d (view m))
@@ -117,6 +124,9 @@ module _ {d : ℕ} {f g h w : Model} (s : Proposal d f g h w) (wg : Whole g) (wh
   long m whole t =
       let few = limits d m t .few in
       (omega (arith, few, whole .keys-whole), omega (arith, few, whole .coefficients-whole))
+
+  pub first-long : (f .count ≤ length (f .keys)) × (f .count ≤ length (f .coefficients))
+  first-long = long f wf (s .dividend)
 
   pub second-long : (g .count ≤ length (g .keys)) × (g .count ≤ length (g .coefficients))
   second-long = long g wg (s .divisor)
@@ -127,19 +137,14 @@ module _ {d : ℕ} {f g h w : Model} (s : Proposal d f g h w) (wg : Whole g) (wh
   pub fourth-long : (w .count ≤ length (w .keys)) × (w .count ≤ length (w .coefficients))
   fourth-long = long w ww (s .inverse)
 
-  -- whose products the full table has room for
-  pub lent-room : quotient-products (g .count) (h .count) (w .count) ≤ most-entries
-  lent-room = products-most (g .count) (h .count) (w .count) (limits d g (s .divisor) .few)
-      (limits d h (s .proposed) .few) (limits d w (s .inverse) .few)
-
   -- and its quotient is theirs
   pub lent-quotient : {r : Answer}
-      → r ≡ answer (at-place 0 (quotient d (view f) (view second)
+      → r ≡ answer (at-place 0 (quotient d (view first) (view second)
       (view (handed (f .n) (h .count) 0 (h .keys) (h .coefficients)))
       (view (handed (f .n) (w .count) 0 (w .keys) (w .coefficients)))))
       → r ≡ answer (at-place 0 (quotient d (view f) (view g) (view h) (view w)))
   lent-quotient e = e
       ∙ ap (λ a. answer (at-place 0 a)) (bare-quotient d (f .n) (h .count) (h .radius) (h .keys) (h .coefficients)
-      (w .count) (w .radius) (w .keys) (w .coefficients) (view f) (view second))
-      ∙ (λ i. answer (at-place 0 (quotient d (view f) (view (second-own i)) (view (third-own i))
+      (w .count) (w .radius) (w .keys) (w .coefficients) (view first) (view second))
+      ∙ (λ i. answer (at-place 0 (quotient d (view (first-own i)) (view (second-own i)) (view (third-own i))
       (view (fourth-own i)))))

@@ -1,3 +1,3 @@
-pub mod Certificate
-pub mod CertificateLaws
+pub mod Refusing
+pub mod QuotientFormLaws
 pub mod LentLaws

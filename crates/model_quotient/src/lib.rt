@@ -1,19 +1,19 @@
-// Quotients, checked from a proposal: its two forms bound how far the proposed quotient is off. Their products read g,
-// h and w in slices, where these lie; a struct lends its arrays.
+// Quotients, checked from a proposal: its two forms bound how far the proposed quotient is off. All models lie in
+// slices, each a count and two slices that may be longer than it; a struct lends its arrays. Of the forms, whose ranges
+// alone are asked for, only the terms are stored.
 ghost use mathlib.Core.Path.{_≡_};
-ghost use Prim.Native.Nat.{_*_, _≤_};
-ghost use lib.Dec.{T};
+ghost use Prim.Native.Nat.{_≤_};
 ghost use lib.ListN.{length};
-ghost use Rattle.numbers.specs.Fixed.{«span-limit»};
-ghost use Rattle.calculus.specs.Model.{«most-degree», sound};
 ghost use Rattle.calculus.specs.Refusal.{«at-place»};
-ghost use Rattle.calculus.specs.Operations.{«largest-value», certified, quotient};
-ghost use Rattle.model_types.specs.ModelStruct.{view, pack, answer};
+ghost use Rattle.calculus.specs.Operations.{defect, quotient};
+ghost use Rattle.model_types.specs.ModelStruct.{view, answer};
 ghost use Rattle.model_slices.specs.HandedModels.{handed};
-ghost use Rattle.product_hash_collect.specs.CollectorContracts.{«Scratch-table»};
+ghost use Rattle.model_slices.specs.HeldModels.{Room};
+ghost use Rattle.model_limits.specs.Limits.{«Left-in»};
 ghost use Rattle.product_room.specs.ProductTerms.{«Scratch-room»};
 ghost use Rattle.model_proposal.specs.Proposal.{Proposal, «quotient-products»};
-ghost use Rattle.model_quotient.specs.Certificate.{«with-radius», judged, Judged};
+ghost use Rattle.model_quotient.specs.Refusing.{Refuses};
+use model_limits::Left;
 use model_types::Answer;
 use model_types::Key;
 use model_types::MOST_TERMS;
@@ -21,87 +21,185 @@ use model_types::Model;
 use model_types::Refusal;
 use model_types::Verdict;
 
-// The largest size of the ends of a model's range: a form's beta or mu.
-fn largest_value(m: Model) -> u64
-    requires { ⌜ T (sound most-degree (view m)) ⌝ }
-    ensures { λ r. ⌜ r ≡ largest-value (view m) ⌝ }
-{
-    let ends = model_range::range_of(m);
-    let low = fixed::magnitude(ends.low);
-    let high = fixed::magnitude(ends.high);
-    if low <= high { high } else { low }
-}
-
-// The model with another radius, and zeros beyond its count.
-fn with_radius(m: Model, e: u64) -> Model
-    requires { ⌜ T (sound most-degree (view m)) ⌝ }
-    ensures { λ r. ⌜ r ≡ pack (with-radius e (view m)) ⌝ }
-{
-    let count = m.count;
-    let mut keys = m.keys;
-    let mut coefficients = m.coefficients;
-    let mut i = MOST_TERMS;
-    while count < i {
-        i -= 1;
-        keys[i] = 0;
-        coefficients[i] = 0;
-    }
-    Model {
-        n: m.n,
-        count: count,
-        radius: e,
-        keys: keys,
-        coefficients: coefficients,
-    }
-}
-
-// h with the radius that beta and mu certify. 12 when mu is U or more, then 7.
-fn certified(h: Model, beta: u64, mu: u64) -> Answer
-    requires { ⌜ T (sound most-degree (view h)) ⌝ }
-    requires { ⌜ beta ≤ span-limit ⌝ }
-    ensures { λ r. ⌜ r ≡ answer (at-place 0 (certified (view h) beta mu)) ⌝ }
-{
-    let unit = fixed::magnitude(fixed::unit());
-    if unit <= mu {
-        return model_types::refuse(Refusal::Uncertified, 0);
-    }
-    let product = beta * unit;
-    let room = unit - mu;
-    let radius = fixed::divided_up(product, room);
-    model_limits::limited(with_radius(h, radius))
-}
-
-// The second form, and what it certifies where the first one's beta is known. The table is scratch for the product.
-fn judged(
+// The first form, w × (g × h - f): its terms are left in the last two slices. The table is scratch for both products.
+fn defect(
     d: u8,
     n: u8,
+    nf: usize,
+    ef: u64,
+    kf: &[Key],
+    cf: &[i64],
+    ng: usize,
+    eg: u64,
+    kg: &[Key],
+    cg: &[i64],
+    nh: usize,
+    kh: &[Key],
+    ch: &[i64],
+    nw: usize,
+    kw: &[Key],
+    cw: &[i64],
+    slots: &mut [u16],
+    keys: &mut [u64],
+    sums: &mut [i64],
+    keysy: &mut [Key],
+    y: &mut [i64],
+) -> Left
+    requires { ⌜ Proposal d (handed n nf ef (now kf) (now cf))
+        (handed n ng eg (now kg) (now cg))
+        (handed n nh 0 (now kh) (now ch))
+        (handed n nw 0 (now kw) (now cw)) ⌝ }
+    requires { ⌜ (nf ≤ length (now kf)) × (nf ≤ length (now cf)) ⌝ }
+    requires { ⌜ (ng ≤ length (now kg)) × (ng ≤ length (now cg)) ⌝ }
+    requires { ⌜ (nh ≤ length (now kh)) × (nh ≤ length (now ch)) ⌝ }
+    requires { ⌜ (nw ≤ length (now kw)) × (nw ≤ length (now cw)) ⌝ }
+    requires { ⌜ Scratch-room (quotient-products ng nh nw) (now slots) (now keys) (now sums) ⌝ }
+    requires { ⌜ Room (now keysy) (now y) ⌝ }
+    ensures { λ r. ⌜ Left-in n r (now (keysy .exit)) (now (y .exit)) (answer (at-place 0 (defect d
+        (view (handed n nf ef (now (kf .entry)) (now (cf .entry))))
+        (view (handed n ng eg (now (kg .entry)) (now (cg .entry))))
+        (view (handed n nh 0 (now (kh .entry)) (now (ch .entry))))
+        (view (handed n nw 0 (now (kw .entry)) (now (cw .entry))))))) ⌝ }
+{
+    let mut rest: [Key; MOST_TERMS] = [0; MOST_TERMS];
+    let mut differences = [0i64; MOST_TERMS];
+    let k = model_slice_results::product(
+        d,
+        n,
+        ng,
+        eg,
+        kg,
+        cg,
+        nh,
+        0,
+        kh,
+        ch,
+        slots,
+        keys,
+        sums,
+        keysy,
+        y,
+    );
+    let v = k.verdict;
+    let Verdict::Accepted = v else {
+        return k;
+    };
+    let l = model_slice_results::difference(
+        n,
+        k.count,
+        k.radius,
+        keysy,
+        y,
+        nf,
+        ef,
+        kf,
+        cf,
+        &mut rest,
+        &mut differences,
+    );
+    let u = l.verdict;
+    let Verdict::Accepted = u else {
+        return l;
+    };
+    model_slice_results::product(
+        d,
+        n,
+        nw,
+        0,
+        kw,
+        cw,
+        l.count,
+        l.radius,
+        &rest,
+        &differences,
+        slots,
+        keys,
+        sums,
+        keysy,
+        y,
+    )
+}
+
+// The answer of a form that is refused. (An accepted verdict does not come here.)
+fn refused(v: Verdict) -> Answer
+    ensures { λ r. ⌜ Refuses v r ⌝ }
+{
+    match v {
+        Verdict::Accepted => model_types::refuse(Refusal::Uncertified, 0),
+        Verdict::Refused(refusal, place) => model_types::refuse(refusal, place),
+    }
+}
+
+// f / g at order d, checked from the proposal h, w: the polynomial of h with the radius that the two forms certify. The
+// table is scratch for all products, and need not be larger than for the most that one of them has.
+pub fn divided_slices(
+    d: u8,
+    n: u8,
+    countf: usize,
+    radiusf: u64,
+    keysf: &[Key],
+    coefficientsf: &[i64],
     countg: usize,
     radiusg: u64,
     keysg: &[Key],
     coefficientsg: &[i64],
-    countw: usize,
-    keysw: &[Key],
-    coefficientsw: &[i64],
     counth: usize,
     keysh: &[Key],
     coefficientsh: &[i64],
-    beta: u64,
+    countw: usize,
+    keysw: &[Key],
+    coefficientsw: &[i64],
     slots: &mut [u16],
     keys: &mut [u64],
     sums: &mut [i64],
 ) -> Answer
-    requires { ⌜ Judged d (handed n countg radiusg (now keysg) (now coefficientsg))
+    requires { ⌜ Proposal d (handed n countf radiusf (now keysf) (now coefficientsf))
+        (handed n countg radiusg (now keysg) (now coefficientsg))
         (handed n counth 0 (now keysh) (now coefficientsh))
-        (handed n countw 0 (now keysw) (now coefficientsw)) beta ⌝ }
-    requires { ⌜ (countw ≤ length (now keysw)) × (countw ≤ length (now coefficientsw)) ⌝ }
+        (handed n countw 0 (now keysw) (now coefficientsw)) ⌝ }
+    requires { ⌜ (countf ≤ length (now keysf)) × (countf ≤ length (now coefficientsf)) ⌝ }
     requires { ⌜ (countg ≤ length (now keysg)) × (countg ≤ length (now coefficientsg)) ⌝ }
-    requires { ⌜ Scratch-room (countw * countg) (now slots) (now keys) (now sums) ⌝ }
-    ensures { λ r. ⌜ r ≡ answer (at-place 0 (judged d
+    requires { ⌜ (counth ≤ length (now keysh)) × (counth ≤ length (now coefficientsh)) ⌝ }
+    requires { ⌜ (countw ≤ length (now keysw)) × (countw ≤ length (now coefficientsw)) ⌝ }
+    requires { ⌜ Scratch-room (quotient-products countg counth countw) (now slots) (now keys) (now sums) ⌝ }
+    ensures { λ r. ⌜ r ≡ answer (at-place 0 (quotient d
+        (view (handed n countf radiusf (now (keysf .entry)) (now (coefficientsf .entry))))
         (view (handed n countg radiusg (now (keysg .entry)) (now (coefficientsg .entry))))
         (view (handed n counth 0 (now (keysh .entry)) (now (coefficientsh .entry))))
-        (view (handed n countw 0 (now (keysw .entry)) (now (coefficientsw .entry)))) beta)) ⌝ }
+        (view (handed n countw 0 (now (keysw .entry)) (now (coefficientsw .entry)))))) ⌝ }
 {
-    let form = model_proposal::deviation(
+    let mut keysy: [Key; MOST_TERMS] = [0; MOST_TERMS];
+    let mut y = [0i64; MOST_TERMS];
+    let first = defect(
+        d,
+        n,
+        countf,
+        radiusf,
+        keysf,
+        coefficientsf,
+        countg,
+        radiusg,
+        keysg,
+        coefficientsg,
+        counth,
+        keysh,
+        coefficientsh,
+        countw,
+        keysw,
+        coefficientsw,
+        slots,
+        keys,
+        sums,
+        &mut keysy,
+        &mut y,
+    );
+    let v = first.verdict;
+    let Verdict::Accepted = v else {
+        return refused(v);
+    };
+    let mut keysz: [Key; MOST_TERMS] = [0; MOST_TERMS];
+    let mut z = [0i64; MOST_TERMS];
+    let second = model_proposal::deviation(
         d,
         n,
         countw,
@@ -114,104 +212,31 @@ fn judged(
         slots,
         keys,
         sums,
+        &mut keysz,
+        &mut z,
     );
-    let v = form.verdict;
-    let Verdict::Accepted = v else {
-        return form;
-    };
-    let mu = largest_value(form.model);
-    let h = model_slices::taken(n, counth, 0, keysh, coefficientsh);
-    let quotient = certified(h, beta, mu);
-    quotient
-}
-
-// f / g at order d, checked from the proposal h, w: the polynomial of h with the radius that the two forms certify. The
-// table is scratch for all products, and need not be larger than for the most that one of them has.
-pub fn divided_slices(
-    d: u8,
-    f: Model,
-    countg: usize,
-    radiusg: u64,
-    keysg: &[Key],
-    coefficientsg: &[i64],
-    counth: usize,
-    keysh: &[Key],
-    coefficientsh: &[i64],
-    countw: usize,
-    keysw: &[Key],
-    coefficientsw: &[i64],
-    slots: &mut [u16],
-    keys: &mut [u64],
-    sums: &mut [i64],
-) -> Answer
-    requires { ⌜ Proposal d f (handed (f .n) countg radiusg (now keysg) (now coefficientsg))
-        (handed (f .n) counth 0 (now keysh) (now coefficientsh))
-        (handed (f .n) countw 0 (now keysw) (now coefficientsw)) ⌝ }
-    requires { ⌜ (countg ≤ length (now keysg)) × (countg ≤ length (now coefficientsg)) ⌝ }
-    requires { ⌜ (counth ≤ length (now keysh)) × (counth ≤ length (now coefficientsh)) ⌝ }
-    requires { ⌜ (countw ≤ length (now keysw)) × (countw ≤ length (now coefficientsw)) ⌝ }
-    requires { ⌜ Scratch-room (quotient-products countg counth countw) (now slots) (now keys) (now sums) ⌝ }
-    ensures { λ r. ⌜ r ≡ answer (at-place 0 (quotient d (view f)
-        (view (handed (f .n) countg radiusg (now (keysg .entry)) (now (coefficientsg .entry))))
-        (view (handed (f .n) counth 0 (now (keysh .entry)) (now (coefficientsh .entry))))
-        (view (handed (f .n) countw 0 (now (keysw .entry)) (now (coefficientsw .entry)))))) ⌝ }
-{
-    let difference = model_proposal::gap(
-        d,
-        f,
-        countg,
-        radiusg,
-        keysg,
-        coefficientsg,
-        counth,
-        keysh,
-        coefficientsh,
-        slots,
-        keys,
-        sums,
-    );
-    let v = difference.verdict;
-    let Verdict::Accepted = v else {
-        return difference;
-    };
-    let form = model_proposal::times(
-        d,
-        f.n,
-        countw,
-        keysw,
-        coefficientsw,
-        difference.model,
-        slots,
-        keys,
-        sums,
-    );
-    let u = form.verdict;
+    let u = second.verdict;
     let Verdict::Accepted = u else {
-        return form;
+        return refused(u);
     };
-    let beta = largest_value(form.model);
-    judged(
-        d,
-        f.n,
-        countg,
-        radiusg,
-        keysg,
-        coefficientsg,
-        countw,
-        keysw,
-        coefficientsw,
+    model_certificate::judged(
+        n,
         counth,
         keysh,
         coefficientsh,
-        beta,
-        slots,
-        keys,
-        sums,
+        first.count,
+        first.radius,
+        &keysy,
+        &y,
+        second.count,
+        second.radius,
+        &keysz,
+        &z,
     )
 }
 
-// The same of structs, which lend their arrays, with a table for any product. (Keys are copied before: `&` of two
-// fields of one struct is not covered by the borrow checker where the callee takes them at two lifetimes.)
+// The same of structs, which lend their arrays. (Keys are copied before: `&` of two fields of one struct is not covered
+// by the borrow checker where the callee takes them at two lifetimes.)
 pub fn divided(
     d: u8,
     f: Model,
@@ -223,15 +248,21 @@ pub fn divided(
     sums: &mut [i64],
 ) -> Answer
     requires { ⌜ Proposal d f g h w ⌝ }
-    requires { ⌜ Scratch-table (now slots) (now keys) (now sums) ⌝ }
+    requires { ⌜ Scratch-room (quotient-products (g .count) (h .count) (w .count)) (now slots) (now keys)
+        (now sums) ⌝ }
     ensures { λ r. ⌜ r ≡ answer (at-place 0 (quotient d (view f) (view g) (view h) (view w))) ⌝ }
 {
+    let keysf = f.keys;
     let keysg = g.keys;
     let keysh = h.keys;
     let keysw = w.keys;
     divided_slices(
         d,
-        f,
+        f.n,
+        f.count,
+        f.radius,
+        &keysf,
+        &f.coefficients,
         g.count,
         g.radius,
         &keysg,

@@ -113,7 +113,7 @@ fn product_step(
     sheet_results::settled(c, i, keys, coefficients, counts, radii, rows)
 }
 
-// The quotient of four results: the first is copied, the others are read where they stand.
+// The quotient of four results, straight from the slices that they stand in.
 fn quotient(
     n: u8,
     d: u8,
@@ -135,17 +135,23 @@ fn quotient(
     ensures { λ r. ⌜ r ≡ answer (quotient-at n d a b v last (results (now (keys .entry))
         (now (coefficients .entry)) (now (counts .entry)) (now (radii .entry)))) ⌝ }
 {
+    let fromf = model_types::MOST_TERMS * a;
     let fromg = model_types::MOST_TERMS * b;
     let fromh = model_types::MOST_TERMS * v;
     let fromw = model_types::MOST_TERMS * last;
+    let countf = counts[a];
     let countg = counts[b];
     let counth = counts[v];
     let countw = counts[last];
+    let radiusf = radii[a];
     let radiusg = radii[b];
-    let f = sheet_results::result(n, a, keys, coefficients, counts, radii);
     model::divided_slices(
         d,
-        f,
+        n,
+        countf,
+        radiusf,
+        &keys[fromf..],
+        &coefficients[fromf..],
         countg,
         radiusg,
         &keys[fromg..],

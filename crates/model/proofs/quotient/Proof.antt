@@ -25,31 +25,20 @@ dividing-requires c κs = search needs
 enum-told : tie.Need-enum-told
 enum-told c = search needs
 
-slice-aggregate-divided : tie.Need-slice-aggregate-divided
-slice-aggregate-divided c = search needs
-
-slice-aggregate-divided-2 : tie.Need-slice-aggregate-divided-2
-slice-aggregate-divided-2 c = search needs
-
-slice-aggregate-divided-3 : tie.Need-slice-aggregate-divided-3
-slice-aggregate-divided-3 c = search needs
-
-divided-requires : tie.Need-divided-requires
+divided-alone-requires : tie.Need-divided-alone-requires
 unfolding view
-divided-requires c κs =
-    let p = dividing-passed _ _ _ _ _ (passed (c .before .before .before)) in (
-      record {
-        order = p .order;
-        dividend = p .first;
-        divisor = p .second;
-        proposed = p .third;
-        inverse = p .fourth;
-        divisor-vars = sym (p .second-vars);
-        proposed-vars = sym (p .third-vars);
-        inverse-vars = sym (p .fourth-vars);
-      },
-      record { slots-room = search needs; keys-room = search needs; sums-room = search needs },
-    )
+divided-alone-requires c κs =
+    let p = dividing-passed _ _ _ _ _ (passed c) in
+    record {
+      order = p .order;
+      dividend = p .first;
+      divisor = p .second;
+      proposed = p .third;
+      inverse = p .fourth;
+      divisor-vars = sym (p .second-vars);
+      proposed-vars = sym (p .third-vars);
+      inverse-vars = sym (p .fourth-vars);
+    }
 
 enum-known-v : tie.Need-enum-known-v
 enum-known-v c = search needs
@@ -59,9 +48,8 @@ refuse-requires c κs = search needs
 
 returns : tie.Need-returns
 returns c =
-    let g = c .before .before .before in
-    g .divided .ensures
-    ∙ ap answer (sym (quotient-is _ _ _ _ _ ∙ goes-on _ _ (passed (g .before .before .before .before))))
+    c .divided-alone .ensures
+    ∙ ap answer (sym (quotient-is _ _ _ _ _ ∙ goes-on _ _ (passed (c .before))))
 
 returns-2 : tie.Need-returns-2
 returns-2 c =
@@ -75,10 +63,7 @@ quotient-spec =
     (tie.spec
     dividing-requires
     enum-told
-    slice-aggregate-divided
-    slice-aggregate-divided-2
-    slice-aggregate-divided-3
-    divided-requires
+    divided-alone-requires
     enum-known-v
     refuse-requires
     returns

@@ -1,16 +1,19 @@
--- `divided` lends the arrays of three structs.
+-- `divided` lends the arrays of four structs.
 use mathlib.Core.Path.{sym}
 use borrow.Author.Needs.{needs}
 use Rattle.calculus.specs.Model.{most-terms}
 use Rattle.model_multiplication.specs.OwnArraysLaws.{Whole}
-use Rattle.product_room.specs.ProductTermsLaws.{scratch-room}
-use Rattle.model_quotient.specs.LentLaws.{lent-proposal, second-long, third-long, fourth-long, lent-room}
+use Rattle.model_quotient.specs.LentLaws.{lent-proposal, first-long, second-long, third-long, fourth-long}
 use Rattle.model_quotient.specs.LentLaws.{lent-quotient}
 use Rattle.model_quotient.proofs.divided.Statement.{statement}
 use Rattle.model_quotient.proofs.divided.Tie as tie
 
--- ---- the arrays of g, h and w have all places
+-- ---- the arrays of f, g, h and w have all places
 module _ (s : tie.Start) where
+  first-whole : Whole (s .args .t2)
+  unfolding most-terms
+  first-whole = record { keys-whole = search needs; coefficients-whole = search needs }
+
   second-whole : Whole (s .args .t3)
   unfolding most-terms
   second-whole = record { keys-whole = search needs; coefficients-whole = search needs }
@@ -24,29 +27,39 @@ module _ (s : tie.Start) where
   fourth-whole = record { keys-whole = search needs; coefficients-whole = search needs }
 
 slice-aggregate-divided-slices : tie.Need-slice-aggregate-divided-slices
-slice-aggregate-divided-slices c = search needs
+unfolding most-terms
+slice-aggregate-divided-slices c = sym (first-whole (c .before .before .before .before .before .before .before)
+    .keys-whole)
 
 slice-aggregate-divided-slices-2 : tie.Need-slice-aggregate-divided-slices-2
 unfolding most-terms
-slice-aggregate-divided-slices-2 c = sym (third-whole (c .before .before .before .before .before .before .before
-    .before .before .before) .keys-whole)
+slice-aggregate-divided-slices-2 c = sym (second-whole (c .before .before .before .before .before .before .before
+    .before .before .before .before) .keys-whole)
 
 slice-aggregate-divided-slices-3 : tie.Need-slice-aggregate-divided-slices-3
 unfolding most-terms
-slice-aggregate-divided-slices-3 c = sym (fourth-whole (c .before .before .before .before .before .before .before
-    .before .before .before .before .before .before .before) .keys-whole)
+slice-aggregate-divided-slices-3 c = sym (third-whole (c .before .before .before .before .before .before .before
+    .before .before .before .before .before .before .before .before) .keys-whole)
+
+slice-aggregate-divided-slices-4 : tie.Need-slice-aggregate-divided-slices-4
+unfolding most-terms
+slice-aggregate-divided-slices-4 c = sym (fourth-whole (c .before .before .before .before .before .before .before
+    .before .before .before .before .before .before .before .before .before .before .before .before) .keys-whole)
 
 divided-slices-requires : tie.Need-divided-slices-requires
 divided-slices-requires c κs =
     let s = c .before .before .before .before .before .before .before .before .before .before .before .before
-    .before .before .before .before .before .before .before .before in
+    .before .before .before .before .before .before .before .before .before .before .before .before .before in
     let q = s .pre .0 in
+    let f = first-whole s in
     let g = second-whole s in
     let h = third-whole s in
-    let w = fourth-whole s in
-    let room = scratch-room (s .pre .1) (lent-room q g h w) in (
-      lent-proposal q g h w,
-      (second-long q g h w, (third-long q g h w, (fourth-long q g h w, room))),
+    let w = fourth-whole s in (
+      lent-proposal q f g h w,
+      (
+        first-long q f g h w,
+        (second-long q f g h w, (third-long q f g h w, (fourth-long q f g h w, s .pre .1))),
+      ),
     )
 
 same-length : tie.Need-same-length
@@ -61,9 +74,11 @@ same-length-3 c = search needs
 returns : tie.Need-returns
 returns c =
     let m = c .before .before .before .before .before in
-    let s = m .before .before .before .before .before .before .before .before .before .before .before .before
-    .before .before .before .before .before .before .before .before .before in
-    lent-quotient (s .pre .0) (second-whole s) (third-whole s) (fourth-whole s) (m .divided-slices .ensures)
+    let s = c .before .before .before .before .before .before .before .before .before .before .before .before
+    .before .before .before .before .before .before .before .before .before .before .before .before .before
+    .before .before .before .before .before .before in
+    lent-quotient (s .pre .0) (first-whole s) (second-whole s) (third-whole s) (fourth-whole s)
+    (m .divided-slices .ensures)
 
 pub divided-spec : {M : Type 1} → statement M
 divided-spec =
@@ -72,6 +87,7 @@ divided-spec =
     slice-aggregate-divided-slices
     slice-aggregate-divided-slices-2
     slice-aggregate-divided-slices-3
+    slice-aggregate-divided-slices-4
     divided-slices-requires
     same-length
     same-length-2

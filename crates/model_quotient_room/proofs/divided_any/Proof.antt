@@ -1,0 +1,38 @@
+-- `divided_any` has a table with room for any number of products.
+use borrow.Author.Needs.{needs}
+use lib.Dec.{lit≤}
+use Rattle.product_room.specs.ProductTermsLaws.{fewer-room}
+use Rattle.model_quotient_room.specs.QuotientTableLaws.{products-any}
+use Rattle.product_hash_table.specs.Table.{most-entries}
+use Rattle.model_quotient_room.proofs.divided_any.Statement.{statement}
+use Rattle.model_quotient_room.proofs.divided_any.Tie as tie
+
+slice-aggregate-divided : tie.Need-slice-aggregate-divided
+slice-aggregate-divided c = search needs
+
+slice-aggregate-divided-2 : tie.Need-slice-aggregate-divided-2
+slice-aggregate-divided-2 c = search needs
+
+slice-aggregate-divided-3 : tie.Need-slice-aggregate-divided-3
+slice-aggregate-divided-3 c = search needs
+
+divided-requires : tie.Need-divided-requires
+divided-requires c κs =
+    let s = c .before .before .before in (
+      s .pre,
+      fewer-room {products = most-entries} (record { slots-room = lit≤ tt; keys-room = lit≤ tt; sums-room = lit≤ tt })
+          (products-any (s .pre)),
+    )
+
+returns : tie.Need-returns
+returns c = c .before .before .before .divided .ensures
+
+pub divided-any-spec : {M : Type 1} → statement M
+divided-any-spec =
+    tie.close
+    (tie.spec
+    slice-aggregate-divided
+    slice-aggregate-divided-2
+    slice-aggregate-divided-3
+    divided-requires
+    returns)

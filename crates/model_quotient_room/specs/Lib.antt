@@ -1,0 +1,2 @@
+pub mod QuotientTables
+pub mod QuotientTableLaws
