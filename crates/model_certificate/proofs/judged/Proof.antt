@@ -1,5 +1,5 @@
 -- `judged` takes beta from the first form and mu from the second.
-use mathlib.Core.Path.{sym, _∙_, ap₂, subst}
+use mathlib.Core.Path.{_≡_, sym, _∙_, ap₂, subst}
 use Prim.Native.Nat.{_≤_}
 use borrow.Author.Needs.{needs}
 use Rattle.numbers.specs.Fixed.{span-limit}
@@ -29,10 +29,11 @@ certified-requires c κs =
 returns : tie.Need-returns
 returns c v w =
     let s = c .before .before .before .before .before .before in
-    c .certified .ensures
-    ∙ ap₂ (λ beta mu. answer (at-place 0 (certified (view (handed (s .args .n) (s .args .count) 0 (s .args .keys .now)
-    (s .args .coefficients .now))) beta mu)))
-    (c .before .before .largest-value .ensures v) (c .before .largest-value2 .ensures w)
+    let h = view (handed (s .args .n) (s .args .count) 0 (s .args .keys .now) (s .args .coefficients .now)) in
+    let both : c .certified .result ≡ answer (at-place 0 (certified h (c .before .before .largest-value .result)
+    (c .before .largest-value2 .result))) = c .certified .ensures in
+    both ∙ ap₂ (λ beta mu. answer (at-place 0 (certified h beta mu))) (c .before .before .largest-value .ensures v)
+    (c .before .largest-value2 .ensures w)
 
 pub judged-spec : {M : Type 1} → statement M
 judged-spec =
