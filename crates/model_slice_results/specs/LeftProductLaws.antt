@@ -13,7 +13,7 @@ use Rattle.model_types.specs.SharesStruct.{accounted}
 use Rattle.model_types.specs.SharesStructLaws.{accounted-answer}
 use Rattle.model_slices.specs.declared.Kept.{Kept}
 use Rattle.model_limits.specs.Limits.{Left-in}
-use Rattle.model_horner_iteration.specs.HornerIteration.{Kept-in}
+use Rattle.model_horner_product.specs.HornerProduct.{Kept-in}
 
 pub kept-left : {n : ℕ} {k : Kept} {ks : List ℕ} {cs : List ℤ} (a : R.Answer C.Model) (f : C.Model → S.Shares)
     → Kept-in n k ks cs (accounted a f)

@@ -5,7 +5,7 @@ use borrow.Author.Needs.{needs}
 use lib.Dec.{lit≤}
 use Rattle.calculus.specs.Model.{most-terms}
 use Rattle.model_types.specs.declared.Verdict.the-variants.{Accepted}
-use Rattle.model_horner_iteration.specs.SliceProductLaws.{product-stops, product-stored}
+use Rattle.model_horner_product.specs.SliceProductLaws.{product-stops, product-stored}
 use Rattle.model_slice_results.specs.LeftProductLaws.{kept-left}
 use Rattle.model_slice_results.proofs.product.Statement.{statement}
 use Rattle.model_slice_results.proofs.product.Tie as tie
