@@ -248,7 +248,16 @@ pub fn quotient(d: u8, f: Model, g: Model, h: Model, w: Model) -> Answer
 {
     let v = model_call_tests::dividing(d, f, g, h, w);
     match v {
-        Verdict::Accepted => model_quotient_room::divided_alone(d, f, g, h, w),
+        Verdict::Accepted => {
+            let products = model_quotient_room::most_products(g.count, h.count, w.count);
+            if products <= model_quotient_room::FEW_PRODUCTS {
+                return model_quotient_room::divided_few(d, f, g, h, w);
+            }
+            if products <= model_quotient_room::SOME_PRODUCTS {
+                return model_quotient_room::divided_some(d, f, g, h, w);
+            }
+            model_quotient_room::divided_any(d, f, g, h, w)
+        }
         Verdict::Refused(refusal, place) => model_types::refuse(refusal, place),
     }
 }

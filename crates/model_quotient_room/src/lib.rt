@@ -1,6 +1,6 @@
 // Quotients of structs with a table of their own. A table is filled with zeros where it is declared, which takes longer
 // for the full one than a quotient of few terms. So its size goes by the most products that one of the forms can have,
-// and each size has a function.
+// and each size has a function; the call chooses, since a chooser between would copy the four structs once more.
 ghost use mathlib.Core.Path.{_≡_};
 ghost use Prim.Native.Nat.{_≤_};
 ghost use Rattle.calculus.specs.Model.{«most-terms»};
@@ -14,10 +14,10 @@ use model_types::MOST_TERMS;
 use model_types::Model;
 
 // The products that the smallest table has room for: w has up to four terms.
-const FEW_PRODUCTS: usize = 256;
+pub const FEW_PRODUCTS: usize = 256;
 
 // Those that the next one has room for: w has up to sixteen.
-const SOME_PRODUCTS: usize = 1024;
+pub const SOME_PRODUCTS: usize = 1024;
 
 // Places for a grid, which serves more products than a table does: two models with all monomials of degree up to 3 in
 // four variables multiply in one of 7 × 7 × 7 × 7.
@@ -25,7 +25,7 @@ const GRID_PLACES: usize = 2401;
 
 // The most products that one of the forms can have, by the terms of g, h and w: the difference in the first has up to
 // 64.
-fn most_products(g: usize, h: usize, w: usize) -> usize
+pub fn most_products(g: usize, h: usize, w: usize) -> usize
     requires { ⌜ (g ≤ most-terms) × (h ≤ most-terms) × (w ≤ most-terms) ⌝ }
     ensures { λ r. ⌜ r ≡ quotient-products g h w ⌝ }
 {
@@ -38,7 +38,7 @@ fn most_products(g: usize, h: usize, w: usize) -> usize
 }
 
 // With few products.
-fn divided_few(d: u8, f: Model, g: Model, h: Model, w: Model) -> Answer
+pub fn divided_few(d: u8, f: Model, g: Model, h: Model, w: Model) -> Answer
     requires { ⌜ Proposal d f g h w ⌝ }
     requires { ⌜ quotient-products (g .count) (h .count) (w .count) ≤ few-products ⌝ }
     ensures { λ r. ⌜ r ≡ answer (at-place 0 (quotient d (view f) (view g) (view h) (view w))) ⌝ }
@@ -50,7 +50,7 @@ fn divided_few(d: u8, f: Model, g: Model, h: Model, w: Model) -> Answer
 }
 
 // With more, which may be faster in a grid.
-fn divided_some(d: u8, f: Model, g: Model, h: Model, w: Model) -> Answer
+pub fn divided_some(d: u8, f: Model, g: Model, h: Model, w: Model) -> Answer
     requires { ⌜ Proposal d f g h w ⌝ }
     requires { ⌜ quotient-products (g .count) (h .count) (w .count) ≤ some-products ⌝ }
     ensures { λ r. ⌜ r ≡ answer (at-place 0 (quotient d (view f) (view g) (view h) (view w))) ⌝ }
@@ -62,7 +62,7 @@ fn divided_some(d: u8, f: Model, g: Model, h: Model, w: Model) -> Answer
 }
 
 // With any number.
-fn divided_any(d: u8, f: Model, g: Model, h: Model, w: Model) -> Answer
+pub fn divided_any(d: u8, f: Model, g: Model, h: Model, w: Model) -> Answer
     requires { ⌜ Proposal d f g h w ⌝ }
     ensures { λ r. ⌜ r ≡ answer (at-place 0 (quotient d (view f) (view g) (view h) (view w))) ⌝ }
 {
@@ -70,19 +70,4 @@ fn divided_any(d: u8, f: Model, g: Model, h: Model, w: Model) -> Answer
     let mut keys = [0u64; product_hash_table::ENTRY_PLACES];
     let mut sums = [0i64; product_sums::PLACES];
     model_quotient::divided(d, f, g, h, w, &mut slots, &mut keys, &mut sums)
-}
-
-// f / g at order d, checked from the proposal h, w.
-pub fn divided_alone(d: u8, f: Model, g: Model, h: Model, w: Model) -> Answer
-    requires { ⌜ Proposal d f g h w ⌝ }
-    ensures { λ r. ⌜ r ≡ answer (at-place 0 (quotient d (view f) (view g) (view h) (view w))) ⌝ }
-{
-    let products = most_products(g.count, h.count, w.count);
-    if products <= FEW_PRODUCTS {
-        return divided_few(d, f, g, h, w);
-    }
-    if products <= SOME_PRODUCTS {
-        return divided_some(d, f, g, h, w);
-    }
-    divided_any(d, f, g, h, w)
 }
