@@ -8,9 +8,9 @@ ghost use Rattle.product_room.specs.ProductTerms.{«Kept-room»};
 use product_grid_index::Sides;
 use product_sums::Gathered;
 
-// The terms that order d keeps of the products of each of the first na terms with each of the first nb, rising, with
-// the two shares of what it loses.
-pub fn kept_alone(
+// What is kept of products that are summed, in a grid or in a table. (A function of its own, so that the compiler puts
+// the arrays of all sizes into one frame, and not one upon another.)
+fn summed_alone(
     d: u64,
     ka: &[u64],
     ca: &[i64],
@@ -26,12 +26,6 @@ pub fn kept_alone(
     ensures { λ r. ⌜ Product-gathered d na (now (ka .entry)) (now (ca .entry))
         nb (now (kb .entry)) (now (cb .entry)) (now (kept .exit)) (now (coefficients .exit)) r ⌝ }
 {
-    if na == 1 {
-        return product_rising::one_times(d, ka, ca, kb, cb, nb, kept, coefficients);
-    }
-    if nb == 1 {
-        return product_rising::one_times(d, kb, cb, ka, ca, na, kept, coefficients);
-    }
     let products = na * nb;
     if products <= product_own_room::FEWEST_PRODUCTS {
         return product_own_room::in_smallest_table(d, ka, ca, na, kb, cb, nb, kept, coefficients);
@@ -62,4 +56,31 @@ pub fn kept_alone(
         return product_own_room::in_half_table(d, ka, ca, na, kb, cb, nb, kept, coefficients);
     }
     product_own_room::in_large_table(d, ka, ca, na, kb, cb, nb, kept, coefficients)
+}
+
+// The terms that order d keeps of the products of each of the first na terms with each of the first nb, rising, with
+// the two shares of what it loses.
+pub fn kept_alone(
+    d: u64,
+    ka: &[u64],
+    ca: &[i64],
+    na: usize,
+    kb: &[u64],
+    cb: &[i64],
+    nb: usize,
+    kept: &mut [u64],
+    coefficients: &mut [i64],
+) -> Gathered
+    requires { ⌜ Held-factors (now ka) (now ca) na (now kb) (now cb) nb ⌝ }
+    requires { ⌜ Kept-room (now kept) (now coefficients) ⌝ }
+    ensures { λ r. ⌜ Product-gathered d na (now (ka .entry)) (now (ca .entry))
+        nb (now (kb .entry)) (now (cb .entry)) (now (kept .exit)) (now (coefficients .exit)) r ⌝ }
+{
+    if na == 1 {
+        return product_rising::one_times(d, ka, ca, kb, cb, nb, kept, coefficients);
+    }
+    if nb == 1 {
+        return product_rising::one_times(d, kb, cb, ka, ca, na, kept, coefficients);
+    }
+    summed_alone(d, ka, ca, na, kb, cb, nb, kept, coefficients)
 }

@@ -1,21 +1,13 @@
--- `kept_alone` chooses between one pass, a grid and a table, each large enough.
+-- `kept_alone` chooses between one pass and sums.
 use native.Mathlib.Omega.{arith}
 use borrow.Author.Needs.{needs}
-use Rattle.product_room.specs.ProductTermsLaws.{first-one, second-one, none-kept, products-few}
+use Rattle.product_room.specs.ProductTermsLaws.{first-one, second-one, none-kept}
 use Rattle.product_rising.specs.OneTermLaws.{turned-gathered}
 use Rattle.product_terms.proofs.kept_alone.Statement.{statement}
 use Rattle.product_terms.proofs.kept_alone.Tie as tie
 use Rattle.product_terms.proofs.kept_alone.Reads as reads
 use Rattle.product_terms.proofs.kept_alone.Lts as lts
 use Rattle.product_rising.proofs.one_times.Reads as one-times-reads
-use Rattle.product_strategy.proofs.grid_for.Reads as grid-for-reads
-use Rattle.product_strategy.proofs.in_grid.Reads as in-grid-reads
-use Rattle.product_own_room.proofs.in_half_table.Reads as in-half-table-reads
-use Rattle.product_own_room.proofs.in_large_grid.Reads as in-large-grid-reads
-use Rattle.product_own_room.proofs.in_large_table.Reads as in-large-table-reads
-use Rattle.product_own_room.proofs.in_small_grid.Reads as in-small-grid-reads
-use Rattle.product_own_room.proofs.in_small_table.Reads as in-small-table-reads
-use Rattle.product_own_room.proofs.in_smallest_table.Reads as in-smallest-table-reads
 
 -- where the first or the second factor is one term
 one-times-requires : tie.Need-one-times-requires
@@ -54,14 +46,8 @@ returns-2 c =
     let s = t .before .before .before .before .before in
     rw (t .if2 .taken) (turned-gathered (second-one (s .pre .0) (t .if2 .taken)) (o .one-times2 .ensures))
 
-mul-products : tie.Need-mul-products
-mul-products c = let p = products-few (c .before .before .before .before .before .pre .0) in search needs
-
-in-smallest-table-requires : tie.Need-in-smallest-table-requires
-in-smallest-table-requires c κs =
-    let t = c .before .before in
-    let s = t .before .before .before .before .before .before in
-    (s .pre .0, (omega (arith, t .if3 .taken), s .pre .1))
+summed-alone-requires : tie.Need-summed-alone-requires
+summed-alone-requires c κs = search needs
 
 same-length-5 : tie.Need-same-length-5
 same-length-5 c = search needs
@@ -71,86 +57,6 @@ same-length-6 c = search needs
 
 returns-3 : tie.Need-returns-3
 returns-3 c = search needs
-
-in-small-table-requires : tie.Need-in-small-table-requires
-in-small-table-requires c κs =
-    let t = c .before .before in
-    let s = t .before .before .before .before .before .before .before in
-    (s .pre .0, (omega (arith, t .if4 .taken), s .pre .1))
-
-same-length-7 : tie.Need-same-length-7
-same-length-7 c = search needs
-
-same-length-8 : tie.Need-same-length-8
-same-length-8 c = search needs
-
-returns-4 : tie.Need-returns-4
-returns-4 c = search needs
-
-grid-for-requires : tie.Need-grid-for-requires
-grid-for-requires c κs = search needs
-
-in-grid-requires : tie.Need-in-grid-requires
-in-grid-requires c κs = products-few (c .before .before .before .before .before .before .before .before .pre .0)
-
-in-small-grid-requires : tie.Need-in-small-grid-requires
-in-small-grid-requires c κs =
-    let k = c .before .before .before .before .before .before in
-    let s = k .before .before .before .before .before .before .before .before in
-    (s .pre .0, (k .grid-for .ensures, (omega (arith, c .before .before .if6 .taken), s .pre .1)))
-
-same-length-9 : tie.Need-same-length-9
-same-length-9 c = search needs
-
-same-length-10 : tie.Need-same-length-10
-same-length-10 c = search needs
-
-returns-5 : tie.Need-returns-5
-returns-5 c = search needs
-
-in-large-grid-requires : tie.Need-in-large-grid-requires
-in-large-grid-requires c κs =
-    let k = c .before .before .before .before .before .before in
-    let s = k .before .before .before .before .before .before .before .before in
-    let t = c .before .before .before .before in
-    let fits = t .before .in-grid .ensures (t .if5 .taken) in
-    (s .pre .0, (k .grid-for .ensures, (omega (arith, fits .1), s .pre .1)))
-
-same-length-11 : tie.Need-same-length-11
-same-length-11 c = search needs
-
-same-length-12 : tie.Need-same-length-12
-same-length-12 c = search needs
-
-returns-6 : tie.Need-returns-6
-returns-6 c = search needs
-
-in-half-table-requires : tie.Need-in-half-table-requires
-in-half-table-requires c κs =
-    let t = c .before .before in
-    let s = t .before .before .before .before .before .before .before .before .before .before .before in
-    (s .pre .0, (omega (arith, t .if7 .taken), s .pre .1))
-
-same-length-13 : tie.Need-same-length-13
-same-length-13 c = search needs
-
-same-length-14 : tie.Need-same-length-14
-same-length-14 c = search needs
-
-returns-7 : tie.Need-returns-7
-returns-7 c = search needs
-
-in-large-table-requires : tie.Need-in-large-table-requires
-in-large-table-requires c κs = search needs
-
-same-length-15 : tie.Need-same-length-15
-same-length-15 c = search needs
-
-same-length-16 : tie.Need-same-length-16
-same-length-16 c = search needs
-
-returns-8 : tie.Need-returns-8
-returns-8 c = search needs
 
 pub kept-alone-spec : {M : Type 1} → statement M
 kept-alone-spec =
@@ -164,30 +70,7 @@ kept-alone-spec =
     same-length-3
     same-length-4
     returns-2
-    mul-products
-    in-smallest-table-requires
+    summed-alone-requires
     same-length-5
     same-length-6
-    returns-3
-    in-small-table-requires
-    same-length-7
-    same-length-8
-    returns-4
-    grid-for-requires
-    in-grid-requires
-    in-small-grid-requires
-    same-length-9
-    same-length-10
-    returns-5
-    in-large-grid-requires
-    same-length-11
-    same-length-12
-    returns-6
-    in-half-table-requires
-    same-length-13
-    same-length-14
-    returns-7
-    in-large-table-requires
-    same-length-15
-    same-length-16
-    returns-8)
+    returns-3)
