@@ -23,7 +23,7 @@ fits_size {z = negsuc n} h = record { sfits = omega arith }
 -- ---- what code reads back
 -- a call's answer: its range, and what the callee promised
 pub answered : {z y : ℤ} → mag z < 2 ^ hbits w64 → z ≡ y → to_z w64 (of_z w64 z) ≡ y
-answered h e = to_z-of_z (record { sfits = h }) ∙ e
+answered h e = to_z-of_z {w = w64} (record { sfits = h }) ∙ e
 
 -- the test z < 0
 pub negative : {w : Width} {z : ℤ} → SFits w z → lt_z (to_z w (of_z w z)) (pos 0) ≡ true → z ≡ negsuc (mag z)

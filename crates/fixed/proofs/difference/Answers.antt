@@ -5,16 +5,12 @@ use lib.IntN.{neg_ℤ}
 use mir.Facts.{to_z-of_z}
 use Rattle.algebra.specs.Integer.{natAbs_add, natAbs_neg}
 use Rattle.fixed.specs.MachineLaws.{fits_size}
-use Rattle.fixed.proofs.difference.Statement.{statement}
-use Rattle.fixed.proofs.difference.Tie as tie
+use Rattle.fixed.proofs.difference.Goals as goal
 
-sub-result : tie.Need-overflow-sub-result
-sub-result c =
+pub overflow_sub-result : goal.overflow_sub-result
+overflow_sub-result c =
     rw (to_z-of_z c.ranges.a, to_z-of_z c.ranges.b)
     (fits_size (omega (arith, natAbs_add c.args.a (neg_ℤ c.args.b), natAbs_neg c.args.b)))
 
-returns : tie.Need-returns
-returns c = to_z-of_z (sub-result c) ∙ rw (to_z-of_z c.ranges.a, to_z-of_z c.ranges.b)
-
-pub difference_spec : {M : Type 1} → statement M
-difference_spec = tie.close (tie.spec sub-result returns)
+pub returns : goal.returns
+returns c = to_z-of_z (overflow_sub-result c) ∙ rw (to_z-of_z c.ranges.a, to_z-of_z c.ranges.b)

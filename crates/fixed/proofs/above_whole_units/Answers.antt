@@ -12,8 +12,8 @@ use Rattle.numbers.specs.DivisionLaws.{division, remainder_is, remainder_lt}
 use Rattle.numbers.specs.Fixed.{U}
 use Rattle.numbers.specs.FixedLaws.{U_pos}
 use Rattle.fixed.specs.MachineLaws.{fits_range, range_of, fits_size}
-use Rattle.fixed.proofs.above_whole_units.Statement.{statement}
-use Rattle.fixed.proofs.above_whole_units.Tie as tie
+use Rattle.fixed.proofs.above_whole_units.Goals as goal
+use Rattle.fixed.proofs.above_whole_units.Goals.{Start}
 
 -- the least number is a multiple of U, so the largest multiple up to z is in range
 product_fits : (z : ℤ) → SFits w64 z → SFits w64 (floor z U *ℤ pos U)
@@ -25,31 +25,25 @@ product_fits z f =
     fits_range (is_mul (is (floor z U)) (is_nat U)) (omega arith) (omega arith)
 
 -- what the code subtracts leaves the remainder
-left : (c : tie.Start)
+left : (c : Start)
     → to_z w64 (of_z w64 c.args.z) -ℤ to_z w64 (of_z w64 (to_z w64 (of_z w64 c.args.units) *ℤ pos U))
     ≡ pos (remainder c.args.z U)
 left c =
     let f = c.ranges.z in
     rw (to_z-of_z f, to_z-of_z c.ranges.units, c.requires, to_z-of_z (product_fits _ f)) (remainder_is c.args.z U U_pos)
 
-cast-result : tie.Need-overflow-cast-result
-cast-result c = search rules
-
-mul-result : tie.Need-overflow-mul-result
+pub overflow_mul-result : goal.overflow_mul-result
 unfolding U
-mul-result c = rw (to_z-of_z c.ranges.units, c.requires) (product_fits c.args.z c.ranges.z)
+overflow_mul-result c = rw (to_z-of_z c.ranges.units, c.requires) (product_fits c.args.z c.ranges.z)
 
-sub-result : tie.Need-overflow-sub-result
+pub overflow_sub-result : goal.overflow_sub-result
 unfolding U
-sub-result c = rw (left c) (fits_size (omega (arith, remainder_lt c.args.z U U_pos)))
+overflow_sub-result c = rw (left c) (fits_size (omega (arith, remainder_lt c.args.z U U_pos)))
 
-cast-result-2 : tie.Need-overflow-cast-result-2
+pub overflow_cast-result-2 : goal.overflow_cast-result-2
 unfolding U
-cast-result-2 c = rw (to_z-of_z (sub-result c) ∙ left c) (tt, omega (arith, remainder_lt c.args.z U U_pos))
+overflow_cast-result-2 c = rw (to_z-of_z (overflow_sub-result c) ∙ left c) (tt, omega (arith, remainder_lt c.args.z U U_pos))
 
-returns : tie.Need-returns
+pub returns : goal.returns
 unfolding U
-returns c = rw (to_z-of_z (sub-result c) ∙ left c)
-
-pub above_whole_units_spec : {M : Type 1} → statement M
-above_whole_units_spec = tie.close (tie.spec cast-result mul-result sub-result cast-result-2 returns)
+returns c = rw (to_z-of_z (overflow_sub-result c) ∙ left c)

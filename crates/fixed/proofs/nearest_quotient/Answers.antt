@@ -8,8 +8,7 @@ use lib.IntN.{pos}
 use Rattle.numbers.specs.Division.{floor, remainder, nearest}
 use Rattle.numbers.specs.DivisionLaws.{division}
 use Rattle.numbers.specs.NearestLaws.{nearest_down, nearest_up}
-use Rattle.fixed.proofs.nearest_quotient.Statement.{statement}
-use Rattle.fixed.proofs.nearest_quotient.Tie as tie
+use Rattle.fixed.proofs.nearest_quotient.Goals as goal
 
 module _ (n d : ℕ) (h : 0 < d) where
   rest : remainder (pos n) d ≡ n % d
@@ -24,27 +23,18 @@ module _ (n d : ℕ) (h : 0 < d) where
   unfolding floor
   quotient_above l = sym (nearest_up (pos n) d (omega (arith, rest)))
 
-div_below : tie.Need-nonzero-div-below
-div_below c = search rules
+pub overflow_mul-twice : goal.overflow_mul-twice
+overflow_mul-twice c = record { fits = omega (arith, c.requires, NatL.mod-le c.args.n c.args.d) }
 
-rem-rest : tie.Need-nonzero-rem-rest
-rem-rest c = search rules
+pub overflow_add-twice : goal.overflow_add-twice
+overflow_add-twice c = record { fits = omega (arith, c.requires, NatL.mod-le c.args.n c.args.d) }
 
-mul-twice : tie.Need-overflow-mul-twice
-mul-twice c = record { fits = omega (arith, c.requires, NatL.mod-le c.args.n c.args.d) }
-
-add-if1 : tie.Need-overflow-add-if1
-add-if1 c = record { fits = omega (arith, c.requires, NatL.mod-le c.args.n c.args.d) }
-
-add-result : tie.Need-overflow-add-result
-add-result c =
+pub overflow_add-result : goal.overflow_add-result
+overflow_add-result c =
     record { fits = omega (arith, c.before.requires, NatL.div-le_self c.before.args.n c.before.args.d) }
 
-returns : tie.Need-returns
-returns c = quotient_below c.before.args.n c.before.args.d c.before.requires.1 c.if1.true
+pub returns-then-twice-odd : goal.returns-then-twice-odd
+returns-then-twice-odd c = quotient_below c.before.args.n c.before.args.d c.before.requires.d_nonzero c.if-twice-odd.true
 
-returns-2 : tie.Need-returns-2
-returns-2 c = quotient_above c.before.args.n c.before.args.d c.before.requires.1 c.if1.false
-
-pub nearest_quotient_spec : {M : Type 1} → statement M
-nearest_quotient_spec = tie.close (tie.spec div_below rem-rest mul-twice add-if1 add-result returns returns-2)
+pub returns-else-twice-odd : goal.returns-else-twice-odd
+returns-else-twice-odd c = quotient_above c.before.args.n c.before.args.d c.before.requires.d_nonzero c.if-twice-odd.false

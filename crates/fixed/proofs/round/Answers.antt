@@ -16,8 +16,8 @@ use Rattle.fixed.specs.RoundedStruct.{rounded}
 use Rattle.numbers.specs.FixedLaws.{U_pos, U_even, round_is, residual_is}
 use Rattle.fixed.specs.MachineLaws.{answered, fits_range, range_of}
 use Rattle.numbers.specs.NearestLaws.{nearest_down, nearest_up}
-use Rattle.fixed.proofs.round.Statement.{statement}
-use Rattle.fixed.proofs.round.Tie as tie
+use Rattle.fixed.proofs.round.Goals as goal
+use Rattle.fixed.proofs.round.Goals.{After-above_whole_units-rest, After-magnitude-odd, After-whole_units-below}
 
 module _ (z : ℤ) where
   -- the rule by the floor and the remainder
@@ -53,65 +53,46 @@ module _ (z : ℤ) where
       fits_range (is_add (is (floor z U)) (is_nat 1)) (omega arith) (omega arith)
 
 -- what the three calls answer
-floored : (c : tie.After-whole-units) → to_z w64 (of_z w64 c.whole-units.result) ≡ floor c.before.args.z U
+floored : (c : After-whole_units-below) → to_z w64 (of_z w64 c.whole_units-below.result) ≡ floor c.before.args.z U
 floored c =
-    answered c.whole-units.type-inv (c.whole-units.ensures ∙ ap (λ z. floor z U) (to_z-of_z c.before.ranges.z))
+    answered c.whole_units-below.type_inv (c.whole_units-below.ensures ∙ ap (λ z. floor z U) (to_z-of_z c.before.ranges.z))
 
-rest : (c : tie.After-above-whole-units) → c.above-whole-units.result ≡ remainder c.before.before.args.z U
-rest c = c.above-whole-units.ensures ∙ ap (λ z. remainder z U) (to_z-of_z c.before.before.ranges.z)
+rest : (c : After-above_whole_units-rest) → c.above_whole_units-rest.result ≡ remainder c.before.before.args.z U
+rest c = c.above_whole_units-rest.ensures ∙ ap (λ z. remainder z U) (to_z-of_z c.before.before.ranges.z)
 
-size : (c : tie.After-magnitude) → c.magnitude.result ≡ nat_abs (floor c.before.before.before.args.z U)
-size c = c.magnitude.ensures ∙ ap nat_abs (floored c.before.before)
+size : (c : After-magnitude-odd) → c.magnitude-odd.result ≡ nat_abs (floor c.before.before.before.args.z U)
+size c = c.magnitude-odd.ensures ∙ ap nat_abs (floored c.before.before)
 
-whole-units-requires : tie.Need-whole-units-requires
-whole-units-requires c κs = search rules
+pub above_whole_units-rest-requires : goal.above_whole_units-rest-requires
+above_whole_units-rest-requires c = answered c.whole_units-below.type_inv c.whole_units-below.ensures
 
-above-whole-units-requires : tie.Need-above-whole-units-requires
-above-whole-units-requires c κs = answered c.whole-units.type-inv c.whole-units.ensures
-
-magnitude-requires : tie.Need-magnitude-requires
-magnitude-requires c κs = search rules
-
-add-if1 : tie.Need-overflow-add-if1
+pub overflow_add-rest : goal.overflow_add-rest
 unfolding U
-add-if1 c =
+overflow_add-rest c =
     record { fits = omega (arith, rest c.before, remainder_lt c.before.before.before.args.z U U_pos) }
 
-add-above : tie.Need-overflow-add-above
-add-above c = rw (floored c.before.before.before) (next_fits _ c.before.before.before.before.ranges.z)
+pub overflow_add-above : goal.overflow_add-above
+overflow_add-above c = rw (floored c.before.before.before) (next_fits _ c.before.before.before.before.ranges.z)
 
-sub-missing : tie.Need-overflow-sub-missing
+pub overflow_sub-missing : goal.overflow_sub-missing
 unfolding U
-sub-missing c =
+overflow_sub-missing c =
     omega (arith, rest c.before.before, remainder_lt c.before.before.before.before.args.z U U_pos)
 
-returns : tie.Need-returns
+pub returns-then-rest-odd-le-HALF_UNIT : goal.returns-then-rest-odd-le-HALF_UNIT
 unfolding U
-returns c =
+returns-then-rest-odd-le-HALF_UNIT c =
     rw (floored c.before.before.before, rest c.before.before)
     (rounded_below c.before.before.before.before.args.z
-    (omega (arith, c.if1.true, rest c.before.before, size c.before)))
+    (omega (arith, c.if-rest-odd-le-HALF_UNIT.true, rest c.before.before, size c.before)))
 
-returns-2 : tie.Need-returns-2
+pub returns-else-rest-odd-le-HALF_UNIT : goal.returns-else-rest-odd-le-HALF_UNIT
 unfolding U
-returns-2 c =
+returns-else-rest-odd-le-HALF_UNIT c =
     rw (
       floored c.before.before.before,
       rest c.before.before,
       to_z-of_z (next_fits _ c.before.before.before.before.ranges.z),
     )
     (rounded_above c.before.before.before.before.args.z
-    (omega (arith, c.if1.false, rest c.before.before, size c.before)))
-
-pub round_spec : {M : Type 1} → statement M
-round_spec =
-    tie.close
-    (tie.spec
-    whole-units-requires
-    above-whole-units-requires
-    magnitude-requires
-    add-if1
-    add-above
-    sub-missing
-    returns
-    returns-2)
+    (omega (arith, c.if-rest-odd-le-HALF_UNIT.false, rest c.before.before, size c.before)))
