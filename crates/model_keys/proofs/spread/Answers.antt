@@ -5,8 +5,7 @@ use lib.Bits.{bit_and}
 use lib.Dec.{lit<}
 use Rattle.model_keys.specs.SpreadLaws.{masked_product, masked_sum, spread_halves}
 use borrow.Author.Rules.{rules}
-use Rattle.model_keys.proofs.spread.Statement.{statement}
-use Rattle.model_keys.proofs.spread.Tie as tie
+use Rattle.model_keys.proofs.spread.Goals as goal
 
 -- the words on the way
 abbrev halves : ℕ → ℕ
@@ -15,31 +14,21 @@ halves key = key / 65536 * 268435456 + key % 65536
 abbrev bytes : ℕ → ℕ
 bytes key = bit_and (halves key) 0xFF00000FF00 * 64 + bit_and (halves key) 0xFF00000FF
 
-mul-halves : tie.Need-overflow-mul-halves
-mul-halves c = search rules
+pub overflow_mul-bytes : goal.overflow_mul-bytes
+overflow_mul-bytes c = record { fits = masked_product (halves c.args.key) 0xFF00000FF00 64 (lit< tt) }
 
-add-halves : tie.Need-overflow-add-halves
-add-halves c = search rules
-
-mul-bytes : tie.Need-overflow-mul-bytes
-mul-bytes c = record { fits = masked_product (halves c.args.key) 0xFF00000FF00 64 (lit< tt) }
-
-add-bytes : tie.Need-overflow-add-bytes
-add-bytes c =
+pub overflow_add-bytes : goal.overflow_add-bytes
+overflow_add-bytes c =
     record { fits = masked_sum (halves c.args.key) (halves c.args.key) 0xFF00000FF00 0xFF00000FF 64 (lit< tt) }
 
-mul-result : tie.Need-overflow-mul-result
-mul-result c = record { fits = masked_product (bytes c.args.key) 0x3C00F003C00F0 8 (lit< tt) }
+pub overflow_mul-result : goal.overflow_mul-result
+overflow_mul-result c = record { fits = masked_product (bytes c.args.key) 0x3C00F003C00F0 8 (lit< tt) }
 
-add-result : tie.Need-overflow-add-result
-add-result c = record {
+pub overflow_add-result : goal.overflow_add-result
+overflow_add-result c = record {
   fits = masked_sum (bytes c.args.key) (bytes
       c.args.key) 0x3C00F003C00F0 0x3C00F003C00F 8 (lit< tt);
 }
 
-returns : tie.Need-returns
+pub returns : goal.returns
 returns c = spread_halves (c.args.key / 65536) (c.args.key % 65536) (omega arith) (omega arith)
-
-pub spread_spec : {M : Type 1} → statement M
-spread_spec =
-    tie.close (tie.spec mul-halves add-halves mul-bytes add-bytes mul-result add-result returns)
