@@ -37,7 +37,7 @@ rest b (suc w) = rest b w * suc b + 1
 
 power_rest : (b w : ℕ) → suc b ^ w ≡ 1 + b * rest b w
 unfolding rest
-power_rest b zero = rw NatL.pow_zero (omega arith)
+power_rest b zero = rw NatL.pow-zero (omega arith)
 power_rest b (suc w) = rw NatL.pow-suc (let h = power_rest b w in
     let g : suc b ^ w * suc b ≡ (1 + b * rest b w) * suc b = ap (λ z. z * suc b) h in omega arith)
 
@@ -142,7 +142,7 @@ module _ (base : ℕ) (positive : 0 < base) where
 
   -- base ^ w is a multiple of base ^ (w - n)
   power_split : (w n : ℕ) → n ≤ w → base ^ w ≡ base ^ (w - n) * base ^ n
-  power_split w zero l = rw (NatL.pow_zero, NatL.sub-zero) (omega arith)
+  power_split w zero l = rw (NatL.pow-zero, NatL.sub-zero) (omega arith)
   power_split zero (suc n) l = absurd (omega arith)
   power_split (suc w) (suc n) l = NatL.pow-suc base w ∙ ap (λ z. z * base) (power_split w n (omega arith))
       ∙ NatL.mul_assoc _ _ _ ∙ ap (λ z. base ^ (w - n) * z) (sym (NatL.pow-suc base n))

@@ -45,7 +45,7 @@ bytes b (suc w) = b * 256 ^ w + bytes b w
 
 bytes_lt : (b w : ℕ) → b < 256 → bytes b w < 256 ^ w
 unfolding bytes
-bytes_lt b zero h = rw NatL.pow_zero (omega arith)
+bytes_lt b zero h = rw NatL.pow-zero (omega arith)
 bytes_lt b (suc w) h = rw NatL.pow-succ' (let r = bytes_lt b w h in
     let g : suc b * 256 ^ w ≤ 256 * 256 ^ w = NatL.mul-le-mul_right (256 ^ w) h in omega arith)
 

@@ -52,7 +52,7 @@ below_right base (d ∷ k) l b = below_right base k l b.1
 -- ---- digits of b bits
 module _ (b : ℕ) where
   power : (w : ℕ) → (2 ^ b) ^ w ≡ 2 ^ (b * w)
-  power zero = NatL.pow_zero (2 ^ b) ∙ ap (λ i. 2 ^ i) (sym (NatL.mul-zero b))
+  power zero = NatL.pow-zero (2 ^ b) ∙ ap (λ i. 2 ^ i) (sym (NatL.mul-zero b))
   power (suc w) = NatL.pow-suc (2 ^ b) w ∙ ap (λ x. x * 2 ^ b) (power w) ∙ sym (pow-add 2 (b * w) b)
       ∙ ap (λ i. 2 ^ i) (sym (NatL.mul-suc b w))
 
