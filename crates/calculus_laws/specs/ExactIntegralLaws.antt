@@ -27,17 +27,17 @@ use Rattle.numbers.specs.DivisionLaws.{floor_le, division, remainder_lt}
 use Rattle.calculus.specs.Terms.{Terms, every, sum_over}
 use Rattle.calculus.specs.Model.{Model, Point, InBox, most_degree, fits, sound}
 use Rattle.calculus.specs.Operations.{common_denominator, exact_vars, has_exact, integral_parts, mixed_part}
-use Rattle.calculus.specs.Operations.{one_if_any, integral_sum, Ends, exact_ends, integral, term_by_term, Mixed}
+use Rattle.calculus.specs.Operations.{one_if_any, integral_sum, Ends, exact_ends, integral, term_by_term}
 use Rattle.calculus.specs.Operations.{zero_mixed, exact_part}
 use Rattle.calculus.specs.Functions.{ℚPolynomial, value_of, exact_integral, Lies}
 use Rattle.calculus_laws.specs.TestLaws.{and_left, and_right}
-use Rattle.calculus_laws.specs.SumLaws.{ℤ_addition, if_ℤ, if_ℚ, if_so, sum_select}
+use Rattle.calculus_laws.specs.SumLaws.{ℤ_addition, if_ℤ, if_so, sum_select}
 use Rattle.calculus_laws.specs.TermsLaws.{every_implies}
 use Rattle.calculus_laws.specs.FitsLaws.{fits_by, fits_length, fits_degree}
 use Rattle.calculus_laws.specs.SoundLaws.{sound_parts}
 use Rattle.calculus_laws.specs.UnitLaws.{natural, natural-*, natural_nonneg}
 use Rattle.calculus_laws.specs.ValueLaws.{Near}
-use Rattle.calculus_laws.specs.ChainLaws.{◌≤≤◌, ◌≡≤◌, ◌≤≡◌}
+use Rattle.calculus_laws.specs.ChainLaws.{◌≡≤◌, ◌≤≡◌}
 use Rattle.calculus_laws.specs.IntegralEndsLaws.{whole_polynomial, polynomial_integral, term_moment, moment_is}
 use Rattle.calculus_laws.specs.IntegralEndsLaws.{down_below, up_above, widened_ends, widened_encloses}
 use Rattle.calculus_laws.specs.IntegralEndsLaws.{term_by_term_encloses}

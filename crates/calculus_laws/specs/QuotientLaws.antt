@@ -1,7 +1,7 @@
 -- The quotient encloses: where it is accepted, the divisor is not zero and f / g is within the result; at one point.
-use Rattle.std.specs.Prelude.{◌≡◌, ◌≢◌, ℕ, zero, suc, ◌+◌, ◌-◌, ◌*◌, ◌<◌, ◌≤◌, max, T, ltb, ℤ, pos, nat_abs}
+use Rattle.std.specs.Prelude.{◌≡◌, ◌≢◌, ℕ, ◌+◌, ◌-◌, ◌*◌, ◌<◌, ◌≤◌, ltb, ℤ, pos, nat_abs}
 use Rattle.std.proofs.Math.Path.{refl, ap}
-use Rattle.std.proofs.Common.{sym, ◌∙◌, ap₂, subst, ltb→lt, leb→le}
+use Rattle.std.proofs.Common.{sym, ◌∙◌, ltb→lt, leb→le}
 use Rattle.std.proofs.Math.Nat.{le-max_left, le-max_right}
 use native.Mathlib.Omega.{arith}
 use Rattle.algebra.specs.RingSolver.{𝟎, 𝟏, ◌⊞◌, ◌⊟◌, ◌⊠◌, ⊝◌, ring}
@@ -13,19 +13,19 @@ use Rattle.algebra.specs.Rational.{ℚ, ◌+ℚ◌, ◌*ℚ◌, negℚ, ◌/ℚ�
 use Rattle.algebra.specs.RationalRing.{ℚR}
 use Rattle.algebra.specs.RationalOrder.{ℚO}
 use Rattle.algebra.specs.RationalField.{ℚF}
-use Rattle.algebra.specs.RationalLaws.{/ℚ_back, whole_reciprocal, whole_≤, ≤-whole}
+use Rattle.algebra.specs.RationalLaws.{/ℚ_back, whole_reciprocal, ≤-whole}
 use Rattle.numbers.specs.Division.{divided_up}
 use Rattle.numbers.specs.Fixed.{U}
 use Rattle.numbers.specs.DivisionLaws.{divided_up_ok}
-use Rattle.calculus.specs.Model.{Model, one_model, ◌/U, ◌-ℚ◌, Point, InBox, value}
-use Rattle.calculus.specs.Refusal.{uncertified, Answer}
-use Rattle.calculus.specs.Operations.{multiply, subtract, Ends, range, widen, bare, defect, deviation}
+use Rattle.calculus.specs.Model.{Model, one_model, ◌-ℚ◌, Point, InBox, value}
+use Rattle.calculus.specs.Refusal.{uncertified}
+use Rattle.calculus.specs.Operations.{Ends, range, widen, bare, defect, deviation}
 use Rattle.calculus.specs.Operations.{largest_end, largest_value, quotient_radius, certified, quotient}
 use Rattle.calculus.specs.Functions.{Lies}
-use Rattle.calculus_laws.specs.RefusalLaws.{IfAccepted, holds, require_accepted, then_accepted, weaken, always}
-use Rattle.calculus_laws.specs.UnitLaws.{natural, natural-+, natural-*, natural_≤, natural_nonneg, abs_whole}
-use Rattle.calculus_laws.specs.UnitLaws.{U_times, U_abs}
-use Rattle.calculus_laws.specs.ValueLaws.{scaled_value, Near, U_value}
+use Rattle.calculus_laws.specs.RefusalLaws.{IfAccepted, require_accepted, then_accepted, always}
+use Rattle.calculus_laws.specs.UnitLaws.{natural, natural-+, natural-*, natural_≤, abs_whole}
+use Rattle.calculus_laws.specs.UnitLaws.{U_abs}
+use Rattle.calculus_laws.specs.ValueLaws.{Near, U_value}
 use Rattle.calculus_laws.specs.EnclosureLaws.{limited_accepted, exact_near, one_near, subtract_near}
 use Rattle.calculus_laws.specs.EnclosureLaws.{multiply_near}
 use Rattle.calculus_laws.specs.RangeLaws.{range_encloses}

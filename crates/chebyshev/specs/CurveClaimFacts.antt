@@ -5,7 +5,7 @@ use Rattle.std.proofs.Common.{sym, ◌∙◌, ap, ap₂, arith, leb→le}
 use Rattle.algebra.specs.RingSolver.{𝟎, 𝟏, ◌⊞◌, ◌⊟◌, ◌⊠◌, ⊝◌, ring}
 use Rattle.algebra.specs.Ordered.{abs}
 use Rattle.algebra.specs.OrderedLaws.{abs_is}
-use Rattle.algebra.specs.Rational.{ℚ, ◌+ℚ◌, ◌*ℚ◌, negℚ, whole, ◌≤ℚ◌}
+use Rattle.algebra.specs.Rational.{◌+ℚ◌, ◌*ℚ◌, negℚ, whole, ◌≤ℚ◌}
 use Rattle.algebra.specs.RationalRing.{ℚR}
 use Rattle.algebra.specs.RationalOrder.{ℚO}
 use Rattle.algebra.specs.RationalLaws.{≤-whole, whole-+, whole_neg, ÷-back}
@@ -17,7 +17,7 @@ use Rattle.calculus.specs.Model.{Model, zero_model, ◌/U, ◌-ℚ◌, distance,
 use Rattle.calculus.specs.Model as M
 use Rattle.calculus.specs.Operations.{zero_ends}
 use Rattle.calculus.specs.Functions.{Function, coordinate, Lies}
-use Rattle.calculus_laws.specs.ChainLaws.{◌≤≤◌, ◌≡≤◌, ◌≤≡◌, equal}
+use Rattle.calculus_laws.specs.ChainLaws.{◌≤≤◌, ◌≡≤◌, equal}
 use Rattle.calculus_laws.specs.UnitLaws.{natural, natural_≤, abs_whole}
 use Rattle.calculus_laws.specs.ValueLaws.{abs_zero}
 use Rattle.calculus_laws.specs.ValueLaws as P

@@ -29,7 +29,6 @@ use Rattle.chebyshev.specs.CurveSoundLaws.{sound_length, negate_sound, add_sound
 use Rattle.chebyshev.specs.CurveSoundLaws.{to_powers_sound, from_powers_sound}
 use Rattle.chebyshev.specs.ConversionLaws.{to_powers_near, to_powers_exact, from_powers_near}
 use Rattle.chebyshev.specs.CurveMirrorLaws.{mirrored_first, mirrored_second, mirrored_both}
-use Rattle.chebyshev.specs.CurveClaim.{Encloses, ClaimOfOne, ClaimOfTwo, ClaimOfModel, ClaimOfSigns}
 use Rattle.chebyshev.specs.CurveClaim.{EveryCurve, EveryTwoCurves, EveryModel, EverySign}
 
 -- ---- points of one coordinate

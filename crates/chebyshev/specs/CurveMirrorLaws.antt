@@ -1,13 +1,12 @@
 -- A mirrored curve: turning the signs of one factor turns those of the product and leaves its radius, or its refusal.
 use Rattle.std.specs.Prelude.{◌≡◌, Bool, ◌&&◌, eqb, leb, ℤ, ◌+ℤ◌, ◌-ℤ◌, ◌*ℤ◌, length, take, drop, replicate}
 use Rattle.std.proofs.Math.Path.{refl, ap, ap₂}
-use Rattle.std.proofs.Common.{sym, ◌∙◌, arith}
+use Rattle.std.proofs.Common.{◌∙◌, arith}
 use Rattle.std.proofs.Math.Bool.{true, false}
 use mathlib.Core.List.{[], ◌∷◌, map}
 use Prim.Native.Nat.{ℕ, zero, suc, ◌+◌, ◌*◌, ◌<◌}
 use Rattle.std.proofs.Math.IntN.{pos, neg_ℤ, nat_abs, neg_ℤ-neg_ℤ}
 use Rattle.std.proofs.Math.ListN.{length-map}
-use Rattle.algebra.specs.Integer.{natAbs_neg}
 use Rattle.algebra.specs.IntegerRing.{ℤR}
 use Rattle.algebra.specs.RingSolver.{◌⊞◌, ◌⊠◌, ⊝◌, ring}
 use Rattle.numbers.specs.Division.{divided_up, nearest}

@@ -1,8 +1,7 @@
 -- The value of a curve times U, without division: the form in which the proofs speak of "within".
-use Rattle.std.specs.Prelude.{◌≡◌, refl, [], ◌∷◌, map, ℕ, ◌+◌, ◌*◌, ◌-◌, ◌≤◌, ◌<◌, pos, take, drop, get_or}
+use Rattle.std.specs.Prelude.{◌≡◌, refl, [], ◌∷◌, map, ℕ, ◌+◌, ◌<◌, pos, take, drop, get_or}
 use Rattle.std.proofs.Common.{sym, ◌∙◌, ap₂, arith}
 use Rattle.std.proofs.Math.Path.{ap}
-use Rattle.std.proofs.Math.Nat as NatL
 use Rattle.algebra.specs.RingLaws.{one-*}
 use Rattle.algebra.specs.RingSolver.{𝟎, ◌⊞◌, ◌⊟◌, ◌⊠◌, ring}
 use Rattle.algebra.specs.Ordered.{abs}
@@ -13,7 +12,7 @@ use Rattle.algebra.specs.RationalRing.{ℚR}
 use Rattle.algebra.specs.RationalOrder.{ℚO}
 use Rattle.algebra.specs.RationalField.{ℚF}
 use Rattle.algebra.specs.RationalLaws.{nat_whole, whole_reciprocal, ÷-back}
-use Rattle.numbers.specs.Division.{divided_up, nearest}
+use Rattle.numbers.specs.Division.{nearest}
 use Rattle.numbers.specs.DivisionLaws.{divided_up_ok}
 use Rattle.numbers.specs.Fixed.{U}
 use Rattle.numbers.specs.FixedLaws.{U_pos}

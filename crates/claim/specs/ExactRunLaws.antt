@@ -1,15 +1,15 @@
 -- What q and r say of a model, of the answer of an integral's call and of the answer of a run: up to four variables U
 -- times the integral of the model's polynomial over the box, above nothing.
-use Rattle.std.specs.Prelude.{◌≡◌, refl, not, List, [], ◌∷◌, ℕ, ◌<◌, T}
+use Rattle.std.specs.Prelude.{◌≡◌, refl, not, [], ◌∷◌, ◌<◌, T}
 use Rattle.std.proofs.Common.{sym, ◌∙◌, ap, ap₂, subst, arith}
-use Rattle.algebra.specs.Rational.{ℚ, ◌+ℚ◌, ◌*ℚ◌, whole, reciprocal}
+use Rattle.algebra.specs.Rational.{◌+ℚ◌, ◌*ℚ◌, whole, reciprocal}
 use Rattle.algebra.specs.RationalRing.{ℚR}
 use Rattle.algebra.specs.RationalField.{ℚF}
 use Rattle.polynomial.specs.Polynomial.{scale}
 use Rattle.polynomial.specs.Integral as I
 use Rattle.polynomial.specs.IntegralLaws.{integral_scale}
 use Rattle.numbers.specs.Fixed.{U}
-use Rattle.calculus.specs.Terms.{Terms, term}
+use Rattle.calculus.specs.Terms.{Terms}
 use Rattle.calculus.specs.Model.{Model, most_degree, polynomial, sound}
 use Rattle.calculus.specs.Refusal.{bad_model, done}
 use Rattle.calculus.specs.Operations.{common_denominator, has_exact, Mixed, zero_mixed, mixed_part, exact_part}
@@ -18,7 +18,7 @@ use Rattle.calculus.specs.Calls.{call_integral}
 use Rattle.calculus.specs.Book.{Book, Summary, summary, run, run_sound}
 use Rattle.calculus.specs.Functions.{exact_integral}
 use Rattle.calculus_laws.specs.RefusalLaws.{Passed, passed_at}
-use Rattle.calculus_laws.specs.BookLaws.{Passes, Done, run_done, Ran, sound_ran}
+use Rattle.calculus_laws.specs.BookLaws.{Passes, run_done, Ran, sound_ran}
 use Rattle.calculus_laws.specs.UnitLaws.{natural, U_times}
 use Rattle.calculus_laws.specs.IntegralEndsLaws.{whole_polynomial, polynomial_integral}
 use Rattle.calculus_laws.specs.ExactIntegralLaws.{Served, sound_served, exact_is, remainder_small}

@@ -138,7 +138,7 @@ module _ (b : Book) (I : Inputs) where
       → All agree (outcomes_after I os l)
   unfolding outcomes_after all_from
   all_agree i [] h e = e
-  all_agree i (s ∷ l) h e = all_agree (suc i) l (and_right (step_sound b i s) _ h)
+  all_agree {os} i (s ∷ l) h e = all_agree {os = os ++ (_ ∷ [])} (suc i) l (and_right (step_sound b i s) _ h)
       (each_snoc (λ o p. agree p) e (step_agrees i s (and_left (step_sound b i s) _ h) e))
 
   outcome_agrees : T (all_from 0 (step_sound b) b.steps) → agree (outcome I b.steps)
@@ -173,6 +173,7 @@ is_polynomial {n} {o} m g = go o.polynomial refl m g
   where
     go : (p : Option ℚPolynomial) → o.polynomial ≡ p → Made p → Agree n o.at p → IsPolynomial n o
     go (some q) e made (known k) = record { polynomial = q; made = e; same = k }
+    go none e m g = elim m [ ]
 
 -- neither of two tests
 not_either : (a b : Bool) → T (not (a || b)) → T (not a) × T (not b)
@@ -235,7 +236,7 @@ module _ (Q : ℕ → ℚPolynomial) where
       → Each Unmarked (outcomes_after (polynomials Q) os l) (marks_after ms l)
   unfolding outcomes_after marks_after
   all_made [] e = e
-  all_made (s ∷ l) e = all_made l (each_snoc Unmarked e (step_made s e))
+  all_made {os} {ms} (s ∷ l) e = all_made {os = os ++ (_ ∷ [])} {ms = ms ++ (_ ∷ [])} l (each_snoc Unmarked e (step_made s e))
 
   outcome_made : (l : List Step) → T (not (last false (marks_after [] l)))
       → Made (outcome (polynomials Q) l).polynomial
@@ -272,7 +273,7 @@ off_any {ms} e (a ∷ l) =
 marks_off : {ms : List Bool} (l : List Step) → T (no_quotient l) → Off ms → Off (marks_after ms l)
 unfolding marks_after no_quotient each_step is_fed
 marks_off [] z e = e
-marks_off (s ∷ l) z e = marks_off l (and_right (not (is_quotient s)) _ z) (each_snoc (λ j k. T (not k)) e
+marks_off {ms} (s ∷ l) z e = marks_off {ms = ms ++ (_ ∷ [])} l (and_right (not (is_quotient s)) _ z) (each_snoc (λ j k. T (not k)) e
     (neither (is_quotient s) _ (and_left (not (is_quotient s)) _ z) (off_any e (operands s))))
 
 -- so such steps, with antiderivatives too, have a polynomial,
@@ -315,8 +316,8 @@ functions_ready : (n : ℕ) (F : ℕ → Function) {os : List Outcome} (l : List
     → Ready n (functions F) os l
 unfolding no_antiderivative each_step is_antiderivative
 functions_ready n F [] z = no_more
-functions_ready n F (s ∷ l) z = next (λ a v e. absurd (subst (λ t. T (not (is_antiderivative t))) e
-    (and_left (not (is_antiderivative s)) _ z))) (functions_ready n F l (and_right (not (is_antiderivative s)) _ z))
+functions_ready n F {os} (s ∷ l) z = next (λ a v e. absurd (subst (λ t. T (not (is_antiderivative t))) e
+    (and_left (not (is_antiderivative s)) _ z))) (functions_ready n F {os = os ++ (_ ∷ [])} l (and_right (not (is_antiderivative s)) _ z))
 
 module _ (Q : ℕ → ℚPolynomial) (b : Book) (marks : List Bool) where
   -- the step is no antiderivative that a quotient feeds
@@ -338,7 +339,7 @@ module _ (Q : ℕ → ℚPolynomial) (b : Book) (marks : List Bool) where
       (λ a v t. is_polynomial (unmarked Q e a (operand_unfed ms (s ∷ l) a v q
       (before a v (subst (λ s. T (step_sound b i s)) t (and_left (step_sound b i s) _ h)))
       (subst (λ s. T (unfed s)) t (and_left (unfed s) _ z)))) (operand b (polynomials Q) g a))
-      (polynomials_ready (suc i) l (and_right (step_sound b i s) _ h) (ap suc k ∙ sym (next_number ms _))
+      (polynomials_ready {os = os ++ (_ ∷ [])} {ms = ms ++ (_ ∷ [])} (suc i) l (and_right (step_sound b i s) _ h) (ap suc k ∙ sym (next_number ms _))
       (each_snoc (λ o p. agree b (polynomials Q) p) g
       (step_agrees b (polynomials Q) i s (and_left (step_sound b i s) _ h) g))
       (each_snoc (Unmarked Q) e (step_made Q s e)) q (and_right (unfed s) _ z))
@@ -386,7 +387,7 @@ module _ (Q : ℕ → ℚPolynomial) where
       → Each Alike (outcomes_after (polynomials Q) os l) (outcomes_after values ps l)
   unfolding outcomes_after no_antiderivative each_step
   all_alike [] z e = e
-  all_alike (s ∷ l) z e = all_alike l (and_right (not (is_antiderivative s)) _ z)
+  all_alike {os} {ps} (s ∷ l) z e = all_alike {os = os ++ (_ ∷ [])} {ps = ps ++ (_ ∷ [])} l (and_right (not (is_antiderivative s)) _ z)
       (each_snoc Alike e (step_alike s (and_left (not (is_antiderivative s)) _ z) e))
 
   pub outcome_alike : (l : List Step) → T (no_antiderivative l) → (outcome (polynomials Q) l).at ≡ (outcome values l).at

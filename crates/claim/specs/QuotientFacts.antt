@@ -1,15 +1,13 @@
 -- Facts beside the claim with a quotient: functions that are no polynomials meet its hypotheses and reach its radius
 -- and the ends of its range; and they refute an answer with h's own radius, one with U in place of U - mu, and a claim
 -- that takes the outcome of h for the quotient's.
-use Rattle.std.specs.Prelude.{◌≡◌, ◌≢◌, List, [], ◌∷◌, ℕ, suc, ◌+◌, ◌*◌, ◌/◌, ◌≤◌, ℤ, pos, negsuc, nat_abs, ◌≤ℤ◌}
+use Rattle.std.specs.Prelude.{◌≡◌, ◌≢◌, [], ◌∷◌, ℕ, suc, ◌+◌, ◌/◌, ◌≤◌, ℤ, pos, negsuc, ◌≤ℤ◌}
 use Rattle.std.proofs.Math.Path.{refl, ap}
 use Rattle.std.proofs.Common.{sym, ◌∙◌, ap₂, arith}
 use Rattle.std.proofs.Math.Bool.{true, false}
 use Rattle.algebra.specs.RingSolver.{𝟎, ◌⊞◌, ◌⊟◌, ◌⊠◌, ⊝◌, ring}
-use Rattle.algebra.specs.Ordered.{abs}
-use Rattle.algebra.specs.Rational.{ℚ, ◌+ℚ◌, ◌*ℚ◌, negℚ, ◌/ℚ◌, whole, ◌≤ℚ◌}
+use Rattle.algebra.specs.Rational.{ℚ, ◌+ℚ◌, ◌*ℚ◌, negℚ, ◌/ℚ◌, whole}
 use Rattle.algebra.specs.RationalRing.{ℚR}
-use Rattle.algebra.specs.RationalOrder.{ℚO}
 use Rattle.algebra.specs.RationalLaws.{/ℚ_back, ≤-whole, whole-+, whole-*, whole_neg}
 use Rattle.polynomial.specs.Polynomial.{eval}
 use Rattle.polynomial.specs.Box.{none, more}

@@ -1,6 +1,6 @@
 -- The kinds of steps that the claim asks for: only a quotient is one, and only an antiderivative is one, so that every
 -- list of other steps keeps what is promised of lists without them.
-use Rattle.std.specs.Prelude.{not, ◌&&◌, List, [], ◌∷◌, ℕ, T}
+use Rattle.std.specs.Prelude.{ℕ, T}
 use Rattle.calculus.specs.Book.{Step, input, constant, variable, negate, add, subtract, multiply, substitute}
 use Rattle.calculus.specs.Book.{sweep, quotient, antiderivative}
 use Rattle.claim.specs.Outcome.{is_quotient, is_antiderivative}

@@ -1,5 +1,5 @@
 -- Sheets at the edges of the tests, beside the samples, and the largest sheet.
-use Rattle.std.specs.Prelude.{◌≡◌, refl, List, [], ◌∷◌, ◌++◌, map, ℕ, zero, suc, ◌-◌, ◌*◌, pos, negsuc, neg_ℤ, replicate, length}
+use Rattle.std.specs.Prelude.{◌≡◌, refl, List, [], ◌∷◌, ◌++◌, map, ℕ, zero, suc, ◌-◌, ◌*◌, pos, negsuc, neg_ℤ, replicate}
 use Prim.Native.String.{String}
 use Rattle.numbers.specs.Fixed.{U}
 use Rattle.calculus.specs.Key.{short_key}

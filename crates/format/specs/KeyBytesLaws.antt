@@ -3,9 +3,8 @@ use Rattle.std.specs.Prelude.{◌≡◌, refl, Bool, true, false, cond, List, �
 use Rattle.std.proofs.Common.{sym, ◌∙◌, ap, ap₂, arith, le-leb, drop_at}
 use Rattle.std.proofs.lemmas.Bool.{lt-leb}
 use Rattle.calculus.specs.Key.{short_width, short_key}
-use Rattle.format.specs.Bytes.{AllBytes, u16, u32, u16_bytes, u32_bytes, signed, bits}
-use Rattle.format.specs.HeldBook.{HeldTerm}
-use Rattle.format.specs.Format.{short_keys, key_length, term_length, read_key, read_term, key_bytes, term_bytes}
+use Rattle.format.specs.Bytes.{AllBytes, u16, u32, u16_bytes, u32_bytes, signed}
+use Rattle.format.specs.Format.{short_keys, key_length, term_length, read_key, read_term, key_bytes}
 use Rattle.format.specs.Format.{short_mark, long_mark, mark_of}
 use Rattle.format.specs.BytesLaws.{read_u16, read_u32, write_u16, write_u32}
 

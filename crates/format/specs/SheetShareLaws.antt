@@ -4,7 +4,7 @@ use Rattle.std.proofs.Math.Path.{sym, ap}
 use Rattle.std.proofs.Common.{◌∙◌, subst, arith}
 use Rattle.calculus.specs.Refusal.{Refusal, Result, done, stopped, ◌followed_by◌}
 use Rattle.calculus.specs.Book.{most_steps, Summary, run, run_sound}
-use Rattle.calculus.specs.Shares.{no_shares, rows_sound, reported, shares_rows}
+use Rattle.calculus.specs.Shares.{no_shares, rows_sound, reported}
 use Rattle.calculus_laws.specs.ShareLaws.{Accounts, length_rows}
 use Rattle.calculus_laws.specs.ShareRunLaws.{last_accounts, refused_rows, rows_count}
 use Rattle.calculus_laws.specs.BookLaws.{Passes}

@@ -19,7 +19,7 @@ use Rattle.format.specs.HeldBook.{held_model_sound, held_step_sound, HeldPasses}
 use Rattle.format.specs.Format.{head_length, key_length, term_length, step_length, trailer_length}
 use Rattle.format.specs.Format.{read_key, read_term, read_terms, read_model, model_length, read_models}
 use Rattle.format.specs.Format.{read_step, read_steps}
-use Rattle.format.specs.Format.{short_mark, long_mark, mark_of, Trailer, trailer_of, read_trailer}
+use Rattle.format.specs.Format.{mark_of, Trailer, trailer_of, read_trailer}
 use Rattle.format.specs.Format.{shortest, longest, trailer_sound, read_records, read}
 use Rattle.format.specs.Format.{key_bytes, term_bytes, model_bytes, step_bytes, models_bytes}
 use Rattle.format.specs.Format.{trailer_bytes, sheet_bytes}

@@ -1,5 +1,6 @@
 // The bytes of a sheet, for the code that reads and writes it. The definitions beside it (specs/) are what that code is
 // proved against.
+#![tactic(auto)]
 
 // The length of the smallest sheet: one step and the trailer.
 pub const SHORTEST: usize = 16;

@@ -1,11 +1,11 @@
 -- Cases at the edges of a row of readings, by computation.
-use Rattle.std.specs.Prelude.{◌≡◌, refl, List, [], ◌∷◌, ◌++◌, ℕ, ℤ, pos, replicate}
+use Rattle.std.specs.Prelude.{◌≡◌, refl, [], ◌∷◌, ◌++◌, ℕ, ℤ, pos, replicate}
 use Rattle.std.proofs.Math.Option.{none, some}
 use Rattle.calculus.specs.Computing.{calls}
 use Rattle.calculus.specs.Terms.{term}
 use Rattle.calculus.specs.Model.{Model}
 use Rattle.calculus.specs.Forms.{minus}
-use Rattle.calculus.specs.Refusal.{bad_model, bad_step, over_span, leaves_box, bad_reading, Result, done, stopped}
+use Rattle.calculus.specs.Refusal.{bad_model, bad_step, over_span, leaves_box, bad_reading, done, stopped}
 use Rattle.readings.specs.Readings.{Reading, most_readings, in_order, contradicts, with_place, held}
 use Rattle.readings.specs.Readings.{first_contradicting, call_readings}
 

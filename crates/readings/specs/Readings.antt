@@ -1,5 +1,5 @@
 -- Readings held against a model (request 12): which reading contradicts it first, and the refusals in order.
-use Rattle.std.specs.Prelude.{Bool, true, false, ◌||◌, List, [], ◌∷◌, ℕ, zero, suc, leb, ℤ, length, take, drop}
+use Rattle.std.specs.Prelude.{Bool, true, false, ◌||◌, List, [], ◌∷◌, ℕ, suc, leb, ℤ, length, take, drop}
 use Rattle.std.proofs.Math.Option.{Option, none, some}
 use Rattle.std.specs.Int.Signed.{le_z, lt_z}
 use Rattle.calculus.specs.Model.{Model, most_degree, sound}

@@ -1,19 +1,19 @@
 -- Facts beside the claim on readings: what it asks for can be there, and a wrong answer is refuted.
-use Rattle.std.specs.Prelude.{◌≡◌, refl, List, [], ◌∷◌, ℕ, ◌≤◌, ℤ, pos, take}
+use Rattle.std.specs.Prelude.{◌≡◌, refl, List, [], ◌∷◌, pos, take}
 use Rattle.std.proofs.Common.{sym, ◌∙◌, ap, arith}
 use Rattle.std.proofs.Math.Option.{some}
 use Rattle.algebra.specs.RingSolver.{𝟎, ◌⊟◌, ring}
 use Rattle.algebra.specs.Ordered.{abs}
-use Rattle.algebra.specs.Rational.{ℚ, ◌*ℚ◌, ◌≤ℚ◌, whole}
+use Rattle.algebra.specs.Rational.{◌*ℚ◌, whole}
 use Rattle.algebra.specs.RationalRing.{ℚR}
 use Rattle.algebra.specs.RationalOrder.{ℚO}
 use Rattle.numbers.specs.Fixed.{U}
 use Rattle.calculus.specs.Computing.{calls}
-use Rattle.calculus.specs.Model.{Model, ◌/U, ◌-ℚ◌, Point, Within}
+use Rattle.calculus.specs.Model.{Model, ◌/U, ◌-ℚ◌, Within}
 use Rattle.calculus.specs.Refusal.{done}
 use Rattle.calculus.specs.Functions.{Function}
 use Rattle.calculus_laws.specs.UnitLaws.{natural, natural_≤, abs_whole, U_times}
-use Rattle.calculus_laws.specs.ValueLaws.{Near, scaled_value, scaled_nil, near_at}
+use Rattle.calculus_laws.specs.ValueLaws.{Near, scaled_nil, near_at}
 use Rattle.calculus_laws.specs.EvaluateLaws.{point_of}
 use Rattle.calculus_laws.specs.ChainLaws.{◌≡≤◌, equal}
 use Rattle.readings.specs.Readings.{Reading, most_readings, in_order, contradicts, with_place, held}

@@ -1,25 +1,25 @@
 -- A reading contradicts a model exactly when its band and the evaluation have no number in common, and then no function
 -- within the model passes through it. Of a reading that does not contradict nothing follows: evaluation encloses what
 -- the functions reach, and may be wider.
-use Rattle.std.specs.Prelude.{◌≡◌, Bool, true, false, not, ◌||◌, List, [], ◌∷◌, ℕ, zero, suc, ◌+◌, ◌≤◌, ◌<◌, T, leb, ℤ, pos, negsuc, length, take, drop, get_or, ◌≤ℤ◌}
+use Rattle.std.specs.Prelude.{◌≡◌, Bool, true, false, not, ◌||◌, List, [], ◌∷◌, ℕ, suc, ◌+◌, ◌≤◌, ◌<◌, T, ℤ, pos, negsuc, length, take, get_or, ◌≤ℤ◌}
 use Rattle.std.proofs.Math.Path.{refl, ap}
 use Rattle.std.proofs.Common.{sym, ◌∙◌, subst, arith, le→leb, ltb→lt}
-use Rattle.std.proofs.Math.Option.{Option, none, some}
-use Rattle.std.specs.Int.Signed.{le_z, lt_z, le_z_yes, lt_z_yes, lt_z_no, ≤ℤ_refl, <ℤ-≤ℤ_trans, clash_ℤ}
+use Rattle.std.proofs.Math.Option.{none, some}
+use Rattle.std.specs.Int.Signed.{lt_z, le_z_yes, lt_z_yes, lt_z_no, ≤ℤ_refl, <ℤ-≤ℤ_trans, clash_ℤ}
 use Rattle.algebra.specs.Rational.{ℚ, ◌*ℚ◌, ◌≤ℚ◌, whole}
 use Rattle.algebra.specs.RationalLaws.{≤-whole}
 use Rattle.algebra.specs.RationalOrder.{≤ℚ_trans}
 use Rattle.numbers.specs.Fixed.{U}
-use Rattle.calculus.specs.Model.{Model, most_degree, sound, Point, Within}
+use Rattle.calculus.specs.Model.{Model, Within}
 use Rattle.calculus.specs.Refusal.{Refusal, bad_model, bad_step, leaves_box, bad_reading, Result, done, stopped}
-use Rattle.calculus.specs.Refusal.{require_at, require_each, ◌followed_by◌}
+use Rattle.calculus.specs.Refusal.{require_each, ◌followed_by◌}
 use Rattle.calculus.specs.Operations.{Ends}
 use Rattle.calculus.specs.Functions.{Function, Lies}
 use Rattle.calculus.specs.Calls.{call_evaluate}
 use Rattle.calculus_laws.specs.RefusalLaws.{if_done, passed_at}
 use Rattle.calculus_laws.specs.EvaluateLaws.{point_of, evaluate_encloses}
 use Rattle.readings.specs.Readings.{Reading, in_order, contradicts, with_place, Found, held, first_contradicting}
-use Rattle.readings.specs.Readings.{call_readings, most_readings}
+use Rattle.readings.specs.Readings.{call_readings}
 
 -- ---- no number in common
 -- a number in the band of a reading and between the ends of an evaluation
