@@ -7,21 +7,17 @@ use Rattle.model_types.specs.Arrays.{padded}
 use Rattle.model_types.specs.ArrayLaws.{set_zeros}
 use Rattle.model_types.specs.ModelStruct.{pack, answer}
 use Rattle.model_types.specs.ModelStructLaws.{refusal_cause}
-use Rattle.model_types.proofs.refuse.Statement.{statement}
-use Rattle.model_types.proofs.refuse.Tie as tie
+use Rattle.model_types.proofs.refuse.Goals as goal
 
-mul-zero : tie.Need-overflow-mul-zero
-mul-zero c = omega arith
+pub offset_bounds-zero-at : goal.offset_bounds-zero-at
+offset_bounds-zero-at c = omega arith
 
-element-set-of-zero : tie.Need-element-set-of-zero
-element-set-of-zero c = omega arith
+pub bounds-zero-at : goal.bounds-zero-at
+bounds-zero-at c = omega arith
 
-returns : tie.Need-returns
+pub returns : goal.returns
 unfolding zero_model most_terms pack padded answer
 returns c = rw (
   refusal_cause c.args.refusal,
   set_zeros (pos 0) most_terms (c.args.place % most_terms),
 )
-
-pub refuse_spec : {M : Type 1} → statement M
-refuse_spec = tie.close (tie.spec mul-zero element-set-of-zero returns)
