@@ -1,5 +1,5 @@
 -- The archive (request 14): a model's bytes with low degrees first, and what is restored from them.
-use Rattle.std.specs.Prelude.{Bool, true, false, ◌&&◌, ◌||◌, List, [], ◌∷◌, ◌++◌, map, ℕ, zero, suc, ◌+◌, ◌-◌, ◌*◌, min, eqb, ltb, leb, ℤ, length, drop}
+use Rattle.std.specs.Prelude.{Bool, ◌&&◌, ◌||◌, List, [], ◌∷◌, ◌++◌, map, ℕ, zero, suc, ◌+◌, ◌*◌, min, eqb, ltb, leb, ℤ, length, drop}
 use Rattle.polynomial.specs.Polynomial.{Term}
 use Rattle.calculus.specs.Monomial.{degree, less}
 use Rattle.calculus.specs.Key.{key_width, key, monomial_of}

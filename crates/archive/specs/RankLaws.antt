@@ -1,10 +1,10 @@
 -- The ranks: every key of degree at most 15 has one and only one, and they rise by degree and then key.
 use Rattle.std.specs.Prelude.{◌≡◌, refl, Bool, true, false, not, ◌&&◌, List, [], ◌∷◌, ◌++◌, map, ℕ, zero, suc, ◌+◌, ◌-◌, ◌*◌, ◌%◌, ◌≤◌, ◌<◌, T, eqb, ltb, leb, length, get_or}
-use Rattle.std.proofs.Common.{sym, ◌∙◌, ap, ap₂, subst, arith, eqb→eq, leb→le, ltb→lt, lt→ltb, nltb→le, T_not}
+use Rattle.std.proofs.Common.{sym, ◌∙◌, ap, subst, arith, eqb→eq, leb→le, ltb→lt, lt→ltb, nltb→le, T_not}
 use Rattle.std.proofs.Math.Nat as NatL
 use Rattle.std.proofs.Math.Dec.{eqb_refl}
 use Rattle.calculus.specs.Monomial.{degree}
-use Rattle.calculus.specs.Key.{encode, decode, fits_digits, key_width, key_limit, key, key_fits, key_exponents}
+use Rattle.calculus.specs.Key.{encode, decode, fits_digits, key_width, key_limit, key, key_fits}
 use Rattle.calculus.specs.Key.{monomial_of, key_degree}
 use Rattle.calculus.specs.Model.{most_degree}
 use Rattle.calculus_laws.specs.TestLaws.{and_left, and_right, both}

@@ -1,6 +1,5 @@
 -- All monomials in four variables of degree at most 15, by total degree and then key, as keys; the place of each.
-use Rattle.std.specs.Prelude.{Bool, true, false, ◌&&◌, ◌||◌, List, [], ◌∷◌, ◌++◌, map, ℕ, zero, suc, ◌+◌, ◌-◌, ◌*◌, ◌%◌, eqb, ltb, leb, length, get_or}
-use Rattle.calculus.specs.Monomial.{degree, less}
+use Rattle.std.specs.Prelude.{Bool, true, false, ◌&&◌, List, [], ◌∷◌, ◌++◌, map, ℕ, zero, suc, ◌+◌, ◌-◌, ◌*◌, ◌%◌, eqb, ltb, leb, get_or}
 use Rattle.calculus.specs.Key.{key_width, key_limit, key, key_degree}
 use Rattle.calculus.specs.Model.{most_degree}
 

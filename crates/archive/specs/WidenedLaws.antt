@@ -1,6 +1,6 @@
 -- What fewer terms would promise: with the sizes of those left out added to the radius they enclose what the model
 -- does.
-use Rattle.std.specs.Prelude.{◌≡◌, refl, Bool, not, List, ℕ, ◌+◌, ltb, ℤ}
+use Rattle.std.specs.Prelude.{refl, Bool, not, List, ℕ, ◌+◌, ltb, ℤ}
 use Rattle.std.proofs.Common.{sym, ◌∙◌, ap}
 use Rattle.algebra.specs.RingSolver.{◌⊞◌, ◌⊟◌, ring}
 use Rattle.algebra.specs.Ordered.{abs}

@@ -1,9 +1,8 @@
 -- Books with the rows that they report: shares that stand alone and beside others, and rows that are zeros.
-use Rattle.std.specs.Prelude.{◌≡◌, refl, List, [], ◌∷◌, ◌++◌, map, ℕ, ◌*◌, ℤ, pos, get_or, replicate}
+use Rattle.std.specs.Prelude.{◌≡◌, refl, List, [], ◌∷◌, map, ℕ, ◌*◌, ℤ, pos, get_or, replicate}
 use Rattle.numbers.specs.Fixed.{U}
-use Rattle.calculus.specs.Terms.{Terms}
 use Rattle.calculus.specs.Model.{Model}
-use Rattle.calculus.specs.Book.{Step, input, constant, variable, negate, add, subtract, multiply, substitute}
+use Rattle.calculus.specs.Book.{Step, input, constant, negate, add, subtract, multiply, substitute}
 use Rattle.calculus.specs.Book.{sweep, quotient, antiderivative, Book}
 use Rattle.calculus.specs.Shares.{Shares, no_shares, all_rows, shares_rows}
 use Rattle.calculus.specs.Computing.{reports}

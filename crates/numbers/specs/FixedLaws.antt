@@ -1,8 +1,7 @@
 -- All that the layers above know of the unit, the span limit and the rounding.
-use Rattle.std.specs.Prelude.{◌≡◌, refl, ℕ, suc, pred, ◌+◌, ◌-◌, ◌*◌, ◌/◌, ◌^◌, ◌≤◌, ◌<◌, T, leb, ℤ, pos, neg_ℤ, nat_abs, ◌-ℤ◌, ◌*ℤ◌}
+use Rattle.std.specs.Prelude.{◌≡◌, refl, ℕ, suc, pred, ◌+◌, ◌*◌, ◌/◌, ◌^◌, ◌≤◌, ◌<◌, T, leb, ℤ, pos, neg_ℤ, nat_abs, ◌-ℤ◌, ◌*ℤ◌}
 use Rattle.std.proofs.Common.{sym, ap, ◌∙◌, arith, le-leb, lit<, lit≤}
 use Rattle.std.proofs.Math.Decide.{dec_le}
-use Rattle.std.proofs.Math.Nat as NatL
 use Rattle.std.proofs.lemmas.Bool.{lt-leb}
 use Rattle.algebra.specs.Integer.{is, is_eq, is_nat, natAbs_parts}
 use Rattle.numbers.specs.Division.{is_even, nearest}

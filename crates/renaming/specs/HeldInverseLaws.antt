@@ -9,7 +9,7 @@ use Prim.Native.Nat.{ℕ, zero, suc, ◌+◌, ◌*◌, ◌≤◌, ◌<◌}
 use Rattle.std.proofs.Math.Dec.{T, ltb}
 use Rattle.std.proofs.Math.IntN.{nat_abs}
 use Rattle.std.proofs.Math.ListN.{length-map, length-append, get_elem?}
-use Rattle.calculus.specs.Key.{key_width, key_limit, key}
+use Rattle.calculus.specs.Key.{key_width, key_limit}
 use Rattle.calculus_laws.specs.MonomialKeyLaws.{key_monomial, fits_key, fits_below}
 use Rattle.calculus.specs.Terms.{Terms, every}
 use Rattle.calculus.specs.Model.{fits}

@@ -8,7 +8,6 @@ use Rattle.std.proofs.lemmas.List.{length-map}
 use Rattle.std.proofs.Math.ListN.{get_or-map}
 use Rattle.calculus.specs.Model.{Model, zero_model}
 use Rattle.calculus.specs.Refusal.{Answer, accepted, refused, Result, done, stopped, at_place, ◌followed_by◌, all_from}
-use Rattle.calculus.specs.Operations.{range, integral}
 use Rattle.calculus.specs.Tests.{variable_sound}
 use Rattle.calculus.specs.Book.{Step, input, constant, variable, negate, add, subtract, multiply, substitute, sweep}
 use Rattle.calculus.specs.Book.{quotient, antiderivative, Book, step_sound, model_of, result_of, run_step, run_steps}

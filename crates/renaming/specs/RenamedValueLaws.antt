@@ -69,6 +69,7 @@ module _ {n : ℕ} (ρ : Reordering n) (x : Point) where
 -- ---- the box
 box_at : (n : ℕ) (x : Point) → InBox n x → (i : ℕ) → i < n → abs ℚO (coordinate i x) ≤ℚ 1#
 box_at zero x b i h = absurd (omega arith)
+box_at (suc n) [] b i h = elim b [ ]
 box_at (suc n) (y ∷ x) (more l b) zero h = l
 box_at (suc n) (y ∷ x) (more l b) (suc i) h = box_at n x b i (omega arith)
 
