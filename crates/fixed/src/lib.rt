@@ -23,7 +23,7 @@ const SPAN_LIMIT: u64 = 1 << 30;
 const ABOVE_SPAN: u64 = SPAN_LIMIT + 1;
 
 // A number of units, and how far from it lies what was rounded.
-#[derive(Drop)]
+#[derive(Clone, Copy)]
 pub struct Rounded {
     pub coefficient: i64,
     pub residual: u64,

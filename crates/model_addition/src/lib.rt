@@ -16,7 +16,7 @@ const TOO_MANY: usize = MOST_TERMS + 1;
 
 // ---- which term comes next
 // The term of a sum that comes next, and the places after it in the two lists.
-#[derive(Drop)]
+#[derive(Clone, Copy)]
 pub struct Next {
     pub term: Term,
     pub i: usize,

@@ -16,7 +16,7 @@ const HEAD: usize = 6;
 const TERM: usize = 6;
 
 // How many bytes were stored, and the verdict.
-#[derive(Drop)]
+#[derive(Clone, Copy)]
 pub struct Stored {
     pub length: usize,
     pub verdict: Verdict,

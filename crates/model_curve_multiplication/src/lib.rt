@@ -14,7 +14,7 @@ use model_types::{Curve, CurveAnswer, Refusal};
 const TWO_UNITS: u64 = 2 * fixed::UNIT;
 
 // Coefficients of degrees 0 to 30, before they are rounded.
-#[derive(Drop)]
+#[derive(Clone, Copy)]
 pub struct Degrees {
     pub places: [i64; 31],
 }

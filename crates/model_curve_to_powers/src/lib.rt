@@ -12,7 +12,7 @@ ghost use Rattle.model_types.specs.CurveStruct.{view_curve};
 use model_types::{Answer, Curve, Key, MOST_TERMS, Model, Refusal, Verdict};
 
 // Coefficients of powers 0 to 15.
-#[derive(Drop)]
+#[derive(Clone, Copy)]
 pub struct Powers {
     pub places: [i64; 16],
 }

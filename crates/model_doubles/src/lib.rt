@@ -16,7 +16,7 @@ use model_types::{Answer, Doubles, Key, Model, Refusal};
 // ---- the parts of a double
 
 // A finite double's value: digits × 2^places of the smallest double, 2^-1074.
-#[derive(Drop)]
+#[derive(Clone, Copy)]
 struct Parts {
     finite: bool,
     negative: bool,
@@ -84,7 +84,7 @@ fn taken_apart(x: f64) -> Parts
 // ---- the parts in units of 1/U
 
 // U times a double as a coefficient, and 1 if that is not the whole of it.
-#[derive(Drop)]
+#[derive(Clone, Copy)]
 struct Scaled {
     coefficient: i64,
     inexact: u64,

@@ -9,7 +9,7 @@ ghost use Rattle.model_horner.specs.Held.{ScaleOf};
 use model_types::Key;
 
 // The terms of a product with a constant in two slices, and what they leave.
-#[derive(Drop)]
+#[derive(Clone, Copy)]
 pub struct Passed {
     pub count: usize,
     pub error: u64,

@@ -11,7 +11,7 @@ ghost use Rattle.model_limits.specs.Limits.{Packed, LeftIn};
 use model_types::{Answer, Model, Refusal, Verdict};
 
 // What is left of a model whose terms lie in two slices, or the refusal.
-#[derive(Drop)]
+#[derive(Clone, Copy)]
 pub struct Left {
     pub count: usize,
     pub radius: u64,

@@ -19,7 +19,7 @@ fn larger(a: u32, b: u32) -> u32
 
 // The terms of a model by their exponents of variable i, as chains of places: the first term of each power, and after
 // each term the next one of the same power, or the number of terms where there is none.
-#[derive(Drop)]
+#[derive(Clone, Copy)]
 pub struct Powers {
     pub largest: u32,
     pub first: [u8; EXPONENTS],

@@ -10,7 +10,7 @@ ghost use Rattle.model_slices.specs.HandedModels.{stored_keys, stored_coefficien
 use model_types::{Key, Model, Shares, Verdict};
 
 // The answer of a product. Its terms, unless it is refused, are the first `count` of two arrays, by wide keys.
-#[derive(Drop)]
+#[derive(Clone, Copy)]
 pub struct Kept {
     pub count: usize,
     pub radius: u64,

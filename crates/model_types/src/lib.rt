@@ -30,7 +30,7 @@ pub const CURVE_PLACES: usize = 16;
 
 // One term: eight exponents of four bits each, that of variable 1 in the highest bits, and a coefficient in units of
 // 1/U.
-#[derive(Drop)]
+#[derive(Clone, Copy)]
 pub struct Term {
     pub key: Key,
     pub coefficient: i64,
@@ -39,7 +39,7 @@ pub struct Term {
 // A model: the keys, strictly rising, and the coefficients of its first `count` terms, and a radius in units of 1/U. A
 // term's key and its coefficient stand at the same place, so that a function on slices of both reads a struct, the
 // results of a run and a caller's memory alike.
-#[derive(Drop)]
+#[derive(Clone, Copy)]
 pub struct Model {
     pub n: u8,
     pub count: usize,
@@ -49,7 +49,7 @@ pub struct Model {
 }
 
 // Why a call is refused: one case for each number of the documents' table.
-#[derive(Drop)]
+#[derive(Clone, Copy)]
 pub enum Refusal {
     BadLength,
     BadMark,
@@ -71,21 +71,21 @@ pub enum Refusal {
 }
 
 // The refusal stands with its place.
-#[derive(Drop)]
+#[derive(Clone, Copy)]
 pub enum Verdict {
     Accepted,
     Refused(Refusal, usize),
 }
 
 // A model, or the zero model beside a refusal.
-#[derive(Drop)]
+#[derive(Clone, Copy)]
 pub struct Answer {
     pub model: Model,
     pub verdict: Verdict,
 }
 
 // Where a radius came from: carried, rounding, swept, slack. Their sum is the radius times U.
-#[derive(Drop)]
+#[derive(Clone, Copy)]
 pub struct Shares {
     pub carried: u64,
     pub rounding: u64,
@@ -94,28 +94,28 @@ pub struct Shares {
 }
 
 // An answer with the shares of its radius; zeros beside a refusal.
-#[derive(Drop)]
+#[derive(Clone, Copy)]
 pub struct Accounted {
     pub answer: Answer,
     pub shares: Shares,
 }
 
 // A curve in one variable: the coefficients of the Chebyshev polynomials T_0 to T_15, and a radius, in units of 1/U.
-#[derive(Drop)]
+#[derive(Clone, Copy)]
 pub struct Curve {
     pub coefficients: [i64; CURVE_PLACES],
     pub radius: u64,
 }
 
 // A curve, or all zeros beside a refusal.
-#[derive(Drop)]
+#[derive(Clone, Copy)]
 pub struct CurveAnswer {
     pub curve: Curve,
     pub verdict: Verdict,
 }
 
 // Two ends, or zeros beside a refusal.
-#[derive(Drop)]
+#[derive(Clone, Copy)]
 pub struct Bounds {
     pub low: i64,
     pub high: i64,
@@ -123,7 +123,7 @@ pub struct Bounds {
 }
 
 // A reading of the bench: a point, and a low and a high value in units of 1/U.
-#[derive(Drop)]
+#[derive(Clone, Copy)]
 pub struct Reading {
     pub x: [i64; MOST_VARS as usize],
     pub low: i64,
@@ -131,14 +131,14 @@ pub struct Reading {
 }
 
 // Whether a reading of a row contradicts a model: the first that does, by its number from 0.
-#[derive(Drop)]
+#[derive(Clone, Copy)]
 pub enum Contradiction {
     None,
     At(usize),
 }
 
 // What a row of readings gives, with no contradiction beside a refusal.
-#[derive(Drop)]
+#[derive(Clone, Copy)]
 pub struct Finding {
     pub contradiction: Contradiction,
     pub verdict: Verdict,
@@ -146,7 +146,7 @@ pub struct Finding {
 
 // The two ends of an integral, and that of the polynomial part alone: quotient + remainder / 212,837,625, exactly. All
 // are 0 beside a refusal.
-#[derive(Drop)]
+#[derive(Clone, Copy)]
 pub struct Integral {
     pub low: i64,
     pub high: i64,
@@ -156,7 +156,7 @@ pub struct Integral {
 }
 
 // A curve in one variable as it is delivered in doubles: the coefficients of powers 0, 1 and 2, and a radius.
-#[derive(Drop)]
+#[derive(Clone, Copy)]
 pub struct Doubles {
     pub c0: f64,
     pub c1: f64,

@@ -12,7 +12,7 @@ use libc::{STDERR_FILENO, STDIN_FILENO, STDOUT_FILENO};
 const MOST_INPUT: usize = format::LONGEST + 1;
 
 // How many bytes came in before the input ended or the buffer was full.
-#[derive(Drop)]
+#[derive(Clone, Copy)]
 enum Input {
     Bytes(usize),
     Unreadable,

@@ -61,7 +61,7 @@ pub const LAST_BYTE: usize = 1 << 8;
 // ---- the grid
 // The largest exponent of each of the first four variables, as bytes, of which the compiler compares many at once; and
 // the bits of all exponents of the others, 0 only where there are none.
-#[derive(Drop)]
+#[derive(Clone, Copy)]
 pub struct Extents {
     pub first: u8,
     pub second: u8,
@@ -71,7 +71,7 @@ pub struct Extents {
 }
 
 // How many exponents of each variable there can be in a product, and how many monomials.
-#[derive(Drop)]
+#[derive(Clone, Copy)]
 pub struct Sides {
     pub first: usize,
     pub second: usize,

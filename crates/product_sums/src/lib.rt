@@ -4,7 +4,7 @@
 pub const PLACES: usize = 6561;
 
 // How many terms are kept, what rounding them leaves, and what is swept as above the order.
-#[derive(Drop)]
+#[derive(Clone, Copy)]
 pub struct Gathered {
     pub count: usize,
     pub rounding: u64,

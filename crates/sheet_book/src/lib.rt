@@ -19,7 +19,7 @@ pub const MOST_STEPS: usize = 64;
 const LAST_CODE: u8 = 10;
 
 // A step: its code and its fields.
-#[derive(Drop)]
+#[derive(Clone, Copy)]
 pub struct Step {
     pub code: u8,
     pub a: u8,
@@ -29,7 +29,7 @@ pub struct Step {
 }
 
 // A book: n, the order d, the first `model_count` of its models and the first `step_count` of its steps.
-#[derive(Drop)]
+#[derive(Clone, Copy)]
 pub struct Book {
     pub n: u8,
     pub d: u8,
@@ -40,28 +40,28 @@ pub struct Book {
 }
 
 // A book, or one of zeros beside a refusal.
-#[derive(Drop)]
+#[derive(Clone, Copy)]
 pub struct Read {
     pub book: Book,
     pub verdict: Verdict,
 }
 
 // The length of what was written, or 0 beside a refusal.
-#[derive(Drop)]
+#[derive(Clone, Copy)]
 pub struct Written {
     pub length: usize,
     pub verdict: Verdict,
 }
 
 // Two ends, in units of 1/U.
-#[derive(Drop)]
+#[derive(Clone, Copy)]
 pub struct Ends {
     pub low: i64,
     pub high: i64,
 }
 
 // The number quotient + remainder / 212,837,625, in units of 1/U; the remainder is below that.
-#[derive(Drop)]
+#[derive(Clone, Copy)]
 pub struct Exact {
     pub quotient: i64,
     pub remainder: u64,
@@ -69,7 +69,7 @@ pub struct Exact {
 
 // The last step's result, its range and its integral, and the integral of its polynomial part, exactly; or the zero
 // model and zeros beside a refusal.
-#[derive(Drop)]
+#[derive(Clone, Copy)]
 pub struct Summary {
     pub model: Model,
     pub range: Ends,
@@ -79,14 +79,14 @@ pub struct Summary {
 }
 
 // A run's summary, and where the radius of each step came from: zeros from a refused step on, and where there is none.
-#[derive(Drop)]
+#[derive(Clone, Copy)]
 pub struct Report {
     pub summary: Summary,
     pub shares: [Shares; MOST_STEPS],
 }
 
 // What a record of a sheet is; there is none from the trailer on.
-#[derive(Drop)]
+#[derive(Clone, Copy)]
 pub enum Kind {
     Model,
     Step,
@@ -94,7 +94,7 @@ pub enum Kind {
 }
 
 // Where stepping through a sheet begins, beside the verdict of tests 1 to 6.
-#[derive(Drop)]
+#[derive(Clone, Copy)]
 pub struct Start {
     pub at: usize,
     pub verdict: Verdict,

@@ -10,7 +10,7 @@ use sheet_book::Step;
 
 // What a trailer says: n, d, the counts, the offset of the first step, whether one of the marks stands, and its last
 // byte.
-#[derive(Drop)]
+#[derive(Clone, Copy)]
 pub struct Trailer {
     pub n: u8,
     pub d: u8,

@@ -13,7 +13,7 @@ use sheet_run_laws::StepList;
 use sheet_walk::ModelsWalked;
 
 // What is left of a sheet once its models stand in slices: its steps, and the verdict of tests 5 and 6.
-#[derive(Drop)]
+#[derive(Clone, Copy)]
 pub struct Loaded {
     pub list: StepList,
     pub verdict: Verdict,

@@ -10,7 +10,7 @@ use sheet_book::Step;
 
 // How far the records of models go: the number of the first faulty one or that of all, the place after the others, and
 // these.
-#[derive(Drop)]
+#[derive(Clone, Copy)]
 pub struct ModelsRead {
     pub place: usize,
     pub end: usize,
@@ -18,7 +18,7 @@ pub struct ModelsRead {
 }
 
 // How far steps go: the number of the first faulty one or that of all, and the others.
-#[derive(Drop)]
+#[derive(Clone, Copy)]
 pub struct StepsRead {
     pub place: usize,
     pub steps: [Step; sheet_book::MOST_STEPS],

@@ -12,14 +12,14 @@ pub use sheet_opening::{record, record_count};
 
 // ---- one after the other
 // A sheet, and the place of the record at hand.
-#[derive(Drop)]
+#[derive(Clone, Copy)]
 pub struct Records<'a> {
     pub sheet: &'a [u8],
     pub at: usize,
 }
 
 // A sheet at its first record, or beside a refusal at its end.
-#[derive(Drop)]
+#[derive(Clone, Copy)]
 pub struct Opened<'a> {
     pub records: Records<'a>,
     pub verdict: Verdict,

@@ -4,7 +4,7 @@ use model_types::Verdict;
 use sheet_book::Step;
 
 // What is left of a book when its models stand in flat slices: n, the order d and the first `count` of its steps.
-#[derive(Drop)]
+#[derive(Clone, Copy)]
 pub struct StepList {
     pub n: u8,
     pub d: u8,
@@ -13,7 +13,7 @@ pub struct StepList {
 }
 
 // Where a part of a run stopped: before which step, or at which, if it is refused.
-#[derive(Drop)]
+#[derive(Clone, Copy)]
 pub struct Stop {
     pub at: usize,
     pub verdict: Verdict,

@@ -12,7 +12,7 @@ use sheet_run_laws::StepList;
 
 // What the steps lead to: the last result, or the refusal of a step; and the rows of the steps before that one, with
 // zeros after them.
-#[derive(Drop)]
+#[derive(Clone, Copy)]
 pub struct Ran {
     pub answer: Answer,
     pub shares: [Shares; sheet_book::MOST_STEPS],

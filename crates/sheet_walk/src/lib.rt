@@ -10,7 +10,7 @@ ghost use Rattle.sheet_walk.specs.Walk.{models_walked, steps_walked};
 use model_types::Key;
 
 // How far the records of models go: the number of the first faulty one or that of all, and the place after the others.
-#[derive(Drop)]
+#[derive(Clone, Copy)]
 pub struct ModelsWalked {
     pub place: usize,
     pub end: usize,
