@@ -1,0 +1,37 @@
+-- `fall` is 0 at key 0; where all exponents are even it goes by the sign; otherwise it is the size.
+use mathlib.Core.Path.{◌≡◌, refl, sym, ◌∙◌, ap}
+use borrow.Author.Rules.{rules}
+use borrow.Author.Tests.{eq-eqb, ne_eqb}
+use lib.IntN.{nat_abs}
+use mir.Facts.{to_z-of_z}
+use mir.Syntax.{w64}
+use mir.Val.{to_z, of_z}
+use Rattle.calculus_laws.specs.SumLaws.{if_so}
+use Rattle.model_range.specs.KeyRange.{even_fall, key_fall}
+use Rattle.model_range.proofs.fall.Goals as goal
+use Rattle.model_range.proofs.fall.Goals.{Start}
+
+read_back : (s : Start) → to_z w64 (of_z w64 s.args.coefficient) ≡ s.args.coefficient
+read_back s = to_z-of_z s.ranges.coefficient
+
+pub returns-then-key-eq0 : goal.returns-then-key-eq0
+unfolding key_fall if_so
+returns-then-key-eq0 c = rw (eq-eqb c.args.key 0 c.if-key-eq0.true) refl
+
+pub returns-then-all_even : goal.returns-then-all_even
+unfolding key_fall even_fall
+returns-then-all_even c =
+    rw (
+      ne_eqb c.args.key 0 c.if-key-eq0.false,
+      sym c.all_even.ensures ∙ c.if-all_even.true,
+    )
+    (c.under.ensures ∙ ap even_fall (read_back (goal.at.returns-then-all_even c).Start))
+
+pub returns : goal.returns
+unfolding key_fall if_so
+returns c =
+    rw (
+      ne_eqb c.args.key 0 c.if-key-eq0.false,
+      sym c.all_even.ensures ∙ c.if-all_even.false,
+    )
+    (c.magnitude.ensures ∙ ap nat_abs (read_back (goal.at.returns c).Start))
