@@ -3,12 +3,8 @@ use mathlib.Core.Path.{refl}
 use Rattle.calculus.specs.Shares.{no_shares}
 use Rattle.model_types.specs.SharesStruct.{stored_shares}
 use Rattle.product_answer.specs.KeptProduct.{kept_refused}
-use Rattle.product_answer.proofs.refused.Statement.{statement}
-use Rattle.product_answer.proofs.refused.Tie as tie
+use Rattle.product_answer.proofs.refused.Goals as goal
 
-returns : tie.Need-returns
+pub returns : goal.returns
 unfolding kept_refused stored_shares no_shares
 returns c = refl
-
-pub refused_spec : {M : Type 1} → statement M
-refused_spec = tie.close (tie.spec returns)

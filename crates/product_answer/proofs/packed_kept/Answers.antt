@@ -1,0 +1,11 @@
+-- `packed_kept` puts the shares beside the answer.
+use mathlib.Core.Path.{ap}
+use borrow.Author.Rules.{rules}
+use Rattle.product_answer.specs.KeptProduct.{kept_accounted}
+use Rattle.product_answer.proofs.packed_kept.Goals as goal
+
+pub returns : goal.returns
+unfolding kept_accounted
+returns c =
+    ap (λ a. record { answer = a; shares = c.args.k.shares })
+    c.packed_answer-answer.ensures
