@@ -6,12 +6,8 @@ use Rattle.chebyshev.specs.PowerRows.{places, zeros}
 use Rattle.model_types.specs.ModelStruct.{cause}
 use Rattle.model_types.specs.ModelStructLaws.{refusal_cause}
 use Rattle.model_types.specs.CurveStruct.{curve_answer}
-use Rattle.model_curve_addition.proofs.refuse_curve.Statement.{statement}
-use Rattle.model_curve_addition.proofs.refuse_curve.Tie as tie
+use Rattle.model_curve_addition.proofs.refuse_curve.Goals as goal
 
-returns : tie.Need-returns
+pub returns : goal.returns
 unfolding curve_answer zero_curve places zeros
 returns c = rw (refusal_cause c.args.refusal)
-
-pub refuse_curve_spec : {M : Type 1} → statement M
-refuse_curve_spec = tie.close (tie.spec returns)
