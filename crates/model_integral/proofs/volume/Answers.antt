@@ -5,17 +5,13 @@ use native.Mathlib.Nat as NatL
 use native.Mathlib.Omega.{arith}
 use lib.Pow.{pow-lt}
 use Rattle.calculus.specs.Key.{key_width}
-use Rattle.model_integral.proofs.volume.Statement.{statement}
-use Rattle.model_integral.proofs.volume.Tie as tie
+use Rattle.model_integral.proofs.volume.Goals as goal
 
-shl-result : tie.Need-overflow-shl-result
+pub overflow_shl-result : goal.overflow_shl-result
 unfolding key_width
-shl-result c = omega (arith, c.requires.1)
+overflow_shl-result c = omega (arith, c.requires.1)
 
-returns : tie.Need-returns
+pub returns : goal.returns
 unfolding key_width
 returns c = ap (λ x. x % 2 ^ 64) (NatL.one-mul (2 ^ c.args.n))
     ∙ NatL.mod-eq_of_lt (pow-lt {i = c.args.n} {j = 64} (omega (arith, c.requires.1)))
-
-pub volume_spec : {M : Type 1} → statement M
-volume_spec = tie.close (tie.spec shl-result returns)
