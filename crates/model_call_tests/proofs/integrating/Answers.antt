@@ -1,0 +1,53 @@
+-- `integrating` makes the tests of the order, the model and the variable.
+use mathlib.Core.Path.{◌≡◌, sym, ◌∙◌}
+use mathlib.Core.Bool.{Bool, true, false}
+use borrow.Author.Rules.{rules}
+use borrow.Author.Tests.{not-true, not-false}
+use Rattle.calculus.specs.Model.{sound}
+use Rattle.calculus.specs.Refusal.{require_at}
+use Rattle.calculus.specs.Tests.{order_sound, variable_sound}
+use Rattle.model_types.specs.ModelStruct.{view, refusal, verdict}
+use Rattle.model_call_tests.specs.Admission.{integrating}
+use Rattle.model_call_tests.proofs.integrating.Goals as goal
+use Rattle.model_call_tests.proofs.integrating.Goals.{After-from_one, After-order_sound, After-sound}
+
+-- the tests of the order, the model and the variable
+ordered : (c : After-order_sound) (b : Bool) → c.order_sound.result ≡ b → order_sound c.args.d ≡ b
+ordered c b h = sym c.order_sound.ensures ∙ h
+
+modelled : (c : After-sound) (b : Bool) → c.sound.result ≡ b
+    → sound c.args.d (view c.args.m) ≡ b
+modelled c b h = sym c.sound.ensures ∙ h
+
+tested : (c : After-from_one) (b : Bool) → c.from_one.result ≡ b
+    → variable_sound (view c.args.m).vars
+    c.args.i ≡ b
+unfolding variable_sound view
+tested c b h = sym c.from_one.ensures ∙ h
+
+pub returns-then-not-order_sound : goal.returns-then-not-order_sound
+unfolding require_at integrating refusal verdict
+returns-then-not-order_sound c = rw (ordered (goal.at.returns-then-not-order_sound c).After-order_sound false (c.if-not-order_sound.true))
+
+pub returns-then-not-sound : goal.returns-then-not-sound
+unfolding require_at integrating refusal verdict
+returns-then-not-sound c =
+    rw (ordered (goal.at.returns-then-not-sound c).After-order_sound true (c.if-not-order_sound.false), modelled (goal.at.returns-then-not-sound c).After-sound false (c.if-not-sound.true))
+
+pub returns-then-not-from_one : goal.returns-then-not-from_one
+unfolding require_at integrating refusal verdict
+returns-then-not-from_one c =
+    rw (
+      ordered (goal.at.returns-then-not-from_one c).After-order_sound true (c.if-not-order_sound.false),
+      modelled (goal.at.returns-then-not-from_one c).After-sound true (c.if-not-sound.false),
+      tested (goal.at.returns-then-not-from_one c).After-from_one false (c.if-not-from_one.true),
+    )
+
+pub returns : goal.returns
+unfolding require_at integrating verdict
+returns c =
+    rw (
+      ordered (goal.at.returns c).After-order_sound true (c.if-not-order_sound.false),
+      modelled (goal.at.returns c).After-sound true (c.if-not-sound.false),
+      tested (goal.at.returns c).After-from_one true (c.if-not-from_one.false),
+    )
