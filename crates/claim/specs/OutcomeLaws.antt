@@ -236,7 +236,8 @@ module _ (Q : ℕ → ℚPolynomial) where
       → Each Unmarked (outcomes_after (polynomials Q) os l) (marks_after ms l)
   unfolding outcomes_after marks_after
   all_made [] e = e
-  all_made {os} {ms} (s ∷ l) e = all_made {os = os ++ (_ ∷ [])} {ms = ms ++ (_ ∷ [])} l (each_snoc Unmarked e (step_made s e))
+  all_made {os} {ms} (s ∷ l) e = all_made {os = os ++ (_ ∷ [])} {ms = ms ++ (_ ∷ [])} l
+      (each_snoc Unmarked e (step_made s e))
 
   outcome_made : (l : List Step) → T (not (last false (marks_after [] l)))
       → Made (outcome (polynomials Q) l).polynomial
@@ -273,7 +274,8 @@ off_any {ms} e (a ∷ l) =
 marks_off : {ms : List Bool} (l : List Step) → T (no_quotient l) → Off ms → Off (marks_after ms l)
 unfolding marks_after no_quotient each_step is_fed
 marks_off [] z e = e
-marks_off {ms} (s ∷ l) z e = marks_off {ms = ms ++ (_ ∷ [])} l (and_right (not (is_quotient s)) _ z) (each_snoc (λ j k. T (not k)) e
+marks_off {ms} (s ∷ l) z e = marks_off {ms = ms ++ (_ ∷ [])} l (and_right (not (is_quotient s)) _ z)
+    (each_snoc (λ j k. T (not k)) e
     (neither (is_quotient s) _ (and_left (not (is_quotient s)) _ z) (off_any e (operands s))))
 
 -- so such steps, with antiderivatives too, have a polynomial,
@@ -317,7 +319,8 @@ functions_ready : (n : ℕ) (F : ℕ → Function) {os : List Outcome} (l : List
 unfolding no_antiderivative each_step is_antiderivative
 functions_ready n F [] z = no_more
 functions_ready n F {os} (s ∷ l) z = next (λ a v e. absurd (subst (λ t. T (not (is_antiderivative t))) e
-    (and_left (not (is_antiderivative s)) _ z))) (functions_ready n F {os = os ++ (_ ∷ [])} l (and_right (not (is_antiderivative s)) _ z))
+    (and_left (not (is_antiderivative s)) _ z)))
+    (functions_ready n F {os = os ++ (_ ∷ [])} l (and_right (not (is_antiderivative s)) _ z))
 
 module _ (Q : ℕ → ℚPolynomial) (b : Book) (marks : List Bool) where
   -- the step is no antiderivative that a quotient feeds
@@ -339,7 +342,8 @@ module _ (Q : ℕ → ℚPolynomial) (b : Book) (marks : List Bool) where
       (λ a v t. is_polynomial (unmarked Q e a (operand_unfed ms (s ∷ l) a v q
       (before a v (subst (λ s. T (step_sound b i s)) t (and_left (step_sound b i s) _ h)))
       (subst (λ s. T (unfed s)) t (and_left (unfed s) _ z)))) (operand b (polynomials Q) g a))
-      (polynomials_ready {os = os ++ (_ ∷ [])} {ms = ms ++ (_ ∷ [])} (suc i) l (and_right (step_sound b i s) _ h) (ap suc k ∙ sym (next_number ms _))
+      (polynomials_ready {os = os ++ (_ ∷ [])} {ms = ms ++ (_ ∷ [])} (suc i) l
+      (and_right (step_sound b i s) _ h) (ap suc k ∙ sym (next_number ms _))
       (each_snoc (λ o p. agree b (polynomials Q) p) g
       (step_agrees b (polynomials Q) i s (and_left (step_sound b i s) _ h) g))
       (each_snoc (Unmarked Q) e (step_made Q s e)) q (and_right (unfed s) _ z))
@@ -387,7 +391,8 @@ module _ (Q : ℕ → ℚPolynomial) where
       → Each Alike (outcomes_after (polynomials Q) os l) (outcomes_after values ps l)
   unfolding outcomes_after no_antiderivative each_step
   all_alike [] z e = e
-  all_alike {os} {ps} (s ∷ l) z e = all_alike {os = os ++ (_ ∷ [])} {ps = ps ++ (_ ∷ [])} l (and_right (not (is_antiderivative s)) _ z)
+  all_alike {os} {ps} (s ∷ l) z e = all_alike {os = os ++ (_ ∷ [])} {ps = ps ++ (_ ∷ [])} l
+      (and_right (not (is_antiderivative s)) _ z)
       (each_snoc Alike e (step_alike s (and_left (not (is_antiderivative s)) _ z) e))
 
   pub outcome_alike : (l : List Step) → T (no_antiderivative l) → (outcome (polynomials Q) l).at ≡ (outcome values l).at

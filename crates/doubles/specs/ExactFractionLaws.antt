@@ -60,7 +60,7 @@ module _ (w l n d : ℕ) (hl : 0 < l) (hd : 0 < d) (e : w * U * d ≡ n * l) whe
       (swap a U d l ∙ ap (λ i. i * U * d) h ∙ swap_2 w k U d ∙ ap (λ i. i * k) e ∙ NatL.mul_right_comm n l k)
     where
       swap : (a u d l : ℕ) → a * u * d * l ≡ a * l * u * d
-      swap a u d l = simp (NatL.mul_assoc, NatL.mul_comm, NatL.mul_left_comm)
+      swap a u d l = simp (NatL.mul_assoc, NatL.mul_comm)
 
       swap_2 : (w k u d : ℕ) → w * k * u * d ≡ w * u * d * k
       swap_2 w k u d = simp (NatL.mul_assoc, NatL.mul_comm, NatL.mul_left_comm)
