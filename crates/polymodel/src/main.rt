@@ -2,8 +2,8 @@
 //
 // All that it decides is in `text::print`, whose contract says which bytes these lines are for every input. A refused
 // sheet is a line of output like any other. The program has no exit status of its own: it ends with 0 in every case.
-// Where the input cannot be read nothing is written to standard output; that, and output that cannot be written, is said
-// in a line on standard error.
+// Where the input cannot be read nothing is written to standard output; that, and output that cannot be written, is
+// said in a line on standard error.
 #![tactic(auto)]
 
 ghost use Rattle.polymodel.specs.Input.{Within};
