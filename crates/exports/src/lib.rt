@@ -1,6 +1,8 @@
 // The library for other languages: document 01's calls and runs on numbers and slices. Each exported function takes
 // anything that its types can hold. A slice that is too short, or a code that names no call, is answered with MISUSED,
 // and nothing is changed then; every other answer is document 01's, its number 0 where nothing is refused.
+#![tactic(auto)]
+
 pub mod calls; // calls.rt: the single calls
 pub mod quotients; // quotients.rt: the single call of four models
 pub mod books; // books.rt: books written
