@@ -11,9 +11,3 @@ pub mod OrderedLaws
 pub mod Field
 pub mod FieldLaws
 pub mod Fraction
-pub mod FractionLaws
-pub mod Rational
-pub mod RationalRing
-pub mod RationalOrder
-pub mod RationalLaws
-pub mod RationalField

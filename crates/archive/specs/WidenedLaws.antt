@@ -4,9 +4,9 @@ use Rattle.std.specs.Prelude.{refl, Bool, not, List, ℕ, ◌+◌, ltb, ℤ}
 use Rattle.std.proofs.Common.{sym, ◌∙◌, ap}
 use Rattle.algebra.specs.RingSolver.{◌⊞◌, ◌⊟◌, ring}
 use Rattle.algebra.specs.Ordered.{abs}
-use Rattle.algebra.specs.Rational.{ℚ, ◌+ℚ◌, ◌*ℚ◌}
-use Rattle.algebra.specs.RationalRing.{ℚR}
-use Rattle.algebra.specs.RationalOrder.{ℚO}
+use Rattle.algebra.proofs.Rational.{ℚ, ◌+ℚ◌, ◌*ℚ◌}
+use Rattle.algebra.proofs.RationalRing.{ℚR}
+use Rattle.algebra.proofs.RationalOrder.{ℚO}
 use Rattle.numbers.specs.Fixed.{U}
 use Rattle.calculus.specs.Terms.{Terms, select, size}
 use Rattle.calculus.specs.Model.{Model, ◌-ℚ◌, Point, InBox}

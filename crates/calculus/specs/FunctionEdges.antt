@@ -3,9 +3,9 @@ use Rattle.std.specs.Prelude.{◌≡◌, refl, [], ◌∷◌, pos}
 use Rattle.std.proofs.Common.{sym, subst}
 use Rattle.std.specs.Int.Signed.{le_z_yes}
 use Rattle.algebra.specs.RingLaws.{*-zero}
-use Rattle.algebra.specs.Rational.{ℚ, ◌*ℚ◌, whole, ◌≤ℚ◌, reciprocal}
-use Rattle.algebra.specs.RationalRing.{ℚR}
-use Rattle.algebra.specs.RationalLaws.{whole_≤}
+use Rattle.algebra.proofs.Rational.{ℚ, ◌*ℚ◌, whole, ◌≤ℚ◌, reciprocal}
+use Rattle.algebra.proofs.RationalRing.{ℚR}
+use Rattle.algebra.proofs.RationalLaws.{whole_≤}
 use Rattle.polynomial.specs.Polynomial.{exponent, raise}
 use Rattle.polynomial.specs.Antiderivative.{antiderivative_in}
 use Rattle.numbers.specs.Fixed.{U}

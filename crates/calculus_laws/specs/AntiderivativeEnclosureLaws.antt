@@ -11,23 +11,23 @@ use Rattle.algebra.specs.Ordered.{abs}
 use Rattle.algebra.specs.OrderedLaws.{abs_mul, abs_pos, abs_prod, *-mono}
 use Rattle.algebra.specs.FieldLaws.{reciprocal_nonneg}
 use Rattle.algebra.specs.IntegerRing.{ℤR}
-use Rattle.algebra.specs.Rational.{ℚ, ◌+ℚ◌, ◌*ℚ◌, negℚ, whole, ◌≤ℚ◌, reciprocal}
-use Rattle.algebra.specs.RationalRing.{ℚR}
-use Rattle.algebra.specs.RationalOrder.{ℚO}
-use Rattle.algebra.specs.RationalField.{ℚF}
-use Rattle.algebra.specs.RationalLaws.{whole-+, whole-*, whole_neg, whole_reciprocal}
+use Rattle.algebra.proofs.Rational.{ℚ, ◌+ℚ◌, ◌*ℚ◌, negℚ, whole, ◌≤ℚ◌, reciprocal}
+use Rattle.algebra.proofs.RationalRing.{ℚR}
+use Rattle.algebra.proofs.RationalOrder.{ℚO}
+use Rattle.algebra.proofs.RationalField.{ℚF}
+use Rattle.algebra.proofs.RationalLaws.{whole-+, whole-*, whole_neg, whole_reciprocal}
 use Rattle.polynomial.specs.Polynomial as P
 use Rattle.polynomial.specs.Polynomial.{eval, monomial, exponent}
-use Rattle.polynomial.specs.PolynomialLaws.{eval_sum, eval_negation}
-use Rattle.polynomial.specs.BoxLaws.{monomial_le}
+use Rattle.polynomial.proofs.PolynomialLaws.{eval_sum, eval_negation}
+use Rattle.polynomial.proofs.BoxLaws.{monomial_le}
 use Rattle.polynomial.specs.Antiderivative.{antiderivative_in}
-use Rattle.polynomial.specs.VariableAntiderivativeLaws.{exponent_raise, eval_antiderivative_sum}
-use Rattle.polynomial.specs.VariableAntiderivativeLaws.{eval_antiderivative_scale}
-use Rattle.polynomial.specs.VariableAntiderivativeLaws.{antiderivative_bounded}
+use Rattle.polynomial.proofs.VariableAntiderivativeLaws.{exponent_raise, eval_antiderivative_sum}
+use Rattle.polynomial.proofs.VariableAntiderivativeLaws.{eval_antiderivative_scale}
+use Rattle.polynomial.proofs.VariableAntiderivativeLaws.{antiderivative_bounded}
 use Rattle.numbers.specs.Fixed.{U}
 use Rattle.numbers.specs.Division.{divided_up, nearest}
-use Rattle.numbers.specs.DivisionLaws.{divided_up_ok}
-use Rattle.numbers.specs.NearestLaws.{nearest_le, nearest_divides}
+use Rattle.numbers.proofs.DivisionLaws.{divided_up_ok}
+use Rattle.numbers.proofs.NearestLaws.{nearest_le, nearest_divides}
 use Rattle.calculus.specs.Monomial.{index_of}
 use Rattle.calculus.specs.Terms.{Terms, sum_over, sum_ℕ}
 use Rattle.calculus.specs.Model.{Model, ◌/U, ◌-ℚ◌, distance, Point, InBox, polynomial, value, At}

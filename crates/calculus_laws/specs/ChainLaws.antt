@@ -1,8 +1,8 @@
 -- Chains of equations and inequalities between fractions, read from left to right.
 use Rattle.std.specs.Prelude.{◌≡◌}
 use Rattle.std.proofs.Common.{sym, subst}
-use Rattle.algebra.specs.Rational.{ℚ, ◌≤ℚ◌}
-use Rattle.algebra.specs.RationalOrder.{≤ℚ_refl, ≤ℚ_trans}
+use Rattle.algebra.proofs.Rational.{ℚ, ◌≤ℚ◌}
+use Rattle.algebra.proofs.RationalOrder.{≤ℚ_refl, ≤ℚ_trans}
 
 infixr 20 ◌≤≤◌ ◌≡≤◌ ◌≤≡◌
 pub ◌≤≤◌ : {x y z : ℚ} → x ≤ℚ y → y ≤ℚ z → x ≤ℚ z

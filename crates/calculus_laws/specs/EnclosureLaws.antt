@@ -6,13 +6,13 @@ use native.Mathlib.Omega.{arith}
 use Rattle.algebra.specs.RingSolver.{𝟎, ◌⊞◌, ◌⊟◌, ◌⊠◌, ⊝◌, ring}
 use Rattle.algebra.specs.Ordered.{abs}
 use Rattle.algebra.specs.OrderedLaws.{abs_neg_eq, triangle, +-mono, enclose_mul}
-use Rattle.algebra.specs.Rational.{ℚ, ◌+ℚ◌, ◌*ℚ◌, negℚ, whole, ◌≤ℚ◌}
-use Rattle.algebra.specs.RationalRing.{ℚR}
-use Rattle.algebra.specs.RationalOrder.{ℚO}
+use Rattle.algebra.proofs.Rational.{ℚ, ◌+ℚ◌, ◌*ℚ◌, negℚ, whole, ◌≤ℚ◌}
+use Rattle.algebra.proofs.RationalRing.{ℚR}
+use Rattle.algebra.proofs.RationalOrder.{ℚO}
 use Rattle.polynomial.specs.Polynomial.{monomial}
-use Rattle.polynomial.specs.BoxLaws.{box_length}
+use Rattle.polynomial.proofs.BoxLaws.{box_length}
 use Rattle.numbers.specs.Fixed.{U, span_limit}
-use Rattle.numbers.specs.FixedLaws.{round_up_ok}
+use Rattle.numbers.proofs.FixedLaws.{round_up_ok}
 use Rattle.calculus.specs.Monomial.{degree, zeros, index_of, single}
 use Rattle.calculus.specs.Terms.{Terms, term, select, size, drop_zeros, collect}
 use Rattle.calculus.specs.Model.{Model, zero_model, one_model, most_terms, span, ◌/U, ◌-ℚ◌, Point, InBox}

@@ -4,12 +4,12 @@ use Rattle.std.proofs.Common.{sym, ◌∙◌, ap, arith, leb→le, length-take}
 use Rattle.std.proofs.Math.Path.{subst}
 use mathlib.Core.List.{List, [], ◌∷◌, map}
 use Rattle.algebra.specs.Ordered.{abs}
-use Rattle.algebra.specs.Rational.{ℚ, ◌≤ℚ◌}
-use Rattle.algebra.specs.RationalRing.{ℚR}
-use Rattle.algebra.specs.RationalOrder.{ℚO}
+use Rattle.algebra.proofs.Rational.{ℚ, ◌≤ℚ◌}
+use Rattle.algebra.proofs.RationalRing.{ℚR}
+use Rattle.algebra.proofs.RationalOrder.{ℚO}
 use Rattle.polynomial.specs.Polynomial.{replace}
 use Rattle.polynomial.specs.Box.{none, more}
-use Rattle.polynomial.specs.BoxLaws.{box_length}
+use Rattle.polynomial.proofs.BoxLaws.{box_length}
 use Rattle.numbers.specs.Fixed.{U}
 use Rattle.calculus.specs.Monomial.{index_of}
 use Rattle.calculus.specs.Model.{Model, most_degree, sound, ◌/U, Point, InBox, Within}

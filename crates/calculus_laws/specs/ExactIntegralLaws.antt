@@ -14,16 +14,16 @@ use Rattle.algebra.specs.RingLaws.{*-zero}
 use Rattle.algebra.specs.RingSolver.{◌⊞◌, ◌⊠◌, ring}
 use Rattle.algebra.specs.OrderedLaws.{*-mono}
 use Rattle.algebra.specs.FieldLaws.{reciprocal_nonneg}
-use Rattle.algebra.specs.Rational.{ℚ, ◌+ℚ◌, ◌*ℚ◌, whole, ◌≤ℚ◌, reciprocal}
-use Rattle.algebra.specs.RationalRing.{ℚR}
-use Rattle.algebra.specs.RationalOrder.{ℚO}
-use Rattle.algebra.specs.RationalField.{ℚF}
-use Rattle.algebra.specs.RationalLaws.{whole-+, whole-*, whole_≤, ≤-whole, nat_whole}
+use Rattle.algebra.proofs.Rational.{ℚ, ◌+ℚ◌, ◌*ℚ◌, whole, ◌≤ℚ◌, reciprocal}
+use Rattle.algebra.proofs.RationalRing.{ℚR}
+use Rattle.algebra.proofs.RationalOrder.{ℚO}
+use Rattle.algebra.proofs.RationalField.{ℚF}
+use Rattle.algebra.proofs.RationalLaws.{whole-+, whole-*, whole_≤, ≤-whole, nat_whole}
 use Rattle.polynomial.specs.Integral as I
 use Rattle.polynomial.specs.Integral.{all_even, divisor, moment}
-use Rattle.polynomial.specs.IntegralLaws.{divisor_pos}
+use Rattle.polynomial.proofs.IntegralLaws.{divisor_pos}
 use Rattle.numbers.specs.Division.{floor, ceiling, remainder}
-use Rattle.numbers.specs.DivisionLaws.{floor_le, division, remainder_lt}
+use Rattle.numbers.proofs.DivisionLaws.{floor_le, division, remainder_lt}
 use Rattle.calculus.specs.Terms.{Terms, every, sum_over}
 use Rattle.calculus.specs.Model.{Model, Point, InBox, most_degree, fits, sound}
 use Rattle.calculus.specs.Operations.{common_denominator, exact_vars, has_exact, integral_parts, mixed_part}

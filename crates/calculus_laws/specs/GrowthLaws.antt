@@ -10,10 +10,10 @@ use native.Mathlib.Omega.{arith}
 use Rattle.std.proofs.Math.IntN.{ℤ, nat_abs}
 use Rattle.std.proofs.lemmas.List.{length-map}
 use Rattle.polynomial.specs.Polynomial.{Term, exponent, raise}
-use Rattle.polynomial.specs.VariableAntiderivativeLaws.{exponent_raise}
+use Rattle.polynomial.proofs.VariableAntiderivativeLaws.{exponent_raise}
 use Rattle.numbers.specs.Division.{divided_up, nearest}
-use Rattle.numbers.specs.DivisionLaws.{divided_up_le}
-use Rattle.numbers.specs.NearestLaws.{nearest_le_abs, nearest_shrinks}
+use Rattle.numbers.proofs.DivisionLaws.{divided_up_le}
+use Rattle.numbers.proofs.NearestLaws.{nearest_le_abs, nearest_shrinks}
 use Rattle.calculus.specs.Monomial.{degree, index_of}
 use Rattle.calculus.specs.Terms.{Terms, term, select, sum_over, sum_ℕ, size, map_terms, map_monomials}
 use Rattle.calculus.specs.Terms.{is_nonzero, drop_zeros}

@@ -11,18 +11,18 @@ use Rattle.algebra.specs.RingSolver.{◌⊞◌, ◌⊟◌, ⊝◌, ring}
 use Rattle.algebra.specs.Ordered.{abs}
 use Rattle.algebra.specs.OrderedLaws.{le_abs, neg_le_abs, +-mono, *-mono}
 use Rattle.algebra.specs.FieldLaws.{reciprocal_nonneg}
-use Rattle.algebra.specs.Rational.{ℚ, ◌+ℚ◌, ◌*ℚ◌, negℚ, whole, ◌≤ℚ◌, reciprocal}
-use Rattle.algebra.specs.RationalRing.{ℚR}
-use Rattle.algebra.specs.RationalOrder.{ℚO}
-use Rattle.algebra.specs.RationalLaws.{whole-+, whole-*, whole_neg, whole_≤, nat_whole}
-use Rattle.algebra.specs.RationalField.{ℚF}
+use Rattle.algebra.proofs.Rational.{ℚ, ◌+ℚ◌, ◌*ℚ◌, negℚ, whole, ◌≤ℚ◌, reciprocal}
+use Rattle.algebra.proofs.RationalRing.{ℚR}
+use Rattle.algebra.proofs.RationalOrder.{ℚO}
+use Rattle.algebra.proofs.RationalLaws.{whole-+, whole-*, whole_neg, whole_≤, nat_whole}
+use Rattle.algebra.proofs.RationalField.{ℚF}
 use Rattle.polynomial.specs.Polynomial.{eval, scale}
-use Rattle.polynomial.specs.PolynomialLaws.{eval_scale}
+use Rattle.polynomial.proofs.PolynomialLaws.{eval_scale}
 use Rattle.polynomial.specs.Integral as I
 use Rattle.polynomial.specs.Integral.{all_even, divisor, moment}
-use Rattle.polynomial.specs.IntegralLaws.{divisor_pos, integral_scale, integral_mono}
+use Rattle.polynomial.proofs.IntegralLaws.{divisor_pos, integral_scale, integral_mono}
 use Rattle.numbers.specs.Division.{floor, ceiling}
-use Rattle.numbers.specs.DivisionLaws.{floor_le, le_ceiling}
+use Rattle.numbers.proofs.DivisionLaws.{floor_le, le_ceiling}
 use Rattle.numbers.specs.Fixed.{U}
 use Rattle.calculus.specs.Terms.{Terms, sum_over}
 use Rattle.calculus.specs.Model.{Model, ◌-ℚ◌, Point, InBox}

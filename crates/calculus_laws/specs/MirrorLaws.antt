@@ -8,7 +8,7 @@ use Rattle.std.proofs.Math.Dec.{leb}
 use Rattle.std.proofs.Math.IntN.{neg_ℤ}
 use Rattle.algebra.specs.Integer.{natAbs_neg}
 use Rattle.numbers.specs.Fixed.{span_limit, residual, round, round_up}
-use Rattle.numbers.specs.FixedLaws.{round_neg, residual_neg}
+use Rattle.numbers.proofs.FixedLaws.{round_neg, residual_neg}
 use Rattle.calculus.specs.Monomial.{degree}
 use Rattle.calculus.specs.Terms.{Terms, term, sum_ℕ, size, map_coefficients, is_nonzero, drop_zeros, collect}
 use Rattle.calculus.specs.Model.{Model, most_terms, span}

@@ -6,8 +6,8 @@ use Rattle.std.proofs.lemmas.List.{length-replicate}
 use Rattle.algebra.specs.LexicographicLaws.{less_cons, cons_less}
 use Rattle.algebra.specs.Ring.{pow}
 use Rattle.algebra.specs.RingLaws.{one-*}
-use Rattle.algebra.specs.Rational.{◌*ℚ◌}
-use Rattle.algebra.specs.RationalRing.{ℚR}
+use Rattle.algebra.proofs.Rational.{◌*ℚ◌}
+use Rattle.algebra.proofs.RationalRing.{ℚR}
 use Rattle.polynomial.specs.Polynomial.{add_exponents, exponent, without, raise, replace, monomial}
 use Rattle.calculus.specs.Monomial.{less, degree, zeros, index_of, single}
 use Rattle.calculus.specs.Model.{Point}

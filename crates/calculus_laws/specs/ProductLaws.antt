@@ -7,7 +7,7 @@ use Rattle.std.proofs.Math.IntN.{nat_abs}
 use Rattle.algebra.specs.IntegerRing.{ℤR}
 use Rattle.polynomial.specs.Polynomial.{product}
 use Rattle.numbers.specs.Fixed.{U, round, residual, round_up}
-use Rattle.numbers.specs.FixedLaws.{round_zero, residual_zero, round_up_ok}
+use Rattle.numbers.proofs.FixedLaws.{round_zero, residual_zero, round_up_ok}
 use Rattle.calculus.specs.Monomial.{degree}
 use Rattle.calculus.specs.Terms.{Terms, select, sum_over, size, rising, is_nonzero, nonzero, drop_zeros, collect}
 use Rattle.calculus.specs.Model.{Model}

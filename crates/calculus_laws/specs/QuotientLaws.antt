@@ -9,14 +9,14 @@ use Rattle.algebra.specs.Ordered.{abs}
 use Rattle.algebra.specs.OrderedLaws.{abs_neg_eq, abs_mul, abs_nonneg, abs_le, le_abs, neg_le_abs, triangle}
 use Rattle.algebra.specs.OrderedLaws.{+-mono, *-mono, neg_mono}
 use Rattle.algebra.specs.FieldLaws.{reciprocal_nonneg}
-use Rattle.algebra.specs.Rational.{ℚ, ◌+ℚ◌, ◌*ℚ◌, negℚ, ◌/ℚ◌, whole, ◌≤ℚ◌, reciprocal}
-use Rattle.algebra.specs.RationalRing.{ℚR}
-use Rattle.algebra.specs.RationalOrder.{ℚO}
-use Rattle.algebra.specs.RationalField.{ℚF}
-use Rattle.algebra.specs.RationalLaws.{/ℚ_back, whole_reciprocal, ≤-whole}
+use Rattle.algebra.proofs.Rational.{ℚ, ◌+ℚ◌, ◌*ℚ◌, negℚ, ◌/ℚ◌, whole, ◌≤ℚ◌, reciprocal}
+use Rattle.algebra.proofs.RationalRing.{ℚR}
+use Rattle.algebra.proofs.RationalOrder.{ℚO}
+use Rattle.algebra.proofs.RationalField.{ℚF}
+use Rattle.algebra.proofs.RationalLaws.{/ℚ_back, whole_reciprocal, ≤-whole}
 use Rattle.numbers.specs.Division.{divided_up}
 use Rattle.numbers.specs.Fixed.{U}
-use Rattle.numbers.specs.DivisionLaws.{divided_up_ok}
+use Rattle.numbers.proofs.DivisionLaws.{divided_up_ok}
 use Rattle.calculus.specs.Model.{Model, one_model, ◌-ℚ◌, Point, InBox, value}
 use Rattle.calculus.specs.Refusal.{uncertified}
 use Rattle.calculus.specs.Operations.{Ends, range, widen, bare, defect, deviation}

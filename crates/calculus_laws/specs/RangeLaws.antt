@@ -9,12 +9,12 @@ use Rattle.algebra.specs.RingLaws.{zero-*}
 use Rattle.algebra.specs.RingSolver.{𝟎, 𝟏, ◌⊞◌, ◌⊟◌, ◌⊠◌, ⊝◌, ring}
 use Rattle.algebra.specs.Ordered.{abs}
 use Rattle.algebra.specs.OrderedLaws.{abs_le, le_abs, neg_le_abs, +-mono, *-mono, neg_mono}
-use Rattle.algebra.specs.Rational.{ℚ, ◌+ℚ◌, ◌*ℚ◌, negℚ, whole, ◌≤ℚ◌}
-use Rattle.algebra.specs.RationalRing.{ℚR}
-use Rattle.algebra.specs.RationalOrder.{ℚO}
-use Rattle.algebra.specs.RationalLaws.{whole-+, whole_neg, whole_≤}
+use Rattle.algebra.proofs.Rational.{ℚ, ◌+ℚ◌, ◌*ℚ◌, negℚ, whole, ◌≤ℚ◌}
+use Rattle.algebra.proofs.RationalRing.{ℚR}
+use Rattle.algebra.proofs.RationalOrder.{ℚO}
+use Rattle.algebra.proofs.RationalLaws.{whole-+, whole_neg, whole_≤}
 use Rattle.polynomial.specs.Polynomial.{monomial}
-use Rattle.polynomial.specs.BoxLaws.{monomial_even}
+use Rattle.polynomial.proofs.BoxLaws.{monomial_even}
 use Rattle.numbers.specs.Fixed.{U}
 use Rattle.calculus.specs.Monomial.{degree}
 use Rattle.calculus.specs.Terms.{Terms, sum_over, sum_ℕ, sum_ℤ, size}

@@ -8,7 +8,7 @@ use Rattle.std.specs.Prelude.{nat_abs}
 use Rattle.std.proofs.Math.ListN.{length, get_or, take, get_or-eq_default}
 use Rattle.std.proofs.lemmas.List.{length-replicate}
 use Rattle.numbers.specs.Fixed.{U, round_up}
-use Rattle.numbers.specs.FixedLaws.{round_up_ok}
+use Rattle.numbers.proofs.FixedLaws.{round_up_ok}
 use Rattle.calculus.specs.Terms.{size, select}
 use Rattle.calculus.specs.Model.{Model, zero_model}
 use Rattle.calculus.specs.Refusal.{Refusal, leaves_box, Answer, accepted, refused, ◌then◌, done, stopped}

@@ -9,7 +9,7 @@ use Rattle.std.proofs.Math.Dec.{T, eqb, eqb_refl, leb→le, lit≤}
 use Rattle.std.proofs.Math.IntN.{neg_ℤ, nat_abs}
 use Rattle.polynomial.specs.Polynomial.{exponent, without, raise}
 use Rattle.numbers.specs.Fixed.{U, span_limit}
-use Rattle.numbers.specs.FixedLaws.{U_pos, U_within}
+use Rattle.numbers.proofs.FixedLaws.{U_pos, U_within}
 use Rattle.calculus.specs.Monomial.{degree, zeros, index_of, single}
 use Rattle.calculus.specs.Terms.{Terms, term, every, select, sum_over, size, map_monomials}
 use Rattle.calculus.specs.Terms.{rising_from, rising, is_nonzero, nonzero, drop_zeros, collect}

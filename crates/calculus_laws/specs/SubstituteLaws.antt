@@ -10,12 +10,12 @@ use Rattle.std.proofs.Math.Dec.{T, eqb, nleb→lt, eqb_refl}
 use Rattle.algebra.specs.Ring.{pow}
 use Rattle.algebra.specs.RingSolver.{𝟎, 𝟏, ◌⊞◌, ◌⊟◌, ◌⊠◌, ring}
 use Rattle.algebra.specs.Ordered.{abs}
-use Rattle.algebra.specs.Rational.{ℚ, ◌+ℚ◌, ◌*ℚ◌, whole, ◌≤ℚ◌, reciprocal}
-use Rattle.algebra.specs.RationalRing.{ℚR}
-use Rattle.algebra.specs.RationalOrder.{ℚO}
+use Rattle.algebra.proofs.Rational.{ℚ, ◌+ℚ◌, ◌*ℚ◌, whole, ◌≤ℚ◌, reciprocal}
+use Rattle.algebra.proofs.RationalRing.{ℚR}
+use Rattle.algebra.proofs.RationalOrder.{ℚO}
 use Rattle.polynomial.specs.Polynomial.{monomial, exponent, without, replace}
-use Rattle.polynomial.specs.PolynomialLaws.{monomial_replace}
-use Rattle.polynomial.specs.BoxLaws.{box_length}
+use Rattle.polynomial.proofs.PolynomialLaws.{monomial_replace}
+use Rattle.polynomial.proofs.BoxLaws.{box_length}
 use Rattle.numbers.specs.Fixed.{U}
 use Rattle.calculus.specs.Monomial.{index_of}
 use Rattle.calculus.specs.Terms.{Terms, sum_over}

@@ -7,8 +7,8 @@ use mathlib.Core.List.{List, [], ◌∷◌, ◌++◌}
 use Rattle.algebra.specs.Ring.{Ring}
 use Rattle.algebra.specs.RingLaws.{zero-+}
 use Rattle.algebra.specs.IntegerRing.{ℤR}
-use Rattle.algebra.specs.Rational.{ℚ}
-use Rattle.algebra.specs.RationalRing.{ℚR}
+use Rattle.algebra.proofs.Rational.{ℚ}
+use Rattle.algebra.proofs.RationalRing.{ℚR}
 use Rattle.polynomial.specs.Polynomial.{Term}
 use Rattle.calculus.specs.Terms.{Terms, select, sum_over, sum_ℕ, map_coefficients, map_terms, map_monomials}
 use Rattle.calculus.specs.Terms.{is_nonzero, drop_zeros, insert, collect}

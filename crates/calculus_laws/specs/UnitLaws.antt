@@ -7,13 +7,13 @@ use Rattle.algebra.specs.RingSolver.{◌⊠◌, ring}
 use Rattle.algebra.specs.Ordered.{abs}
 use Rattle.algebra.specs.OrderedLaws.{abs_pos, abs_mul, abs_is, abs_is⁻, *-mono}
 use Rattle.algebra.specs.FieldLaws.{reciprocal_nonneg}
-use Rattle.algebra.specs.Rational.{ℚ, ◌+ℚ◌, ◌*ℚ◌, whole, ◌≤ℚ◌, reciprocal}
-use Rattle.algebra.specs.RationalRing.{ℚR}
-use Rattle.algebra.specs.RationalOrder.{ℚO}
-use Rattle.algebra.specs.RationalLaws.{whole-+, whole-*, whole_neg, whole_≤, whole_reciprocal, ÷-back}
-use Rattle.algebra.specs.RationalField.{ℚF}
+use Rattle.algebra.proofs.Rational.{ℚ, ◌+ℚ◌, ◌*ℚ◌, whole, ◌≤ℚ◌, reciprocal}
+use Rattle.algebra.proofs.RationalRing.{ℚR}
+use Rattle.algebra.proofs.RationalOrder.{ℚO}
+use Rattle.algebra.proofs.RationalLaws.{whole-+, whole-*, whole_neg, whole_≤, whole_reciprocal, ÷-back}
+use Rattle.algebra.proofs.RationalField.{ℚF}
 use Rattle.numbers.specs.Fixed.{U}
-use Rattle.numbers.specs.FixedLaws.{U_suc}
+use Rattle.numbers.proofs.FixedLaws.{U_suc}
 use Rattle.calculus.specs.Model.{◌/U}
 use Rattle.calculus_laws.specs.ChainLaws.{◌≡≤◌, ◌≤≡◌}
 

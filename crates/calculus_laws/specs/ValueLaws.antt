@@ -9,15 +9,15 @@ use Rattle.algebra.specs.RingSolver.{𝟎, ◌⊞◌, ◌⊟◌, ◌⊠◌, ⊝�
 use Rattle.algebra.specs.Ordered.{abs}
 use Rattle.algebra.specs.IntegerRing.{ℤR}
 use Rattle.algebra.specs.OrderedLaws.{abs_pos, abs_prod, triangle, +-mono}
-use Rattle.algebra.specs.Rational.{ℚ, ◌+ℚ◌, ◌*ℚ◌, negℚ, whole, ◌≤ℚ◌}
-use Rattle.algebra.specs.RationalRing.{ℚR}
-use Rattle.algebra.specs.RationalOrder.{ℚO}
-use Rattle.algebra.specs.RationalLaws.{whole-+, whole-*, whole_neg}
+use Rattle.algebra.proofs.Rational.{ℚ, ◌+ℚ◌, ◌*ℚ◌, negℚ, whole, ◌≤ℚ◌}
+use Rattle.algebra.proofs.RationalRing.{ℚR}
+use Rattle.algebra.proofs.RationalOrder.{ℚO}
+use Rattle.algebra.proofs.RationalLaws.{whole-+, whole-*, whole_neg}
 use Rattle.polynomial.specs.Polynomial.{Term, monomial, eval, times, product}
-use Rattle.polynomial.specs.PolynomialLaws.{monomial_add}
-use Rattle.polynomial.specs.BoxLaws.{monomial_le}
+use Rattle.polynomial.proofs.PolynomialLaws.{monomial_add}
+use Rattle.polynomial.proofs.BoxLaws.{monomial_le}
 use Rattle.numbers.specs.Fixed.{U, round, residual}
-use Rattle.numbers.specs.FixedLaws.{residual_is}
+use Rattle.numbers.proofs.FixedLaws.{residual_is}
 use Rattle.calculus.specs.Terms.{Terms, select, sum_over, sum_ℕ, size, map_coefficients, drop_zeros, collect}
 use Rattle.calculus.specs.Model.{Model, ◌/U, ◌-ℚ◌, distance, Point, InBox, polynomial, value, At}
 use Rattle.calculus.specs.Operations.{products}

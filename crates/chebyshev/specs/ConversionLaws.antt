@@ -5,15 +5,15 @@ use Rattle.algebra.specs.Ring.{pow}
 use Rattle.algebra.specs.RingSolver.{◌⊟◌, ◌⊠◌, ring}
 use Rattle.algebra.specs.Ordered.{abs}
 use Rattle.algebra.specs.OrderedLaws.{*-mono}
-use Rattle.algebra.specs.Rational.{ℚ, ◌+ℚ◌, ◌*ℚ◌, ◌≤ℚ◌, reciprocal}
-use Rattle.algebra.specs.RationalRing.{ℚR}
-use Rattle.algebra.specs.RationalOrder.{ℚO}
+use Rattle.algebra.proofs.Rational.{ℚ, ◌+ℚ◌, ◌*ℚ◌, ◌≤ℚ◌, reciprocal}
+use Rattle.algebra.proofs.RationalRing.{ℚR}
+use Rattle.algebra.proofs.RationalOrder.{ℚO}
 use Rattle.algebra.specs.RingLaws.{one-*}
-use Rattle.algebra.specs.RationalLaws.{nat_whole, ÷-back}
+use Rattle.algebra.proofs.RationalLaws.{nat_whole, ÷-back}
 use Rattle.chebyshev.specs.RingIntegersLaws.{int_whole}
 use Rattle.polynomial.specs.Polynomial.{exponent, monomial}
 use Rattle.numbers.specs.Fixed.{U}
-use Rattle.numbers.specs.FixedLaws.{U_pos}
+use Rattle.numbers.proofs.FixedLaws.{U_pos}
 use Rattle.calculus.specs.Monomial.{degree}
 use Rattle.calculus.specs.Terms.{Terms, term, every}
 use Rattle.calculus.specs.Model.{Model, most_degree, fits, ◌-ℚ◌}

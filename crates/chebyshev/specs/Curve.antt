@@ -1,7 +1,7 @@
 -- A curve: the model form in Chebyshev polynomials of one variable, when it is sound, and what is within it.
 use Rattle.std.specs.Prelude.{Bool, ◌&&◌, ℕ, ◌+◌, eqb, leb, pos, length}
-use Rattle.algebra.specs.Rational.{ℚ, ◌≤ℚ◌, ◌÷◌}
-use Rattle.algebra.specs.RationalRing.{ℚR}
+use Rattle.algebra.proofs.Rational.{ℚ, ◌≤ℚ◌, ◌÷◌}
+use Rattle.algebra.proofs.RationalRing.{ℚR}
 use Rattle.numbers.specs.Fixed.{U, span_limit}
 use Rattle.calculus.specs.Model.{◌/U, distance, Point, InBox}
 use Rattle.calculus.specs.Functions.{coordinate}

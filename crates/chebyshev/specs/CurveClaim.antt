@@ -5,7 +5,7 @@
 --   Curve: the model form in Chebyshev polynomials, and which functions are within it
 --   CurveOperations, CurveCalls: the operations, and the calls with their refusals
 use Rattle.std.specs.Prelude.{◌≡◌, [], ◌∷◌, T}
-use Rattle.algebra.specs.Rational.{ℚ, ◌+ℚ◌, ◌*ℚ◌, negℚ}
+use Rattle.algebra.proofs.Rational.{ℚ, ◌+ℚ◌, ◌*ℚ◌, negℚ}
 use Rattle.calculus.specs.Model.{Model, most_degree, ◌-ℚ◌, Point, InBox}
 use Rattle.calculus.specs.Model as M
 use Rattle.calculus.specs.Refusal.{Result, done, ◌followed_by◌}

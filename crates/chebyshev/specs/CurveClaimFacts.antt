@@ -5,14 +5,14 @@ use Rattle.std.proofs.Common.{sym, ◌∙◌, ap, ap₂, arith, leb→le}
 use Rattle.algebra.specs.RingSolver.{𝟎, 𝟏, ◌⊞◌, ◌⊟◌, ◌⊠◌, ⊝◌, ring}
 use Rattle.algebra.specs.Ordered.{abs}
 use Rattle.algebra.specs.OrderedLaws.{abs_is}
-use Rattle.algebra.specs.Rational.{◌+ℚ◌, ◌*ℚ◌, negℚ, whole, ◌≤ℚ◌}
-use Rattle.algebra.specs.RationalRing.{ℚR}
-use Rattle.algebra.specs.RationalOrder.{ℚO}
-use Rattle.algebra.specs.RationalLaws.{≤-whole, whole-+, whole_neg, ÷-back}
+use Rattle.algebra.proofs.Rational.{◌+ℚ◌, ◌*ℚ◌, negℚ, whole, ◌≤ℚ◌}
+use Rattle.algebra.proofs.RationalRing.{ℚR}
+use Rattle.algebra.proofs.RationalOrder.{ℚO}
+use Rattle.algebra.proofs.RationalLaws.{≤-whole, whole-+, whole_neg, ÷-back}
 use Rattle.polynomial.specs.Box.{none, more}
 use Rattle.numbers.specs.Computing.{numbers}
 use Rattle.numbers.specs.Fixed.{U}
-use Rattle.numbers.specs.FixedLaws.{U_pos, U_even}
+use Rattle.numbers.proofs.FixedLaws.{U_pos, U_even}
 use Rattle.calculus.specs.Model.{Model, zero_model, ◌/U, ◌-ℚ◌, distance, Point, InBox}
 use Rattle.calculus.specs.Model as M
 use Rattle.calculus.specs.Operations.{zero_ends}

@@ -2,8 +2,8 @@
 use Rattle.std.specs.Prelude.{◌≡◌, refl, [], ◌∷◌, T, eqb, leb, length}
 use Rattle.std.proofs.Common.{sym, subst, eqb→eq}
 use Rattle.algebra.specs.Ordered.{abs}
-use Rattle.algebra.specs.Rational.{ℚ, ◌+ℚ◌, ◌*ℚ◌, negℚ, ◌≤ℚ◌}
-use Rattle.algebra.specs.RationalOrder.{ℚO}
+use Rattle.algebra.proofs.Rational.{ℚ, ◌+ℚ◌, ◌*ℚ◌, negℚ, ◌≤ℚ◌}
+use Rattle.algebra.proofs.RationalOrder.{ℚO}
 use Rattle.polynomial.specs.Box.{none, more}
 use Rattle.numbers.specs.Fixed.{span_limit}
 use Rattle.calculus.specs.Monomial.{index_of}

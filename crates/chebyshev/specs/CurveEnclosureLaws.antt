@@ -5,12 +5,12 @@ use Rattle.std.proofs.Math.Path.{ap₂}
 use Rattle.algebra.specs.RingSolver.{◌⊞◌, ◌⊟◌, ◌⊠◌, ⊝◌, ring}
 use Rattle.algebra.specs.Ordered.{abs}
 use Rattle.algebra.specs.OrderedLaws.{abs_neg_eq, le_abs, neg_le_abs, +-mono, neg_mono, triangle, enclose_mul}
-use Rattle.algebra.specs.Rational.{ℚ, ◌+ℚ◌, ◌*ℚ◌, negℚ, whole, ◌≤ℚ◌}
-use Rattle.algebra.specs.RationalRing.{ℚR}
-use Rattle.algebra.specs.RationalOrder.{ℚO}
-use Rattle.algebra.specs.RationalLaws.{whole-+, whole_neg}
+use Rattle.algebra.proofs.Rational.{ℚ, ◌+ℚ◌, ◌*ℚ◌, negℚ, whole, ◌≤ℚ◌}
+use Rattle.algebra.proofs.RationalRing.{ℚR}
+use Rattle.algebra.proofs.RationalOrder.{ℚO}
+use Rattle.algebra.proofs.RationalLaws.{whole-+, whole_neg}
 use Rattle.numbers.specs.Fixed.{U}
-use Rattle.numbers.specs.FixedLaws.{U_pos}
+use Rattle.numbers.proofs.FixedLaws.{U_pos}
 use Rattle.calculus.specs.Model.{◌-ℚ◌}
 use Rattle.calculus.specs.Functions.{Lies}
 use Rattle.calculus_laws.specs.ChainLaws.{◌≤≤◌, ◌≡≤◌, ◌≤≡◌}

@@ -10,9 +10,9 @@ use Rattle.std.proofs.Math.ListN.{length-map}
 use Rattle.algebra.specs.IntegerRing.{ℤR}
 use Rattle.algebra.specs.RingSolver.{◌⊞◌, ◌⊠◌, ⊝◌, ring}
 use Rattle.numbers.specs.Division.{divided_up, nearest}
-use Rattle.numbers.specs.NearestLaws.{nearest_neg, left_neg}
+use Rattle.numbers.proofs.NearestLaws.{nearest_neg, left_neg}
 use Rattle.numbers.specs.Fixed.{U, span_limit}
-use Rattle.numbers.specs.FixedLaws.{U_pos}
+use Rattle.numbers.proofs.FixedLaws.{U_pos}
 use Rattle.calculus.specs.Refusal.{over_span, bad_model, accepted, require, at_place, require_at}
 use Rattle.calculus.specs.Refusal.{Result, done, stopped, ◌followed_by◌}
 use Rattle.chebyshev.specs.Recurrence.{apart}

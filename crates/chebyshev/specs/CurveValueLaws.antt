@@ -7,15 +7,15 @@ use Rattle.algebra.specs.RingSolver.{𝟎, ◌⊞◌, ◌⊟◌, ◌⊠◌, ring
 use Rattle.algebra.specs.Ordered.{abs}
 use Rattle.algebra.specs.OrderedLaws.{abs_pos, abs_mul, *-mono}
 use Rattle.algebra.specs.FieldLaws.{reciprocal_nonneg}
-use Rattle.algebra.specs.Rational.{ℚ, ◌+ℚ◌, ◌*ℚ◌, whole, ◌≤ℚ◌, reciprocal}
-use Rattle.algebra.specs.RationalRing.{ℚR}
-use Rattle.algebra.specs.RationalOrder.{ℚO}
-use Rattle.algebra.specs.RationalField.{ℚF}
-use Rattle.algebra.specs.RationalLaws.{nat_whole, whole_reciprocal, ÷-back}
+use Rattle.algebra.proofs.Rational.{ℚ, ◌+ℚ◌, ◌*ℚ◌, whole, ◌≤ℚ◌, reciprocal}
+use Rattle.algebra.proofs.RationalRing.{ℚR}
+use Rattle.algebra.proofs.RationalOrder.{ℚO}
+use Rattle.algebra.proofs.RationalField.{ℚF}
+use Rattle.algebra.proofs.RationalLaws.{nat_whole, whole_reciprocal, ÷-back}
 use Rattle.numbers.specs.Division.{nearest}
-use Rattle.numbers.specs.DivisionLaws.{divided_up_ok}
+use Rattle.numbers.proofs.DivisionLaws.{divided_up_ok}
 use Rattle.numbers.specs.Fixed.{U}
-use Rattle.numbers.specs.FixedLaws.{U_pos}
+use Rattle.numbers.proofs.FixedLaws.{U_pos}
 use Rattle.calculus.specs.Model.{◌-ℚ◌, distance}
 use Rattle.calculus_laws.specs.ChainLaws.{◌≤≤◌, ◌≡≤◌, ◌≤≡◌}
 use Rattle.calculus_laws.specs.UnitLaws.{natural, natural-*, natural_≤, natural_nonneg, U_times, U_times_≤}

@@ -8,9 +8,9 @@ use Rattle.algebra.specs.Ring.{Ring, nat}
 use Rattle.algebra.specs.RingLaws.{+-cancel, difference_add, difference_mul, difference_neg, nat_add, nat_mul}
 use Rattle.algebra.specs.Ordered.{Ordered, abs}
 use Rattle.algebra.specs.OrderedLaws.{abs_is, abs_is⁻, nat_nonneg}
-use Rattle.algebra.specs.Rational.{negℚ, whole}
-use Rattle.algebra.specs.RationalRing.{ℚR}
-use Rattle.algebra.specs.RationalLaws.{nat_whole, whole_neg}
+use Rattle.algebra.proofs.Rational.{negℚ, whole}
+use Rattle.algebra.proofs.RationalRing.{ℚR}
+use Rattle.algebra.proofs.RationalLaws.{nat_whole, whole_neg}
 use Rattle.chebyshev.specs.RingIntegers.{int}
 
 module _ (R : Ring) where

@@ -9,19 +9,19 @@ use Rattle.algebra.specs.Ring.{nat, pow}
 use Rattle.algebra.specs.RingSolver.{𝟎, 𝟏, ◌⊞◌, ◌⊟◌, ◌⊠◌, ⊝◌, ring}
 use Rattle.algebra.specs.Ordered.{abs}
 use Rattle.algebra.specs.OrderedLaws.{abs_mul, abs_pos, *-mono}
-use Rattle.algebra.specs.Rational.{ℚ, ◌+ℚ◌, ◌*ℚ◌, negℚ, whole, ◌≤ℚ◌, reciprocal}
-use Rattle.algebra.specs.RationalRing.{ℚR}
-use Rattle.algebra.specs.RationalOrder.{ℚO}
-use Rattle.algebra.specs.RationalField.{ℚF}
-use Rattle.algebra.specs.RationalLaws.{≤-whole, nat_whole, whole-+, whole_neg, whole_reciprocal}
+use Rattle.algebra.proofs.Rational.{ℚ, ◌+ℚ◌, ◌*ℚ◌, negℚ, whole, ◌≤ℚ◌, reciprocal}
+use Rattle.algebra.proofs.RationalRing.{ℚR}
+use Rattle.algebra.proofs.RationalOrder.{ℚO}
+use Rattle.algebra.proofs.RationalField.{ℚF}
+use Rattle.algebra.proofs.RationalLaws.{≤-whole, nat_whole, whole-+, whole_neg, whole_reciprocal}
 use Rattle.polynomial.specs.Polynomial as P
 use Rattle.polynomial.specs.Polynomial.{eval, monomial, exponent, raise, replace}
-use Rattle.polynomial.specs.PolynomialLaws.{eval_sum, eval_constant}
+use Rattle.polynomial.proofs.PolynomialLaws.{eval_sum, eval_constant}
 use Rattle.polynomial.specs.Integral as I
 use Rattle.polynomial.specs.Antiderivative.{antiderivative_in}
-use Rattle.polynomial.specs.VariableAntiderivativeLaws.{antiderivative_constant}
+use Rattle.polynomial.proofs.VariableAntiderivativeLaws.{antiderivative_constant}
 use Rattle.numbers.specs.Fixed.{U}
-use Rattle.numbers.specs.FixedLaws.{U_suc}
+use Rattle.numbers.proofs.FixedLaws.{U_suc}
 use Rattle.calculus.specs.Monomial.{index_of}
 use Rattle.calculus.specs.Terms.{term}
 use Rattle.calculus.specs.Model.{Model, zero_model, ◌/U, ◌-ℚ◌, distance, Point, polynomial, value, At}

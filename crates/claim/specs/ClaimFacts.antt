@@ -11,14 +11,14 @@ use Rattle.algebra.specs.RingLaws.{*-zero}
 use Rattle.algebra.specs.RingSolver.{𝟎, ◌⊞◌, ◌⊟◌, ◌⊠◌, ⊝◌, ring}
 use Rattle.algebra.specs.Ordered.{abs}
 use Rattle.algebra.specs.OrderedLaws.{abs_neg_eq}
-use Rattle.algebra.specs.Rational.{ℚ, ◌+ℚ◌, ◌*ℚ◌, negℚ, whole, ◌≤ℚ◌}
-use Rattle.algebra.specs.RationalRing.{ℚR}
-use Rattle.algebra.specs.RationalOrder.{ℚO}
-use Rattle.algebra.specs.RationalField.{ℚF}
-use Rattle.algebra.specs.RationalLaws.{≤-whole, nat_whole, whole-+, whole_neg}
+use Rattle.algebra.proofs.Rational.{ℚ, ◌+ℚ◌, ◌*ℚ◌, negℚ, whole, ◌≤ℚ◌}
+use Rattle.algebra.proofs.RationalRing.{ℚR}
+use Rattle.algebra.proofs.RationalOrder.{ℚO}
+use Rattle.algebra.proofs.RationalField.{ℚF}
+use Rattle.algebra.proofs.RationalLaws.{≤-whole, nat_whole, whole-+, whole_neg}
 use Rattle.polynomial.specs.Polynomial as P
 use Rattle.polynomial.specs.Box.{none, more}
-use Rattle.polynomial.specs.IntegralLaws.{integral_constant}
+use Rattle.polynomial.proofs.IntegralLaws.{integral_constant}
 use Rattle.numbers.specs.Fixed.{U}
 use Rattle.calculus.specs.Model.{Model, zero_model, ◌/U, ◌-ℚ◌, distance, Point, InBox, polynomial, value, At}
 use Rattle.calculus.specs.Model.{Within}

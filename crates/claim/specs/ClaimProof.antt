@@ -7,8 +7,8 @@ use Rattle.std.proofs.Math.Option.{some}
 use Prim.Native.Nat.{ℕ, zero, suc, ◌<◌}
 use Rattle.std.proofs.Math.Dec.{ltb, ltb→lt}
 use Rattle.std.proofs.Math.ListN.{get_elem?}
-use Rattle.algebra.specs.RationalOrder.{ℚO}
-use Rattle.polynomial.specs.BoxLaws.{box_length, box_replace}
+use Rattle.algebra.proofs.RationalOrder.{ℚO}
+use Rattle.polynomial.proofs.BoxLaws.{box_length, box_replace}
 use Rattle.calculus.specs.Monomial.{index_of}
 use Rattle.calculus.specs.Model.{Model, zero_model, Point, InBox, Within}
 use Rattle.calculus.specs.Tests.{variable_sound}

@@ -2,12 +2,12 @@
 -- times the integral of the model's polynomial over the box, above nothing.
 use Rattle.std.specs.Prelude.{◌≡◌, refl, not, [], ◌∷◌, ◌<◌, T}
 use Rattle.std.proofs.Common.{sym, ◌∙◌, ap, ap₂, subst, arith}
-use Rattle.algebra.specs.Rational.{◌+ℚ◌, ◌*ℚ◌, whole, reciprocal}
-use Rattle.algebra.specs.RationalRing.{ℚR}
-use Rattle.algebra.specs.RationalField.{ℚF}
+use Rattle.algebra.proofs.Rational.{◌+ℚ◌, ◌*ℚ◌, whole, reciprocal}
+use Rattle.algebra.proofs.RationalRing.{ℚR}
+use Rattle.algebra.proofs.RationalField.{ℚF}
 use Rattle.polynomial.specs.Polynomial.{scale}
 use Rattle.polynomial.specs.Integral as I
-use Rattle.polynomial.specs.IntegralLaws.{integral_scale}
+use Rattle.polynomial.proofs.IntegralLaws.{integral_scale}
 use Rattle.numbers.specs.Fixed.{U}
 use Rattle.calculus.specs.Terms.{Terms}
 use Rattle.calculus.specs.Model.{Model, most_degree, polynomial, sound}

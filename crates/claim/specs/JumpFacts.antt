@@ -15,17 +15,17 @@ use Rattle.algebra.specs.RingSolver.{𝟎, 𝟏, ◌⊞◌, ◌⊟◌, ◌⊠◌
 use Rattle.algebra.specs.Ordered.{abs}
 use Rattle.algebra.specs.OrderedLaws.{abs_pos, abs_nonneg, abs_neg_eq, abs_prod, triangle, +-mono}
 use Rattle.algebra.specs.Fraction.{one_more, at_most, over_1}
-use Rattle.algebra.specs.Rational.{ℚ, ◌+ℚ◌, ◌*ℚ◌, negℚ, leℚ, leℚ_class, whole, ◌≤ℚ◌, reciprocal}
-use Rattle.algebra.specs.RationalRing.{ℚR}
-use Rattle.algebra.specs.RationalOrder.{ℚO, ≤ℚ_refl, class_≤}
-use Rattle.algebra.specs.RationalField.{ℚF, archimedean}
+use Rattle.algebra.proofs.Rational.{ℚ, ◌+ℚ◌, ◌*ℚ◌, negℚ, leℚ, leℚ_class, whole, ◌≤ℚ◌, reciprocal}
+use Rattle.algebra.proofs.RationalRing.{ℚR}
+use Rattle.algebra.proofs.RationalOrder.{ℚO, ≤ℚ_refl, class_≤}
+use Rattle.algebra.proofs.RationalField.{ℚF, archimedean}
 use Rattle.algebra.specs.FieldLaws.{reciprocal_nonneg}
-use Rattle.algebra.specs.RationalLaws.{≤-whole, whole-+, whole-*, whole_neg, reciprocal_class}
+use Rattle.algebra.proofs.RationalLaws.{≤-whole, whole-+, whole-*, whole_neg, reciprocal_class}
 use Rattle.polynomial.specs.Polynomial.{monomial, eval, replace}
 use Rattle.polynomial.specs.Box.{none, more}
-use Rattle.polynomial.specs.BoxLaws.{monomial_le}
+use Rattle.polynomial.proofs.BoxLaws.{monomial_le}
 use Rattle.numbers.specs.Fixed.{U}
-use Rattle.numbers.specs.FixedLaws.{U_suc}
+use Rattle.numbers.proofs.FixedLaws.{U_suc}
 use Rattle.calculus.specs.Monomial.{index_of}
 use Rattle.calculus.specs.Model.{Model, zero_model, ◌/U, ◌-ℚ◌, distance, Point, InBox, polynomial, value, At}
 use Rattle.calculus.specs.Model.{Within}

@@ -1,8 +1,8 @@
 -- The exact outcome of a book's steps: nothing is rounded and nothing comes from what the run keeps.
 use Rattle.std.specs.Prelude.{Bool, true, false, not, ◌&&◌, ◌||◌, List, [], ◌∷◌, ◌++◌, ℕ, pos, get_or}
 use Rattle.std.proofs.Math.Option.{Option, some, none}
-use Rattle.algebra.specs.Rational.{◌+ℚ◌, ◌*ℚ◌, negℚ, ◌/ℚ◌, whole}
-use Rattle.algebra.specs.RationalRing.{ℚR}
+use Rattle.algebra.proofs.Rational.{◌+ℚ◌, ◌*ℚ◌, negℚ, ◌/ℚ◌, whole}
+use Rattle.algebra.proofs.RationalRing.{ℚR}
 use Rattle.polynomial.specs.Polynomial as P
 use Rattle.calculus.specs.Monomial.{index_of, single}
 use Rattle.calculus.specs.Model.{◌/U, ◌-ℚ◌}

@@ -12,11 +12,11 @@ use native.Mathlib.Omega.{arith}
 use Rattle.std.proofs.Math.Dec.{T, ltb, ltb→lt}
 use Rattle.std.proofs.Math.ListN.{length, get_or, get_or-append}
 use Rattle.algebra.specs.RingSolver.{𝟎, 𝟏, ◌⊞◌, ◌⊠◌, ring}
-use Rattle.algebra.specs.Rational.{◌+ℚ◌, ◌*ℚ◌, negℚ, whole, ◌/ℚ◌}
-use Rattle.algebra.specs.RationalRing.{ℚR}
+use Rattle.algebra.proofs.Rational.{◌+ℚ◌, ◌*ℚ◌, negℚ, whole, ◌/ℚ◌}
+use Rattle.algebra.proofs.RationalRing.{ℚR}
 use Rattle.polynomial.specs.Polynomial as P
 use Rattle.polynomial.specs.Polynomial.{eval}
-use Rattle.polynomial.specs.PolynomialLaws.{eval_sum, eval_constant, eval_negation, eval_product, eval_substitute}
+use Rattle.polynomial.proofs.PolynomialLaws.{eval_sum, eval_constant, eval_negation, eval_product, eval_substitute}
 use Rattle.calculus.specs.Monomial.{index_of, single}
 use Rattle.calculus.specs.Model.{◌-ℚ◌, Point}
 use Rattle.calculus.specs.Tests.{variable_sound}

@@ -6,12 +6,12 @@ use Rattle.std.proofs.Math.Path.{refl, ap}
 use Rattle.std.proofs.Common.{sym, ◌∙◌, ap₂, arith}
 use Rattle.std.proofs.Math.Bool.{true, false}
 use Rattle.algebra.specs.RingSolver.{𝟎, ◌⊞◌, ◌⊟◌, ◌⊠◌, ⊝◌, ring}
-use Rattle.algebra.specs.Rational.{ℚ, ◌+ℚ◌, ◌*ℚ◌, negℚ, ◌/ℚ◌, whole}
-use Rattle.algebra.specs.RationalRing.{ℚR}
-use Rattle.algebra.specs.RationalLaws.{/ℚ_back, ≤-whole, whole-+, whole-*, whole_neg}
+use Rattle.algebra.proofs.Rational.{ℚ, ◌+ℚ◌, ◌*ℚ◌, negℚ, ◌/ℚ◌, whole}
+use Rattle.algebra.proofs.RationalRing.{ℚR}
+use Rattle.algebra.proofs.RationalLaws.{/ℚ_back, ≤-whole, whole-+, whole-*, whole_neg}
 use Rattle.polynomial.specs.Polynomial.{eval}
 use Rattle.polynomial.specs.Box.{none, more}
-use Rattle.numbers.specs.FixedLaws.{U_even}
+use Rattle.numbers.proofs.FixedLaws.{U_even}
 use Rattle.numbers.specs.Fixed.{U}
 use Rattle.calculus.specs.Monomial.{index_of}
 use Rattle.calculus.specs.Model.{Model, zero_model, ◌/U, ◌-ℚ◌, Point, InBox, polynomial, value, At}

@@ -15,10 +15,10 @@ use Rattle.algebra.specs.RingLaws.{zero-+, zero-*, pow_one}
 use Rattle.algebra.specs.RingSolver.{𝟎, 𝟏, ◌⊞◌, ◌⊠◌, ring}
 use Rattle.algebra.specs.Ordered.{abs}
 use Rattle.algebra.specs.IntegerRing.{ℤR}
-use Rattle.algebra.specs.Rational.{◌+ℚ◌, ◌*ℚ◌, whole}
-use Rattle.algebra.specs.RationalRing.{ℚR}
-use Rattle.algebra.specs.RationalOrder.{ℚO}
-use Rattle.algebra.specs.RationalLaws.{≤-whole}
+use Rattle.algebra.proofs.Rational.{◌+ℚ◌, ◌*ℚ◌, whole}
+use Rattle.algebra.proofs.RationalRing.{ℚR}
+use Rattle.algebra.proofs.RationalOrder.{ℚO}
+use Rattle.algebra.proofs.RationalLaws.{≤-whole}
 use Rattle.polynomial.specs.Polynomial.{monomial}
 use Rattle.polynomial.specs.Box.{none, more}
 use Rattle.polynomial.specs.Integral.{even, first, rest, all_even}

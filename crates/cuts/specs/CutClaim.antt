@@ -3,8 +3,8 @@
 -- (`never_leaves`). It rests on the definitions that claim/Claim names, and on Cuts.
 use Rattle.std.specs.Prelude.{◌≡◌, ℕ, ◌^◌, ◌<◌, pos, ◌≤ℤ◌}
 use Rattle.algebra.specs.Ordered.{abs}
-use Rattle.algebra.specs.Rational.{ℚ, ◌+ℚ◌, ◌*ℚ◌, whole, ◌≤ℚ◌}
-use Rattle.algebra.specs.RationalOrder.{ℚO}
+use Rattle.algebra.proofs.Rational.{ℚ, ◌+ℚ◌, ◌*ℚ◌, whole, ◌≤ℚ◌}
+use Rattle.algebra.proofs.RationalOrder.{ℚO}
 use Rattle.numbers.specs.Fixed.{U}
 use Rattle.calculus.specs.Model.{Model, Point, InBox, Within}
 use Rattle.calculus.specs.Operations.{Ends, range}

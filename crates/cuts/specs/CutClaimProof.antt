@@ -2,10 +2,10 @@
 use Rattle.std.specs.Prelude.{◌≡◌, ℕ, zero, suc, ◌≤◌, T, leb, pos, replicate, ◌≤ℤ◌}
 use Rattle.std.proofs.Common.{sym, ◌∙◌, ap, arith, le→leb}
 use Rattle.algebra.specs.Ordered.{abs}
-use Rattle.algebra.specs.Rational.{ℚ, ◌*ℚ◌, ◌≤ℚ◌, whole}
-use Rattle.algebra.specs.RationalRing.{ℚR}
-use Rattle.algebra.specs.RationalOrder.{ℚO}
-use Rattle.algebra.specs.RationalLaws.{≤-whole}
+use Rattle.algebra.proofs.Rational.{ℚ, ◌*ℚ◌, ◌≤ℚ◌, whole}
+use Rattle.algebra.proofs.RationalRing.{ℚR}
+use Rattle.algebra.proofs.RationalOrder.{ℚO}
+use Rattle.algebra.proofs.RationalLaws.{≤-whole}
 use Rattle.polynomial.specs.Box.{none, more}
 use Rattle.numbers.specs.Fixed.{U}
 use Rattle.calculus.specs.Model.{Model, sound, ◌-ℚ◌, InBox, value, Within}

@@ -7,12 +7,12 @@ use Prim.Native.Nat.{ℕ, zero, suc, ◌+◌, ◌-◌, ◌^◌, ◌≤◌, ◌<�
 use native.Mathlib.Omega.{arith}
 use Rattle.std.proofs.Math.ListN.{get_or}
 use Rattle.algebra.specs.Ordered.{abs}
-use Rattle.algebra.specs.Rational.{ℚ, ◌*ℚ◌, ◌≤ℚ◌}
-use Rattle.algebra.specs.RationalRing.{ℚR}
-use Rattle.algebra.specs.RationalOrder.{ℚO}
+use Rattle.algebra.proofs.Rational.{ℚ, ◌*ℚ◌, ◌≤ℚ◌}
+use Rattle.algebra.proofs.RationalRing.{ℚR}
+use Rattle.algebra.proofs.RationalOrder.{ℚO}
 use Rattle.polynomial.specs.Polynomial.{replace}
 use Rattle.polynomial.specs.Box.{none, more}
-use Rattle.polynomial.specs.BoxLaws.{box_length, box_replace}
+use Rattle.polynomial.proofs.BoxLaws.{box_length, box_replace}
 use Rattle.numbers.specs.Fixed.{U, span_limit}
 use Rattle.calculus.specs.Monomial.{index_of}
 use Rattle.calculus.specs.Model.{Model, sound, most_terms, span, Point, InBox, Within}

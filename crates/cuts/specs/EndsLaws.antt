@@ -2,8 +2,8 @@
 use Rattle.std.specs.Prelude.{◌≡◌, Bool, true, false, not, T, ℤ, pos, ◌≤ℤ◌, ◌⊎◌}
 use Rattle.std.proofs.Common.{ap, inl, inr}
 use Rattle.std.specs.Int.Signed.{le_z, le_z_yes, ≤ℤ_refl}
-use Rattle.algebra.specs.Rational.{ℚ, ◌≤ℚ◌, ◌*ℚ◌, whole}
-use Rattle.algebra.specs.RationalLaws.{whole_≤}
+use Rattle.algebra.proofs.Rational.{ℚ, ◌≤ℚ◌, ◌*ℚ◌, whole}
+use Rattle.algebra.proofs.RationalLaws.{whole_≤}
 use Rattle.algebra.specs.IntegerRing.{≤ℤ_total}
 use Rattle.numbers.specs.Fixed.{U}
 use Rattle.calculus.specs.Operations.{Ends}

@@ -14,12 +14,12 @@ use Rattle.algebra.specs.RingSolver.{𝟎, 𝟏, ◌⊞◌, ◌⊟◌, ◌⊠◌
 use Rattle.algebra.specs.Ordered.{abs}
 use Rattle.algebra.specs.OrderedLaws.{abs_le, le_abs, neg_le_abs, +-mono, *-mono, neg_mono}
 use Rattle.algebra.specs.FieldLaws.{reciprocal_nonneg}
-use Rattle.algebra.specs.Rational.{ℚ, ◌+ℚ◌, ◌*ℚ◌, negℚ, whole, ◌≤ℚ◌, reciprocal, ◌÷◌}
-use Rattle.algebra.specs.RationalRing.{ℚR}
-use Rattle.algebra.specs.RationalOrder.{ℚO}
-use Rattle.algebra.specs.RationalField.{ℚF}
-use Rattle.algebra.specs.RationalLaws.{whole-+, whole_neg, whole_reciprocal, ÷-back}
-use Rattle.polynomial.specs.BoxLaws.{box_length}
+use Rattle.algebra.proofs.Rational.{ℚ, ◌+ℚ◌, ◌*ℚ◌, negℚ, whole, ◌≤ℚ◌, reciprocal, ◌÷◌}
+use Rattle.algebra.proofs.RationalRing.{ℚR}
+use Rattle.algebra.proofs.RationalOrder.{ℚO}
+use Rattle.algebra.proofs.RationalField.{ℚF}
+use Rattle.algebra.proofs.RationalLaws.{whole-+, whole_neg, whole_reciprocal, ÷-back}
+use Rattle.polynomial.proofs.BoxLaws.{box_length}
 use Rattle.numbers.specs.Fixed.{U}
 use Rattle.numbers.specs.Computing.{numbers}
 use Rattle.calculus.specs.Monomial.{zeros, index_of}

@@ -13,8 +13,8 @@ use Rattle.algebra.specs.RingLaws.{zero-*}
 use Rattle.algebra.specs.IntegerRing.{ℤR}
 use Rattle.polynomial.specs.Polynomial.{add_exponents, exponent, without, raise, replace, times, product}
 use Rattle.numbers.specs.Fixed.{U, span_limit, round, residual, round_up}
-use Rattle.numbers.specs.FixedLaws.{U_pos, round_is, residual_is}
-use Rattle.numbers.specs.NearestLaws.{nearest_exact}
+use Rattle.numbers.proofs.FixedLaws.{U_pos, round_is, residual_is}
+use Rattle.numbers.proofs.NearestLaws.{nearest_exact}
 use Rattle.numbers.specs.Computing.{numbers}
 use Rattle.calculus.specs.Monomial.{degree, zeros, single, index_of, less}
 use Rattle.calculus_laws.specs.MonomialLaws.{length_replace, degree_raise, less_raise}

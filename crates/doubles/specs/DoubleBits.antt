@@ -4,7 +4,7 @@
 use Rattle.std.specs.Prelude.{Bool, cond, ℕ, ◌+◌, ◌-◌, ◌*◌, ◌/◌, ◌%◌, ◌^◌, eqb, leb}
 use Rattle.std.specs.Float.{binary64}
 use Rattle.std.specs.Float.Ieee.{of_bits}
-use Rattle.algebra.specs.Rational.{ℚ, whole, ◌÷◌}
+use Rattle.algebra.proofs.Rational.{ℚ, whole, ◌÷◌}
 use Rattle.doubles.specs.Doubles.{Delivery, signed}
 
 -- set for a negative number

@@ -2,7 +2,7 @@
 use Rattle.std.specs.Prelude.{Bool, true, false, cond, not, ◌&&◌, [], ◌∷◌, ℕ, ◌+◌, ◌*◌, ◌%◌, Float, ℤ, pos, neg_ℤ, nat_abs, ◌*ℤ◌}
 use Rattle.std.specs.Float.{nan, inf, fin}
 use Rattle.std.specs.Float.Ieee.{up, down, lt}
-use Rattle.algebra.specs.Rational.{ℚ, ◌+ℚ◌, ◌*ℚ◌, ◌≤ℚ◌, whole, ◌÷◌}
+use Rattle.algebra.proofs.Rational.{ℚ, ◌+ℚ◌, ◌*ℚ◌, ◌≤ℚ◌, whole, ◌÷◌}
 use Rattle.numbers.specs.Division.{divided_up, nearest}
 use Rattle.numbers.specs.Fixed.{U}
 use Rattle.calculus.specs.Terms.{term, drop_zeros}

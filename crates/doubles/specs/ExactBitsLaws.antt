@@ -9,9 +9,9 @@ use Rattle.std.specs.Float.Ieee.{binary64, of_bits, of_fields, odd, up, down}
 use Rattle.std.specs.Float.Ieee.Exact.{HasValue, odd_sign}
 use Rattle.std.specs.Float.Ieee.Fits.{down_pos}
 use Rattle.algebra.specs.RingSolver.{◌⊠◌, ring}
-use Rattle.algebra.specs.Rational.{◌*ℚ◌, whole, reciprocal, ◌÷◌}
-use Rattle.algebra.specs.RationalRing.{ℚR}
-use Rattle.algebra.specs.RationalLaws.{whole-*, whole_reciprocal}
+use Rattle.algebra.proofs.Rational.{◌*ℚ◌, whole, reciprocal, ◌÷◌}
+use Rattle.algebra.proofs.RationalRing.{ℚR}
+use Rattle.algebra.proofs.RationalLaws.{whole-*, whole_reciprocal}
 use Rattle.doubles.specs.Doubles.{signed, numerator, denominator, exact, is_finite}
 use Rattle.doubles.specs.DoubleBits.{sign_bit, exponent_field, fraction_field, all_ones, digits, places}
 use Rattle.doubles.specs.DoubleBits.{smallest_in_one, exact_bits}

@@ -12,7 +12,7 @@ use Rattle.algebra.specs.Integer.{natAbs_neg}
 use Rattle.algebra.specs.IntegerRing.{ℤR}
 use Rattle.algebra.specs.RingSolver.{◌⊠◌, ⊝◌, ring}
 use Rattle.numbers.specs.Division.{divided_up, nearest}
-use Rattle.numbers.specs.SameFractionLaws.{nearest_same, rest_same, up_same}
+use Rattle.numbers.proofs.SameFractionLaws.{nearest_same, rest_same, up_same}
 use Rattle.numbers.specs.Fixed.{U}
 use Rattle.calculus.specs.Operations.{one_if_any}
 use Rattle.doubles.specs.Doubles.{signed, numerator, denominator, units, coefficient, inexact, radius_up}

@@ -8,13 +8,13 @@ use Rattle.algebra.specs.Ring.{pow}
 use Rattle.algebra.specs.RingSolver.{𝟏, ◌⊞◌, ◌⊟◌, ◌⊠◌, ring}
 use Rattle.algebra.specs.Ordered.{abs}
 use Rattle.algebra.specs.OrderedLaws.{abs_prod, le_abs}
-use Rattle.algebra.specs.Rational.{ℚ, ◌+ℚ◌, ◌*ℚ◌, whole, ◌≤ℚ◌, reciprocal, ◌÷◌}
-use Rattle.algebra.specs.RationalRing.{ℚR}
-use Rattle.algebra.specs.RationalOrder.{ℚO}
-use Rattle.algebra.specs.RationalLaws.{whole-*}
+use Rattle.algebra.proofs.Rational.{ℚ, ◌+ℚ◌, ◌*ℚ◌, whole, ◌≤ℚ◌, reciprocal, ◌÷◌}
+use Rattle.algebra.proofs.RationalRing.{ℚR}
+use Rattle.algebra.proofs.RationalOrder.{ℚO}
+use Rattle.algebra.proofs.RationalLaws.{whole-*}
 use Rattle.polynomial.specs.Polynomial.{monomial}
 use Rattle.polynomial.specs.Box.{none, more}
-use Rattle.polynomial.specs.BoxLaws.{monomial_le}
+use Rattle.polynomial.proofs.BoxLaws.{monomial_le}
 use Rattle.numbers.specs.Fixed.{U}
 use Rattle.calculus.specs.Monomial.{index_of}
 use Rattle.calculus.specs.Terms.{term}

@@ -10,7 +10,7 @@ use Rattle.std.proofs.Math.ListN.{length, length-append}
 use Rattle.std.proofs.lemmas.List.{length-replicate}
 use Rattle.std.proofs.Math.Seq.{drop_at}
 use Rattle.numbers.specs.Fixed.{span_limit}
-use Rattle.numbers.specs.FixedLaws.{span_four_bytes}
+use Rattle.numbers.proofs.FixedLaws.{span_four_bytes}
 use Rattle.calculus.specs.Key.{key_width, key_limit, short_key}
 use Rattle.calculus_laws.specs.MonomialKeyLaws.{key_word}
 use Rattle.calculus.specs.Terms.{every, size}

@@ -4,7 +4,7 @@ use Rattle.std.proofs.Common.{subst, arith, leb→le, eqb→eq, ltb→lt}
 use Rattle.std.specs.Int.Signed.{non_neg}
 use Rattle.std.proofs.lemmas.List.{length-map}
 use Rattle.numbers.specs.Fixed.{span_limit}
-use Rattle.numbers.specs.FixedLaws.{span_four_bytes}
+use Rattle.numbers.proofs.FixedLaws.{span_four_bytes}
 use Rattle.calculus.specs.Key.{key_width, key_limit, short_width, short_key, key_fits, monomial_of}
 use Rattle.calculus.specs.Terms.{every, sum_over, size}
 use Rattle.calculus.specs.Model.{most_terms, span, fits}

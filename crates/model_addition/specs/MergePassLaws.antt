@@ -4,7 +4,7 @@ use Rattle.std.proofs.Math.Path.{sym, ap}
 use Rattle.std.proofs.Common.{◌∙◌, ap₂, subst}
 use native.Mathlib.Omega.{arith}
 use Rattle.std.proofs.Math.IntN.{nat_abs}
-use Rattle.numbers.specs.FixedLaws.{span_fits}
+use Rattle.numbers.proofs.FixedLaws.{span_fits}
 use Rattle.calculus.specs.Model.{most_degree, most_terms, sound}
 use Rattle.calculus.specs.Terms.{is_nonzero}
 use Rattle.calculus.specs.Refusal.{at_place}

@@ -9,8 +9,8 @@ use Rattle.std.proofs.Math.Dec.{T, leb}
 use Rattle.std.proofs.Math.IntN.{nat_abs}
 use Rattle.std.proofs.Math.ListN.{length-map}
 use Rattle.polynomial.specs.Polynomial as P
-use Rattle.polynomial.specs.VariableAntiderivativeLaws.{exponent_raise}
-use Rattle.numbers.specs.FixedLaws.{span_fits}
+use Rattle.polynomial.proofs.VariableAntiderivativeLaws.{exponent_raise}
+use Rattle.numbers.proofs.FixedLaws.{span_fits}
 use Rattle.numbers.specs.Division.{divided_up, nearest}
 use Rattle.calculus.specs.Monomial.{degree, index_of}
 use Rattle.calculus_laws.specs.MonomialLaws.{index_suc, degree_raise, raise_replace, exponent_degree}

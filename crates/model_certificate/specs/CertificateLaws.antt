@@ -6,7 +6,7 @@ use Rattle.std.proofs.Math.Nat as NatL
 use Rattle.algebra.specs.Integer.{natAbs_neg, natAbs_add}
 use Rattle.numbers.specs.Division.{divided_up}
 use Rattle.numbers.specs.Fixed.{U, span_limit}
-use Rattle.numbers.specs.FixedLaws.{U_within, span_square_fits}
+use Rattle.numbers.proofs.FixedLaws.{U_within, span_square_fits}
 use Rattle.calculus.specs.Key.{key_width}
 use Rattle.calculus.specs.Model as C
 use Rattle.calculus.specs.Model.{most_degree, most_terms, sound, span}

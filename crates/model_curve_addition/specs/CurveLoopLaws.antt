@@ -7,7 +7,7 @@ use native.Mathlib.Omega.{arith}
 use Rattle.std.proofs.Math.Dec.{leb}
 use Rattle.std.proofs.Math.ListN.{length, replicate, get_or-map}
 use Rattle.numbers.specs.Fixed.{span_limit, capped}
-use Rattle.numbers.specs.FixedLaws.{span_four_bytes, capped_more, capped_within}
+use Rattle.numbers.proofs.FixedLaws.{span_four_bytes, capped_more, capped_within}
 use Rattle.calculus_laws.specs.TestLaws.{and_right}
 use Rattle.chebyshev.specs.Coefficients.{Row, size, sum}
 use Rattle.chebyshev.specs.PowerRows.{places}

@@ -8,7 +8,7 @@ use Rattle.std.proofs.Math.IntN.{pos}
 use Rattle.std.proofs.Math.ListN.{length, take, set, replicate, length-set}
 use Rattle.polynomial.specs.Polynomial.{exponent}
 use Rattle.numbers.specs.Fixed.{span_limit}
-use Rattle.numbers.specs.FixedLaws.{span_four_bytes}
+use Rattle.numbers.proofs.FixedLaws.{span_four_bytes}
 use Rattle.numbers.specs.Division.{nearest, divided_up}
 use Rattle.calculus.specs.Key.{monomial_of}
 use Rattle.calculus.specs.Terms.{Terms, sum_over}

@@ -8,7 +8,7 @@ use Rattle.algebra.specs.Integer.{natAbs_add, nat_abs_mul, natAbs_neg}
 use Rattle.algebra.specs.IntegerRing.{ℤR}
 use Rattle.algebra.specs.RingSolver.{◌⊟◌, ring}
 use Rattle.numbers.specs.Division.{nearest, divided_up}
-use Rattle.numbers.specs.NearestLaws.{left_le_abs}
+use Rattle.numbers.proofs.NearestLaws.{left_le_abs}
 use Rattle.chebyshev.specs.Coefficients.{Row, size}
 use Rattle.chebyshev.specs.PowerRows.{places}
 use Rattle.chebyshev.specs.CurveOperations.{swept, residuals, rounded}

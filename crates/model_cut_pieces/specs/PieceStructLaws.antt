@@ -7,7 +7,7 @@ use Rattle.std.proofs.Math.Nat as NatL
 use Rattle.std.proofs.Math.Dec.{T}
 use Rattle.std.proofs.Math.IntN.{pos}
 use Rattle.numbers.specs.Fixed.{U}
-use Rattle.numbers.specs.FixedLaws.{U_within}
+use Rattle.numbers.proofs.FixedLaws.{U_within}
 use Rattle.polynomial.specs.Polynomial.{replace}
 use Rattle.calculus.specs.Monomial.{zeros, single, index_of, less}
 use Rattle.calculus_laws.specs.MonomialLaws.{length_zeros, length_single, degree_zeros, degree_single}

@@ -8,10 +8,10 @@ use Rattle.std.proofs.lemmas.Bool.{lt-leb}
 use Rattle.std.proofs.Math.IntN.{nat_abs}
 use Rattle.algebra.specs.IntegerRing.{ℤR}
 use Rattle.numbers.specs.Division.{nearest}
-use Rattle.numbers.specs.DivisionLaws.{divided_up_ok}
-use Rattle.numbers.specs.NearestLaws.{nearest_exact}
+use Rattle.numbers.proofs.DivisionLaws.{divided_up_ok}
+use Rattle.numbers.proofs.NearestLaws.{nearest_exact}
 use Rattle.numbers.specs.Fixed.{U, span_limit}
-use Rattle.numbers.specs.FixedLaws.{span_four_bytes}
+use Rattle.numbers.proofs.FixedLaws.{span_four_bytes}
 use Rattle.calculus.specs.Terms.{term, size, sum_over}
 use Rattle.calculus_laws.specs.SumLaws.{ℕ_addition, sum_drop_zeros}
 use Rattle.calculus.specs.Model.{span}

@@ -7,8 +7,8 @@ use Rattle.algebra.specs.IntegerRing.{ℤR}
 use Rattle.algebra.specs.RingSolver.{𝟎, ◌⊟◌, ◌⊠◌, ring}
 use Rattle.numbers.specs.Computing.{numbers}
 use Rattle.numbers.specs.Division.{divided_up, nearest}
-use Rattle.numbers.specs.DivisionLaws.{divided_up_le, divided_up_unique}
-use Rattle.numbers.specs.NearestLaws.{nearest_unique}
+use Rattle.numbers.proofs.DivisionLaws.{divided_up_le, divided_up_unique}
+use Rattle.numbers.proofs.NearestLaws.{nearest_unique}
 use Rattle.numbers.specs.Fixed.{U}
 use Rattle.calculus.specs.Operations.{one_if_any}
 use Rattle.doubles.specs.Doubles.{signed, coefficient, inexact, radius_up}

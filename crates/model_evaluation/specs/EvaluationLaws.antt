@@ -7,7 +7,7 @@ use Prim.Native.Nat.{ℕ, zero, suc, ◌+◌, ◌-◌, ◌≤◌, ◌<◌}
 use Rattle.std.proofs.Math.ListN.{drop, drop_of_length-le}
 use Rattle.std.proofs.Math.Seq.{length-take-le}
 use Rattle.numbers.specs.Fixed.{U}
-use Rattle.numbers.specs.FixedLaws.{U_within}
+use Rattle.numbers.proofs.FixedLaws.{U_within}
 use Rattle.calculus_laws.specs.TestLaws.{and_left, and_right}
 use Rattle.calculus.specs.Model as C
 use Rattle.calculus.specs.Model.{most_degree, sound}

@@ -5,7 +5,7 @@ use Rattle.std.proofs.Common.{◌∙◌, ap₂, subst}
 use Prim.Native.Nat.{ℕ, zero, suc, ◌-◌, ◌≤◌, ◌<◌}
 use native.Mathlib.Omega.{arith}
 use Rattle.numbers.specs.Fixed.{span_limit}
-use Rattle.numbers.specs.FixedLaws.{U_within}
+use Rattle.numbers.proofs.FixedLaws.{U_within}
 use Rattle.calculus.specs.Model as C
 use Rattle.calculus.specs.Model.{most_degree, sound, span}
 use Rattle.calculus.specs.Refusal as R

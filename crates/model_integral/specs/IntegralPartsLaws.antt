@@ -12,7 +12,7 @@ use Rattle.algebra.specs.Integer.{is, nat_abs_mul, natAbs_bound, natAbs_apart, n
 use Rattle.polynomial.specs.Integral.{all_even, divisor}
 use Rattle.numbers.specs.Computing.{numbers}
 use Rattle.numbers.specs.Division.{floor, ceiling, remainder}
-use Rattle.numbers.specs.DivisionLaws.{division, remainder_lt}
+use Rattle.numbers.proofs.DivisionLaws.{division, remainder_lt}
 use Rattle.numbers.specs.Fixed.{span_limit}
 use Rattle.calculus.specs.Terms.{Terms, select, sum_over, sum_ℕ, size}
 use Rattle.calculus.specs.Model.{Model, span}

@@ -4,9 +4,9 @@ use Rattle.std.proofs.Common.{arith, lit<}
 use Rattle.std.proofs.Math.Nat as NatL
 use Rattle.algebra.specs.Integer.{nat_abs_mul}
 use Rattle.polynomial.specs.Integral.{all_even, divisor}
-use Rattle.numbers.specs.DivisionLaws.{floor_le_abs, ceiling_le_abs}
+use Rattle.numbers.proofs.DivisionLaws.{floor_le_abs, ceiling_le_abs}
 use Rattle.numbers.specs.Fixed.{span_limit}
-use Rattle.numbers.specs.FixedLaws.{span_fits}
+use Rattle.numbers.proofs.FixedLaws.{span_fits}
 use Rattle.calculus.specs.Key.{key_width}
 use Rattle.calculus.specs.Terms.{Terms, select, sum_over, sum_ℕ, size}
 use Rattle.calculus.specs.Model.{Model, span}

@@ -6,7 +6,7 @@ use Rattle.std.proofs.Math.Decide.{dec_le}
 use borrow.Author.Tests.{le-leb, lt-leb}
 use Rattle.std.proofs.Math.Dec.{leb}
 use Rattle.numbers.specs.Fixed.{span_limit, capped}
-use Rattle.numbers.specs.FixedLaws.{capped_same, capped_more, capped_above, capped_within}
+use Rattle.numbers.proofs.FixedLaws.{capped_same, capped_more, capped_above, capped_within}
 use Rattle.calculus.specs.Key.{key_width}
 use Rattle.calculus.specs.Terms.{Terms, every, size, sum_over}
 use Rattle.calculus.specs.Model as C

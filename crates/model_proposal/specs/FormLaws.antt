@@ -3,7 +3,7 @@ use Rattle.std.specs.Prelude.{◌≡◌, true, ℕ, ◌≤◌}
 use Rattle.std.proofs.Math.Path.{refl, ap, subst}
 use Rattle.std.proofs.Common.{sym, ◌∙◌, arith, lit<}
 use Rattle.std.proofs.Math.Dec.{T}
-use Rattle.numbers.specs.FixedLaws.{U_within}
+use Rattle.numbers.proofs.FixedLaws.{U_within}
 use Rattle.calculus.specs.Monomial.{zeros}
 use Rattle.calculus.specs.Key.{key_width, key}
 use Rattle.calculus_laws.specs.MonomialKeyLaws.{word_key, key_monomial, monomial_zero}

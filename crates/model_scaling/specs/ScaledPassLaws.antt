@@ -6,7 +6,7 @@ use native.Mathlib.Omega.{arith}
 use Rattle.std.proofs.Math.ListN.{length-map}
 use Rattle.polynomial.specs.Polynomial as P
 use Rattle.numbers.specs.Fixed.{U, span_limit, residual}
-use Rattle.numbers.specs.FixedLaws.{residual_le, span_fits, U_within, span_square_fits}
+use Rattle.numbers.proofs.FixedLaws.{residual_le, span_fits, U_within, span_square_fits}
 use Rattle.calculus.specs.Key.{key_limit}
 use Rattle.calculus.specs.Terms.{Terms, term, select, sum_over, sum_ℕ, size, map_coefficients, is_nonzero, drop_zeros}
 use Rattle.calculus_laws.specs.TermsLaws.{length_select}

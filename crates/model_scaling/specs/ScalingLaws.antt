@@ -11,7 +11,7 @@ use Rattle.algebra.specs.IntegerRing.{ℤR}
 use Rattle.algebra.specs.RingLaws.{*-zero}
 use Rattle.polynomial.specs.Polynomial.{Term, add_exponents, times, product}
 use Rattle.numbers.specs.Fixed.{round, residual, round_up}
-use Rattle.numbers.specs.FixedLaws.{round_zero, residual_zero}
+use Rattle.numbers.proofs.FixedLaws.{round_zero, residual_zero}
 use Rattle.calculus.specs.Monomial.{degree, zeros}
 use Rattle.calculus.specs.Terms.{Terms, term, every, select, sum_over, sum_ℕ, size, map_coefficients, rising}
 use Rattle.calculus.specs.Terms.{is_nonzero}

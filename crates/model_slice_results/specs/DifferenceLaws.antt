@@ -8,7 +8,7 @@ use native.Mathlib.Omega.{arith}
 use Rattle.std.specs.Prelude.{T, ℤ, pos, nat_abs, neg_ℤ, take, drop, get_or, replicate}
 use Rattle.std.proofs.Math.ListN.{length, length-append}
 use Rattle.std.proofs.lemmas.List.{length-map}
-use Rattle.numbers.specs.FixedLaws.{span_fits}
+use Rattle.numbers.proofs.FixedLaws.{span_fits}
 use Rattle.calculus.specs.Model as C
 use Rattle.calculus.specs.Model.{most_degree, most_terms, sound}
 use Rattle.calculus.specs.Operations.{limited, add, subtract, negate}

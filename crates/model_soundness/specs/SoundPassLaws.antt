@@ -10,7 +10,7 @@ use Rattle.polynomial.specs.Polynomial as P
 use Rattle.calculus.specs.Monomial.{less}
 use Rattle.calculus.specs.Key.{key_width, key_limit, key_fits, monomial_of}
 use Rattle.numbers.specs.Fixed.{span_limit, capped}
-use Rattle.numbers.specs.FixedLaws.{capped_more, capped_within}
+use Rattle.numbers.proofs.FixedLaws.{capped_more, capped_within}
 use Rattle.calculus.specs.Terms.{Terms, every, is_nonzero, nonzero, rising_from, rising, sum_over, size}
 use Rattle.calculus.specs.Model.{most_vars, most_terms, between, span, fits, sound}
 use Rattle.calculus.specs.Tests.{vars_sound}

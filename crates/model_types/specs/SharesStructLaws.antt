@@ -4,7 +4,7 @@ use Rattle.std.proofs.Math.Path.{refl}
 use Rattle.std.proofs.Common.{sym, ◌∙◌, ap, ap₂, arith}
 use Rattle.std.proofs.Math.Nat as NatL
 use Rattle.numbers.specs.Fixed.{U, span_limit}
-use Rattle.numbers.specs.FixedLaws.{U_within, span_square_fits}
+use Rattle.numbers.proofs.FixedLaws.{U_within, span_square_fits}
 use Rattle.calculus.specs.Model as C
 use Rattle.calculus.specs.Model.{zero_model}
 use Rattle.calculus.specs.Refusal as R

@@ -7,7 +7,7 @@ use Rattle.algebra.specs.Integer.{natAbs_add}
 use Rattle.algebra.specs.IntegerRing.{ℤR}
 use Rattle.polynomial.specs.Polynomial.{Term, product}
 use Rattle.numbers.specs.Fixed.{U, span_limit, residual, round_up}
-use Rattle.numbers.specs.FixedLaws.{U_within, span_fits, span_square_fits, residual_le_abs, round_up_least}
+use Rattle.numbers.proofs.FixedLaws.{U_within, span_fits, span_square_fits, residual_le_abs, round_up_least}
 use Rattle.calculus.specs.Monomial.{degree}
 use Rattle.calculus.specs.Terms.{Terms, sum_over, sum_ℕ, size, insert, collect}
 use Rattle.calculus.specs.Model.{Model, span}

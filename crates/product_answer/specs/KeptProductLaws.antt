@@ -5,7 +5,7 @@ use Rattle.std.proofs.Common.{sym, ◌∙◌, arith}
 use Rattle.std.proofs.Math.IntN.{nat_abs}
 use Rattle.std.proofs.lemmas.List.{length-map}
 use Rattle.numbers.specs.Fixed.{span_limit, capped, round_up}
-use Rattle.numbers.specs.FixedLaws.{capped_more, capped_within}
+use Rattle.numbers.proofs.FixedLaws.{capped_more, capped_within}
 use Rattle.calculus.specs.Terms.{Terms, size, sum_over}
 use Rattle.calculus_laws.specs.SumLaws.{ℕ_addition, sum_snoc}
 use Rattle.calculus.specs.Model.{most_terms, span, zero_model}

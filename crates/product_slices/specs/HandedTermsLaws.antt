@@ -5,7 +5,7 @@ use Rattle.std.proofs.Common.{◌∙◌, add-one, arith}
 use mathlib.Core.List.{List, [], ◌∷◌, ◌++◌}
 use Rattle.std.proofs.Math.ListN.{get_or, get_or-append}
 use Rattle.std.proofs.lemmas.List.{set-get_or}
-use Rattle.numbers.specs.FixedLaws.{span_fits}
+use Rattle.numbers.proofs.FixedLaws.{span_fits}
 use Rattle.calculus.specs.Key.{key_limit, monomial_of}
 use Rattle.calculus.specs.Terms.{term, sum_over, size, map_monomials}
 use Rattle.calculus.specs.Model.{most_terms}

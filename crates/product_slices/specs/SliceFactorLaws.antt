@@ -3,7 +3,7 @@ use Rattle.std.specs.Prelude.{◌≡◌, refl, List, ℕ, ◌≤◌, T, ℤ, len
 use Rattle.std.proofs.Math.Nat as NatL
 use Rattle.std.proofs.Common.{arith}
 use Rattle.numbers.specs.Fixed.{span_limit}
-use Rattle.numbers.specs.FixedLaws.{span_square_fits}
+use Rattle.numbers.proofs.FixedLaws.{span_square_fits}
 use Rattle.calculus.specs.Key.{key_width}
 use Rattle.calculus.specs.Terms.{every, size, rising}
 use Rattle.calculus.specs.Model.{most_terms, most_degree, fits, sound, span}

@@ -4,9 +4,9 @@ use Rattle.std.proofs.Common.{sym, ◌∙◌, ap, arith}
 use Rattle.std.proofs.Math.Option.{some}
 use Rattle.algebra.specs.RingSolver.{𝟎, ◌⊟◌, ring}
 use Rattle.algebra.specs.Ordered.{abs}
-use Rattle.algebra.specs.Rational.{◌*ℚ◌, whole}
-use Rattle.algebra.specs.RationalRing.{ℚR}
-use Rattle.algebra.specs.RationalOrder.{ℚO}
+use Rattle.algebra.proofs.Rational.{◌*ℚ◌, whole}
+use Rattle.algebra.proofs.RationalRing.{ℚR}
+use Rattle.algebra.proofs.RationalOrder.{ℚO}
 use Rattle.numbers.specs.Fixed.{U}
 use Rattle.calculus.specs.Computing.{calls}
 use Rattle.calculus.specs.Model.{Model, ◌/U, ◌-ℚ◌, Within}

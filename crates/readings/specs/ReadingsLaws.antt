@@ -6,9 +6,9 @@ use Rattle.std.proofs.Math.Path.{refl, ap}
 use Rattle.std.proofs.Common.{sym, ◌∙◌, subst, arith, le→leb, ltb→lt}
 use Rattle.std.proofs.Math.Option.{none, some}
 use Rattle.std.specs.Int.Signed.{lt_z, le_z_yes, lt_z_yes, lt_z_no, ≤ℤ_refl, <ℤ-≤ℤ_trans, clash_ℤ}
-use Rattle.algebra.specs.Rational.{ℚ, ◌*ℚ◌, ◌≤ℚ◌, whole}
-use Rattle.algebra.specs.RationalLaws.{≤-whole}
-use Rattle.algebra.specs.RationalOrder.{≤ℚ_trans}
+use Rattle.algebra.proofs.Rational.{ℚ, ◌*ℚ◌, ◌≤ℚ◌, whole}
+use Rattle.algebra.proofs.RationalLaws.{≤-whole}
+use Rattle.algebra.proofs.RationalOrder.{≤ℚ_trans}
 use Rattle.numbers.specs.Fixed.{U}
 use Rattle.calculus.specs.Model.{Model, Within}
 use Rattle.calculus.specs.Refusal.{Refusal, bad_model, bad_step, leaves_box, bad_reading, Result, done, stopped}

@@ -3,7 +3,7 @@
 -- computed by the definitions that it shows.
 use Rattle.std.specs.Prelude.{◌≡◌, refl, List, [], ◌∷◌, map, ℕ, zero, suc, ◌+◌, ◌*◌, ◌/◌, ◌%◌, ◌<◌, ℤ, pos, get_or}
 use Rattle.std.proofs.Common.{arith, lit<}
-use Rattle.algebra.specs.Rational.{ℚ}
+use Rattle.algebra.proofs.Rational.{ℚ}
 use Rattle.calculus.specs.Key.{short_key}
 use Rattle.calculus.specs.Refusal.{over_span, too_many_terms, leaves_box, uncertified, Result, stopped}
 use Rattle.calculus.specs.Book.{input, variable, multiply, substitute, quotient, antiderivative, Summary}

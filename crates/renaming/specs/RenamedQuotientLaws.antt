@@ -3,7 +3,7 @@ use Rattle.std.specs.Prelude.{◌≡◌, ℕ, ltb, pos}
 use Rattle.std.proofs.Math.Path.{refl, ap, ap₂}
 use Rattle.std.proofs.Common.{sym, ◌∙◌, subst}
 use Rattle.numbers.specs.Fixed.{U}
-use Rattle.numbers.specs.FixedLaws.{U_within}
+use Rattle.numbers.proofs.FixedLaws.{U_within}
 use Rattle.calculus.specs.Model.{Model, one_model}
 use Rattle.calculus.specs.Refusal.{uncertified, Answer, require, ◌then◌}
 use Rattle.calculus.specs.Operations.{subtract, multiply, widen, bare, defect, deviation, largest_value}

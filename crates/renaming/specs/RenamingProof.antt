@@ -1,8 +1,8 @@
 -- THEOREMS: a reordering of the variables throughout a book or a sheet renames its answer.
 use Rattle.std.proofs.Common.{◌∙◌, ap}
 use Rattle.std.specs.Prelude.{length}
-use Rattle.algebra.specs.RationalOrder.{ℚO}
-use Rattle.polynomial.specs.BoxLaws.{box_length}
+use Rattle.algebra.proofs.RationalOrder.{ℚO}
+use Rattle.polynomial.proofs.BoxLaws.{box_length}
 use Rattle.calculus_laws.specs.SoundLaws.{sound_parts}
 use Rattle.format.specs.Format.{sheet_bytes}
 use Rattle.format.specs.WriteBackLaws.{read_passes, read_sheet}

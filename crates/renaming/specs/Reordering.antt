@@ -1,7 +1,7 @@
 -- A reordering of the variables, and what it makes of a monomial, a model, a step, a book, a sheet and an answer
 -- (request 8): all that has to be believed of the renaming.
 use Rattle.std.specs.Prelude.{◌≡◌, Bool, cond, ◌||◌, List, [], ◌∷◌, map, ℕ, zero, suc, ◌<◌, eqb, ℤ, pos, get_or}
-use Rattle.algebra.specs.Rational.{whole}
+use Rattle.algebra.proofs.Rational.{whole}
 use Rattle.polynomial.specs.Polynomial.{Term, exponent}
 use Rattle.calculus.specs.Monomial.{index_of}
 use Rattle.calculus.specs.Key.{key_width, key}

@@ -8,9 +8,9 @@ use mir.Syntax.{w64}
 use mir.Val.{SFits, to_z, of_z}
 use Rattle.algebra.specs.Integer.{is, is_mul, is_nat}
 use Rattle.numbers.specs.Division.{floor, remainder}
-use Rattle.numbers.specs.DivisionLaws.{division, remainder_is, remainder_lt}
+use Rattle.numbers.proofs.DivisionLaws.{division, remainder_is, remainder_lt}
 use Rattle.numbers.specs.Fixed.{U}
-use Rattle.numbers.specs.FixedLaws.{U_pos}
+use Rattle.numbers.proofs.FixedLaws.{U_pos}
 use Rattle.fixed.specs.MachineLaws.{fits_range, range_of, fits_size}
 use Rattle.fixed.proofs.above_whole_units.Goals as goal
 use Rattle.fixed.proofs.above_whole_units.Goals.{Start}

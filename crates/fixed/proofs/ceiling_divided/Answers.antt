@@ -8,7 +8,7 @@ use mir.Syntax.{w64}
 use mir.Val.{to_z, of_z}
 use Rattle.algebra.specs.Integer.{natAbs_neg}
 use Rattle.numbers.specs.Division.{floor, ceiling}
-use Rattle.numbers.specs.DivisionLaws.{floor_le_abs}
+use Rattle.numbers.proofs.DivisionLaws.{floor_le_abs}
 use Rattle.fixed.specs.MachineLaws.{answered}
 use Rattle.fixed.proofs.ceiling_divided.Goals as goal
 use Rattle.fixed.proofs.ceiling_divided.Goals.{After-floor_divided}

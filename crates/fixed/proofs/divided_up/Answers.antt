@@ -2,7 +2,7 @@
 use Prim.Native.Nat.{◌<◌, ◌%◌}
 use native.Mathlib.Omega.{arith}
 use borrow.Author.Rules.{rules}
-use Rattle.numbers.specs.DivisionLaws.{divided_up_exact, divided_up_inexact, inexact_below}
+use Rattle.numbers.proofs.DivisionLaws.{divided_up_exact, divided_up_inexact, inexact_below}
 use Rattle.fixed.proofs.divided_up.Goals as goal
 use Rattle.fixed.proofs.divided_up.Goals.{Else-a-d-eq0}
 

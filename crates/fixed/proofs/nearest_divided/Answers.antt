@@ -8,7 +8,7 @@ use mir.Facts.{to_z-of_z}
 use mir.Syntax.{w64}
 use mir.Val.{to_z, of_z}
 use Rattle.numbers.specs.Division.{nearest}
-use Rattle.numbers.specs.NearestLaws.{nearest_neg, nearest_le_abs}
+use Rattle.numbers.proofs.NearestLaws.{nearest_neg, nearest_le_abs}
 use Rattle.fixed.specs.MachineLaws.{answered, negative, not_negative}
 use Rattle.fixed.proofs.nearest_divided.Goals as goal
 use Rattle.fixed.proofs.nearest_divided.Goals.{After-magnitude, After-nearest_quotient, After-signed-c}

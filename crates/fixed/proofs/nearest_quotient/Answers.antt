@@ -6,8 +6,8 @@ use native.Mathlib.Omega.{arith}
 use borrow.Author.Rules.{rules}
 use lib.IntN.{pos}
 use Rattle.numbers.specs.Division.{floor, remainder, nearest}
-use Rattle.numbers.specs.DivisionLaws.{division}
-use Rattle.numbers.specs.NearestLaws.{nearest_down, nearest_up}
+use Rattle.numbers.proofs.DivisionLaws.{division}
+use Rattle.numbers.proofs.NearestLaws.{nearest_down, nearest_up}
 use Rattle.fixed.proofs.nearest_quotient.Goals as goal
 
 module _ (n d : ℕ) (h : 0 < d) where

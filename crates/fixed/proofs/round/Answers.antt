@@ -10,12 +10,12 @@ use mir.Syntax.{w64}
 use mir.Val.{SFits, to_z, of_z}
 use Rattle.algebra.specs.Integer.{is, is_add, is_nat, is_sub_mul, natAbs_bound, natAbs_apart}
 use Rattle.numbers.specs.Division.{floor, remainder}
-use Rattle.numbers.specs.DivisionLaws.{division, remainder_lt}
+use Rattle.numbers.proofs.DivisionLaws.{division, remainder_lt}
 use Rattle.numbers.specs.Fixed.{U, round}
 use Rattle.fixed.specs.RoundedStruct.{rounded}
-use Rattle.numbers.specs.FixedLaws.{U_pos, U_even, round_is, residual_is}
+use Rattle.numbers.proofs.FixedLaws.{U_pos, U_even, round_is, residual_is}
 use Rattle.fixed.specs.MachineLaws.{answered, fits_range, range_of}
-use Rattle.numbers.specs.NearestLaws.{nearest_down, nearest_up}
+use Rattle.numbers.proofs.NearestLaws.{nearest_down, nearest_up}
 use Rattle.fixed.proofs.round.Goals as goal
 use Rattle.fixed.proofs.round.Goals.{After-above_whole_units-rest, After-magnitude-odd, After-whole_units-below}
 

@@ -7,7 +7,7 @@ use borrow.Author.Rules.{rules}
 use lib.IntN.{ℤ, pos}
 use mir.Syntax.{w64}
 use mir.Val.{to_z, of_z}
-use Rattle.numbers.specs.FixedLaws.{U_within, span_fits}
+use Rattle.numbers.proofs.FixedLaws.{U_within, span_fits}
 use Rattle.fixed.specs.MachineLaws.{answered}
 use Rattle.calculus.specs.Terms.{is_nonzero}
 use Rattle.calculus.specs.Model.{most_terms}

@@ -7,7 +7,7 @@ use mir.Syntax.{w64}
 use mir.Val.{to_z, of_z}
 use Rattle.algebra.specs.Integer.{natAbs_neg}
 use Rattle.numbers.specs.Fixed.{U}
-use Rattle.numbers.specs.FixedLaws.{U_within, span_fits}
+use Rattle.numbers.proofs.FixedLaws.{U_within, span_fits}
 use Rattle.fixed.specs.MachineLaws.{answered}
 use Rattle.cuts.specs.Cuts.{half_width, piece_middle}
 use Rattle.model_cut_pieces.specs.PieceStructLaws.{few_pieces, odd_room}

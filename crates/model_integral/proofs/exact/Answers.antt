@@ -11,7 +11,7 @@ use mir.Val.{to_z, of_z}
 use Rattle.algebra.specs.Integer.{natAbs_add}
 use Rattle.numbers.specs.Division.{floor, remainder}
 use Rattle.numbers.specs.Fixed.{span_limit}
-use Rattle.numbers.specs.FixedLaws.{span_fits}
+use Rattle.numbers.proofs.FixedLaws.{span_fits}
 use Rattle.fixed.specs.MachineLaws.{answered}
 use Rattle.calculus.specs.Terms.{size}
 use Rattle.calculus.specs.Model.{Model, span}

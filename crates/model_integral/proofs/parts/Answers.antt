@@ -8,7 +8,7 @@ use lib.IntN.{pos, nat_abs, ◌*ℤ◌}
 use mir.Facts.{to_z-of_z}
 use mir.Syntax.{w64}
 use mir.Val.{to_z, of_z}
-use Rattle.polynomial.specs.IntegralLaws.{divisor_pos}
+use Rattle.polynomial.proofs.IntegralLaws.{divisor_pos}
 use Rattle.fixed.specs.MachineLaws.{answered}
 use Rattle.calculus.specs.Key.{key_width, key_exponents}
 use Rattle.calculus.specs.Operations.{common_denominator}

@@ -9,7 +9,7 @@ use mir.Syntax.{w64}
 use mir.Val.{to_z, of_z}
 use Rattle.algebra.specs.Integer.{nat_abs_mul}
 use Rattle.numbers.specs.Division.{floor}
-use Rattle.numbers.specs.DivisionLaws.{remainder_is}
+use Rattle.numbers.proofs.DivisionLaws.{remainder_is}
 use Rattle.fixed.specs.MachineLaws.{answered}
 use Rattle.calculus.specs.Operations.{common_denominator}
 use Rattle.model_integral.specs.IntegralParts.{most_parts}

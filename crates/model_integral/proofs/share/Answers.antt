@@ -7,7 +7,7 @@ use mir.Facts.{to_z-of_z}
 use mir.Syntax.{w64}
 use mir.Val.{to_z, of_z}
 use Rattle.algebra.specs.Integer.{nat_abs_mul}
-use Rattle.polynomial.specs.IntegralLaws.{divisor_pos}
+use Rattle.polynomial.proofs.IntegralLaws.{divisor_pos}
 use Rattle.fixed.specs.MachineLaws.{answered}
 use Rattle.calculus.specs.Key.{key_width, key_exponents}
 use Rattle.model_integral.specs.Rounding.{rule}

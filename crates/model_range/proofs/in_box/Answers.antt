@@ -8,7 +8,7 @@ use mir.Facts.{to_z-of_z}
 use mir.Syntax.{w64}
 use mir.Val.{to_z, of_z}
 use Rattle.numbers.specs.Fixed.{U}
-use Rattle.numbers.specs.FixedLaws.{U_within, span_fits}
+use Rattle.numbers.proofs.FixedLaws.{U_within, span_fits}
 use Rattle.fixed.specs.MachineLaws.{answered}
 use Rattle.calculus.specs.Operations.{range, range_in_box}
 use Rattle.model_types.specs.ModelStruct.{view, bounds}

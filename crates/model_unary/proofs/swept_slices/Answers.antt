@@ -11,7 +11,7 @@ use mir.Facts.{to_z-of_z}
 use mir.Syntax.{w64}
 use mir.Val.{to_z, of_z}
 use Rattle.numbers.specs.Fixed.{span_limit}
-use Rattle.numbers.specs.FixedLaws.{span_fits}
+use Rattle.numbers.proofs.FixedLaws.{span_fits}
 use Rattle.calculus.specs.Key.{key_limit}
 use Rattle.calculus_laws.specs.MonomialKeyLaws.{word_key}
 use Rattle.calculus.specs.Model.{most_terms}

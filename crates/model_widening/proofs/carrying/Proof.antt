@@ -3,7 +3,7 @@ use mathlib.Core.Path.{◌≡◌, ap₂}
 use Prim.Native.Nat.{ℕ, ◌+◌, ◌^◌, ◌<◌}
 use native.Mathlib.Nat as NatL
 use native.Mathlib.Omega.{arith}
-use Rattle.numbers.specs.FixedLaws.{U_within, span_square_fits}
+use Rattle.numbers.proofs.FixedLaws.{U_within, span_square_fits}
 use Rattle.calculus.specs.Shares.{carrying}
 use Rattle.model_types.specs.declared.Shares.{Shares}
 use Rattle.model_types.specs.SharesStruct.{stored_shares}

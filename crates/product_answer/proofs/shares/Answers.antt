@@ -4,7 +4,7 @@ use Prim.Native.Nat.{ℕ, ◌+◌, ◌-◌, ◌*◌}
 use borrow.Author.Rules.{rules}
 use native.Mathlib.Omega.{arith}
 use Rattle.numbers.specs.Fixed.{U, round_up}
-use Rattle.numbers.specs.FixedLaws.{round_up_ok}
+use Rattle.numbers.proofs.FixedLaws.{round_up_ok}
 use Rattle.model_types.specs.declared.Shares.{Shares}
 use Rattle.model_types.specs.SharesStruct.{stored_shares}
 use Rattle.product_answer.specs.ErrorShares.{error_shares}

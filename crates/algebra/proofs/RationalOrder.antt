@@ -10,10 +10,10 @@ use Rattle.algebra.specs.Ordered.{Ordered}
 use Rattle.algebra.specs.OrderedLaws.{≤-reflexive, le_by, sub_nonneg, *-mono}
 use Rattle.algebra.specs.IntegerRing.{ℤR, ℤO}
 use Rattle.algebra.specs.Fraction.{Frac, denominator, Same, at_most, over_1, sum, product}
-use Rattle.algebra.specs.FractionLaws.{one_more_zero, one_more_times, one_more_nonneg, one_more_cancel}
-use Rattle.algebra.specs.Rational.{ℚ, class, ℚ_set, class_sound, ◌+ℚ◌, ◌*ℚ◌, leℚ, ◌≤ℚ◌, whole, sum_class}
-use Rattle.algebra.specs.Rational.{product_class, leℚ_class, ℚ_ind, ℚ_ind₂, ℚ_ind₃}
-use Rattle.algebra.specs.RationalRing.{ℚR}
+use Rattle.algebra.proofs.FractionLaws.{one_more_zero, one_more_times, one_more_nonneg, one_more_cancel}
+use Rattle.algebra.proofs.Rational.{ℚ, class, ℚ_set, class_sound, ◌+ℚ◌, ◌*ℚ◌, leℚ, ◌≤ℚ◌, whole, sum_class}
+use Rattle.algebra.proofs.Rational.{product_class, leℚ_class, ℚ_ind, ℚ_ind₂, ℚ_ind₃}
+use Rattle.algebra.proofs.RationalRing.{ℚR}
 
 -- ---- two fractions are compared by cross-multiplying
 -- n e ≤ m d, for n/d and m/e

@@ -4,9 +4,9 @@ use Rattle.algebra.specs.Ring.{Ring}
 use Rattle.algebra.specs.RingSolver.{𝟎, 𝟏, ◌⊞◌, ◌⊠◌, ⊝◌, ring}
 use Rattle.algebra.specs.IntegerRing.{ℤR}
 use Rattle.algebra.specs.Fraction.{Frac, denominator, Same, over_1, sum, product, negation}
-use Rattle.algebra.specs.FractionLaws.{one_more_zero, one_more_times}
-use Rattle.algebra.specs.Rational.{ℚ, ℚ_set, class_sound, ◌+ℚ◌, ◌*ℚ◌, negℚ, whole, sum_class, product_class}
-use Rattle.algebra.specs.Rational.{negation_class, ℚ_ind, ℚ_ind₂, ℚ_ind₃}
+use Rattle.algebra.proofs.FractionLaws.{one_more_zero, one_more_times}
+use Rattle.algebra.proofs.Rational.{ℚ, ℚ_set, class_sound, ◌+ℚ◌, ◌*ℚ◌, negℚ, whole, sum_class, product_class}
+use Rattle.algebra.proofs.Rational.{negation_class, ℚ_ind, ℚ_ind₂, ℚ_ind₃}
 
 -- ---- of fractions
 sum_assoc : (p q r : Frac) → Same (sum (sum p q) r) (sum p (sum q r))

@@ -8,10 +8,10 @@ use Rattle.algebra.specs.Integer.{is, is_mul, is_nat, plus}
 use Rattle.algebra.specs.IntegerRing.{ℤR, ℤO, le_of}
 use Rattle.algebra.specs.Field.{Field}
 use Rattle.algebra.specs.Fraction.{Frac, one_more, denominator, over_1, product}
-use Rattle.algebra.specs.FractionLaws.{one_more_zero, one_more_times}
-use Rattle.algebra.specs.Rational.{ℚ, class, ◌*ℚ◌, ◌≤ℚ◌, whole, reciprocal, product_class, ℚ_ind₂}
-use Rattle.algebra.specs.RationalOrder.{class_≤, ≤-class, ≤ℚ_prop, ℚO}
-use Rattle.algebra.specs.RationalLaws.{nat_whole, whole_reciprocal, reciprocal_class}
+use Rattle.algebra.proofs.FractionLaws.{one_more_zero, one_more_times}
+use Rattle.algebra.proofs.Rational.{ℚ, class, ◌*ℚ◌, ◌≤ℚ◌, whole, reciprocal, product_class, ℚ_ind₂}
+use Rattle.algebra.proofs.RationalOrder.{class_≤, ≤-class, ≤ℚ_prop, ℚO}
+use Rattle.algebra.proofs.RationalLaws.{nat_whole, whole_reciprocal, reciprocal_class}
 
 -- ---- Archimedes: n/d ≤ (m/e)/N, at N = m d + 1, would give n e N ≤ m d, so n is at most 0
 archimedean_ℤ : (n m : ℤ) (d e : ℕ) → ((k : ℕ) → (n *ℤ (one_more e *ℤ one_more k)) ≤ℤ (m *ℤ one_more d)) → n ≤ℤ pos 0

@@ -7,8 +7,8 @@ use Rattle.algebra.specs.Integer.{nat_abs_mul}
 use Rattle.algebra.specs.IntegerRing.{ℤR}
 use Rattle.algebra.specs.RingSolver.{◌⊟◌, ◌⊠◌, ring}
 use Rattle.numbers.specs.Division.{divided_up, nearest}
-use Rattle.numbers.specs.DivisionLaws.{divided_up_ok, divided_up_least, divided_up_unique}
-use Rattle.numbers.specs.NearestLaws.{Nearest, nearest_is, nearest_unique}
+use Rattle.numbers.proofs.DivisionLaws.{divided_up_ok, divided_up_least, divided_up_unique}
+use Rattle.numbers.proofs.NearestLaws.{Nearest, nearest_is, nearest_unique}
 
 -- ---- integers: z / d is y / b
 module _ (z y : ℤ) (d b : ℕ) (hd : 0 < d) (hb : 0 < b) (e : z *ℤ pos b ≡ y *ℤ pos d) where

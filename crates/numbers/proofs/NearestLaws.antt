@@ -9,7 +9,7 @@ use Rattle.algebra.specs.Integer.{natAbs_parts, natAbs_apart, natAbs_neg}
 use Rattle.algebra.specs.IntegerRing.{ℤR, of_le, le_of}
 use Rattle.algebra.specs.RingSolver.{◌⊟◌, ◌⊠◌, ⊝◌, ring}
 use Rattle.numbers.specs.Division.{floor, remainder, is_even, even_of_two, nearest}
-use Rattle.numbers.specs.DivisionLaws.{division, remainder_lt}
+use Rattle.numbers.proofs.DivisionLaws.{division, remainder_lt}
 
 -- ---- even and odd
 -- after an odd number comes an even one, and after an even one an odd one

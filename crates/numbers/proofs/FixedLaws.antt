@@ -5,9 +5,9 @@ use Rattle.std.proofs.Math.Decide.{dec_le}
 use Rattle.std.proofs.lemmas.Bool.{lt-leb}
 use Rattle.algebra.specs.Integer.{is, is_eq, is_nat, natAbs_parts}
 use Rattle.numbers.specs.Division.{is_even, nearest}
-use Rattle.numbers.specs.DivisionLaws.{divided_up_ok, divided_up_least}
-use Rattle.numbers.specs.NearestLaws.{nearest_le, nearest_even, nearest_neg, left_neg, left_le_abs}
-use Rattle.numbers.specs.NearestLaws.{nearest_le_abs}
+use Rattle.numbers.proofs.DivisionLaws.{divided_up_ok, divided_up_least}
+use Rattle.numbers.proofs.NearestLaws.{nearest_le, nearest_even, nearest_neg, left_neg, left_le_abs}
+use Rattle.numbers.proofs.NearestLaws.{nearest_le_abs}
 use Rattle.numbers.specs.Fixed.{U, span_limit, round, residual, round_up, capped}
 
 -- ---- the unit and the span limit

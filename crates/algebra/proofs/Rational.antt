@@ -5,8 +5,8 @@ use Rattle.std.proofs.Math.Bool.{Bool-set}
 use mathlib.Core.Quot.Quotient
 use mathlib.Core.Quot.{Setoid, Quotient, Quotient-set}
 use Rattle.algebra.specs.Fraction.{Frac, Same, at_most, over_1, sum, product, negation, inversion}
-use Rattle.algebra.specs.FractionLaws.{Same-prop, Same-equivalence, sum_respects, product_respects}
-use Rattle.algebra.specs.FractionLaws.{negation_respects, inversion_respects, at_most_respects}
+use Rattle.algebra.proofs.FractionLaws.{Same-prop, Same-equivalence, sum_respects, product_respects}
+use Rattle.algebra.proofs.FractionLaws.{negation_respects, inversion_respects, at_most_respects}
 
 -- ---- the quotient
 -- fractions with cross-multiplying as their equality

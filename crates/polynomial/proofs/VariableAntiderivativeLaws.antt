@@ -15,9 +15,9 @@ use Rattle.algebra.specs.Field.{Field}
 use Rattle.algebra.specs.FieldLaws.{reciprocal_one}
 use Rattle.polynomial.specs.Polynomial.{Polynomial, monomial, eval, constant, sum, scale, exponent}
 use Rattle.polynomial.specs.Polynomial.{without, raise, lower, replace}
-use Rattle.polynomial.specs.PolynomialLaws.{eval_sum, eval_scale, eval_constant, monomial_replace}
+use Rattle.polynomial.proofs.PolynomialLaws.{eval_sum, eval_scale, eval_constant, monomial_replace}
 use Rattle.polynomial.specs.Box.{Box, none, more}
-use Rattle.polynomial.specs.BoxLaws.{box_length, box_replace}
+use Rattle.polynomial.proofs.BoxLaws.{box_length, box_replace}
 use Rattle.polynomial.specs.Antiderivative.{Univariate, value, antiderivative, antiderivative_in, derivative_in}
 use Rattle.polynomial.specs.AntiderivativeLaws.{antiderivative_mono}
 

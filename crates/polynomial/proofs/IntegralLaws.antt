@@ -15,7 +15,7 @@ use Rattle.algebra.specs.OrderedLaws.{≤-reflexive, le_by, sub_nonneg, add_nonn
 use Rattle.algebra.specs.Field.{Field}
 use Rattle.algebra.specs.FieldLaws.{reciprocal_one, reciprocal_mul}
 use Rattle.polynomial.specs.Polynomial.{Polynomial, monomial, eval, constant, sum, scale, negation}
-use Rattle.polynomial.specs.PolynomialLaws.{eval_constant, eval_sum, eval_negation}
+use Rattle.polynomial.proofs.PolynomialLaws.{eval_constant, eval_sum, eval_negation}
 use Rattle.polynomial.specs.Box.{Box, none, more}
 use Rattle.polynomial.specs.Integral.{even, first, rest, all_even, divisor, moment, integral}
 use Rattle.polynomial.specs.Antiderivative.{Univariate, value, antiderivative}

@@ -11,12 +11,12 @@ use Rattle.algebra.specs.RingSolver.{𝟏, ◌⊞◌, ◌⊠◌, ⊝◌, ring}
 use Rattle.algebra.specs.IntegerRing.{ℤR, ℤO, eq_of}
 use Rattle.algebra.specs.Fraction.{Frac, one_more, denominator, Same, over_1, over, sum, product, negation}
 use Rattle.algebra.specs.Fraction.{inversion}
-use Rattle.algebra.specs.FractionLaws.{one_more_zero, one_more_times}
-use Rattle.algebra.specs.Rational.{ℚ, class, ℚ_set, class_sound, ◌+ℚ◌, ◌*ℚ◌, negℚ, inverse, ◌≤ℚ◌, whole, ◌/ℚ◌}
-use Rattle.algebra.specs.Rational.{reciprocal, ◌÷◌, sum_class}
-use Rattle.algebra.specs.Rational.{product_class, negation_class, inverse_class, ℚ_ind}
-use Rattle.algebra.specs.RationalRing.{ℚR}
-use Rattle.algebra.specs.RationalOrder.{class_≤, ≤-class, ℚO}
+use Rattle.algebra.proofs.FractionLaws.{one_more_zero, one_more_times}
+use Rattle.algebra.proofs.Rational.{ℚ, class, ℚ_set, class_sound, ◌+ℚ◌, ◌*ℚ◌, negℚ, inverse, ◌≤ℚ◌, whole, ◌/ℚ◌}
+use Rattle.algebra.proofs.Rational.{reciprocal, ◌÷◌, sum_class}
+use Rattle.algebra.proofs.Rational.{product_class, negation_class, inverse_class, ℚ_ind}
+use Rattle.algebra.proofs.RationalRing.{ℚR}
+use Rattle.algebra.proofs.RationalOrder.{class_≤, ≤-class, ℚO}
 
 -- ---- the whole numbers
 pub whole-+ : (a b : ℤ) → whole (a +ℤ b) ≡ whole a +ℚ whole b

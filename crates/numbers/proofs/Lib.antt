@@ -1,0 +1,4 @@
+pub mod DivisionLaws
+pub mod NearestLaws
+pub mod SameFractionLaws
+pub mod FixedLaws

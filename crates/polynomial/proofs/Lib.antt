@@ -1,0 +1,4 @@
+pub mod PolynomialLaws
+pub mod BoxLaws
+pub mod VariableAntiderivativeLaws
+pub mod IntegralLaws
