@@ -6,10 +6,3 @@ pub mod CutClaim
 pub mod Edges
 -- Laws.
 pub mod EndsLaws
-pub mod PieceLaws
-pub mod UncutLaws
-pub mod CutLaws
-pub mod CutRefusalLaws
--- The claim, and facts beside it.
-pub mod CutClaimProof
-pub mod CutFacts

@@ -3,6 +3,3 @@ pub mod DoubleBits
 pub mod Computing
 pub mod Edges
 pub mod ExactFractionLaws
-pub mod ExactBitsLaws
-pub mod WithinTheirsLaws
-pub mod WithinTheirsFacts

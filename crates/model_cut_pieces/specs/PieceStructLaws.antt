@@ -26,7 +26,7 @@ use Rattle.model_types.specs.declared.Model.{Model}
 use Rattle.model_types.specs.ModelStruct.{pack, pack_term, pad, of_terms}
 use Rattle.model_types.specs.ModelStructLaws.{pack_key}
 use Rattle.cuts.specs.Cuts.{most_depth, half_width, piece_middle, piece}
-use Rattle.cuts.specs.PieceLaws.{width_pos, middle_le, piece_size, last_inside}
+use Rattle.cuts.proofs.PieceLaws.{width_pos, middle_le, piece_size, last_inside}
 
 -- ---- numbers
 pub shifted : (k : ℕ) → k ≤ most_depth → 1 * 2 ^ k % 2 ^ 64 ≡ 2 ^ k

@@ -7,7 +7,7 @@ use Rattle.std.specs.Float.Ieee.Bits.{of_bits-to_bits}
 use Rattle.std.specs.Float.Ieee.Compare.{differs_from_itself, nan_differs}
 use Rattle.doubles.specs.Doubles.{is_finite}
 use Rattle.doubles.specs.DoubleBits.{all_ones, sign_bit, digits, places}
-use Rattle.doubles.specs.ExactBitsLaws.{bits_finite, bits_value, bits_few, bits_leading}
+use Rattle.doubles.proofs.ExactBitsLaws.{bits_finite, bits_value, bits_few, bits_leading}
 use Rattle.model_doubles.specs.DoubleParts.{not_finite, parts_of_bits, Worth}
 
 clash : false ≡ true → ⊥

@@ -1,4 +1,2 @@
 pub mod Readings
 pub mod Edges
-pub mod ReadingsLaws
-pub mod ReadingsFacts

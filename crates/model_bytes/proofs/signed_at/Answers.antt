@@ -6,4 +6,4 @@ use borrow.Author.Rules.{rules}
 use Rattle.model_bytes.proofs.signed_at.Goals as goal
 
 pub returns : goal.returns
-returns c = answered c.signed_of.type_inv (c.Signed-of.ensures ∙ ap signed c.u32_at.ensures)
+returns c = answered c.signed_of.type_inv (c.signed_of.ensures ∙ ap signed c.u32_at.ensures)

@@ -74,5 +74,5 @@ pub returns : goal.returns
 returns c =
     c.with_term.ensures _ (got2 (goal.at.returns c).After-with_term-linear)
     ∙ ap pack (three _ _ _ _)
-    ∙ ap pack (ap₃ (λ a b c. model_of a b c c.args.radius)
+    ∙ ap pack (ap₃ (λ x y z. model_of x y z c.args.radius)
     (to_z-of_z c.ranges.c0) (to_z-of_z c.ranges.c1) (to_z-of_z c.ranges.c2))

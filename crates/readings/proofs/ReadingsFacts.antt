@@ -18,7 +18,7 @@ use Rattle.calculus_laws.specs.EvaluateLaws.{point_of}
 use Rattle.calculus_laws.specs.ChainLaws.{◌≡≤◌, equal}
 use Rattle.readings.specs.Readings.{Reading, most_readings, in_order, contradicts, with_place, held}
 use Rattle.readings.specs.Readings.{first_contradicting, call_readings}
-use Rattle.readings.specs.ReadingsLaws.{PassesThrough, Contradicted, contradicted}
+use Rattle.readings.proofs.ReadingsLaws.{PassesThrough, Contradicted, contradicted}
 use Rattle.readings.specs.Edges.{band}
 
 -- no terms, radius 2: evaluation gives -2 to 2 everywhere

@@ -35,7 +35,7 @@ use Rattle.calculus_laws.specs.ChainLaws.{◌≡≤◌, ◌≤≡◌}
 use Rattle.cuts.specs.Cuts.{hull, overlap, most_depth, piece, piece_range, hull_from, pieces_hull, cut_range}
 use Rattle.cuts.specs.Cuts.{call_cut_range}
 use Rattle.cuts.specs.EndsLaws.{hull_left, hull_right, overlap_both, larger_left, smaller_left}
-use Rattle.cuts.specs.PieceLaws.{Cut, find_cut, place_in, place_inside, piece_near, piece_in_box}
+use Rattle.cuts.proofs.PieceLaws.{Cut, find_cut, place_in, place_inside, piece_near, piece_in_box}
 
 -- ---- points: a coordinate put in, and the one that was there put back
 replace_back : (i : ℕ) (y : ℚ) (x : Point) → replace i (get_or x i 0ℚ) (replace i y x) ≡ x

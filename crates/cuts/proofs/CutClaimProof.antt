@@ -20,11 +20,11 @@ use Rattle.calculus_laws.specs.ValueLaws.{scaled_value, Near, U_value, near_at, 
 use Rattle.calculus_laws.specs.ChainLaws.{◌≤≤◌, ◌≡≤◌, ◌≤≡◌}
 use Rattle.cuts.specs.Cuts.{most_depth, call_cut_range}
 use Rattle.cuts.specs.CutClaim.{CutClaim, InAPiece}
-use Rattle.cuts.specs.PieceLaws.{Cut, find_cut, place_in, place_inside, place_value}
-use Rattle.cuts.specs.CutLaws.{cut_range_encloses, cut_range_inside}
-use Rattle.cuts.specs.UncutLaws.{cut_range_none}
+use Rattle.cuts.proofs.PieceLaws.{Cut, find_cut, place_in, place_inside, place_value}
+use Rattle.cuts.proofs.CutLaws.{cut_range_encloses, cut_range_inside}
+use Rattle.cuts.proofs.UncutLaws.{cut_range_none}
 -- no call is refused with 9
-pub use Rattle.cuts.specs.CutRefusalLaws.{never_leaves}
+pub use Rattle.cuts.proofs.CutRefusalLaws.{never_leaves}
 open ℚR use {+-neg, *-one}
 
 -- a model's own polynomial is within it, and there is a point in the box

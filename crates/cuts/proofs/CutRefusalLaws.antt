@@ -10,7 +10,7 @@ use Rattle.calculus.specs.Operations.{Ends}
 use Rattle.calculus.specs.Tests.{order_sound, variable_sound}
 use Rattle.cuts.specs.Cuts.{hull, most_depth, hull_from, pieces_hull, cut_range}
 use Rattle.cuts.specs.Cuts.{call_cut_range}
-use Rattle.cuts.specs.CutLaws.{NotLeaving, fine, too_many, too_large, piece_not_leaving}
+use Rattle.cuts.proofs.CutLaws.{NotLeaving, fine, too_many, too_large, piece_not_leaving}
 
 -- done, or refused for something else
 data NotNine {A : Type 0} : Result A → Type 0 where

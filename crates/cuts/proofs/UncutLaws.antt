@@ -43,7 +43,7 @@ use Rattle.calculus_laws.specs.SoundLaws.{Canonical, Sound, sound_parts, part_ca
 use Rattle.std.specs.Int.Signed.{le_z}
 use Rattle.cuts.specs.Cuts.{smaller, larger, overlap, most_depth, half_width, piece_middle, piece}
 use Rattle.cuts.specs.Cuts.{piece_range, hull_from, pieces_hull, cut_range}
-use Rattle.cuts.specs.PieceLaws.{piece_in_box}
+use Rattle.cuts.proofs.PieceLaws.{piece_in_box}
 
 -- ---- one exponent put in another's place
 raise_put : (v a : ℕ) (j : List ℕ) → v < length j → raise v (replace v a j) ≡ replace v (suc a) j

@@ -32,7 +32,7 @@ use Rattle.calculus_laws.specs.ChainLaws.{◌≤≤◌, ◌≡≤◌, ◌≤≡�
 use Rattle.doubles.specs.Computing.{conversions}
 use Rattle.doubles.specs.Doubles.{Delivery, signed, numerator, denominator, exact, is_finite, is_negative}
 use Rattle.doubles.specs.Doubles.{their_value, WithinTheirs, units, converted, deliverable, call_doubles}
-use Rattle.doubles.specs.WithinTheirsLaws.{denominator_pos, U_exact}
+use Rattle.doubles.proofs.WithinTheirsLaws.{denominator_pos, U_exact}
 open ℚR use {+-neg, *-one}
 
 -- ---- the hypothesis can be met

@@ -27,7 +27,7 @@ use Rattle.calculus_laws.specs.ValueLaws.{scaled_value, Near, U_value, near_at, 
 use Rattle.calculus_laws.specs.ChainLaws.{◌≡≤◌, ◌≤≡◌, equal}
 use Rattle.cuts.specs.CutClaim.{CutClaim}
 use Rattle.cuts.specs.Edges.{cuts, bowl, band, all-pieces, other-models}
-use Rattle.cuts.specs.CutClaimProof.{cut_claim, value_within}
+use Rattle.cuts.proofs.CutClaimProof.{cut_claim, value_within}
 open ℚR use {*-one}
 
 -- ---- 1 + x + x²

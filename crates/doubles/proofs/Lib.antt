@@ -1,0 +1,3 @@
+pub mod ExactBitsLaws
+pub mod WithinTheirsLaws
+pub mod WithinTheirsFacts

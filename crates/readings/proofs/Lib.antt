@@ -1,0 +1,2 @@
+pub mod ReadingsLaws
+pub mod ReadingsFacts
