@@ -1,0 +1,158 @@
+-- `plane` keeps what order d keeps of the lines of a plane, one after the other.
+use mathlib.Core.Path.{◌≡◌}
+use Prim.Native.Nat.{ℕ, ◌+◌, ◌-◌, ◌*◌, ◌<◌}
+use native.Mathlib.Omega.{arith}
+use borrow.Author.Rules.{rules}
+use Rattle.calculus.specs.Terms.{Terms}
+use Rattle.product_rising.specs.Rising.{Part}
+use Rattle.product_grid_scan.specs.GridTerms.{steps_within, second_step, line_terms, LineReady}
+use Rattle.product_rising.specs.RisingLaws.{Held, held_none, held_more, held_room}
+use Rattle.product_grid_scan.specs.GridTermsLaws.{line_ready}
+use Rattle.product_rising.specs.RisingLaws.{held_rounding, held_swept}
+use Rattle.product_grid_scan.proofs.plane.Statement.{statement}
+use Rattle.product_grid_scan.proofs.plane.Tie as tie
+use Rattle.product_grid_scan.proofs.plane.Reads as reads
+use Rattle.product_grid_scan.proofs.plane.Lts as lts
+use Rattle.product_grid_scan.proofs.line.Reads as line_reads_lem
+use Rattle.product_grid_scan.proofs.steps.Reads as steps-reads
+
+abbrev invariant-loop : tie.invariant-loop
+invariant-loop sums degrees third fourth at n key left d k₀ c₀ from m₀ r₀ w₀ i₀ kept coefficients count rounding swept i =
+    Held (λ j.
+    line_terms sums degrees fourth ((at + j) * third) (steps_within third (left - j)) (key + second_step * j)
+    (left - j)) n d from k₀ c₀ kept coefficients count rounding swept i
+
+abbrev decreases-loop : tie.decreases-loop
+decreases-loop sums degrees third fourth at n key left d k₀ c₀ from m₀ r₀ w₀ i₀ kept coefficients count rounding swept i =
+    n - i
+
+loop-holds : tie.Need-loop-init invariant-loop decreases-loop
+loop-holds c = held_none _ _ _ _ _ _ c.before.before.requires.1
+
+-- in an iteration
+module _ (c : tie.After-steps invariant-loop decreases-loop) where
+  abbrev l : tie.At-loop invariant-loop decreases-loop
+  l = c.before.before
+
+  abbrev s : tie.Start invariant-loop decreases-loop
+  s = l.before.before.before
+
+  abbrev part : ℕ → Terms
+  part j =
+      line_terms s.args.sums.now s.args.degrees.now s.args.fourth ((s.args.at + j) * s.args.third)
+      (steps_within s.args.third (s.args.left - j)) (s.args.key + second_step * j) (s.args.left - j)
+
+  iteration : l.loop.i < s.args.n
+  iteration = c.before.loop-test.true
+
+  ready : LineReady s.args.sums.now s.args.degrees.now s.args.fourth
+      ((s.args.at + l.loop.i) * s.args.third)
+      (steps_within s.args.third (s.args.left - l.loop.i)) (s.args.key + second_step * l.loop.i)
+      (s.args.left - l.loop.i)
+  ready = line_ready _ _ _ _ _ _ _ _ s.pre.0 l.loop.i iteration
+
+sub-rest : tie.Need-overflow-sub-rest invariant-loop decreases-loop
+sub-rest c = search rules
+
+steps-requires : tie.Need-steps-requires invariant-loop decreases-loop
+steps-requires c κs = search rules
+
+add-place : tie.Need-overflow-add-place invariant-loop decreases-loop
+add-place c = search rules
+
+mul-place : tie.Need-overflow-mul-place invariant-loop decreases-loop
+mul-place c = let h = (ready c).below in search rules
+
+mul-more : tie.Need-overflow-mul-more invariant-loop decreases-loop
+mul-more c = search rules
+
+add-line : tie.Need-overflow-add-line invariant-loop decreases-loop
+add-line c = search rules
+
+line-requires : tie.Need-line-requires invariant-loop decreases-loop
+line-requires c κs =
+    let t = c.before.before in (
+      rw t.steps.ensures (ready t),
+      held_room _ _ _ _ _ _ _ _ _ _ _ _ (l t).loop.invariant (s t).requires.1,
+    )
+
+-- once a line is done
+module _ (p : tie.After-line invariant-loop decreases-loop) where
+  abbrev t : tie.After-steps invariant-loop decreases-loop
+  t = p.before.before.before
+
+  done : Part (s t).args.d (part t (l t).loop.i) (l t).loop.count (l t).loop.kept (l t).loop.coefficients
+      p.line.last.1.1.1.1.1.1.1.1.0 p.line.last.1.1.1.1.1.1.1.1.1.0 p.line.result
+  done = rw t.steps.ensures at p.line.ensures
+
+add-rounding : tie.Need-overflow-add-rounding invariant-loop decreases-loop
+add-rounding c =
+    let p = c.before.before.before.before in
+    record {
+      fits =
+          omega (
+            arith,
+            held_rounding (part (t p)) _ _ _ _ _ _ _ _ _ _ _ (l (t p)).loop.inv (iteration (t p)) _ _ _ (done p),
+            (s (t p)).pre.0.small,
+          );
+    }
+
+add-swept : tie.Need-overflow-add-swept invariant-loop decreases-loop
+add-swept c =
+    let p = c.before.before.before.before.before in
+    record {
+      fits =
+          omega (
+            arith,
+            held_swept (part (t p)) _ _ _ _ _ _ _ _ _ _ _ (l (t p)).loop.inv (iteration (t p)) _ _ _ (done p),
+            (s (t p)).pre.0.small,
+          );
+    }
+
+add-i : tie.Need-overflow-add-i invariant-loop decreases-loop
+add-i c = search rules
+
+loop-less : tie.Need-loop-smaller invariant-loop decreases-loop
+loop-less c = search rules
+
+loop-again : tie.Need-loop-preserved invariant-loop decreases-loop
+loop-again c =
+    let p = c.before.before.before.before.before in
+    held_more (part (t p)) _ _ _ _ _ _ _ _ _ _ _ (l (t p)).loop.inv (iteration (t p)) _ _ _ (done p)
+    p.line.auto.1.1.1.1.1.1.1.1.0 p.line.auto.1.1.1.1.1.1.1.1.1.0
+
+same_length : tie.Need-same-length invariant-loop decreases-loop
+same_length c = search rules
+
+same-length-2 : tie.Need-same-length-2 invariant-loop decreases-loop
+same-length-2 c = search rules
+
+returns : tie.Need-returns invariant-loop decreases-loop
+returns c =
+    let l = c.before in
+    let h = l.loop.invariant in
+    let e : l.loop.i ≡ l.before.before.before.args.n = omega (arith, c.loop-test.false, h.on) in
+    rw e at h.done
+
+pub plane_spec : {M : Type 1} → statement M
+plane_spec =
+    tie.close
+    (tie.spec
+    invariant-loop
+    decreases-loop
+    loop-holds
+    sub-rest
+    steps-requires
+    add-place
+    mul-place
+    mul-more
+    add-line
+    line-requires
+    add-rounding
+    add-swept
+    add-i
+    loop-less
+    loop-again
+    same_length
+    same-length-2
+    returns)
