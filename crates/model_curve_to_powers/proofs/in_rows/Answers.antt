@@ -10,24 +10,26 @@ use Rattle.chebyshev.specs.PowerRows.{places, zeros}
 use Rattle.chebyshev.specs.Tables.{chebyshev_table}
 use Rattle.model_curve_range.specs.CurveRangeLaws.{sizes_small}
 use Rattle.model_curve_rows.specs.SmallRows.{each_small, rows_small}
-use Rattle.model_curve_to_powers.proofs.in_rows.Statement.{statement}
-use Rattle.model_curve_to_powers.proofs.in_rows.Tie as tie
+use Rattle.model_curve_to_powers.proofs.in_rows.Goals as goal
+use Rattle.model_curve_to_powers.proofs.in_rows.Goals.{Start}
 
-module _ (c : tie.Start) where
-  whole : length c.args.t1.coefficients ≡ 16
+module _ (c : Start) where
+  whole : length c.args.c.coefficients ≡ 16
   whole = search rules
 
-  small : size c.args.t1.coefficients < 2 ^ 31
+  small : size c.args.c.coefficients < 2 ^ 31
   small = omega (arith, sizes_small _ c.requires)
 
-combine-rows-requires : tie.Need-combine-rows-requires
+pub combine_rows-requires : goal.combine_rows-requires
 unfolding zeros places rows_small each_small size
-combine-rows-requires c κs =
-    let s = c.before.before.before.before in (refl, (whole s, (small s, tt)))
+combine_rows-requires c =
+    record {
+      total_value = refl;
+      cs_len = whole (goal.at.combine_rows-requires c).Start;
+      cs_bound = small (goal.at.combine_rows-requires c).Start;
+      t = tt;
+    }
 
-returns : tie.Need-returns
+pub returns : goal.returns
 unfolding chebyshev_table
-returns c = c.combine-rows.ensures
-
-pub in_rows_spec : {M : Type 1} → statement M
-in_rows_spec = tie.close (tie.spec combine-rows-requires returns)
+returns c = c.combine_rows.ensures
