@@ -1,0 +1,13 @@
+-- `curve_room` tests the length of the coefficients, then that of the numbers.
+use borrow.Author.Tests.{le-leb, lt-leb}
+use Rattle.chebyshev.specs.PowerRows.{places}
+use Rattle.c_curves.specs.HandedCurves.{curve_room}
+use Rattle.c_curves.proofs.curve_room.Goals as goal
+
+pub returns-then-coefficients-lt-CURVE_PLACES : goal.returns-then-coefficients-lt-CURVE_PLACES
+unfolding curve_room places
+returns-then-coefficients-lt-CURVE_PLACES c = rw (lt-leb 16 _ c.if-coefficients-lt-CURVE_PLACES.true)
+
+pub returns : goal.returns
+unfolding curve_room places
+returns c = rw (le-leb 16 _ c.if-coefficients-lt-CURVE_PLACES.false)

@@ -1,0 +1,13 @@
+-- `range_fits` tests the length of the coefficients, then the room for two ends.
+use borrow.Author.Tests.{le-leb, lt-leb}
+use Rattle.chebyshev.specs.PowerRows.{places}
+use Rattle.c_curves.specs.HandedCurves.{range_fits}
+use Rattle.c_curves.proofs.range_fits.Goals as goal
+
+pub returns-then-coefficients-lt-CURVE_PLACES : goal.returns-then-coefficients-lt-CURVE_PLACES
+unfolding range_fits places
+returns-then-coefficients-lt-CURVE_PLACES c = rw (lt-leb 16 _ c.if-coefficients-lt-CURVE_PLACES.true)
+
+pub returns : goal.returns
+unfolding range_fits places
+returns c = rw (le-leb 16 _ c.if-coefficients-lt-CURVE_PLACES.false)
