@@ -23,7 +23,7 @@ use Rattle.sheet_walk.specs.Walk.{held_keys, held_coefficients, RecordRead, Walk
 use Rattle.sheet_walk.specs.TermWalkLaws.{view_stored, held_struct, count_at}
 use Rattle.sheet_walk.specs.ModelWalkLaws.{ModelsSoFar, Ends, models_first, models_iteration, walk_place}
 use Rattle.sheet_walk.specs.ModelWalkLaws.{walk_after, read_passed, sound_few}
-use Rattle.sheet_results.specs.Results.{Results, results, Roomy, result, spliced, with_result}
+use Rattle.sheet_results.specs.Results.{Results, results, Roomy, held_result, spliced, with_result}
 use Rattle.sheet_results.specs.ResultsLaws.{spliced_part, length_spliced, result_here, result_other, roomy_still}
 use Rattle.sheet_results.specs.ResultsLaws.{roomy_less}
 use Rattle.sheet_loading.specs.Loading.{Standing, KeepsRoom, ModelsLoaded}
@@ -156,9 +156,9 @@ module _ {s : List ℕ} {n d count : ℕ} {m₀ m : Results} {at k : ℕ} (h : L
       is_read = refl
 
       stands : (a : ℕ) → a < length (h.before ++ (read ∷ []))
-          → view (result n puts a) ≡ get_or (map view_model (h.before ++ (read ∷ []))) a (zero_model n)
+          → view (held_result n puts a) ≡ get_or (map view_model (h.before ++ (read ∷ []))) a (zero_model n)
       stands a t = elim (ℕ_discrete a k) [
-        | yes o ↦ ap (λ j. view (result n puts j)) o
+        | yes o ↦ ap (λ j. view (held_result n puts j)) o
             ∙ result_here n (stored_model read) k has_room l (listed_long read few) is_read (few_terms read few)
             ∙ view_stored read
             ∙ sym (ap (λ x. get_or x a (zero_model n)) (map-append view_model h.before (read ∷ []))
@@ -208,7 +208,7 @@ module _ {s : List ℕ} {n d count : ℕ} {m₀ m : Results} {at k : ℕ} (h : L
       load_iteration = record {
         before = h.before ++ (read ∷ []);
         so_far = models_iteration s n d count h.before at k h.so_far l taken g.taken_is z;
-        standing = record { each = λ a t. ap (λ (x : Results). view (result n x a)) put ∙ stands a t };
+        standing = record { each = λ a t. ap (λ (x : Results). view (held_result n x a)) put ∙ stands a t };
         room = λ p x. subst (Roomy p) (sym put) (keeps p x);
         keys_long = ap (λ (x : Results). length x.keys) put ∙ keys_kept ∙ h.keys_long;
         coefficients_long = ap (λ (x : Results). length x.coefficients) put ∙ coefficients_kept

@@ -9,7 +9,7 @@ use Rattle.model_types.specs.ModelStruct.{view, verdict}
 use Rattle.format.specs.HeldBook.{HeldModel, HeldBook, view_model}
 use Rattle.sheet_walk.specs.declared.ModelsWalked.{ModelsWalked}
 use Rattle.sheet_walk.specs.Walk.{walk, models_walked}
-use Rattle.sheet_results.specs.Results.{Results, Roomy, result}
+use Rattle.sheet_results.specs.Results.{Results, Roomy, held_result}
 use Rattle.sheet_run_laws.specs.Run as R
 use Rattle.sheet_run_laws.specs.Run.{SameSteps}
 use Rattle.sheet_loading.specs.declared.Loaded.{Loaded}
@@ -17,7 +17,7 @@ use Rattle.sheet_loading.specs.declared.Loaded.{Loaded}
 -- ---- models
 -- models of n variables stand at the first places
 pub record Standing (n : ℕ) (l : List HeldModel) (m : Results) : Type 0 where
-  pub each : (a : ℕ) → a < length l → view (result n m a) ≡ get_or (map view_model l) a (zero_model n)
+  pub each : (a : ℕ) → a < length l → view (held_result n m a) ≡ get_or (map view_model l) a (zero_model n)
 
 -- places that hold others keep their room
 abbrev pub KeepsRoom : (before after : Results) → Type 0

@@ -30,8 +30,8 @@ pub record Roomy (places : ℕ) (m : Results) : Type 0 where
   pub few : (j : ℕ) → get_or m.counts j 0 ≤ most_terms
 
 -- the struct at place j, in n variables
-unfoldable pub result : (n : ℕ) → Results → (j : ℕ) → Model
-result n m j =
+unfoldable pub held_result : (n : ℕ) → Results → (j : ℕ) → Model
+held_result n m j =
     handed n (get_or m.counts j 0) (get_or m.radii j 0) (drop (most_terms * j) m.keys)
     (drop (most_terms * j) m.coefficients)
 

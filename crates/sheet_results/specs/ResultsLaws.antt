@@ -23,7 +23,7 @@ use Rattle.model_slices.specs.HandedModelsLaws.{taken_view}
 use Rattle.model_types.specs.declared.Refusal.{Refusal}
 use Rattle.model_types.specs.declared.Accounted.{Accounted}
 use Rattle.model_types.specs.declared.Verdict.TheVariants.{Accepted, Refused}
-use Rattle.sheet_results.specs.Results.{Results, results, Roomy, result, spliced, with_result, with_row}
+use Rattle.sheet_results.specs.Results.{Results, results, Roomy, held_result, spliced, with_result, with_row}
 use Rattle.sheet_results.specs.Results.{unless, settled_results, settled_rows}
 
 -- ---- a part of a list replaced
@@ -176,8 +176,8 @@ module _ (n : ℕ) (k : Model) (i : ℕ) {places : ℕ} {m : Results} (r : Roomy
         ∙ terms_put k.count k.keys _ k.coefficients _ w
 
     -- it stands there
-    pub result_here : k.n ≡ n → k.count ≤ most_terms → view (result n (with_result k i m) i) ≡ view k
-    unfolding result with_result most_terms
+    pub result_here : k.n ≡ n → k.count ≤ most_terms → view (held_result n (with_result k i m) i) ≡ view k
+    unfolding held_result with_result most_terms
     result_here e f =
         ap₂ (λ (c e : ℕ). view (handed n c e
         (drop (most_terms * i) (spliced (most_terms * i) named_keys m.keys))
@@ -220,8 +220,8 @@ module _ (n : ℕ) (k : Model) (i : ℕ) {places : ℕ} {m : Results} (r : Roomy
       ]
 
   -- all others stay
-  pub result_other : k.count ≤ most_terms → (j : ℕ) → j ≢ i → result n (with_result k i m) j ≡ result n m j
-  unfolding result with_result handed
+  pub result_other : k.count ≤ most_terms → (j : ℕ) → j ≢ i → held_result n (with_result k i m) j ≡ held_result n m j
+  unfolding held_result with_result handed
   result_other f j o =
       ap₂ (λ (c e : ℕ). of_terms n c e (pad (terms_of most_terms
       (drop (most_terms * j) (spliced (most_terms * i) named_keys m.keys))
@@ -290,8 +290,8 @@ module _ {places : ℕ} {m : Results} (r : Roomy places m) {j : ℕ} (l : j < pl
   pub taken_end : (n i : ℕ) → i ≡ get_or m.counts j 0
       → view (of_terms n (get_or m.counts j 0) (get_or m.radii j 0)
       (pad (terms_of i (drop (most_terms * j) m.keys) (drop (most_terms * j) m.coefficients))))
-      ≡ view (result n m j)
-  unfolding result most_terms
+      ≡ view (held_result n m j)
+  unfolding held_result most_terms
   taken_end n i e = taken_view n _ _ i _ _
       (omega (
         arith,

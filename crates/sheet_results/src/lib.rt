@@ -6,7 +6,7 @@ ghost use Rattle.calculus.specs.Model.{most_terms, zero_model};
 ghost use Rattle.calculus.specs.Book.{most_models, most_steps};
 ghost use Rattle.model_types.specs.ModelStruct.{view};
 ghost use Rattle.model_slices.specs.HandedModels.{over};
-ghost use Rattle.sheet_results.specs.Results.{results, Roomy, result, with_result, with_row, first_rows};
+ghost use Rattle.sheet_results.specs.Results.{results, Roomy, held_result, with_result, with_row, first_rows};
 ghost use Rattle.sheet_results.specs.Results.{settled_results, settled_rows, most_row_numbers};
 
 use model_types::{Accounted, Key, Model, Shares, Verdict};
@@ -24,8 +24,8 @@ pub fn result(
     radii: &[u64],
 ) -> Model
     requires { Roomy (j + 1) (results keys.now coefficients.now counts.now radii.now) }
-    ensures* { λ r. ⌜ view r ≡ view (result n
-        (results keys.now coefficients.now counts.now radii.now) j) ⌝ }
+    ensures { view result ≡ view (held_result n
+        (results keys.now coefficients.now counts.now radii.now) j) }
 {
     let from = model_types::MOST_TERMS * j;
     let count = counts[j];
@@ -54,9 +54,9 @@ pub fn operand(
     radii: &[u64],
 ) -> Model
     requires { Roomy (j + 1) (results keys.now coefficients.now counts.now radii.now) }
-    ensures* { λ r. ⌜ view r ≡ cond named (view (result n
+    ensures { view result ≡ cond named (view (held_result n
         (results keys.now coefficients.now counts.now radii.now) j))
-        (zero_model n) ⌝ }
+        (zero_model n) }
 {
     if named {
         return result(n, j, keys, coefficients, counts, radii);
@@ -68,7 +68,7 @@ pub fn operand(
 fn put_row(row: Shares, i: usize, rows: &mut [u64])
     requires i_lt_most_steps { i < most_steps }
     requires rows_len { length rows.old ≡ most_row_numbers }
-    ensures* { λ r. ⌜ rows.new ≡ with_row row i rows.old ⌝ }
+    ensures { rows.new ≡ with_row row i rows.old }
 {
     let at = ROW * i;
     rows[at] = row.carried;
@@ -80,8 +80,8 @@ fn put_row(row: Shares, i: usize, rows: &mut [u64])
 // The terms that a model's count names go into two slices.
 fn store_named(m: Model, keys: &mut [Key], coefficients: &mut [i64])
     requires { (most_terms ≤ length keys.old) × (most_terms ≤ length coefficients.old) }
-    ensures* { λ r. ⌜ (keys.new ≡ over (take m.count m.keys) keys.old)
-        × (coefficients.new ≡ over (take m.count m.coefficients) coefficients.old) ⌝ }
+    ensures { (keys.new ≡ over (take m.count m.keys) keys.old)
+        × (coefficients.new ≡ over (take m.count m.coefficients) coefficients.old) }
 {
     let count = model_slices::least(m.count, model_types::MOST_TERMS);
     model_slices::copy_keys(count, &m.keys, keys);
@@ -98,10 +98,10 @@ pub fn put_model(
     radii: &mut [u64],
 )
     requires { Roomy (i + 1) (results keys.old coefficients.old counts.old radii.old) }
-    ensures* radii_after { λ r. ⌜ results keys.new coefficients.new counts.new radii.new
+    ensures radii_after { results keys.new coefficients.new counts.new radii.new
         ≡ with_result m i (results keys.old coefficients.old counts.old
-        radii.old) ⌝ }
-    ensures* whole { λ r. ⌜ (length m.keys ≡ most_terms) × (length m.coefficients ≡ most_terms) ⌝ }
+        radii.old) }
+    ensures whole { (length m.keys ≡ most_terms) × (length m.coefficients ≡ most_terms) }
 {
     let from = model_types::MOST_TERMS * i;
     store_named(m, &mut keys[from..], &mut coefficients[from..]);
@@ -122,11 +122,11 @@ pub fn settled(
     requires i_lt_most_steps { i < most_steps }
     requires roomy { Roomy (most_models + i + 1) (results keys.old coefficients.old counts.old radii.old) }
     requires rows_len { length rows.old ≡ most_row_numbers }
-    ensures* { λ r. ⌜ (r ≡ c.answer.verdict)
+    ensures { (result ≡ c.answer.verdict)
         × (results keys.new coefficients.new counts.new radii.new
         ≡ settled_results c (most_models + i) (results keys.old coefficients.old
         counts.old radii.old))
-        × (rows.new ≡ settled_rows c i rows.old) ⌝ }
+        × (rows.new ≡ settled_rows c i rows.old) }
 {
     let a = c.answer;
     let v = a.verdict;
@@ -144,7 +144,7 @@ pub fn settled(
 // The rows of all places.
 pub fn all_rows(flat: &[u64]) -> [Shares; sheet_book::MOST_STEPS]
     requires { length flat.now ≡ most_row_numbers }
-    ensures* { λ r. ⌜ r ≡ first_rows flat.now most_steps ⌝ }
+    ensures { result ≡ first_rows flat.now most_steps }
 {
     let mut shares = [Shares::ZERO; sheet_book::MOST_STEPS];
     let mut i = 0;

@@ -23,7 +23,7 @@ use Rattle.sheet_book.specs.declared.Book.{Book}
 use Rattle.sheet_book.specs.BookStruct.{no_model, no_step, held_model, held_step, held_book}
 use Rattle.sheet_book.specs.BookStructLaws.{view_held_model}
 use Rattle.sheet_book.specs.FailingLaws.{length_held, held_at, count_models}
-use Rattle.sheet_results.specs.Results.{Results, Roomy, result, with_result}
+use Rattle.sheet_results.specs.Results.{Results, Roomy, held_result, with_result}
 use Rattle.sheet_results.specs.ResultsLaws.{result_here, result_other, roomy_still}
 use Rattle.sheet_run_laws.specs.declared.StepList.{StepList}
 use Rattle.sheet_run_laws.specs.declared.Stop.{Stop}
@@ -61,7 +61,7 @@ module _ {h : HeldBook} {l : StepList} (e : SameSteps h l) where
 -- ---- the models of a book in memory
 -- the first k models stand in flat slices
 abbrev pub LoadedFirst : (h : HeldBook) → (k : ℕ) → Results → Type 0
-LoadedFirst h k m = (a : ℕ) → a < k → view (result h.n m a) ≡ model_of (view_book h) a
+LoadedFirst h k m = (a : ℕ) → a < k → view (held_result h.n m a) ≡ model_of (view_book h) a
 
 module _ (b : Book) (p : HeldPasses (held_book b)) where
   few_models : b.model_count ≤ most_models
@@ -110,7 +110,7 @@ module _ {h : HeldBook} (p : HeldPasses h) {places k : ℕ} {m : Results} (r : R
 
   pub load_more : LoadedFirst h k m → LoadedFirst h (k + 1) (with_result x k m)
   load_more f a t = elim (ℕ_discrete a k) [
-    | yes q ↦ ap (λ a. view (result h.n (with_result x k m) a)) q
+    | yes q ↦ ap (λ a. view (held_result h.n (with_result x k m) a)) q
         ∙ result_here h.n x k r l its_places its_vars its_count ∙ e ∙ ap (model_of (view_book h)) (sym q)
     | no q ↦ ap view (result_other h.n x k r l its_count a q) ∙ f a (omega (arith, t, q))
   ]
@@ -151,10 +151,10 @@ module _ {h : HeldBook} {l : StepList} {t : Stop} {m : Results} {flat : List ℕ
       let q : t.at ≡ length h.steps = omega (arith, s.whole (omega arith) e, count_listed last_begun.same) in
       subst (λ i. Running h i m flat) q last_begun.so_far
 
-  module _ (k : Model) (q : view k ≡ view (result l.n m (most_models + (l.count - 1)))) where
-    is_last : view k ≡ view (result h.n m (most_models + (length h.steps - 1)))
-    is_last = q ∙ ap (λ j. view (result l.n m (most_models + (j - 1)))) (sym (count_listed last_begun.same))
-        ∙ ap (λ n. view (result n m (most_models + (length h.steps - 1)))) (sym last_begun.same.vars)
+  module _ (k : Model) (q : view k ≡ view (held_result l.n m (most_models + (l.count - 1)))) where
+    is_last : view k ≡ view (held_result h.n m (most_models + (length h.steps - 1)))
+    is_last = q ∙ ap (λ j. view (held_result l.n m (most_models + (j - 1)))) (sym (count_listed last_begun.same))
+        ∙ ap (λ n. view (held_result n m (most_models + (length h.steps - 1)))) (sym last_begun.same.vars)
 
     pub last_sound : T (sound most_degree (view k))
     last_sound = final_sound last_begun.passes whole_run k is_last

@@ -20,7 +20,7 @@ use Rattle.model_types.specs.SharesStruct.{stored_shares}
 use Rattle.model.specs.OperationContracts.{Proposal, quotient_products}
 use Rattle.format.specs.HeldBook.{HeldStep, HeldBook, view_book, HeldPasses}
 use Rattle.sheet_book.specs.BookStruct.{no_step, held_step}
-use Rattle.sheet_results.specs.Results.{Results, Roomy, result, row_at, most_row_numbers}
+use Rattle.sheet_results.specs.Results.{Results, Roomy, held_result, row_at, most_row_numbers}
 use Rattle.sheet_run_laws.specs.declared.StepList.{StepList}
 use Rattle.sheet_run_laws.specs.declared.Stop.{Stop}
 use Rattle.sheet_run_laws.specs.LastResult.{last_result}
@@ -42,9 +42,9 @@ pub record SameSteps (h : HeldBook) (l : StepList) : Type 0 where
 
 -- model a of a book stands at place a
 pub record Loaded (h : HeldBook) (m : Results) : Type 0 where
-  pub each : (a : ℕ) → a < length h.models → view (result h.n m a) ≡ model_of (view_book h) a
+  pub each : (a : ℕ) → a < length h.models → view (held_result h.n m a) ≡ model_of (view_book h) a
 
--- a book that passes its tests has these steps, its models stand in the slices, and there is a place for each result
+-- a book that passes its tests has these steps, its models stand in the slices, and there is a place for each held_result
 pub record Prepared (l : StepList) (m : Results) : Type 0 where
   pub held : HeldBook
   pub passes : HeldPasses held
@@ -71,7 +71,7 @@ module _ (h : HeldBook) where
     pub good : All Good models
     pub room : Roomy (most_models + length h.steps) m
     pub loaded : Loaded h m
-    pub stored : (j : ℕ) → j < i → view (result h.n m (most_models + j)) ≡ get_or models j (zero_model h.n)
+    pub stored : (j : ℕ) → j < i → view (held_result h.n m (most_models + j)) ≡ get_or models j (zero_model h.n)
     pub rest : run_steps (view_book h) models (drop i (view_book h).steps)
         ≡ run_steps (view_book h) [] (view_book h).steps
     pub rows : List S.Shares
@@ -79,7 +79,7 @@ module _ (h : HeldBook) where
     pub rows_stored : RowsStored rows flat
     pub rows_rest : rows ++ run_shares (view_book h) models (drop i (view_book h).steps) ≡ rows_sound (view_book h)
 
-  -- the run leads to this result, and its rows are there
+  -- the run leads to this held_result, and its rows are there
   pub record Ended (r : R.Result C.Model) (flat : List ℕ) : Type 0 where
     pub is : r ≡ last_result (view_book h)
     pub rows : List S.Shares
@@ -119,12 +119,12 @@ pub record Proposed (n d a b v w : ℕ) (m : Results) : Type 0 where
   pub second : Roomy (b + 1) m
   pub third : Roomy (v + 1) m
   pub fourth : Roomy (w + 1) m
-  pub proposal : Proposal d (result n m a) (result n m b) (result n m v) (result n m w)
+  pub proposal : Proposal d (held_result n m a) (held_result n m b) (held_result n m v) (held_result n m w)
 
 -- their quotient
 unfoldable pub quotient_at : (n d a b v w : ℕ) → Results → R.Result C.Model
-quotient_at n d a b v w m = at_place 0 (quotient d (view (result n m a)) (view (result n m b)) (view (result n m v))
-    (view (result n m w)))
+quotient_at n d a b v w m = at_place 0 (quotient d (view (held_result n m a)) (view (held_result n m b)) (view (held_result n m v))
+    (view (held_result n m w)))
 
 -- ---- scratch memory
 -- the products that the small table has room for
@@ -135,7 +135,7 @@ few_products = 256
 abbrev pub some_products : ℕ
 some_products = 1024
 
--- how many terms the result of step j has
+-- how many terms the held_result of step j has
 abbrev pub terms_at : (counts : List ℕ) → (j : ℕ) → ℕ
 terms_at counts j = get_or counts (most_models + j) 0
 
@@ -144,7 +144,7 @@ abbrev pub products_at : (counts : List ℕ) → HeldStep → ℕ
 products_at counts s =
     quotient_products (terms_at counts s.b) (terms_at counts s.v) (terms_at counts (nat_abs s.value))
 
--- what a step asks of it: a substitution multiplies the result that b names by models of at most 64 terms
+-- what a step asks of it: a substitution multiplies the held_result that b names by models of at most 64 terms
 pub record Served (s : HeldStep) (counts : List ℕ) (slots keys : List ℕ) (sums : List ℤ) : Type 0 where
   pub product : s.code ≡ multiply_code
       → ScratchRoom (terms_at counts s.a * terms_at counts s.b) slots keys sums

@@ -28,7 +28,7 @@ use Rattle.model.specs.OperationLaws.{fewer_room, copied_proposal, bare_proposal
 -- the scratch memory still serves as long as the slices keep their lengths
 pub use Rattle.model.specs.OperationLaws.{free_room}
 use Rattle.format.specs.HeldBook.{HeldStep, HeldBook}
-use Rattle.sheet_results.specs.Results.{Results, Roomy, result, settled_results, settled_rows, most_row_numbers}
+use Rattle.sheet_results.specs.Results.{Results, Roomy, held_result, settled_results, settled_rows, most_row_numbers}
 use Rattle.sheet_results.specs.ResultsLaws.{roomy_less}
 use Rattle.sheet_steps.specs.Steps.{negate_code, step_answer, step_row, names_second, StepReady}
 use Rattle.sheet_run_laws.specs.declared.StepList.{StepList}
@@ -63,7 +63,7 @@ module _ {n d i : ℕ} {s : HeldStep} {m : Results} {flat : List ℕ} (t : Itera
   pub iteration_small : i < most_steps
   iteration_small = here_small t.passes t.at
 
-  -- that of a step's result
+  -- that of a step's held_result
   result_room : (j : ℕ) → j < length t.held.steps → Roomy (most_models + j + 1) m
   result_room j h = roomy_less t.so_far.room (omega (arith, h))
 
@@ -104,32 +104,32 @@ module _ {n d i : ℕ} {s : HeldStep} {m : Results} {flat : List ℕ} (t : Itera
 
   -- ---- a step that names at most two results
   module _ (f g : Model)
-      (is_first : view f ≡ cond (leb negate_code s.code) (view (result n m (most_models + s.a))) (zero_model n))
-      (is_second : view g ≡ cond (names_second s.code) (view (result n m (most_models + s.b))) (zero_model n))
+      (is_first : view f ≡ cond (leb negate_code s.code) (view (held_result n m (most_models + s.a))) (zero_model n))
+      (is_second : view g ≡ cond (names_second s.code) (view (held_result n m (most_models + s.b))) (zero_model n))
       (z : s.code ≡ input_code → ⊥) (w : s.code ≡ multiply_code → ⊥) (o : s.code ≡ quotient_code → ⊥) where
     here_first : view f
-        ≡ cond (leb negate_code s.code) (view (result t.held.n m (most_models + s.a))) (zero_model t.held.n)
+        ≡ cond (leb negate_code s.code) (view (held_result t.held.n m (most_models + s.a))) (zero_model t.held.n)
     here_first =
         out_of (λ n d. view f
-        ≡ cond (leb negate_code s.code) (view (result n m (most_models + s.a))) (zero_model n)) is_first
+        ≡ cond (leb negate_code s.code) (view (held_result n m (most_models + s.a))) (zero_model n)) is_first
 
     here_second : view g
-        ≡ cond (names_second s.code) (view (result t.held.n m (most_models + s.b))) (zero_model t.held.n)
+        ≡ cond (names_second s.code) (view (held_result t.held.n m (most_models + s.b))) (zero_model t.held.n)
     here_second =
-        out_of (λ n d. view g ≡ cond (names_second s.code) (view (result n m (most_models + s.b))) (zero_model n))
+        out_of (λ n d. view g ≡ cond (names_second s.code) (view (held_result n m (most_models + s.b))) (zero_model n))
         is_second
 
     pub other_ready : StepReady n d s f g
     other_ready = into (λ n d. StepReady n d s f g)
         (step_ready t.passes t.at t.so_far f g here_first here_second z w o)
 
-    -- what a substitution puts in has the count of the result that b names
+    -- what a substitution puts in has the count of the held_result that b names
     inner_count : s.code ≡ substitute_code → get_or m.counts (most_models + s.b) 0 ≡ g.count
-    unfolding names_second result handed
+    unfolding names_second held_result handed
     inner_count e =
-        sym (length_view (result n m (most_models + s.b)))
+        sym (length_view (held_result n m (most_models + s.b)))
         ∙ ap (λ (c : C.Model). length c.terms)
-        (sym (is_second ∙ ap (λ c. cond (names_second c) (view (result n m (most_models + s.b))) (zero_model n)) e))
+        (sym (is_second ∙ ap (λ c. cond (names_second c) (view (held_result n m (most_models + s.b))) (zero_model n)) e))
         ∙ length_view g
 
     -- so that the scratch memory serves it
@@ -150,41 +150,41 @@ module _ {n d i : ℕ} {s : HeldStep} {m : Results} {flat : List ℕ} (t : Itera
 
   -- ---- a product
   module _ (e : s.code ≡ multiply_code) where
-    pub iteration_factors : Factors d (result n m (most_models + s.a)) (result n m (most_models + s.b))
-    iteration_factors = into (λ n d. Factors d (result n m (most_models + s.a)) (result n m (most_models + s.b)))
+    pub iteration_factors : Factors d (held_result n m (most_models + s.a)) (held_result n m (most_models + s.b))
+    iteration_factors = into (λ n d. Factors d (held_result n m (most_models + s.a)) (held_result n m (most_models + s.b)))
         (factors t.passes t.at t.so_far e)
 
     pub product_iterated : {r : Accounted} {v : Verdict} {m' : Results} {flat' : List ℕ}
-        → r ≡ accounted (multiply d (view (result n m (most_models + s.a))) (view (result n m (most_models + s.b))))
-        (λ k. product_shares d (view (result n m (most_models + s.a))) (view (result n m (most_models + s.b))))
+        → r ≡ accounted (multiply d (view (held_result n m (most_models + s.a))) (view (held_result n m (most_models + s.b))))
+        (λ k. product_shares d (view (held_result n m (most_models + s.a))) (view (held_result n m (most_models + s.b))))
         → v ≡ r.answer.verdict → m' ≡ settled_results r (most_models + i) m → flat' ≡ settled_rows r i flat
         → Iterated t.held i v m' flat'
     product_iterated {r = r} q = step_iterated t.passes t.at t.so_far
         (by_product t.passes t.at t.so_far e
-        (out_of (λ n d. r ≡ accounted (multiply d (view (result n m (most_models + s.a))) (view (result n m
+        (out_of (λ n d. r ≡ accounted (multiply d (view (held_result n m (most_models + s.a))) (view (held_result n m
         (most_models + s.b))))
-        (λ k. product_shares d (view (result n m (most_models + s.a))) (view (result n m (most_models + s.b))))) q))
+        (λ k. product_shares d (view (held_result n m (most_models + s.a))) (view (held_result n m (most_models + s.b))))) q))
 
   -- ---- a quotient
-  module _ (f g k w : Model) (e : s.code ≡ quotient_code) (is_first : view f ≡ view (result n m (most_models + s.a)))
-      (is_second : view g ≡ view (result n m (most_models + s.b))) (is_third : view k ≡ view (result n m (most_models +
+  module _ (f g k w : Model) (e : s.code ≡ quotient_code) (is_first : view f ≡ view (held_result n m (most_models + s.a)))
+      (is_second : view g ≡ view (held_result n m (most_models + s.b))) (is_third : view k ≡ view (held_result n m (most_models +
       s.v)))
-      (is_fourth : view w ≡ view (result n m (most_models + nat_abs s.value))) where
+      (is_fourth : view w ≡ view (held_result n m (most_models + nat_abs s.value))) where
     pub iteration_proposal : Proposal d f g k w
     iteration_proposal = into (λ n d. Proposal d f g k w)
         (proposal t.passes t.at t.so_far f g k w e
-        (out_of (λ n d. view f ≡ view (result n m (most_models + s.a))) is_first)
-        (out_of (λ n d. view g ≡ view (result n m (most_models + s.b))) is_second)
-        (out_of (λ n d. view k ≡ view (result n m (most_models + s.v))) is_third)
-        (out_of (λ n d. view w ≡ view (result n m (most_models + nat_abs s.value))) is_fourth))
+        (out_of (λ n d. view f ≡ view (held_result n m (most_models + s.a))) is_first)
+        (out_of (λ n d. view g ≡ view (held_result n m (most_models + s.b))) is_second)
+        (out_of (λ n d. view k ≡ view (held_result n m (most_models + s.v))) is_third)
+        (out_of (λ n d. view w ≡ view (held_result n m (most_models + nat_abs s.value))) is_fourth))
 
     module _ {q : Answer} (is_quotient : q ≡ answer (at_place 0 (quotient d (view f) (view g) (view k) (view w)))) where
       divided : q ≡ answer (at_place 0 (given t.passes t.at t.so_far))
       divided = by_quotient t.passes t.at t.so_far f g k w e
-          (out_of (λ n d. view f ≡ view (result n m (most_models + s.a))) is_first)
-          (out_of (λ n d. view g ≡ view (result n m (most_models + s.b))) is_second)
-          (out_of (λ n d. view k ≡ view (result n m (most_models + s.v))) is_third)
-          (out_of (λ n d. view w ≡ view (result n m (most_models + nat_abs s.value))) is_fourth)
+          (out_of (λ n d. view f ≡ view (held_result n m (most_models + s.a))) is_first)
+          (out_of (λ n d. view g ≡ view (held_result n m (most_models + s.b))) is_second)
+          (out_of (λ n d. view k ≡ view (held_result n m (most_models + s.v))) is_third)
+          (out_of (λ n d. view w ≡ view (held_result n m (most_models + nat_abs s.value))) is_fourth)
           (out_of (λ n d. q ≡ answer (at_place 0 (quotient d (view f) (view g) (view k) (view w)))) is_quotient)
 
       pub iteration_bounded : q.model.radius ≤ span_limit
@@ -200,16 +200,16 @@ module _ {n d i : ℕ} {s : HeldStep} {m : Results} {flat : List ℕ} (t : Itera
   -- of the results themselves, the last by its number
   module _ (e : s.code ≡ quotient_code) (l : ℕ) (o : l ≡ nat_abs s.value) where
     abbrev first_at : Model
-    first_at = result n m (most_models + s.a)
+    first_at = held_result n m (most_models + s.a)
 
     abbrev second_at : Model
-    second_at = result n m (most_models + s.b)
+    second_at = held_result n m (most_models + s.b)
 
     abbrev third_at : Model
-    third_at = result n m (most_models + s.v)
+    third_at = held_result n m (most_models + s.v)
 
     abbrev fourth_at : Model
-    fourth_at = result n m (most_models + nat_abs s.value)
+    fourth_at = held_result n m (most_models + nat_abs s.value)
 
     pub iteration_proposed : Proposed n d (most_models + s.a) (most_models + s.b) (most_models + s.v)
         (most_models + l) m
@@ -218,7 +218,7 @@ module _ {n d i : ℕ} {s : HeldStep} {m : Results} {flat : List ℕ} (t : Itera
       second = iteration_second;
       third = iteration_third e;
       fourth = subst (λ j. Roomy (most_models + j + 1) m) (sym o) (iteration_fourth e);
-      proposal = subst (λ j. Proposal d first_at second_at third_at (result n m (most_models + j))) (sym o)
+      proposal = subst (λ j. Proposal d first_at second_at third_at (held_result n m (most_models + j))) (sym o)
           (iteration_proposal first_at second_at third_at fourth_at e refl refl refl refl);
     }
 
@@ -227,7 +227,7 @@ module _ {n d i : ℕ} {s : HeldStep} {m : Results} {flat : List ℕ} (t : Itera
       here : q ≡ answer (at_place 0 (quotient d (view first_at) (view second_at) (view third_at) (view fourth_at)))
       unfolding quotient_at
       here = h ∙ ap (λ j. answer (at_place 0 (quotient d (view first_at) (view second_at) (view third_at)
-          (view (result n m (most_models + j)))))) o
+          (view (held_result n m (most_models + j)))))) o
 
       pub quotient_within : q.model.radius ≤ span_limit
       quotient_within = iteration_bounded first_at second_at third_at fourth_at e refl refl refl refl here
@@ -239,9 +239,9 @@ module _ {n d i : ℕ} {s : HeldStep} {m : Results} {flat : List ℕ} (t : Itera
       quotient_settled = quotient_iterated first_at second_at third_at fourth_at e refl refl refl refl here
 
   -- ---- an input
-  module _ (k : Model) (e : s.code ≡ input_code) (is_model : view k ≡ view (result n m s.a)) where
-    here_model : view k ≡ view (result t.held.n m s.a)
-    here_model = out_of (λ n d. view k ≡ view (result n m s.a)) is_model
+  module _ (k : Model) (e : s.code ≡ input_code) (is_model : view k ≡ view (held_result n m s.a)) where
+    here_model : view k ≡ view (held_result t.held.n m s.a)
+    here_model = out_of (λ n d. view k ≡ view (held_result n m s.a)) is_model
 
     pub iteration_input : T (sound most_degree (view k))
     iteration_input = input_sound t.passes t.at t.so_far k e here_model
@@ -267,22 +267,22 @@ pub products_few : (a b : ℕ) → a ≤ most_terms → b ≤ most_terms → a *
 unfolding most_terms
 products_few a b p q = mul-le-mul p q
 
--- ---- the parts of the slices that a result begins
+-- ---- the parts of the slices that a held_result begins
 -- all of them
 part_all : {A : Type 0} (a : ℕ) (xs : List A) → take (length xs - a) (drop a xs) ≡ drop a xs
 part_all a xs = take_all (length xs - a) (drop a xs) (omega (arith, length-drop a xs))
 
--- the model in them is the result
+-- the model in them is the held_result
 pub result_part : (n : ℕ) (m : Results) (j : ℕ)
     → handed n (get_or m.counts j 0) (get_or m.radii j 0)
     (take (length m.keys - most_terms * j) (drop (most_terms * j) m.keys))
     (take (length m.coefficients - most_terms * j) (drop (most_terms * j) m.coefficients))
-    ≡ result n m j
-unfolding result
+    ≡ held_result n m j
+unfolding held_result
 result_part n m j = ap₂ (handed n (get_or m.counts j 0) (get_or m.radii j 0)) (part_all (most_terms * j) m.keys)
     (part_all (most_terms * j) m.coefficients)
 
-pub factors_part : (n : ℕ) {d : ℕ} (m : Results) (a b : ℕ) → Factors d (result n m a) (result n m b)
+pub factors_part : (n : ℕ) {d : ℕ} (m : Results) (a b : ℕ) → Factors d (held_result n m a) (held_result n m b)
     → Factors d
     (handed n (get_or m.counts a 0) (get_or m.radii a 0)
     (take (length m.keys - most_terms * a) (drop (most_terms * a) m.keys))
@@ -325,21 +325,21 @@ part_of k radius m j = handed k (get_or m.counts j 0) radius
     (take (length m.coefficients - most_terms * j) (drop (most_terms * j) m.coefficients))
 
 module _ {n d a b v w : ℕ} {m : Results} (p : Proposed n d a b v w m) (f : Model)
-    (e : view f ≡ view (result n m a)) where
+    (e : view f ≡ view (held_result n m a)) where
   copied_vars : f.n ≡ n
-  unfolding view result handed
+  unfolding view held_result handed
   copied_vars = ap (λ (c : C.Model). c.vars) e
 
   abbrev radius_at : ℕ → ℕ
   radius_at j = get_or m.radii j 0
 
-  in_parts : Proposal d (result n m a) (part_of n (radius_at b) m b) (part_of n (radius_at v) m v)
+  in_parts : Proposal d (held_result n m a) (part_of n (radius_at b) m b) (part_of n (radius_at v) m v)
       (part_of n (radius_at w) m w)
   in_parts =
-      subst (λ x. Proposal d (result n m a) x (part_of n (radius_at v) m v) (part_of n (radius_at w) m w))
+      subst (λ x. Proposal d (held_result n m a) x (part_of n (radius_at v) m v) (part_of n (radius_at w) m w))
       (sym (result_part n m b))
-      (subst (λ x. Proposal d (result n m a) (result n m b) x (part_of n (radius_at w) m w)) (sym (result_part n m v))
-      (subst (λ x. Proposal d (result n m a) (result n m b) (result n m v) x) (sym (result_part n m w))
+      (subst (λ x. Proposal d (held_result n m a) (held_result n m b) x (part_of n (radius_at w) m w)) (sym (result_part n m v))
+      (subst (λ x. Proposal d (held_result n m a) (held_result n m b) (held_result n m v) x) (sym (result_part n m w))
       p.proposal))
 
   -- they make up a proposal
@@ -358,9 +358,9 @@ module _ {n d a b v w : ℕ} {m : Results} (p : Proposed n d a b v w m) (f : Mod
       ∙ (λ i. answer (at_place 0 (quotient d (e i) (view (part_of (copied_vars i) (radius_at b) m b))
       (view (part_of (copied_vars i) 0 m v)) (view (part_of (copied_vars i) 0 m w)))))
       ∙ ap (λ x. answer (at_place 0 x))
-      (bare_quotient d n _ (radius_at v) _ _ _ (radius_at w) _ _ (view (result n m a))
+      (bare_quotient d n _ (radius_at v) _ _ _ (radius_at w) _ _ (view (held_result n m a))
       (view (part_of n (radius_at b) m b)))
-      ∙ (λ i. answer (at_place 0 (quotient d (view (result n m a)) (view (result_part n m b i))
+      ∙ (λ i. answer (at_place 0 (quotient d (view (held_result n m a)) (view (result_part n m b i))
       (view (result_part n m v i)) (view (result_part n m w i)))))
 
 -- ---- where a part of a run stopped

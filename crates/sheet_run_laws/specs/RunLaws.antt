@@ -54,7 +54,7 @@ use Rattle.format.specs.HeldBook.{held_step_sound, HeldPasses}
 use Rattle.format.specs.HeldBookLaws.{InLimits, in_limits, steps_pass, view_at, view_passes}
 use Rattle.format.specs.Fields.{limit_a, limit_b, names_variable, v_sound, earlier, value_sound}
 use Rattle.format.specs.StepFieldLaws.{Fields, fields_of}
-use Rattle.sheet_results.specs.Results.{Results, Roomy, result, row_at, with_result, with_row, first_rows}
+use Rattle.sheet_results.specs.Results.{Results, Roomy, held_result, row_at, with_result, with_row, first_rows}
 use Rattle.sheet_results.specs.Results.{settled_results, settled_rows}
 use Rattle.sheet_results.specs.ResultsLaws.{result_here, result_other, roomy_still}
 use Rattle.sheet_results.specs.ResultsLaws.{settled_put, settled_row, settled_kept, settled_row_kept}
@@ -325,7 +325,7 @@ module _ {h : HeldBook} (p : HeldPasses h) where
 
     -- ---- after the results so far
     module _ {m : Results} {flat : List ℕ} (l : Running h i m flat) where
-      -- a result as the book's steps see it
+      -- a held_result as the book's steps see it
       abbrev so_far : ℕ → C.Model
       so_far = result_of book l.models
 
@@ -335,7 +335,7 @@ module _ {h : HeldBook} (p : HeldPasses h) where
           l.good a
 
       -- and as the slices hold it
-      seen : (a : ℕ) → a < i → view (result h.n m (most_models + a)) ≡ so_far a
+      seen : (a : ℕ) → a < i → view (held_result h.n m (most_models + a)) ≡ so_far a
       unfolding result_of view_book
       seen a s = l.stored a s
 
@@ -359,13 +359,13 @@ module _ {h : HeldBook} (p : HeldPasses h) where
       -- ---- a step that names at most two results
       -- one that is named, or the zero model
       operand_good : (t : Bool) (k : Model) (a : ℕ)
-          → view k ≡ cond t (view (result h.n m (most_models + a))) (zero_model h.n) → (T t → a < i) → Good h
+          → view k ≡ cond t (view (held_result h.n m (most_models + a))) (zero_model h.n) → (T t → a < i) → Good h
           (view k)
       operand_good true k a e q = subst (Good h) (sym (e ∙ seen a (q tt))) (so_far_good a)
       operand_good false k a e q = subst (Good h) (sym e) (zero_sound h.n h.d)
 
       operand_is : (t : Bool) (k : Model) (a : ℕ)
-          → view k ≡ cond t (view (result h.n m (most_models + a))) (zero_model h.n) → (T t → a < i) → T t
+          → view k ≡ cond t (view (held_result h.n m (most_models + a))) (zero_model h.n) → (T t → a < i) → T t
           → view k ≡ so_far a
       operand_is true k a e q u = e ∙ seen a (q tt)
       operand_is false k a e q u = absurd u
@@ -378,9 +378,9 @@ module _ {h : HeldBook} (p : HeldPasses h) where
       code_small = leb→le s.code last_code fields.in_code
 
       module _ (f g : Model)
-          (is_first : view f ≡ cond (leb negate_code s.code) (view (result h.n m (most_models + s.a)))
+          (is_first : view f ≡ cond (leb negate_code s.code) (view (held_result h.n m (most_models + s.a)))
           (zero_model h.n))
-          (is_second : view g ≡ cond (names_second s.code) (view (result h.n m (most_models + s.b))) (zero_model
+          (is_second : view g ≡ cond (names_second s.code) (view (held_result h.n m (most_models + s.b))) (zero_model
           h.n)) where
         first_good : Good h (view f)
         first_good = operand_good (leb negate_code s.code) f s.a is_first first_earlier
@@ -423,7 +423,7 @@ module _ {h : HeldBook} (p : HeldPasses h) where
             ∙ row_is book so_far s step_at k stands o)
 
       -- ---- an input
-      module _ (k : Model) (e : s.code ≡ input_code) (is_model : view k ≡ view (result h.n m s.a)) where
+      module _ (k : Model) (e : s.code ≡ input_code) (is_model : view k ≡ view (held_result h.n m s.a)) where
         input_seen : view k ≡ model_of book s.a
         input_seen = is_model ∙ l.loaded.each s.a (model_place e)
 
@@ -446,19 +446,19 @@ module _ {h : HeldBook} (p : HeldPasses h) where
         unfolding names_second
         second_factor = by_second 6 e tt
 
-        pub factors : Factors h.d (result h.n m (most_models + s.a)) (result h.n m (most_models + s.b))
-        unfolding result handed
+        pub factors : Factors h.d (held_result h.n m (most_models + s.a)) (held_result h.n m (most_models + s.b))
+        unfolding held_result handed
         factors = record {
           order = order;
-          first = seen_sound (result h.n m (most_models + s.a)) (seen s.a first_factor) (so_far_good s.a);
-          second = seen_sound (result h.n m (most_models + s.b)) (seen s.b second_factor) (so_far_good s.b);
+          first = seen_sound (held_result h.n m (most_models + s.a)) (seen s.a first_factor) (so_far_good s.a);
+          second = seen_sound (held_result h.n m (most_models + s.b)) (seen s.b second_factor) (so_far_good s.b);
           vars = refl;
         }
 
         pub by_product : {r : Accounted}
-            → r ≡ accounted (multiply h.d (view (result h.n m (most_models + s.a))) (view (result h.n m
+            → r ≡ accounted (multiply h.d (view (held_result h.n m (most_models + s.a))) (view (held_result h.n m
             (most_models + s.b))))
-            (λ k. product_shares h.d (view (result h.n m (most_models + s.a))) (view (result h.n m
+            (λ k. product_shares h.d (view (held_result h.n m (most_models + s.a))) (view (held_result h.n m
             (most_models + s.b))))
             → r ≡ accounted given row
         unfolding view_book
@@ -469,10 +469,10 @@ module _ {h : HeldBook} (p : HeldPasses h) where
 
       -- ---- a quotient
       module _ (f g k w : Model) (e : s.code ≡ quotient_code)
-          (is_first : view f ≡ view (result h.n m (most_models + s.a)))
-          (is_second : view g ≡ view (result h.n m (most_models + s.b))) (is_third : view k ≡ view (result h.n m
+          (is_first : view f ≡ view (held_result h.n m (most_models + s.a)))
+          (is_second : view g ≡ view (held_result h.n m (most_models + s.b))) (is_third : view k ≡ view (held_result h.n m
           (most_models + s.v)))
-          (is_fourth : view w ≡ view (result h.n m (most_models + nat_abs s.value))) where
+          (is_fourth : view w ≡ view (held_result h.n m (most_models + nat_abs s.value))) where
         dividend : view f ≡ so_far s.a
         dividend = is_first ∙ seen s.a (by_first 9 e tt)
 
@@ -520,7 +520,7 @@ module _ {h : HeldBook} (p : HeldPasses h) where
           → x ≡ accounted given row
       quotient_carried e q k = k given q ∙ ap (accounted given) (quotient_row book so_far s step_at stands e)
 
-      -- ---- the steps that are left, after its result
+      -- ---- the steps that are left, after its held_result
       abbrev after : C.Model → R.Result (List C.Model)
       after k = run_steps book (l.models ++ (k ∷ [])) (drop (i + 1) book.steps)
 
@@ -529,7 +529,7 @@ module _ {h : HeldBook} (p : HeldPasses h) where
       iteration = sym l.rest ∙ ap (run_steps book l.models) next
           ∙ ap (λ j. at_place j given followed_by after) l.count
 
-      -- the rows that are left, after its result
+      -- the rows that are left, after its held_result
       abbrev rows_after : C.Model → List S.Shares
       rows_after k = row k ∷ run_shares book (l.models ++ (k ∷ [])) (drop (i + 1) book.steps)
 
@@ -578,7 +578,7 @@ module _ {h : HeldBook} (p : HeldPasses h) where
                 ∙ l.loaded.each a t;
           };
           stored = λ j t. elim (ℕ_discrete j i) [
-            | yes o ↦ ap (λ j. view (result h.n (with_result k (most_models + i) m) (most_models + j))) o
+            | yes o ↦ ap (λ j. view (held_result h.n (with_result k (most_models + i) m) (most_models + j))) o
                 ∙ result_here h.n k (most_models + i) l.room place long (held_vars q.holds) few
                 ∙ held_view vars order q.holds
                 ∙ sym (getD_last l.models q.model (zero_model h.n) j (l.count ∙ sym o))
@@ -635,8 +635,8 @@ module _ {h : HeldBook} (p : HeldPasses h) where
 
   -- ---- after the last step
   module _ {m : Results} {flat : List ℕ} (l : Running h (length h.steps) m flat) (k : Model)
-      (is_last : view k ≡ view (result h.n m (most_models + (length h.steps - 1)))) where
-    -- the last result
+      (is_last : view k ≡ view (held_result h.n m (most_models + (length h.steps - 1)))) where
+    -- the last held_result
     abbrev final : C.Model
     final = last (zero_model h.n) l.models
 

@@ -6,7 +6,7 @@ ghost use Rattle.model_types.specs.ModelStruct.{view, answer};
 ghost use Rattle.model_types.specs.SharesStruct.{accounted};
 ghost use Rattle.model.specs.OperationContracts.{Factors, ScratchRoom, quotient_products};
 ghost use Rattle.sheet_book.specs.BookStruct.{held_step};
-ghost use Rattle.sheet_results.specs.Results.{results, Roomy, result};
+ghost use Rattle.sheet_results.specs.Results.{results, Roomy, held_result};
 ghost use Rattle.sheet_run_laws.specs.Run.{Iteration, Iterated, Served, Proposed, quotient_at};
 ghost use Rattle.sheet_run_laws.specs.Run.{multiply_code, quotient_code};
 
@@ -29,19 +29,19 @@ fn product(
 ) -> Accounted
     requires roomy { Roomy (a + 1) (results keys.now coefficients.now counts.now radii.now)
         × Roomy (b + 1) (results keys.now coefficients.now counts.now radii.now) }
-    requires factors { Factors d (result n (results keys.now coefficients.now counts.now radii.now) a)
-        (result n (results keys.now coefficients.now counts.now radii.now) b) }
+    requires factors { Factors d (held_result n (results keys.now coefficients.now counts.now radii.now) a)
+        (held_result n (results keys.now coefficients.now counts.now radii.now) b) }
     requires scratch_room { ScratchRoom (get_or counts.now a 0 * get_or counts.now b 0) slots.old places.old sums.old }
-    ensures* { λ r. ⌜ r ≡ accounted (multiply d
-        (view (result n (results keys.now coefficients.now counts.now
+    ensures { result ≡ accounted (multiply d
+        (view (held_result n (results keys.now coefficients.now counts.now
         radii.now) a))
-        (view (result n (results keys.now coefficients.now counts.now
+        (view (held_result n (results keys.now coefficients.now counts.now
         radii.now) b)))
         (λ k. product_shares d
-        (view (result n (results keys.now coefficients.now counts.now
+        (view (held_result n (results keys.now coefficients.now counts.now
         radii.now) a))
-        (view (result n (results keys.now coefficients.now counts.now
-        radii.now) b))) ⌝ }
+        (view (held_result n (results keys.now coefficients.now counts.now
+        radii.now) b))) }
 {
     let from1 = model_types::MOST_TERMS * a;
     let from2 = model_types::MOST_TERMS * b;
@@ -85,11 +85,11 @@ fn product_step(
         rows.old }
     requires served { Served (held_step s) counts.old slots.old places.old sums.old }
     requires s_value { (held_step s).code ≡ multiply_code }
-    ensures* { λ r. ⌜ ((t : Iteration n d i (held_step s)
+    ensures { ((t : Iteration n d i (held_step s)
         (results keys.old coefficients.old counts.old radii.old)
-        rows.old) → Iterated t.held i r
+        rows.old) → Iterated t.held i result
         (results keys.new coefficients.new counts.new radii.new)
-        rows.new) ⌝ }
+        rows.new) }
 {
     let a = sheet_book::MOST_MODELS + s.a as usize;
     let b = sheet_book::MOST_MODELS + s.b as usize;
@@ -128,8 +128,8 @@ fn quotient(
     requires proposed { Proposed n d a b v last (results keys.now coefficients.now counts.now radii.now) }
     requires scratch_room { ScratchRoom (quotient_products (get_or counts.now b 0) (get_or counts.now v 0)
         (get_or counts.now last 0)) slots.old places.old sums.old }
-    ensures* { λ r. ⌜ r ≡ answer (quotient_at n d a b v last (results keys.now
-        coefficients.now counts.now radii.now)) ⌝ }
+    ensures { result ≡ answer (quotient_at n d a b v last (results keys.now
+        coefficients.now counts.now radii.now)) }
 {
     let fromf = model_types::MOST_TERMS * a;
     let fromg = model_types::MOST_TERMS * b;
@@ -183,11 +183,11 @@ fn quotient_step(
         rows.old }
     requires served { Served (held_step s) counts.old slots.old places.old sums.old }
     requires s_value { (held_step s).code ≡ quotient_code }
-    ensures* { λ r. ⌜ ((t : Iteration n d i (held_step s)
+    ensures { ((t : Iteration n d i (held_step s)
         (results keys.old coefficients.old counts.old radii.old)
-        rows.old) → Iterated t.held i r
+        rows.old) → Iterated t.held i result
         (results keys.new coefficients.new counts.new radii.new)
-        rows.new) ⌝ }
+        rows.new) }
 {
     let a = sheet_book::MOST_MODELS + s.a as usize;
     let b = sheet_book::MOST_MODELS + s.b as usize;
@@ -231,11 +231,11 @@ pub fn step(
     requires iteration { Iteration n d i (held_step s) (results keys.old coefficients.old counts.old radii.old)
         rows.old }
     requires served { Served (held_step s) counts.old slots.old places.old sums.old }
-    ensures* { λ r. ⌜ ((t : Iteration n d i (held_step s)
+    ensures { ((t : Iteration n d i (held_step s)
         (results keys.old coefficients.old counts.old radii.old)
-        rows.old) → Iterated t.held i r
+        rows.old) → Iterated t.held i result
         (results keys.new coefficients.new counts.new radii.new)
-        rows.new) ⌝ }
+        rows.new) }
 {
     let code = s.code;
     if code == sheet_run_laws::INPUT {

@@ -12,7 +12,7 @@ use Rattle.model_types.specs.declared.Shares.{Shares}
 use Rattle.model_types.specs.ModelStruct.{view, pack, answer}
 use Rattle.model_types.specs.SharesStruct.{stored_shares}
 use Rattle.format.specs.HeldBook.{HeldBook, view_book}
-use Rattle.sheet_results.specs.Results.{Results, result, first_rows}
+use Rattle.sheet_results.specs.Results.{Results, held_result, first_rows}
 use Rattle.sheet_step_answers.specs.Answers.{accepted_answer}
 use Rattle.sheet_run_laws.specs.declared.StepList.{StepList}
 use Rattle.sheet_run_laws.specs.declared.Stop.{Stop}
@@ -32,7 +32,7 @@ ended_ran e p q = ap₂ (λ a s. record { answer = a; shares = s }) (p ∙ ap an
 -- the end of a run that was not refused
 pub last_ran : {h : HeldBook} {l : StepList} {t : Stop} {m : Results} {flat : List ℕ}
     (s : Stopped h l most_entries t m flat) (e : t.verdict ≡ Accepted)
-    (k : Model) (q : view k ≡ view (result l.n m (most_models + (l.count - 1)))) {a : Answer} {shares : List Shares}
+    (k : Model) (q : view k ≡ view (held_result l.n m (most_models + (l.count - 1)))) {a : Answer} {shares : List Shares}
     → a ≡ accepted_answer (pack (view k)) → shares ≡ first_rows flat most_steps
     → ◌≡◌ {A = Ran} (record { answer = a; shares = shares }) (ran (view_book h))
 unfolding answer
