@@ -1,11 +1,11 @@
--- `operand` takes the result that is named, or the zero model.
+-- `operand` takes the held_result that is named, or the zero model.
 use mathlib.Core.Path.{◌≡◌, refl, sym, ◌∙◌, ap}
 use mathlib.Core.Bool.{cond}
 use borrow.Author.Rules.{rules}
 use Rattle.calculus.specs.Model as C
 use Rattle.calculus.specs.Model.{zero_model}
 use Rattle.model_types.specs.ModelStruct.{view}
-use Rattle.sheet_results.specs.Results.{results, result}
+use Rattle.sheet_results.specs.Results.{results, held_result}
 use Rattle.sheet_results.specs.ResultsLaws.{zero_view}
 use Rattle.sheet_results.proofs.operand.Statement.{statement}
 use Rattle.sheet_results.proofs.operand.Tie as tie
@@ -13,7 +13,7 @@ use Rattle.sheet_results.proofs.operand.Tie as tie
 -- what is at the place
 abbrev there : tie.Start → C.Model
 there s =
-    view (result s.args.n
+    view (held_result s.args.n
     (results s.args.keys.now s.args.coefficients.now s.args.counts.now s.args.radii.now)
     s.args.j)
 

@@ -8,7 +8,7 @@ use Rattle.calculus.specs.Model.{zero_model}
 use Rattle.model_types.specs.declared.Model.{Model}
 use Rattle.model_types.specs.ModelStruct.{view}
 use Rattle.sheet_book.specs.BookStruct.{held_step}
-use Rattle.sheet_results.specs.Results.{Results, results, result}
+use Rattle.sheet_results.specs.Results.{Results, results, held_result}
 use Rattle.sheet_steps.specs.Steps.{negate_code, names_second}
 use Rattle.sheet_run_laws.specs.RunIterationLaws.{iteration_small, iteration_first, iteration_second, iteration_room}
 use Rattle.sheet_run_laws.specs.RunIterationLaws.{iteration_rows}
@@ -58,18 +58,18 @@ module _ (c : tie.After-operand2) where
   second = c.operand2.result
 
   is_first : view first
-      ≡ cond (leb negate_code start.args.s.code) (view (result start.args.n memory
+      ≡ cond (leb negate_code start.args.s.code) (view (held_result start.args.n memory
       (most_models + start.args.s.a)))
       (zero_model start.args.n)
   unfolding most_models
   is_first = c.before.before.before.before.before.operand.ensures
 
   is_second : view second
-      ≡ cond (names_second start.args.s.code) (view (result start.args.n memory (most_models + start.args.s.b)))
+      ≡ cond (names_second start.args.s.code) (view (held_result start.args.n memory (most_models + start.args.s.b)))
       (zero_model start.args.n)
   unfolding most_models
   is_second = c.operand2.ensures
-      ∙ ap (λ b. cond b (view (result start.args.n memory (most_models + start.args.s.b))) (zero_model start.args.n))
+      ∙ ap (λ b. cond b (view (held_result start.args.n memory (most_models + start.args.s.b))) (zero_model start.args.n))
       c.before.before.before.before.before.before.before.before.before.before.names_second.ensures
 
 step-answer-requires : tie.Need-step-answer-requires
