@@ -1,6 +1,6 @@
 -- The sums in a grid in the order in which they are looked at: their keys rise, and each is at its place.
 use Rattle.std.specs.Prelude.{◌≡◌, Bool, true, false, not, List, [], ◌∷◌, ◌++◌, ℕ, zero, suc, ◌+◌, ◌-◌, ◌*◌, ◌^◌, ◌<◌, ◌≤◌, T, ℤ, pos, get_or}
-use Rattle.std.proofs.Common.{ap, arith, lt→ltb}
+use Rattle.std.proofs.Common.{refl, ap, arith, lt→ltb}
 use Rattle.std.proofs.Math.Decide.{ℕ_discrete}
 use Rattle.algebra.specs.Lexicographic.{same, less}
 use Rattle.algebra.specs.LexicographicLaws.{same_refl}
@@ -41,11 +41,14 @@ rises_in_turn key part (suc n) f =
     rises_append (key n) (key (suc n)) (key 0) (in_turn part n) (part n)
     (rises_in_turn key part n (λ i h. f i (omega arith))) (f n (omega arith))
 
-rising_after : (end k : ℕ) (p : Terms) → Rises end (k + 1) p → T (rising_from (k ∷ []) p)
+rising_on : (end k l : ℕ) (p : Terms) → l ≡ k + 1 → Rises end l p → T (rising_from (k ∷ []) p)
 unfolding rising_from
-rising_after end k _ (none l g) = tt
-rising_after end k _ (more l x z p g r) =
-    both (less (k ∷ []) (x ∷ [])) _ (rw (less_key k x) (lt→ltb k x (omega arith))) (rising_after end x p r)
+rising_on end k _ _ e (none l g) = tt
+rising_on end k _ _ e (more l x z p g r) =
+    both (less (k ∷ []) (x ∷ [])) _ (rw (less_key k x) (lt→ltb k x (omega (arith, e)))) (rising_on end x (x + 1) p refl r)
+
+rising_after : (end k : ℕ) (p : Terms) → Rises end (k + 1) p → T (rising_from (k ∷ []) p)
+rising_after end k p r = rising_on end k (k + 1) p refl r
 
 pub rises_rising : (end least : ℕ) (p : Terms) → Rises end least p → T (rising p)
 unfolding rising
