@@ -1,12 +1,8 @@
 use Rattle.model_types.specs.ModelStruct.{cause}
 use Rattle.model_types.specs.ModelStructLaws.{refusal_cause}
 use Rattle.model_readings.specs.ReadingStruct.{finding, contradiction}
-use Rattle.model_readings.proofs.refused_at.Statement.{statement}
-use Rattle.model_readings.proofs.refused_at.Tie as tie
+use Rattle.model_readings.proofs.refused_at.Goals as goal
 
-returns : tie.Need-returns
+pub returns : goal.returns
 unfolding finding contradiction
 returns c = rw (refusal_cause c.args.refusal)
-
-pub refused_at_spec : {M : Type 1} → statement M
-refused_at_spec = tie.close (tie.spec returns)
