@@ -8,7 +8,7 @@ use Rattle.calculus_laws.specs.BookLaws.{sound_ran}
 use Rattle.format.specs.Format.{read, run_sheet}
 use Rattle.format.specs.HeldBook.{HeldBook, view_book}
 use Rattle.format.specs.HeldBookLaws.{held_tested_done}
-use Rattle.format.specs.WriteBackLaws.{came}
+use Rattle.format.proofs.WriteBackLaws.{came}
 use Rattle.sheet.specs.Sheet.{run_held}
 use Rattle.sheet_book.specs.SummaryStruct.{stored_exact, refused_summary, run_answer}
 use Rattle.c_calls.specs.CallCodesLaws.{exact_small}

@@ -14,14 +14,3 @@ pub mod ChebyshevEdges
 -- What is proved of them.
 pub mod RingIntegersLaws
 pub mod RecurrenceLaws
-pub mod CoefficientsLaws
-pub mod PowerRowsLaws
-pub mod RowLengthLaws
-pub mod TablesLaws
-pub mod CurveValueLaws
-pub mod CurveEnclosureLaws
-pub mod ConversionLaws
-pub mod CurveSoundLaws
-pub mod CurveMirrorLaws
-pub mod CurveClaimProof
-pub mod CurveClaimFacts

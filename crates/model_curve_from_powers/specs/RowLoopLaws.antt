@@ -19,7 +19,7 @@ use Rattle.calculus_laws.specs.SoundLaws.{sound_parts}
 use Rattle.calculus.specs.Refusal.{stopped, bad_model, not_one_variable, at_place, require_at}
 use Rattle.chebyshev.specs.Coefficients.{Row, size, add_at}
 use Rattle.chebyshev.specs.PowerRows.{places, zeros, combine}
-use Rattle.chebyshev.specs.RowLengthLaws.{from_powers_length}
+use Rattle.chebyshev.proofs.RowLengthLaws.{from_powers_length}
 use Rattle.chebyshev.specs.Tables.{power_table, power_scale}
 use Rattle.chebyshev.specs.CurveOperations.{row_of, rounded, residuals, swept, limited_curve, from_powers, in_chebyshev}
 use Rattle.chebyshev.specs.CurveCalls.{call_from_powers}

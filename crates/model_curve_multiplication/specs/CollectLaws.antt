@@ -15,8 +15,8 @@ use Rattle.chebyshev.specs.Recurrence.{apart}
 use Rattle.chebyshev.specs.Coefficients.{Row, size, add_at, products_of, products_from}
 use Rattle.chebyshev.specs.Curve as C
 use Rattle.chebyshev.specs.Curve.{sound, span}
-use Rattle.chebyshev.specs.RowLengthLaws.{add_at_length}
-use Rattle.chebyshev.specs.CurveSoundLaws.{sound_span}
+use Rattle.chebyshev.proofs.RowLengthLaws.{add_at_length}
+use Rattle.chebyshev.proofs.CurveSoundLaws.{sound_span}
 use Rattle.chebyshev.specs.CurveOperations.{products, carried, variation, rounded, multiply, multiplied, limited_curve}
 use Rattle.model_curve_range.specs.CurveRangeLaws.{size_drop, drop_le, all_parts, sizes_small}
 

@@ -8,7 +8,7 @@ use Rattle.chebyshev.specs.Coefficients.{Row, size}
 use Rattle.chebyshev.specs.Curve as C
 use Rattle.chebyshev.specs.Curve.{sound, span}
 use Rattle.chebyshev.specs.CurveOperations.{variation, constant_part, range}
-use Rattle.chebyshev.specs.CurveSoundLaws.{sound_span}
+use Rattle.chebyshev.proofs.CurveSoundLaws.{sound_span}
 use Rattle.chebyshev.specs.CurveCalls.{call_range}
 use Rattle.model_types.specs.ModelStruct.{bounds}
 

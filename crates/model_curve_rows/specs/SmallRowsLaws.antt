@@ -10,7 +10,7 @@ use Rattle.algebra.specs.Integer.{natAbs_add, nat_abs_mul}
 use Rattle.calculus_laws.specs.TestLaws.{and_left, and_right}
 use Rattle.chebyshev.specs.Coefficients.{Row, sum, scale, size}
 use Rattle.chebyshev.specs.PowerRows.{places, zeros, combine}
-use Rattle.chebyshev.specs.RowLengthLaws.{sum_length, scale_length}
+use Rattle.chebyshev.proofs.RowLengthLaws.{sum_length, scale_length}
 use Rattle.chebyshev.specs.Tables.{chebyshev_table, power_table}
 use Rattle.model_curve_rows.specs.SmallRows.{each_small, rows_small}
 

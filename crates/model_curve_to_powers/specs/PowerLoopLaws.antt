@@ -20,7 +20,7 @@ use Rattle.numbers.specs.Fixed.{span_limit}
 use Rattle.calculus.specs.Model as M
 use Rattle.calculus.specs.Refusal.{stopped, over_span, bad_model, at_place, require, require_at}
 use Rattle.chebyshev.specs.PowerRows.{places}
-use Rattle.chebyshev.specs.RowLengthLaws.{into_powers_length}
+use Rattle.chebyshev.proofs.RowLengthLaws.{into_powers_length}
 use Rattle.chebyshev.specs.Tables.{chebyshev_table}
 use Rattle.chebyshev.specs.Curve.{sound}
 use Rattle.chebyshev.specs.CurveOperations.{terms_from, in_powers, to_powers}

@@ -26,7 +26,7 @@ use Rattle.format.specs.HeldBook.{HeldPasses}
 use Rattle.format.specs.HeldBookLaws.{StandsFor, stands_for}
 use Rattle.format.specs.Format.{head_length, term_length, step_length, trailer_length, model_bytes, models_bytes}
 use Rattle.format.specs.Format.{sheet_bytes}
-use Rattle.format.specs.ReadBackLaws.{length_model, sheet_length}
+use Rattle.format.proofs.ReadBackLaws.{length_model, sheet_length}
 use Rattle.renaming.specs.Reordering.{Reordering, inverse, rename_variable, rename_terms, held_term}
 use Rattle.renaming.specs.Reordering.{names_variable, rename_held_model, rename_field, rename_held_step}
 use Rattle.renaming.specs.Reordering.{rename_held}

@@ -31,7 +31,7 @@ use Rattle.format.specs.HeldBook.{HeldModel, HeldStep, HeldBook, view_held_term,
 use Rattle.format.specs.HeldBook.{view_step, view_steps, view_book, outline, outline_of, held_model_sound}
 use Rattle.format.specs.HeldBook.{held_step_sound, HeldPasses}
 use Rattle.format.specs.HeldBookLaws.{StandsFor, stands_for, view_more, view_passes}
-use Rattle.format.specs.ReadBackLaws.{limits}
+use Rattle.format.proofs.ReadBackLaws.{limits}
 use Rattle.renaming.specs.Reordering.{Reordering, rename_terms, rename_model, rename_step, rename_book, held_term}
 use Rattle.renaming.specs.Reordering.{names_variable, rename_held_model, rename_field, rename_held_step}
 use Rattle.renaming.specs.Reordering.{rename_held}

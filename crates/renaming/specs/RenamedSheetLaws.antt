@@ -7,9 +7,9 @@ use Rattle.calculus.specs.Shares.{shares_rows}
 use Rattle.format.specs.HeldBook.{HeldBook, view_book}
 use Rattle.format.specs.Format.{read, sheet_bytes, run_sheet, sheet_rows}
 use Rattle.format.specs.HeldBookLaws.{view_passes}
-use Rattle.format.specs.ReadBackLaws.{read_back}
-use Rattle.format.specs.WriteBackLaws.{read_passes}
-use Rattle.format.specs.SheetRowLaws.{sheet_rows_are}
+use Rattle.format.proofs.ReadBackLaws.{read_back}
+use Rattle.format.proofs.WriteBackLaws.{read_passes}
+use Rattle.format.proofs.SheetRowLaws.{sheet_rows_are}
 use Rattle.renaming.specs.Reordering.{Reordering, rename_result, rename_book, rename_held}
 use Rattle.renaming.specs.RenamedHeldLaws.{held_renamed_passes, view_book_renamed}
 use Rattle.renaming.specs.RenamedRunLaws.{run_sound_renamed}

@@ -5,8 +5,8 @@ use Rattle.algebra.proofs.RationalOrder.{ℚO}
 use Rattle.polynomial.proofs.BoxLaws.{box_length}
 use Rattle.calculus_laws.specs.SoundLaws.{sound_parts}
 use Rattle.format.specs.Format.{sheet_bytes}
-use Rattle.format.specs.WriteBackLaws.{read_passes, read_sheet}
-use Rattle.format.specs.WrittenBytesLaws.{sheet_all}
+use Rattle.format.proofs.WriteBackLaws.{read_passes, read_sheet}
+use Rattle.format.proofs.WrittenBytesLaws.{sheet_all}
 use Rattle.renaming.specs.RenamingClaim.{EveryModelRenames, EveryBookRenames, EveryHeldRenames}
 use Rattle.renaming.specs.RenamingClaim.{EverySheetRenames}
 use Rattle.renaming.specs.RenamedValueLaws.{box_renamed, value_renamed}

@@ -28,14 +28,14 @@ use Rattle.calculus_laws.specs.EachLaws.{nil}
 use Rattle.calculus_laws.specs.TestLaws.{and_left, and_right}
 use Rattle.calculus_laws.specs.RefusalLaws.{IfAccepted, holds}
 use Rattle.claim.specs.Claim.{Claim}
-use Rattle.claim.specs.ClaimFacts.{one_step, radius_refutes, negated, passing_refuted}
+use Rattle.claim.proofs.ClaimFacts.{one_step, radius_refutes, negated, passing_refuted}
 use Rattle.model_types.specs.Arrays.{first_places, padded}
 use Rattle.model_types.specs.ModelStruct.{view_term, view, pack_term, pack, refusal, cause, verdict_number}
 use Rattle.model_types.specs.ModelStruct.{verdict_place}
 use Rattle.model_types.specs.ModelStructLaws.{view_pack, view_pack_sound}
 use Rattle.format.specs.HeldBook.{HeldBook, view_book, HeldPasses}
 use Rattle.format.specs.HeldBookLaws.{InLimits, view_passes}
-use Rattle.format.specs.WriteBackLaws.{read_passes}
+use Rattle.format.proofs.WriteBackLaws.{read_passes}
 use Rattle.format.specs.Format.{read, run_sheet}
 use Rattle.format.specs.Computing.{reads}
 use Rattle.format.specs.Samples.{hex, sheet_forms}

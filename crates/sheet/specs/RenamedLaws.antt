@@ -12,7 +12,7 @@ use Rattle.model_types.specs.SharesStruct.{stored_shares}
 use Rattle.format.specs.HeldBook.{HeldBook, view_book, HeldPasses}
 use Rattle.format.specs.HeldBookLaws.{held_tested_passes}
 use Rattle.format.specs.Format.{read, sheet_bytes, run_sheet, sheet_rows}
-use Rattle.format.specs.ReadBackLaws.{read_back}
+use Rattle.format.proofs.ReadBackLaws.{read_back}
 use Rattle.renaming.specs.Reordering.{Reordering, rename_summary, rename_result, rename_held}
 use Rattle.renaming.specs.RenamedHeldLaws.{held_renamed_passes}
 use Rattle.renaming.specs.RenamedSheetLaws.{run_read, renamed_sheet, renamed_sheet_rows}

@@ -12,7 +12,7 @@ use Rattle.calculus.specs.Book.{most_steps, run_steps, last, summary, model_soun
 use Rattle.calculus.specs.Shares.{Shares, no_shares, all_rows, rows_sound, reported}
 use Rattle.calculus_laws.specs.BookSoundLaws.{result_sound}
 use Rattle.claim.specs.Claim.{Claim}
-use Rattle.claim.specs.ClaimProof.{claim_sound}
+use Rattle.claim.proofs.ClaimProof.{claim_sound}
 use Rattle.model_types.specs.declared.Model.{Model}
 use Rattle.model_types.specs.declared.Refusal.{Refusal}
 use Rattle.model_types.specs.declared.Verdict.TheVariants.{Accepted, Refused}
@@ -23,9 +23,9 @@ use Rattle.model_types.specs.ModelStructLaws.{view_pack_sound, refusal_cause}
 use Rattle.format.specs.HeldBook.{HeldBook, view_book, HeldPasses}
 use Rattle.format.specs.HeldBookLaws.{HeldDone, held_tested_done, view_passes}
 use Rattle.format.specs.Format.{read, run_sheet, sheet_rows}
-use Rattle.format.specs.WriteBackLaws.{Came, came, read_passes}
+use Rattle.format.proofs.WriteBackLaws.{Came, came, read_passes}
 use Rattle.format.specs.SheetClaim.{SheetClaim}
-use Rattle.format.specs.SheetClaimProof.{sheet_claim}
+use Rattle.format.proofs.SheetClaimProof.{sheet_claim}
 use Rattle.sheet_book.specs.declared.Book.{Book}
 use Rattle.sheet_book.specs.BookStruct.{held_book, book_verdict}
 use Rattle.sheet_book.specs.TestedLaws.{verdict_hands_on, verdict_refused}

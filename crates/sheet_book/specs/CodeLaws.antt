@@ -9,7 +9,7 @@ use Rattle.model_types.specs.declared.Model.{Model}
 use Rattle.model_types.specs.ModelStruct.{view}
 use Rattle.format.specs.HeldBook.{HeldStep, outline, held_model_sound, held_step_sound}
 use Rattle.format.specs.Fields.{fields_sound}
-use Rattle.format.specs.StepFieldLaws.{step_by_fields}
+use Rattle.format.proofs.StepFieldLaws.{step_by_fields}
 use Rattle.sheet_book.specs.BookStruct.{held_model}
 use Rattle.sheet_book.specs.BookStructLaws.{view_held_model}
 

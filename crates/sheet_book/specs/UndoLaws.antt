@@ -18,9 +18,9 @@ use Rattle.format.specs.Bytes.{AllBytes}
 use Rattle.format.specs.HeldBook.{HeldBook, outline_of, held_model_sound, HeldPasses}
 use Rattle.format.specs.Format.{read, write, sheet_bytes}
 use Rattle.format.specs.HeldBookLaws.{InLimits, in_limits}
-use Rattle.format.specs.SmallLaws.{model_facts}
-use Rattle.format.specs.ReadBackLaws.{read_back, written_reads_back}
-use Rattle.format.specs.WriteBackLaws.{read_writes_back}
+use Rattle.format.proofs.SmallLaws.{model_facts}
+use Rattle.format.proofs.ReadBackLaws.{read_back, written_reads_back}
+use Rattle.format.proofs.WriteBackLaws.{read_writes_back}
 use Rattle.sheet_book.specs.declared.Book.{Book}
 use Rattle.sheet_book.specs.BookStruct.{no_model, no_step, held_term, held_model, held_step, held_book}
 use Rattle.sheet_book.specs.BookStruct.{book_verdict}

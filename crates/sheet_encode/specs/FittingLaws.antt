@@ -8,7 +8,7 @@ use Rattle.model_types.specs.declared.Term.{Term}
 use Rattle.model_types.specs.declared.Model.{Model}
 use Rattle.model_types.specs.ModelStruct.{zero_term, listed}
 use Rattle.format.specs.Format.{head_length, term_length, model_bytes}
-use Rattle.format.specs.ReadBackLaws.{length_model}
+use Rattle.format.proofs.ReadBackLaws.{length_model}
 use Rattle.sheet_book.specs.BookStruct.{held_term, held_model}
 use Rattle.sheet_book.specs.FailingLaws.{length_held, held_at}
 use Rattle.sheet_encode.specs.Fitting.{ModelFits}

@@ -15,8 +15,8 @@ use Rattle.format.specs.HeldBook.{HeldTerm, HeldModel, view_held_term, outline_o
 use Rattle.format.specs.HeldBook.{held_model_sound, held_step_sound, HeldPasses}
 use Rattle.format.specs.Format.{model_bytes, models_bytes}
 use Rattle.format.specs.HeldBookLaws.{InLimits}
-use Rattle.format.specs.SmallLaws.{ModelFacts, model_facts, StepFacts, step_facts}
-use Rattle.format.specs.ReadBackLaws.{limits, outline_small}
+use Rattle.format.proofs.SmallLaws.{ModelFacts, model_facts, StepFacts, step_facts}
+use Rattle.format.proofs.ReadBackLaws.{limits, outline_small}
 use Rattle.sheet_book.specs.declared.Step.{Step}
 use Rattle.sheet_book.specs.declared.Book.{Book}
 use Rattle.sheet_book.specs.BookStruct.{no_model, no_step, held_model, held_step, held_book}

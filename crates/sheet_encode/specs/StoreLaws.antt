@@ -7,7 +7,7 @@ use Rattle.std.proofs.lemmas.List.Edits.{sets}
 use Rattle.format.specs.Bytes.{join, u32_bytes, bits}
 use Rattle.format.specs.HeldBook.{HeldTerm, HeldModel, HeldStep}
 use Rattle.format.specs.Format.{key_length, key_bytes, term_bytes, model_bytes, step_bytes}
-use Rattle.format.specs.KeyBytesLaws.{length_key}
+use Rattle.format.proofs.KeyBytesLaws.{length_key}
 use Rattle.format.specs.WriteLoopLaws.{sets_more}
 
 module _ (buffer : List ℕ) (at : ℕ) where

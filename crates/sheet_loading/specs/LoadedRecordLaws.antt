@@ -17,7 +17,7 @@ use Rattle.model_types.specs.ArrayLaws.{first_padded}
 use Rattle.model_types.specs.ModelStruct.{verdict, refusal}
 use Rattle.format.specs.HeldBook.{HeldStep, HeldBook, view_book}
 use Rattle.format.specs.Format.{trailer_sound, read_steps, read_records}
-use Rattle.format.specs.WriteBackLaws.{length_read_steps}
+use Rattle.format.proofs.WriteBackLaws.{length_read_steps}
 use Rattle.sheet_book.specs.declared.Step.{Step}
 use Rattle.sheet_book.specs.BookStruct.{no_step, held_step, stored_step}
 use Rattle.sheet_book.specs.BookStructLaws.{held_stored_step}

@@ -14,10 +14,10 @@ use Rattle.calculus.specs.Refusal.{Refusal, Result, done, stopped, ◌followed_b
 use Rattle.format.specs.Bytes.{AllBytes, join}
 use Rattle.format.specs.HeldBook.{HeldBook}
 use Rattle.format.specs.Format.{trailer_of, read, records, opened, returned_records, handed_out}
-use Rattle.format.specs.RecordLaws.{book_records, records_are, records_joined, records_count}
-use Rattle.format.specs.PlaceLaws.{record_place, next_place, last_place, trailer_eight, here, model_size, step_size}
-use Rattle.format.specs.PlaceLaws.{trailer_vars}
-use Rattle.format.specs.PlaceLaws.{model_before, step_after}
+use Rattle.format.proofs.RecordLaws.{book_records, records_are, records_joined, records_count}
+use Rattle.format.proofs.PlaceLaws.{record_place, next_place, last_place, trailer_eight, here, model_size, step_size}
+use Rattle.format.proofs.PlaceLaws.{trailer_vars}
+use Rattle.format.proofs.PlaceLaws.{model_before, step_after}
 use Rattle.sheet_record_places.specs.Places.{first_step, vars_of, record_size, length_at, next_at, bytes_at, kind_at}
 use Rattle.sheet_record_places.specs.PlacesLaws.{size_step, size_some, kind_none, kind_model, kind_step}
 use Rattle.sheet_book.specs.declared.Kind.TheVariants.{Model, Step, End}

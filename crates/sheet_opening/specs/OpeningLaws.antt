@@ -15,8 +15,8 @@ use Rattle.format.specs.HeldBook.{HeldBook}
 use Rattle.format.specs.Format as F
 use Rattle.format.specs.Format.{shortest, trailer_length, model_length, trailer_of, read_trailer, read}
 use Rattle.format.specs.Format.{model_records, step_records, records, opened, returned_records}
-use Rattle.format.specs.ReadBackLaws.{sheet_shortest}
-use Rattle.format.specs.WriteBackLaws.{read_passes, read_sheet}
+use Rattle.format.proofs.ReadBackLaws.{sheet_shortest}
+use Rattle.format.proofs.WriteBackLaws.{read_passes, read_sheet}
 use Rattle.sheet_book.specs.BookStruct.{verdict}
 use Rattle.sheet_book.specs.TestedLaws.{accepted_done, refused_stopped}
 use Rattle.sheet_decode.specs.declared.Trailer.{Trailer}

@@ -6,7 +6,7 @@ use Rattle.calculus.specs.Book.{most_models, most_steps}
 use Rattle.model_types.specs.declared.Verdict.TheVariants.{Accepted}
 use Rattle.model_types.specs.Arrays.{padded}
 use Rattle.format.specs.Format.{trailer_sound, read_steps, read_records}
-use Rattle.format.specs.WriteBackLaws.{length_read_steps}
+use Rattle.format.proofs.WriteBackLaws.{length_read_steps}
 use Rattle.sheet_book.specs.BookStruct.{no_model, no_step, stored_model, stored_step, stored_book, read_answer}
 use Rattle.sheet_decode.specs.declared.Trailer.{Trailer}
 use Rattle.sheet_decode.specs.Trailer.{held_trailer}

@@ -14,7 +14,7 @@ use Rattle.model_types.specs.SharesStruct.{stored_shares}
 use Rattle.format.specs.HeldBook.{HeldBook, view_book}
 use Rattle.format.specs.Format.{read, read_records}
 use Rattle.format.specs.HeldBookLaws.{in_limits}
-use Rattle.format.specs.WriteBackLaws.{read_passes}
+use Rattle.format.proofs.WriteBackLaws.{read_passes}
 use Rattle.sheet_book.specs.TestedLaws.{IsDone, accepted_done, refused_stopped}
 use Rattle.sheet_decode.specs.declared.Trailer.{Trailer}
 use Rattle.sheet_decode.specs.Trailer.{held_trailer}

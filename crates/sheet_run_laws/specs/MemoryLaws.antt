@@ -18,7 +18,7 @@ use Rattle.model_types.specs.ModelStructLaws.{limits}
 use Rattle.model_types.specs.PairedLaws.{length_paired}
 use Rattle.format.specs.HeldBook.{HeldBook, view_model, view_book, HeldPasses}
 use Rattle.format.specs.HeldBookLaws.{view_passes}
-use Rattle.format.specs.PlaceLaws.{get_d_any}
+use Rattle.format.proofs.PlaceLaws.{get_d_any}
 use Rattle.sheet_book.specs.declared.Book.{Book}
 use Rattle.sheet_book.specs.BookStruct.{no_model, no_step, held_model, held_step, held_book}
 use Rattle.sheet_book.specs.BookStructLaws.{view_held_model}

@@ -48,12 +48,12 @@ use Rattle.model_types.specs.ModelStructLaws.{cause_refusal, vars_within, listed
 use Rattle.model_slices.specs.HandedModels.{handed}
 use Rattle.model.specs.OperationContracts.{Factors, Proposal}
 use Rattle.model.specs.OperationLaws.{sound_order, Holds, held_vars, held_view, held_sound, Got, got}
-use Rattle.format.specs.SmallLaws.{under_cond}
+use Rattle.format.proofs.SmallLaws.{under_cond}
 use Rattle.format.specs.HeldBook.{HeldStep, HeldBook, view_model, view_step, view_book, outline, outline_of}
 use Rattle.format.specs.HeldBook.{held_step_sound, HeldPasses}
 use Rattle.format.specs.HeldBookLaws.{InLimits, in_limits, steps_pass, view_at, view_passes}
 use Rattle.format.specs.Fields.{limit_a, limit_b, names_variable, v_sound, earlier, value_sound}
-use Rattle.format.specs.StepFieldLaws.{Fields, fields_of}
+use Rattle.format.proofs.StepFieldLaws.{Fields, fields_of}
 use Rattle.sheet_results.specs.Results.{Results, Roomy, held_result, row_at, with_result, with_row, first_rows}
 use Rattle.sheet_results.specs.Results.{settled_results, settled_rows}
 use Rattle.sheet_results.specs.ResultsLaws.{result_here, result_other, roomy_still}

@@ -14,7 +14,7 @@ use Rattle.format.specs.HeldBook.{HeldModel, HeldStep, HeldBook, view_model, out
 use Rattle.format.specs.HeldBook.{held_step_sound}
 use Rattle.format.specs.Format.{trailer_sound, read_model, model_length, read_models, read_steps, read_records}
 use Rattle.format.specs.Fields.{fields_sound}
-use Rattle.format.specs.WriteBackLaws.{length_read_steps}
+use Rattle.format.proofs.WriteBackLaws.{length_read_steps}
 use Rattle.sheet_book.specs.CodeLaws.{step_by_code}
 use Rattle.sheet_book.specs.FailingLaws.{failing_stops, failing_none}
 use Rattle.sheet_decode.specs.declared.Trailer.{Trailer}

@@ -6,7 +6,7 @@ use Rattle.format.specs.HeldBook.{HeldStep}
 use Rattle.format.specs.Format.{read_step, read_steps}
 use Rattle.format.specs.Fields.{fields_sound}
 use Rattle.format.specs.ReadLoopLaws.{read_step_at}
-use Rattle.format.specs.WriteBackLaws.{length_read_steps}
+use Rattle.format.proofs.WriteBackLaws.{length_read_steps}
 use Rattle.sheet_book.specs.declared.Step.{Step}
 use Rattle.sheet_book.specs.BookStruct.{held_step, stored_step}
 use Rattle.sheet_book.specs.BookStructLaws.{held_stored_step}

@@ -18,7 +18,7 @@ use Rattle.format.specs.Bytes.{byte, u32}
 use Rattle.format.specs.HeldBook.{HeldTerm, HeldModel, view_model}
 use Rattle.format.specs.Format.{term_length, read_term, read_terms, read_model, model_length}
 use Rattle.format.specs.ReadLoopLaws.{byte_at, read_term_at}
-use Rattle.format.specs.WriteBackLaws.{length_read_terms}
+use Rattle.format.proofs.WriteBackLaws.{length_read_terms}
 use Rattle.sheet_book.specs.BookStruct.{stored_term, stored_model}
 use Rattle.sheet_book.specs.BookStructLaws.{held_stored_model, view_held_model}
 use Rattle.sheet_walk.specs.Walk.{held_keys, held_coefficients}

@@ -6,7 +6,7 @@ use Rattle.std.proofs.lemmas.List.Edits.{sets}
 use Rattle.format.specs.Bytes.{join}
 use Rattle.format.specs.HeldBook.{HeldBook}
 use Rattle.format.specs.Format.{step_length, step_bytes, models_bytes, trailer_bytes, sheet_bytes}
-use Rattle.format.specs.ReadBackLaws.{length_steps}
+use Rattle.format.proofs.ReadBackLaws.{length_steps}
 use Rattle.format.specs.WriteLoopLaws.{sets_more, sets_front}
 
 -- the whole sheet: models, steps and the trailer

@@ -19,7 +19,7 @@ use Rattle.format.specs.HeldBook.{HeldBook, HeldPasses}
 use Rattle.format.specs.Format.{step_length, trailer_length}
 use Rattle.format.specs.Format.{step_bytes, models_bytes, trailer_bytes, sheet_bytes, write, written}
 use Rattle.format.specs.HeldBookLaws.{held_tested_passes}
-use Rattle.format.specs.ReadBackLaws.{sheet_length}
+use Rattle.format.proofs.ReadBackLaws.{sheet_length}
 use Rattle.sheet_book.specs.declared.Book.{Book}
 use Rattle.sheet_book.specs.declared.Written.{Written}
 use Rattle.sheet_book.specs.BookStruct.{held_book, book_verdict, write_answer}

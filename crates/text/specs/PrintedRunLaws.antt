@@ -15,7 +15,7 @@ use Rattle.format.specs.HeldBook.{HeldBook, view_book, outline, outline_of, Held
 use Rattle.format.specs.Format.{shortest, longest, read, run_sheet}
 use Rattle.format.specs.Lines.{lines, printed}
 use Rattle.format.specs.HeldBookLaws.{in_limits, view_passes}
-use Rattle.format.specs.WriteBackLaws.{Came, came, read_passes}
+use Rattle.format.proofs.WriteBackLaws.{Came, came, read_passes}
 
 -- ---- a sheet that is too long
 long_refused : (s : List ℕ) → longest < length s → run_sheet s ≡ stopped bad_length 0

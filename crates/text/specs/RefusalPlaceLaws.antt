@@ -13,7 +13,7 @@ use Rattle.format.specs.HeldBook.{HeldModel, view_book, held_step_sound, outline
 use Rattle.format.specs.Format.{read_model, read_models, Trailer, read_trailer, trailer_of, read_steps}
 use Rattle.format.specs.Format.{trailer_sound, read_records, read, run_sheet}
 use Rattle.format.specs.HeldBookLaws.{in_limits, view_passes}
-use Rattle.format.specs.WriteBackLaws.{length_read_steps, read_passes}
+use Rattle.format.proofs.WriteBackLaws.{length_read_steps, read_passes}
 
 -- a result that is done, or is refused at a place up to b
 pub data Near {A : Type 0} (b : ℕ) : Result A → Type 0 where

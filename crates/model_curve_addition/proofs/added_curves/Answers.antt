@@ -10,7 +10,7 @@ use mir.Syntax.{w64}
 use mir.Val.{to_z, of_z}
 use Rattle.fixed.specs.MachineLaws.{answered}
 use Rattle.chebyshev.specs.Coefficients.{sum}
-use Rattle.chebyshev.specs.RowLengthLaws.{sum_length}
+use Rattle.chebyshev.proofs.RowLengthLaws.{sum_length}
 use Rattle.chebyshev.specs.CurveOperations.{added}
 use Rattle.model_curve_addition.specs.CurveLoopLaws.{Copied, copied_first, copied_length, copied_iteration}
 use Rattle.model_curve_addition.specs.CurveLoopLaws.{copied_end}

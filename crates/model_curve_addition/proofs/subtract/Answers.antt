@@ -7,7 +7,7 @@ use lib.Dec.{T}
 use Rattle.calculus.specs.Refusal.{at_place}
 use Rattle.chebyshev.specs.Curve.{sound}
 use Rattle.chebyshev.specs.CurveOperations.{limited_curve, negate, added}
-use Rattle.chebyshev.specs.CurveSoundLaws.{negate_sound}
+use Rattle.chebyshev.proofs.CurveSoundLaws.{negate_sound}
 use Rattle.model_types.specs.ModelStruct.{cause}
 use Rattle.model_types.specs.CurveStruct.{view_curve, curve_answer}
 use Rattle.model_curve_addition.specs.CurveAnswerLaws.{minuend_unsound, subtrahend_unsound, subtracted}

@@ -11,7 +11,7 @@ use mir.Syntax.{w64}
 use mir.Val.{to_z, of_z}
 use Rattle.chebyshev.specs.Coefficients.{Row, size}
 use Rattle.chebyshev.specs.PowerRows.{places, zeros, combine}
-use Rattle.chebyshev.specs.RowLengthLaws.{from_powers_length}
+use Rattle.chebyshev.proofs.RowLengthLaws.{from_powers_length}
 use Rattle.chebyshev.specs.Tables.{power_table}
 use Rattle.model_types.specs.Arrays.{padded}
 use Rattle.model_curve_rows.specs.SmallRows.{rows_small}

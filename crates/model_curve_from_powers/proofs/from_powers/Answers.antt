@@ -13,7 +13,7 @@ use Rattle.calculus.specs.Model as M
 use Rattle.calculus.specs.Refusal.{at_place}
 use Rattle.chebyshev.specs.Coefficients.{Row, size}
 use Rattle.chebyshev.specs.PowerRows.{places, combine}
-use Rattle.chebyshev.specs.RowLengthLaws.{from_powers_length}
+use Rattle.chebyshev.proofs.RowLengthLaws.{from_powers_length}
 use Rattle.chebyshev.specs.Tables.{power_table, power_scale}
 use Rattle.chebyshev.specs.Curve as C
 use Rattle.chebyshev.specs.CurveOperations.{limited_curve, rounded, row_of}

@@ -13,7 +13,7 @@ use Rattle.calculus.specs.Key.{key, key_width}
 use Rattle.calculus.specs.Model.{most_terms}
 use Rattle.chebyshev.specs.Coefficients.{Row, size}
 use Rattle.chebyshev.specs.PowerRows.{places, combine}
-use Rattle.chebyshev.specs.RowLengthLaws.{into_powers_length}
+use Rattle.chebyshev.proofs.RowLengthLaws.{into_powers_length}
 use Rattle.chebyshev.specs.Tables.{chebyshev_table}
 use Rattle.model_types.specs.Arrays.{padded}
 use Rattle.model_types.specs.declared.Model.{Model}

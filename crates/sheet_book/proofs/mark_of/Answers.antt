@@ -1,6 +1,6 @@
 -- `mark_of` by the number of variables.
 use mathlib.Core.Path.{sym}
-use Rattle.format.specs.KeyBytesLaws.{mark_short, mark_long}
+use Rattle.format.proofs.KeyBytesLaws.{mark_short, mark_long}
 use Rattle.sheet_book.proofs.mark_of.Goals as goal
 
 pub returns-then-n-le-MOST_SHORT : goal.returns-then-n-le-MOST_SHORT

@@ -1,6 +1,6 @@
 -- `term_bytes` by the number of variables.
 use mathlib.Core.Path.{sym}
-use Rattle.format.specs.KeyBytesLaws.{term_length_short, term_length_long}
+use Rattle.format.proofs.KeyBytesLaws.{term_length_short, term_length_long}
 use Rattle.sheet_book.proofs.term_bytes.Goals as goal
 
 pub returns-then-n-le-MOST_SHORT : goal.returns-then-n-le-MOST_SHORT

@@ -6,7 +6,7 @@ use lib.ListN.{length}
 use lib.Seq.{drop-drop}
 use Rattle.fixed.specs.MachineLaws.{answered}
 use Rattle.format.specs.Bytes.{u32, signed}
-use Rattle.format.specs.KeyBytesLaws.{term_length_short, term_length_long, read_term_short, read_term_long}
+use Rattle.format.proofs.KeyBytesLaws.{term_length_short, term_length_long, read_term_short, read_term_long}
 use Rattle.sheet_book.specs.BookStruct.{stored_term}
 use borrow.Author.Rules.{rules}
 use Rattle.sheet_decode.proofs.term_at.Goals as goal

@@ -8,7 +8,7 @@ use lib.ListN.{length, length-map}
 use Rattle.model_types.specs.declared.Model.{Model}
 use Rattle.model_types.specs.ModelStruct.{of_terms}
 use Rattle.format.specs.Format.{model_bytes}
-use Rattle.format.specs.ReadBackLaws.{models_short}
+use Rattle.format.proofs.ReadBackLaws.{models_short}
 use Rattle.sheet_book.specs.BookStruct.{held_model, held_book}
 use Rattle.sheet_book.specs.FailingLaws.{count_models}
 use Rattle.sheet_encode.specs.RecordLoopLaws.{front, front_none, front_all, length_more, length_front}

@@ -2,7 +2,7 @@
 use mathlib.Core.Path.{◌≡◌, ◌∙◌, ap}
 use native.Mathlib.Omega.{arith}
 use lib.Seq.{sets}
-use Rattle.format.specs.KeyBytesLaws.{key_length_short, key_length_long, key_bytes_short, key_bytes_long}
+use Rattle.format.proofs.KeyBytesLaws.{key_length_short, key_length_long, key_bytes_short, key_bytes_long}
 use borrow.Author.Rules.{rules}
 use Rattle.sheet_encode.proofs.put_key.Goals as goal
 

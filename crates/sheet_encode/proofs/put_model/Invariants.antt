@@ -18,7 +18,7 @@ use Rattle.model_types.specs.PairedLaws.{length_paired, key_at}
 use Rattle.model_types.specs.PairedLaws as P
 use Rattle.format.specs.Bytes.{join}
 use Rattle.format.specs.Format.{head_length, term_length, term_bytes}
-use Rattle.format.specs.ReadBackLaws.{length_term, length_terms}
+use Rattle.format.proofs.ReadBackLaws.{length_term, length_terms}
 use Rattle.sheet_book.specs.BookStruct.{held_term, held_model}
 use Rattle.sheet_encode.specs.RecordLoopLaws.{Put, put_first, put_length, put_room, put_iteration, put_end}
 use Rattle.sheet_encode.specs.StoreLaws.{model_stores}

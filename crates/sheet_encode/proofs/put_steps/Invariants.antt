@@ -7,7 +7,7 @@ use borrow.Author.Rules.{rules}
 use lib.ListN.{length, get_or, length-map}
 use Rattle.format.specs.Bytes.{join}
 use Rattle.format.specs.Format.{step_length, step_bytes}
-use Rattle.format.specs.ReadBackLaws.{length_step, length_steps}
+use Rattle.format.proofs.ReadBackLaws.{length_step, length_steps}
 use Rattle.sheet_book.specs.declared.Step.{Step}
 use Rattle.sheet_book.specs.declared.Book.{Book}
 use Rattle.sheet_book.specs.BookStruct.{no_step, held_step, held_book}

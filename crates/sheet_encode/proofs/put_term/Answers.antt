@@ -5,7 +5,7 @@ use native.Mathlib.Omega.{arith}
 use lib.Seq.{sets}
 use mir.Facts.{to_z-of_z}
 use Rattle.format.specs.Bytes.{u32_bytes, bits}
-use Rattle.format.specs.KeyBytesLaws.{term_parts, term_least}
+use Rattle.format.proofs.KeyBytesLaws.{term_parts, term_least}
 use Rattle.sheet_encode.specs.StoreLaws.{term_stores}
 use borrow.Author.Rules.{rules}
 use Rattle.sheet_encode.proofs.put_term.Goals as goal

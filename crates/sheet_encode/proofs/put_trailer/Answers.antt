@@ -3,7 +3,7 @@ use mathlib.Core.Path.{◌≡◌, sym, ◌∙◌}
 use native.Mathlib.Omega.{arith}
 use borrow.Author.Rules.{rules}
 use lib.ListN.{length, length-set}
-use Rattle.format.specs.ReadBackLaws.{models_short}
+use Rattle.format.proofs.ReadBackLaws.{models_short}
 use Rattle.sheet_book.specs.BookStruct.{held_book}
 use Rattle.sheet_book.specs.FailingLaws.{count_models, count_steps}
 use Rattle.sheet_encode.specs.TrailerStoreLaws.{trailer_stores}

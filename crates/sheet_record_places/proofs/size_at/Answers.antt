@@ -5,7 +5,7 @@ use native.Mathlib.Nat as NatL
 use native.Mathlib.Omega.{arith}
 use Rattle.format.specs.Bytes.{byte}
 use Rattle.format.specs.Format.{term_length}
-use Rattle.format.specs.KeyBytesLaws.{term_most}
+use Rattle.format.proofs.KeyBytesLaws.{term_most}
 use Rattle.sheet_record_places.specs.Places.{vars_of}
 use Rattle.sheet_record_places.specs.PlacesLaws.{size_model, size_step}
 use borrow.Author.Rules.{rules}

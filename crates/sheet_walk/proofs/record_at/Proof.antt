@@ -12,7 +12,7 @@ use mir.Val.{Fits}
 use Rattle.calculus.specs.Model.{most_terms}
 use Rattle.format.specs.Bytes.{byte}
 use Rattle.format.specs.Format.{term_length}
-use Rattle.format.specs.KeyBytesLaws.{term_most}
+use Rattle.format.proofs.KeyBytesLaws.{term_most}
 use Rattle.sheet_walk.specs.ModelWalkLaws.{no_head, no_terms, too_many, unsound, passes, borrowed_long}
 use Rattle.sheet_walk.proofs.record_at.Statement.{statement}
 use Rattle.sheet_walk.proofs.record_at.Tie as tie

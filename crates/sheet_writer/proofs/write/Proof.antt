@@ -6,7 +6,7 @@ use borrow.Author.Rules.{rules}
 use lib.ListN.{length}
 use Rattle.format.specs.Format.{step_length, trailer_length, models_bytes, sheet_bytes}
 use Rattle.format.specs.HeldBook.{HeldPasses}
-use Rattle.format.specs.ReadBackLaws.{sheet_length, models_short}
+use Rattle.format.proofs.ReadBackLaws.{sheet_length, models_short}
 use Rattle.sheet_book.specs.declared.Book.{Book}
 use Rattle.sheet_book.specs.BookStruct.{held_book}
 use Rattle.sheet_book.specs.FailingLaws.{count_steps}

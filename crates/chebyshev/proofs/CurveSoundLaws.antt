@@ -20,7 +20,7 @@ use Rattle.calculus_laws.specs.SoundLaws.{Sound}
 use Rattle.chebyshev.specs.Coefficients.{Row, size}
 use Rattle.chebyshev.specs.PowerRows.{places, combine}
 use Rattle.chebyshev.specs.Tables.{chebyshev_table}
-use Rattle.chebyshev.specs.RowLengthLaws.{sum_length, products_longer, into_powers_length, from_powers_length}
+use Rattle.chebyshev.proofs.RowLengthLaws.{sum_length, products_longer, into_powers_length, from_powers_length}
 use Rattle.chebyshev.specs.Curve.{Curve, span, sound}
 use Rattle.chebyshev.specs.CurveOperations.{limited_curve, negate, added, add, subtract, rounded, products}
 use Rattle.chebyshev.specs.CurveOperations.{multiplied, multiply, terms_from, in_powers, to_powers, in_chebyshev}

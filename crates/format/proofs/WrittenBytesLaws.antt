@@ -14,8 +14,8 @@ use Rattle.format.specs.HeldBook.{held_model_sound, held_step_sound, HeldPasses}
 use Rattle.format.specs.Format.{short_keys, short_mark, long_mark, mark_of, key_bytes}
 use Rattle.format.specs.Format.{term_bytes, model_bytes, step_bytes, models_bytes, trailer_bytes, sheet_bytes}
 use Rattle.format.specs.Format.{write}
-use Rattle.format.specs.SmallLaws.{model_facts, StepFacts, step_facts}
-use Rattle.format.specs.ReadBackLaws.{limits, outline_small, IsWritten, is_written}
+use Rattle.format.proofs.SmallLaws.{model_facts, StepFacts, step_facts}
+use Rattle.format.proofs.ReadBackLaws.{limits, outline_small, IsWritten, is_written}
 
 none_bytes : AllBytes []
 none_bytes = record { below = λ i. omega arith }

@@ -40,8 +40,8 @@ use Rattle.calculus_laws.specs.ExactIntegralLaws.{Served, sound_served, integral
 use Rattle.calculus_laws.specs.EachLaws.{Each, nil, each_length, each_snoc, each_at, each_last}
 use Rattle.calculus_laws.specs.BookLaws.{Passes, Done, run_done, model_passes, model_vars, variable_inside, Ran}
 use Rattle.calculus_laws.specs.BookLaws.{sound_ran, next_number}
-use Rattle.claim.specs.OutcomeLaws.{outcomes_before, polynomial_agrees, outcome_known, Ready, promised_ready}
-use Rattle.claim.specs.OutcomeLaws.{no_quotient_promised}
+use Rattle.claim.proofs.OutcomeLaws.{outcomes_before, polynomial_agrees, outcome_known, Ready, promised_ready}
+use Rattle.claim.proofs.OutcomeLaws.{no_quotient_promised}
 
 -- ---- an operation's result has the number of variables of its first operand
 add_vars : (f g : Model) → IfAccepted (λ r. r.vars ≡ f.vars) (Op.add f g)

@@ -2,11 +2,11 @@
 use Rattle.std.specs.Prelude.{◌≡◌, List, ℕ}
 use Rattle.calculus.specs.Refusal.{done}
 use Rattle.calculus.specs.Book.{Summary, run_sound}
-use Rattle.claim.specs.ExactRunLaws.{ExactAnswer, sound_run_exact}
+use Rattle.claim.proofs.ExactRunLaws.{ExactAnswer, sound_run_exact}
 use Rattle.format.specs.HeldBook.{view_book}
 use Rattle.format.specs.Format.{read, run_sheet}
 use Rattle.format.specs.HeldBookLaws.{view_passes}
-use Rattle.format.specs.WriteBackLaws.{Came, came, read_passes}
+use Rattle.format.proofs.WriteBackLaws.{Came, came, read_passes}
 
 -- THEOREM: q and r of an accepted sheet are U times the integral of the answered polynomial in up to four variables,
 -- and 0 above

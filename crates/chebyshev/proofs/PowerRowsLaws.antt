@@ -13,8 +13,8 @@ use Rattle.algebra.specs.RingSolver.{𝟎, 𝟏, ◌⊞◌, ◌⊟◌, ◌⊠◌
 use Rattle.chebyshev.specs.Recurrence.{chebyshev}
 use Rattle.chebyshev.specs.RecurrenceLaws.{chebyshev_zero, chebyshev_one, chebyshev_next}
 use Rattle.chebyshev.specs.Coefficients.{Row, scale, value}
-use Rattle.chebyshev.specs.CoefficientsLaws.{value_nil, value_cons, value_sum, value_scale, value_negated}
-use Rattle.chebyshev.specs.CoefficientsLaws.{value_zeros, value_shifted}
+use Rattle.chebyshev.proofs.CoefficientsLaws.{value_nil, value_cons, value_sum, value_scale, value_negated}
+use Rattle.chebyshev.proofs.CoefficientsLaws.{value_zeros, value_shifted}
 use Rattle.chebyshev.specs.PowerRows.{places, zeros, powers_of, rows_from, combine}
 
 module _ (R : Ring) where

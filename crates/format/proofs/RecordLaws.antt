@@ -16,10 +16,10 @@ use Rattle.format.specs.Format.{step_length, model_length, trailer_of, read}
 use Rattle.format.specs.Format.{model_records, step_records, records, opened}
 use Rattle.format.specs.Format.{model_bytes, step_bytes, models_bytes, trailer_bytes, sheet_bytes}
 use Rattle.format.specs.BytesLaws.{join-++}
-use Rattle.format.specs.SmallLaws.{model_facts}
-use Rattle.format.specs.ReadBackLaws.{length_step, model_length_back, model_rest, trailer_back}
-use Rattle.format.specs.ReadBackLaws.{said, sheet_trailer}
-use Rattle.format.specs.WriteBackLaws.{read_passes, read_sheet}
+use Rattle.format.proofs.SmallLaws.{model_facts}
+use Rattle.format.proofs.ReadBackLaws.{length_step, model_length_back, model_rest, trailer_back}
+use Rattle.format.proofs.ReadBackLaws.{said, sheet_trailer}
+use Rattle.format.proofs.WriteBackLaws.{read_passes, read_sheet}
 
 -- the records of a book, in order
 unfoldable pub book_records : HeldBook → List (List ℕ)

@@ -7,7 +7,7 @@ use Rattle.calculus.specs.Shares.{all_rows, rows_sound, reported, shares_rows}
 use Rattle.format.specs.HeldBook.{HeldBook, view_book}
 use Rattle.format.specs.Format.{read, sheet_rows}
 use Rattle.format.specs.HeldBookLaws.{view_passes}
-use Rattle.format.specs.WriteBackLaws.{read_passes}
+use Rattle.format.proofs.WriteBackLaws.{read_passes}
 
 -- the tests that reading made need not be made again
 pub sheet_rows_are : (bytes : List ℕ) (h : HeldBook) → read bytes ≡ done h

@@ -34,9 +34,9 @@ use Rattle.format.specs.Format.{key_bytes, term_bytes, model_bytes, step_bytes, 
 use Rattle.format.specs.Format.{trailer_bytes, sheet_bytes}
 use Rattle.format.specs.Format.{write}
 use Rattle.format.specs.BytesLaws.{read_u16, read_u32, signed_bits, bits_below}
-use Rattle.format.specs.KeyBytesLaws.{term_parts, term_most, length_key, key_back, key_rest}
+use Rattle.format.proofs.KeyBytesLaws.{term_parts, term_most, length_key, key_back, key_rest}
 use Rattle.format.specs.HeldBookLaws.{InLimits, in_limits, HeldDone, held_tested_done}
-use Rattle.format.specs.SmallLaws.{ModelFacts, model_facts, TermFacts, term_facts, StepFacts, step_facts}
+use Rattle.format.proofs.SmallLaws.{ModelFacts, model_facts, TermFacts, term_facts, StepFacts, step_facts}
 
 -- ---- lengths
 pub length_term : (n : ℕ) (t : HeldTerm) → length (term_bytes n t) ≡ term_length n

@@ -18,7 +18,7 @@ use Rattle.format.specs.HeldBook.{HeldTerm, HeldModel, HeldStep, view_held_term,
 use Rattle.format.specs.HeldBook.{held_model_sound, held_step_sound}
 use Rattle.format.specs.Format.{short_keys}
 use Rattle.format.specs.Fields.{limit_a, limit_b, names_variable, v_sound, earlier, value_sound}
-use Rattle.format.specs.StepFieldLaws.{Fields, fields_of}
+use Rattle.format.proofs.StepFieldLaws.{Fields, fields_of}
 
 -- ---- the numbers of a model that passes
 pub record ModelFacts (n d : ℕ) (m : HeldModel) : Type 0 where

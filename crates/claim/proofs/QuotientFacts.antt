@@ -29,10 +29,10 @@ use Rattle.calculus_laws.specs.UnitLaws.{natural, natural-*, abs_whole, U_times}
 use Rattle.calculus_laws.specs.ValueLaws.{Near, at_near}
 use Rattle.calculus_laws.specs.EnclosureLaws.{zero_near}
 use Rattle.calculus_laws.specs.ChainLaws.{◌≡≤◌, ◌≤≡◌, equal}
-use Rattle.claim.specs.ClaimFacts.{own, origin, own_given, both_near}
-use Rattle.claim.specs.ClaimProof.{claim}
-use Rattle.claim.specs.JumpFacts.{Jump, up, down, height, jumping, jumping_within, one_above, bounded, woven}
-use Rattle.claim.specs.JumpFacts.{no_polynomial}
+use Rattle.claim.proofs.ClaimFacts.{own, origin, own_given, both_near}
+use Rattle.claim.proofs.ClaimProof.{claim}
+use Rattle.claim.proofs.JumpFacts.{Jump, up, down, height, jumping, jumping_within, one_above, bounded, woven}
+use Rattle.claim.proofs.JumpFacts.{no_polynomial}
 
 -- ---- the book: f / g with f within a model without terms, radius 3, and g the constant 1/2; the proposal is h, a
 -- model without terms and with any radius e, and w, the constant 1, so that mu is U/2

@@ -42,8 +42,8 @@ use Rattle.calculus_laws.specs.ValueLaws.{scaled_value, Near, U_value, near_at, 
 use Rattle.calculus_laws.specs.SumLaws.{ℕ_addition, if_ℤ, if_so}
 use Rattle.calculus_laws.specs.RangeLaws.{steady_sum, below_sum, above_sum}
 use Rattle.calculus_laws.specs.RangeInsideLaws.{Inside}
-use Rattle.claim.specs.ClaimProof.{claim}
-use Rattle.claim.specs.JumpFacts.{Jump, jumping, jumping_within, left, left_inside}
+use Rattle.claim.proofs.ClaimProof.{claim}
+use Rattle.claim.proofs.JumpFacts.{Jump, jumping, jumping_within, left, left_inside}
 use Rattle.calculus_laws.specs.ChainLaws.{◌≤≤◌, ◌≡≤◌, ◌≤≡◌, equal}
 open ℚR use {+-neg}
 

@@ -13,14 +13,14 @@ use Rattle.calculus_laws.specs.TestLaws.{and_left, and_right}
 use Rattle.format.specs.Bytes.{AllBytes, join}
 use Rattle.format.specs.BytesLaws.{join-++}
 use Rattle.format.specs.HeldBook.{HeldModel, HeldStep, HeldBook, outline, outline_of, held_model_sound}
-use Rattle.format.specs.SmallLaws.{model_facts}
+use Rattle.format.proofs.SmallLaws.{model_facts}
 use Rattle.format.specs.Format.{step_length, trailer_length, model_length}
 use Rattle.format.specs.Format.{trailer_of, read_trailer, read, records}
 use Rattle.format.specs.Format.{model_bytes, step_bytes, models_bytes}
-use Rattle.format.specs.ReadBackLaws.{length_model, length_step, length_trailer, model_length_back}
-use Rattle.format.specs.ReadBackLaws.{trailer_back, said, sheet_trailer}
-use Rattle.format.specs.WriteBackLaws.{read_passes, read_sheet}
-use Rattle.format.specs.RecordLaws.{book_records, records_are, records_joined, records_count}
+use Rattle.format.proofs.ReadBackLaws.{length_model, length_step, length_trailer, model_length_back}
+use Rattle.format.proofs.ReadBackLaws.{trailer_back, said, sheet_trailer}
+use Rattle.format.proofs.WriteBackLaws.{read_passes, read_sheet}
+use Rattle.format.proofs.RecordLaws.{book_records, records_are, records_joined, records_count}
 
 -- the place of record i
 unfoldable pub record_place : List ℕ → (i : ℕ) → ℕ

@@ -21,17 +21,17 @@ use Rattle.calculus_laws.specs.ChainLaws.{◌≤≤◌, ◌≡≤◌, equal}
 use Rattle.calculus_laws.specs.UnitLaws.{natural, natural_≤, abs_whole}
 use Rattle.calculus_laws.specs.ValueLaws.{abs_zero}
 use Rattle.calculus_laws.specs.ValueLaws as P
-use Rattle.claim.specs.ClaimFacts.{radius_nonneg, false_≤}
+use Rattle.claim.proofs.ClaimFacts.{radius_nonneg, false_≤}
 use Rattle.chebyshev.specs.Recurrence.{chebyshev}
 use Rattle.chebyshev.specs.RecurrenceLaws.{chebyshev_zero, chebyshev_one, chebyshev_next}
 use Rattle.chebyshev.specs.RingIntegersLaws.{int_whole}
 use Rattle.chebyshev.specs.Coefficients.{Row, add_at}
 use Rattle.chebyshev.specs.Coefficients as C
-use Rattle.chebyshev.specs.CoefficientsLaws.{value_nil, value_cons}
+use Rattle.chebyshev.proofs.CoefficientsLaws.{value_nil, value_cons}
 use Rattle.chebyshev.specs.PowerRows.{places, zeros}
 use Rattle.chebyshev.specs.Curve.{Curve, zero_curve, series, value, At, Within}
-use Rattle.chebyshev.specs.CurveValueLaws.{Near, at_near}
-use Rattle.chebyshev.specs.CurveClaimProof.{coordinate_one}
+use Rattle.chebyshev.proofs.CurveValueLaws.{Near, at_near}
+use Rattle.chebyshev.proofs.CurveClaimProof.{coordinate_one}
 use Rattle.chebyshev.specs.ChebyshevEdges.{curve, at_degree}
 open ℚR use {+-neg, *-one, *-comm}
 

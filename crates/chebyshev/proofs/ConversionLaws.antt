@@ -25,16 +25,16 @@ use Rattle.calculus_laws.specs.UnitLaws.{natural, natural-*, natural_nonneg, U_i
 use Rattle.calculus_laws.specs.ValueLaws.{scaled_value, U_value, scaled_nil, scaled_cons, scaled_drop_zeros}
 use Rattle.calculus_laws.specs.ValueLaws as P
 use Rattle.chebyshev.specs.Coefficients.{Row, value}
-use Rattle.chebyshev.specs.CoefficientsLaws.{value_nil, value_cons, value_added}
+use Rattle.chebyshev.proofs.CoefficientsLaws.{value_nil, value_cons, value_added}
 use Rattle.chebyshev.specs.PowerRows.{places}
-use Rattle.chebyshev.specs.PowerRowsLaws.{zeros_value}
-use Rattle.chebyshev.specs.RowLengthLaws.{add_at_length, zeros_length}
+use Rattle.chebyshev.proofs.PowerRowsLaws.{zeros_value}
+use Rattle.chebyshev.proofs.RowLengthLaws.{add_at_length, zeros_length}
 use Rattle.chebyshev.specs.Tables.{power_scale}
-use Rattle.chebyshev.specs.TablesLaws.{into_powers, from_powers_scaled}
+use Rattle.chebyshev.proofs.TablesLaws.{into_powers, from_powers_scaled}
 use Rattle.chebyshev.specs.Curve.{Curve}
 use Rattle.chebyshev.specs.Curve as C
 use Rattle.chebyshev.specs.CurveOperations.{terms_from, in_powers, row_of, in_chebyshev}
-use Rattle.chebyshev.specs.CurveValueLaws.{Near, factor_abs, rounded_near}
+use Rattle.chebyshev.proofs.CurveValueLaws.{Near, factor_abs, rounded_near}
 
 -- a monomial at a point of one coordinate
 monomial_one : (k : List ℕ) (x : ℚ) → monomial ℚR k (x ∷ []) ≡ pow ℚR x (exponent 0 k)

@@ -23,12 +23,12 @@ use Rattle.chebyshev.specs.CurveOperations.{range}
 use Rattle.chebyshev.specs.CurveOperations.{in_powers, to_powers, in_chebyshev, from_powers}
 use Rattle.chebyshev.specs.CurveCalls.{call_negate, call_range, require_two, call_add, call_subtract}
 use Rattle.chebyshev.specs.CurveCalls.{call_multiply, call_to_powers, call_from_powers}
-use Rattle.chebyshev.specs.CurveValueLaws.{Near, near_at, at_near}
-use Rattle.chebyshev.specs.CurveEnclosureLaws.{negate_near, add_near, multiply_near, range_near}
-use Rattle.chebyshev.specs.CurveSoundLaws.{sound_length, negate_sound, add_sound, subtract_sound, multiply_sound}
-use Rattle.chebyshev.specs.CurveSoundLaws.{to_powers_sound, from_powers_sound}
-use Rattle.chebyshev.specs.ConversionLaws.{to_powers_near, to_powers_exact, from_powers_near}
-use Rattle.chebyshev.specs.CurveMirrorLaws.{mirrored_first, mirrored_second, mirrored_both}
+use Rattle.chebyshev.proofs.CurveValueLaws.{Near, near_at, at_near}
+use Rattle.chebyshev.proofs.CurveEnclosureLaws.{negate_near, add_near, multiply_near, range_near}
+use Rattle.chebyshev.proofs.CurveSoundLaws.{sound_length, negate_sound, add_sound, subtract_sound, multiply_sound}
+use Rattle.chebyshev.proofs.CurveSoundLaws.{to_powers_sound, from_powers_sound}
+use Rattle.chebyshev.proofs.ConversionLaws.{to_powers_near, to_powers_exact, from_powers_near}
+use Rattle.chebyshev.proofs.CurveMirrorLaws.{mirrored_first, mirrored_second, mirrored_both}
 use Rattle.chebyshev.specs.CurveClaim.{EveryCurve, EveryTwoCurves, EveryModel, EverySign}
 
 -- ---- points of one coordinate

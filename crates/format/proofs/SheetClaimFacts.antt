@@ -7,7 +7,7 @@ use Rattle.calculus.specs.Refusal.{done, ◌followed_by◌}
 use Rattle.calculus.specs.Operations.{Ends, zero_ends, Mixed}
 use Rattle.calculus.specs.Book.{Book}
 use Rattle.claim.specs.Claim.{Claim}
-use Rattle.claim.specs.ClaimFacts.{one_step, range_refutes}
+use Rattle.claim.proofs.ClaimFacts.{one_step, range_refutes}
 use Rattle.format.specs.HeldBook.{view_book}
 use Rattle.format.specs.Format.{read}
 use Rattle.format.specs.SheetClaim.{SheetClaim}

@@ -11,9 +11,9 @@ use Rattle.calculus_laws.specs.BookLaws.{Passes}
 use Rattle.format.specs.HeldBook.{HeldBook, view_book, held_tested, HeldPasses}
 use Rattle.format.specs.Format.{read, sheet_bytes, run_sheet, sheet_rows}
 use Rattle.format.specs.HeldBookLaws.{view_passes, view_run, held_tested_passes}
-use Rattle.format.specs.ReadBackLaws.{read_back}
-use Rattle.format.specs.WriteBackLaws.{read_passes}
-use Rattle.format.specs.SheetRowLaws.{sheet_rows_are, sheet_rows_none}
+use Rattle.format.proofs.ReadBackLaws.{read_back}
+use Rattle.format.proofs.WriteBackLaws.{read_passes}
+use Rattle.format.proofs.SheetRowLaws.{sheet_rows_are, sheet_rows_none}
 
 -- THEOREM: any sheet has 64 rows
 pub sheet_rows_count : (bytes : List ℕ) → length (sheet_rows bytes) ≡ most_steps

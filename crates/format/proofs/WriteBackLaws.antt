@@ -26,7 +26,7 @@ use Rattle.format.specs.Format.{trailer_bytes, sheet_bytes}
 use Rattle.format.specs.Format.{write}
 use Rattle.format.specs.BytesLaws.{bytes_drop, bytes_take, drop_more, u32_below, bits_signed, four}
 use Rattle.format.specs.BytesLaws.{write_u16, write_u32}
-use Rattle.format.specs.KeyBytesLaws.{term_parts, key_forth}
+use Rattle.format.proofs.KeyBytesLaws.{term_parts, key_forth}
 use Rattle.format.specs.HeldBookLaws.{held_tested_passes}
 
 -- ---- terms

@@ -40,10 +40,10 @@ use Rattle.calculus_laws.specs.UnitLaws.{natural, natural-*, natural_nonneg, U_t
 use Rattle.calculus_laws.specs.ValueLaws.{Near, at_near, abs_zero}
 use Rattle.calculus_laws.specs.EnclosureLaws.{zero_near}
 use Rattle.calculus_laws.specs.ChainLaws.{◌≡≤◌, ◌≤≡◌}
-use Rattle.claim.specs.ClaimFacts.{own_polynomial, own_polynomial_within, both_near}
-use Rattle.claim.specs.ClaimProof.{claim}
-use Rattle.claim.specs.JumpFacts.{Jump, up, down, height, height_fits, bounded, left}
-use Rattle.claim.specs.QuotientFacts.{right, right_inside}
+use Rattle.claim.proofs.ClaimFacts.{own_polynomial, own_polynomial_within, both_near}
+use Rattle.claim.proofs.ClaimProof.{claim}
+use Rattle.claim.proofs.JumpFacts.{Jump, up, down, height, height_fits, bounded, left}
+use Rattle.claim.proofs.QuotientFacts.{right, right_inside}
 
 -- ---- what feeds an antiderivative
 -- an antiderivative, and then a quotient by 2 of it: f within 1 with radius 1, its antiderivative x, w = 1/2, h = x/2

@@ -43,8 +43,8 @@ use Rattle.calculus_laws.specs.UnitLaws.{natural, natural_≤, abs_whole, U_time
 use Rattle.calculus_laws.specs.ValueLaws.{Near, at_near, abs_zero}
 use Rattle.calculus_laws.specs.EnclosureLaws.{zero_near}
 use Rattle.calculus_laws.specs.ChainLaws.{◌≤≤◌, ◌≡≤◌, ◌≤≡◌, equal}
-use Rattle.claim.specs.ClaimFacts.{own, own_within, radius_nonneg, origin, origin_inside, false_≤, both_near}
-use Rattle.claim.specs.ClaimProof.{claim}
+use Rattle.claim.proofs.ClaimFacts.{own, own_within, radius_nonneg, origin, origin_inside, false_≤, both_near}
+use Rattle.claim.proofs.ClaimProof.{claim}
 open ℚR use {+-neg}
 
 -- ---- the functions

@@ -3,11 +3,11 @@ use Rattle.std.specs.Prelude.{◌≡◌, refl, List, ℕ}
 use Rattle.std.proofs.Common.{sym}
 use Rattle.calculus.specs.Refusal.{Result, done, stopped, ◌followed_by◌}
 use Rattle.calculus.specs.Book.{Summary, run, run_sound}
-use Rattle.claim.specs.ClaimProof.{claim_sound}
+use Rattle.claim.proofs.ClaimProof.{claim_sound}
 use Rattle.format.specs.HeldBook.{HeldBook, view_book}
 use Rattle.format.specs.Format.{read, run_sheet}
 use Rattle.format.specs.HeldBookLaws.{view_passes, view_run}
-use Rattle.format.specs.WriteBackLaws.{Came, came, read_passes}
+use Rattle.format.proofs.WriteBackLaws.{Came, came, read_passes}
 use Rattle.format.specs.SheetClaim.{SheetClaim}
 
 -- THEOREM: it holds of every sheet that runs to a result

@@ -12,9 +12,9 @@ use Rattle.chebyshev.specs.Recurrence.{chebyshev}
 use Rattle.chebyshev.specs.Coefficients.{Row, sum, scale, add_at, value}
 use Rattle.chebyshev.specs.PowerRows.{places, zeros, powers_of, rows_from, combine}
 use Rattle.chebyshev.specs.Tables.{chebyshev_table, power_scale, power_table}
-use Rattle.chebyshev.specs.CoefficientsLaws.{value_added}
-use Rattle.chebyshev.specs.RowLengthLaws.{power_table_lengths}
-use Rattle.chebyshev.specs.PowerRowsLaws.{Worth, none, more, zeros_value, combine_value, rows_worth}
+use Rattle.chebyshev.proofs.CoefficientsLaws.{value_added}
+use Rattle.chebyshev.proofs.RowLengthLaws.{power_table_lengths}
+use Rattle.chebyshev.proofs.PowerRowsLaws.{Worth, none, more, zeros_value, combine_value, rows_worth}
 
 -- the rows of the first table are those of the recurrence
 pub chebyshev_table_rows : chebyshev_table ≡ rows_from 0 places

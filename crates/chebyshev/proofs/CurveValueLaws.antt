@@ -25,7 +25,7 @@ use Rattle.chebyshev.specs.Recurrence.{chebyshev}
 use Rattle.chebyshev.specs.RecurrenceLaws.{chebyshev_zero, chebyshev_≤}
 use Rattle.chebyshev.specs.Coefficients.{Row, size}
 use Rattle.chebyshev.specs.Coefficients as C
-use Rattle.chebyshev.specs.CoefficientsLaws.{value_nil, value_cons, value_split, value_≤, value_rounded}
+use Rattle.chebyshev.proofs.CoefficientsLaws.{value_nil, value_cons, value_split, value_≤, value_rounded}
 use Rattle.chebyshev.specs.PowerRows.{places}
 use Rattle.chebyshev.specs.RingIntegersLaws.{int_whole}
 use Rattle.chebyshev.specs.Curve.{Curve, series, value, At}

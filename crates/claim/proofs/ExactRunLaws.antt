@@ -23,7 +23,7 @@ use Rattle.calculus_laws.specs.UnitLaws.{natural, U_times}
 use Rattle.calculus_laws.specs.IntegralEndsLaws.{whole_polynomial, polynomial_integral}
 use Rattle.calculus_laws.specs.ExactIntegralLaws.{Served, sound_served, exact_is, remainder_small}
 use Rattle.calculus_laws.specs.ExactIntegralLaws.{exact_known, exact_none}
-use Rattle.claim.specs.ClaimProof.{result_served}
+use Rattle.claim.proofs.ClaimProof.{result_served}
 
 -- q + r / 212,837,625 is the integral of a model's polynomial in units, and r is from 0 to 212,837,624
 pub record ExactValue (m : Model) (x : Mixed) : Type 0 where

@@ -19,11 +19,11 @@ use Rattle.calculus_laws.specs.ValueLaws.{sum_≤}
 use Rattle.chebyshev.specs.Recurrence.{chebyshev}
 use Rattle.chebyshev.specs.Coefficients.{size}
 use Rattle.chebyshev.specs.Coefficients as C
-use Rattle.chebyshev.specs.CoefficientsLaws.{value_sum, value_negated, value_zeros, value_products}
+use Rattle.chebyshev.proofs.CoefficientsLaws.{value_sum, value_negated, value_zeros, value_products}
 use Rattle.chebyshev.specs.Curve.{Curve, series}
 use Rattle.chebyshev.specs.CurveOperations.{negate, added, products, carried, multiplied, constant_part}
 use Rattle.chebyshev.specs.CurveOperations.{variation, range}
-use Rattle.chebyshev.specs.CurveValueLaws.{Near, series_≤, series_first, rounded_near}
+use Rattle.chebyshev.proofs.CurveValueLaws.{Near, series_≤, series_first, rounded_near}
 open ℚO use {≤-refl}
 
 -- ---- negate, add

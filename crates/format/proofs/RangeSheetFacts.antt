@@ -3,11 +3,11 @@
 use Rattle.std.specs.Prelude.{◌≡◌, refl, List, [], ◌∷◌, ℕ}
 use Rattle.calculus.specs.Refusal.{done, ◌followed_by◌}
 use Rattle.calculus.specs.Book.{summary}
-use Rattle.claim.specs.RangeFacts.{folding, folded, folded_result, bending, bent, bent_result}
+use Rattle.claim.proofs.RangeFacts.{folding, folded, folded_result, bending, bent, bent_result}
 use Rattle.format.specs.HeldBook.{view_book}
 use Rattle.format.specs.Format.{read, run_sheet}
 use Rattle.format.specs.SheetClaim.{SheetClaim}
-use Rattle.format.specs.SheetClaimProof.{sheet_claim}
+use Rattle.format.proofs.SheetClaimProof.{sheet_claim}
 use Rattle.format.specs.Computing.{reads}
 use Rattle.format.specs.Samples.{hex, sheet_forms}
 

@@ -23,7 +23,7 @@ use Rattle.chebyshev.specs.CurveOperations.{limited_curve, negate, residuals, sw
 use Rattle.chebyshev.specs.CurveOperations.{multiplied, multiply}
 use Rattle.chebyshev.specs.CurveCalls.{require_two, call_multiply}
 use Rattle.chebyshev.specs.CurveClaim.{mirrored}
-use Rattle.chebyshev.specs.CurveSoundLaws.{size_negated}
+use Rattle.chebyshev.proofs.CurveSoundLaws.{size_negated}
 
 -- ---- rows with all signs turned
 -- one row

@@ -1,0 +1,11 @@
+pub mod CoefficientsLaws
+pub mod PowerRowsLaws
+pub mod RowLengthLaws
+pub mod TablesLaws
+pub mod CurveValueLaws
+pub mod CurveEnclosureLaws
+pub mod ConversionLaws
+pub mod CurveSoundLaws
+pub mod CurveMirrorLaws
+pub mod CurveClaimProof
+pub mod CurveClaimFacts

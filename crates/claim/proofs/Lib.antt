@@ -1,0 +1,9 @@
+-- The claim.
+pub mod OutcomeLaws
+pub mod ClaimProof
+pub mod ExactRunLaws
+pub mod ClaimFacts
+pub mod JumpFacts
+pub mod QuotientFacts
+pub mod RangeFacts
+pub mod AntiderivativeFacts
