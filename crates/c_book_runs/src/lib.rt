@@ -6,7 +6,7 @@ ghost use Rattle.format.specs.Format.{run_sheet, sheet_rows};
 ghost use Rattle.sheet_book.specs.BookStruct.{held_book};
 ghost use Rattle.sheet_book.specs.SummaryStruct.{run_answer};
 ghost use Rattle.sheet_book.specs.ReportStruct.{report};
-ghost use Rattle.sheet.specs.Sheet.{run_held, rows_held};
+ghost use Rattle.c_runs.specs.sheet.Sheet.{run_held, rows_held};
 ghost use Rattle.model_slices.specs.HandedModels.{model_room, answer_numbers, run_ends};
 ghost use Rattle.c_books.specs.HandedBooks.{step_places, handed_steps, model_places, handed_models};
 ghost use Rattle.c_books.specs.HandedBooks.{handed_book};
@@ -15,8 +15,13 @@ ghost use Rattle.c_runs.specs.SheetCalls.{run_state, called_run};
 ghost use Rattle.c_shares.specs.HandedShares.{report_numbers, report_room};
 ghost use Rattle.c_book_runs.specs.ShareCalls.{report_state, stored_report, called_report};
 
+use c_runs::sheet;
+use c_runs::sheet::Report;
 use model_types::Key;
-use sheet::Report;
+
+// Handed on: crates above name these through this crate.
+pub use c_runs;
+pub use c_writes;
 
 // A book in memory is run: the refusal's number, 0 without one, or MISUSED. The result goes into the slices as a
 // sheet's does.

@@ -9,7 +9,7 @@ use Rattle.calculus.specs.Calls.{call_range, call_integral, call_evaluate}
 use Rattle.model_types.specs.declared.Answer.{Answer}
 use Rattle.model_types.specs.ModelStruct.{answer, bounds, integral_answer}
 use Rattle.model_slices.specs.HandedModels.{borrowed}
-use Rattle.model_slice_calls.specs.StoredCalls.{Stored}
+use Rattle.c_products.specs.model_slice_calls.StoredCalls.{Stored}
 use Rattle.c_calls.specs.CallCodes.{Called, called_state, stored_answer, call_known, call_fits}
 use Rattle.c_calls.specs.CallCodes.{alone, ends_alone, ends_call, point_fits, ends_call_fits}
 use Rattle.c_calls.specs.CallCodesLaws.{alone_answer}

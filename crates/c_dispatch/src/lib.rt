@@ -8,6 +8,7 @@ ghost use Rattle.c_calls.specs.CallCodes.{model_call, ends_call, call_fits, ends
 ghost use Rattle.c_calls.specs.CallCodes.{called_state, called, stored_answer, ends_state, called_ends};
 ghost use Rattle.c_calls.specs.CallCodes.{coordinates};
 
+use c_products::model_slice_calls;
 use model_types::{Integral, Key};
 
 // A call of two models: add, subtract, or multiply.

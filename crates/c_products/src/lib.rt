@@ -11,6 +11,9 @@ use model_slice_calls::store_numbers;
 use model_slices::Kept;
 use model_types::{Key, Verdict};
 
+// Handed on: crates above name these through this crate.
+pub use model_slice_calls;
+
 // How many terms an answer may have before it is refused: one more than a model.
 const PLACES: usize = model_types::MOST_TERMS + 1;
 

@@ -10,6 +10,9 @@ use model_types::Key;
 use sheet::{Ends, Summary};
 use sheet_book::Exact;
 
+// Handed on: crates above name these through this crate.
+pub use sheet;
+
 // The ends of a run: those of the range and those of the integral, the quotient and the remainder.
 pub const ENDS: usize = 6;
 

@@ -1,12 +1,13 @@
 // Sheets that are handed over: run to the program's lines, and taken apart record by record.
 ghost use Rattle.std.specs.Prelude.{◌≡◌, leb, length};
 ghost use Rattle.format.specs.Lines.{printed};
-ghost use Rattle.sheet.specs.Stepping.{record_bytes, start_answer, kind_at, bytes_at, next_at};
+ghost use Rattle.text.specs.sheet.Stepping.{record_bytes, start_answer, kind_at, bytes_at, next_at};
 ghost use Rattle.text.specs.Text.{laid};
 ghost use Rattle.c_sheets.specs.StepCalls.{kind_number, open_state, called_open};
 ghost use Rattle.c_sheets.specs.StepCalls.{next_state, called_next};
 
-use sheet::Kind;
+use text::sheet;
+use text::sheet::Kind;
 
 // A sheet is run to the program's lines: their length. As much of them as the slice has room for stands at its start.
 pub fn print_lines(sheet: &[u8], lines: &mut [u8]) -> usize

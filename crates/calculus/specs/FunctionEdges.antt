@@ -2,10 +2,10 @@
 use Rattle.std.specs.Prelude.{◌≡◌, refl, [], ◌∷◌, pos}
 use Rattle.std.proofs.Common.{sym, subst}
 use Rattle.std.specs.Int.Signed.{le_z_yes}
-use Rattle.algebra.specs.RingLaws.{*-zero}
-use Rattle.algebra.proofs.Rational.{ℚ, ◌*ℚ◌, whole, ◌≤ℚ◌, reciprocal}
-use Rattle.algebra.proofs.RationalRing.{ℚR}
-use Rattle.algebra.proofs.RationalLaws.{whole_≤}
+use Rattle.numbers.specs.algebra.RingLaws.{*-zero}
+use Rattle.numbers.proofs.algebra.Rational.{ℚ, ◌*ℚ◌, whole, ◌≤ℚ◌, reciprocal}
+use Rattle.numbers.proofs.algebra.RationalRing.{ℚR}
+use Rattle.numbers.proofs.algebra.RationalLaws.{whole_≤}
 use Rattle.polynomial.specs.Polynomial.{exponent, raise}
 use Rattle.polynomial.specs.Antiderivative.{antiderivative_in}
 use Rattle.numbers.specs.Fixed.{U}

@@ -1,8 +1,8 @@
 -- Functions of the point, polynomials with fractions for coefficients, and what lies between two ends.
 use Rattle.std.specs.Prelude.{ℕ, pos, get_or}
-use Rattle.algebra.proofs.Rational.{ℚ, ◌*ℚ◌, whole, ◌≤ℚ◌}
-use Rattle.algebra.proofs.RationalRing.{ℚR}
-use Rattle.algebra.proofs.RationalField.{ℚF}
+use Rattle.numbers.proofs.algebra.Rational.{ℚ, ◌*ℚ◌, whole, ◌≤ℚ◌}
+use Rattle.numbers.proofs.algebra.RationalRing.{ℚR}
+use Rattle.numbers.proofs.algebra.RationalField.{ℚF}
 use Rattle.polynomial.specs.Polynomial.{Polynomial, eval, replace}
 use Rattle.polynomial.specs.Integral as I
 use Rattle.polynomial.specs.Antiderivative.{antiderivative_in}

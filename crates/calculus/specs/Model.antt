@@ -1,9 +1,9 @@
 -- A model: when it is sound, and which functions are within it.
 use Rattle.std.specs.Prelude.{Bool, ◌&&◌, List, [], ◌∷◌, map, ℕ, ◌+◌, eqb, leb, ℤ, pos, length}
-use Rattle.algebra.specs.Ordered.{abs}
-use Rattle.algebra.proofs.Rational.{ℚ, ◌+ℚ◌, negℚ, ◌≤ℚ◌, whole, ◌÷◌}
-use Rattle.algebra.proofs.RationalRing.{ℚR}
-use Rattle.algebra.proofs.RationalOrder.{ℚO}
+use Rattle.numbers.specs.algebra.Ordered.{abs}
+use Rattle.numbers.proofs.algebra.Rational.{ℚ, ◌+ℚ◌, negℚ, ◌≤ℚ◌, whole, ◌÷◌}
+use Rattle.numbers.proofs.algebra.RationalRing.{ℚR}
+use Rattle.numbers.proofs.algebra.RationalOrder.{ℚO}
 use Rattle.polynomial.specs.Polynomial.{Polynomial, eval}
 use Rattle.polynomial.specs.Box.{Box}
 use Rattle.numbers.specs.Fixed.{U, span_limit}

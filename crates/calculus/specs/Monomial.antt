@@ -2,7 +2,7 @@
 use Rattle.std.specs.Prelude.{List, [], ◌∷◌, ℕ, pred, ◌+◌, replicate}
 use Rattle.polynomial.specs.Polynomial.{replace}
 -- equality, and the order in which the first exponent that differs decides: the order of the keys
-pub use Rattle.algebra.specs.Lexicographic.{same, less}
+pub use Rattle.numbers.specs.algebra.Lexicographic.{same, less}
 
 -- the total degree
 unfoldable pub degree : List ℕ → ℕ

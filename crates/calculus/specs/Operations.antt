@@ -1,7 +1,7 @@
 -- The operations on models, each with its refusals.
 use Rattle.std.specs.Prelude.{Bool, true, false, not, ◌&&◌, List, [], ◌∷◌, ◌++◌, ℕ, zero, suc, ◌+◌, ◌-◌, ◌*◌, ◌/◌, ◌%◌, ◌^◌, max, eqb, leb, ltb, ℤ, pos, neg_ℤ, ◌+ℤ◌, ◌-ℤ◌, ◌*ℤ◌, nat_abs, length}
 use Rattle.std.specs.Int.Signed.{le_z}
-use Rattle.algebra.specs.IntegerRing.{ℤR}
+use Rattle.numbers.specs.algebra.IntegerRing.{ℤR}
 use Rattle.polynomial.specs.Polynomial.{product, exponent, without, raise}
 use Rattle.polynomial.specs.Integral.{all_even, divisor}
 use Rattle.numbers.specs.Division.{floor, ceiling, remainder, divided_up, nearest}

@@ -4,9 +4,10 @@ ghost use Rattle.format.specs.Format.{read};
 ghost use Rattle.sheet_book.specs.BookStruct.{held_book, read_answer};
 ghost use Rattle.c_books.specs.HandedBooks.{step_places, handed_steps, model_places, handed_models};
 ghost use Rattle.c_books.specs.HandedBooks.{handed_book};
-ghost use Rattle.c_writes.specs.WriteCalls.{book_fits};
-ghost use Rattle.c_writes.specs.WriteCalls.{write_state, called_write, called_rewrite};
+ghost use Rattle.c_book_runs.specs.c_writes.WriteCalls.{book_fits};
+ghost use Rattle.c_book_runs.specs.c_writes.WriteCalls.{write_state, called_write, called_rewrite};
 
+use c_book_runs::c_writes;
 use model_types::Key;
 
 // A book is written as a sheet into the buffer: the refusal's number, 0 without one, or MISUSED. The refusal's place

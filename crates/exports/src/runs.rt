@@ -3,13 +3,14 @@ ghost use Rattle.std.specs.Prelude.{◌≡◌, ◌&&◌, leb, length};
 ghost use Rattle.format.specs.Format.{run_sheet};
 ghost use Rattle.sheet_book.specs.BookStruct.{held_book};
 ghost use Rattle.sheet_book.specs.SummaryStruct.{run_answer};
-ghost use Rattle.sheet.specs.Sheet.{run_held};
+ghost use Rattle.c_book_runs.specs.sheet.Sheet.{run_held};
 ghost use Rattle.model_slices.specs.HandedModels.{model_room, run_ends};
 ghost use Rattle.c_books.specs.HandedBooks.{step_places, handed_steps, model_places, handed_models};
 ghost use Rattle.c_books.specs.HandedBooks.{handed_book};
-ghost use Rattle.c_writes.specs.WriteCalls.{book_fits};
-ghost use Rattle.c_runs.specs.SheetCalls.{run_state, called_run};
+ghost use Rattle.c_book_runs.specs.c_writes.WriteCalls.{book_fits};
+ghost use Rattle.c_book_runs.specs.c_runs.SheetCalls.{run_state, called_run};
 
+use c_book_runs::c_runs;
 use model_types::Key;
 
 // A sheet is run: the refusal's number, 0 without one, or MISUSED. The result's 64 keys and coefficients go into two

@@ -4,12 +4,12 @@ ghost use Rattle.format.specs.Format.{run_sheet, sheet_rows};
 ghost use Rattle.sheet_book.specs.BookStruct.{held_book};
 ghost use Rattle.sheet_book.specs.SummaryStruct.{run_answer};
 ghost use Rattle.sheet_book.specs.ReportStruct.{report};
-ghost use Rattle.sheet.specs.Sheet.{run_held, rows_held};
+ghost use Rattle.c_book_runs.specs.sheet.Sheet.{run_held, rows_held};
 ghost use Rattle.c_books.specs.HandedBooks.{step_places, handed_steps, model_places, handed_models};
 ghost use Rattle.c_books.specs.HandedBooks.{handed_book};
 ghost use Rattle.c_shares.specs.HandedShares.{report_room};
-ghost use Rattle.c_writes.specs.WriteCalls.{book_fits};
-ghost use Rattle.c_runs.specs.SheetCalls.{run_state};
+ghost use Rattle.c_book_runs.specs.c_writes.WriteCalls.{book_fits};
+ghost use Rattle.c_book_runs.specs.c_runs.SheetCalls.{run_state};
 ghost use Rattle.c_book_runs.specs.ShareCalls.{report_state, called_report};
 
 use model_types::Key;

@@ -1,8 +1,8 @@
 // Sheets: run to the program's lines, taken apart record by record, by their numbers and one after the other.
 ghost use Rattle.std.specs.Prelude.{◌≡◌, leb, length};
 ghost use Rattle.format.specs.Lines.{printed};
-ghost use Rattle.sheet.specs.Stepping.{record_bytes, start_answer, kind_at, bytes_at, next_at};
-ghost use Rattle.text.specs.Text.{laid};
+ghost use Rattle.c_book_runs.specs.sheet.Stepping.{record_bytes, start_answer, kind_at, bytes_at, next_at};
+ghost use Rattle.c_sheets.specs.text.Text.{laid};
 ghost use Rattle.c_sheets.specs.StepCalls.{open_state, called_open};
 ghost use Rattle.c_sheets.specs.StepCalls.{next_state, called_next};
 

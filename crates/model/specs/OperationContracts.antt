@@ -2,11 +2,11 @@
 -- make them.
 pub use Rattle.model_addition.specs.Addition.{Operands}
 pub use Rattle.model_antiderivative.specs.Antiderivatives.{Integrand}
-pub use Rattle.model_multiplication.specs.Factors.{Factors}
+pub use Rattle.model_quotient_room.specs.model_multiplication.Factors.{Factors}
 pub use Rattle.model_substitution.specs.Substitute.{Substitution}
-pub use Rattle.model_proposal.specs.Proposal.{Proposal}
+pub use Rattle.model_quotient_room.specs.model_proposal.Proposal.{Proposal}
 -- the products that a quotient asks room for, which a caller counts
-unfoldable pub use Rattle.model_proposal.specs.Proposal.{quotient_products}
+unfoldable pub use Rattle.model_quotient_room.specs.model_proposal.Proposal.{quotient_products}
 -- the products that the full table has room for
 pub use Rattle.product_hash_table.specs.Table.{most_entries}
 pub use Rattle.product_calls.specs.SliceContracts.{ScratchRoom, KeptRoom, KeptReady}

@@ -13,6 +13,7 @@ ghost use Rattle.model_types.specs.ModelStruct.{view, pack, answer, bounds, inte
 ghost use Rattle.model_substitution.specs.Substitute.{Substitution};
 ghost use Rattle.model.specs.TableSizes.{few_terms, some_terms};
 
+use model_quotient_room::model_multiplication;
 pub use model_types::{Answer, Bounds, Integral, Model, Refusal, Verdict};
 
 // The number of a refusal in the documents' table: 1 to 17.
@@ -306,7 +307,7 @@ pub use model_substitution::substituted_accounted;
 
 // The answer of `quotient`, for four sound models in the same variables that lie in slices. The table is scratch, for
 // the products that its forms make.
-pub use model_quotient::divided_slices;
+pub use model_quotient_room::model_quotient::divided_slices;
 
 // Any other operation's answer with the shares of its radius: all is carried.
 pub use model_types::all_carried;

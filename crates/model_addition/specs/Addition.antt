@@ -7,7 +7,7 @@ use Rattle.model_types.specs.declared.Model.{Model}
 use Rattle.model_types.specs.ModelStruct.{view, answer}
 use Rattle.model_slices.specs.HeldModels.{model_places, held, Room}
 use Rattle.model_limits.specs.Limits.{Packed}
-use Rattle.model_places.specs.SlicePlaces.{Places}
+use Rattle.model_unary.specs.model_places.SlicePlaces.{Places}
 
 -- two sound models in the same variables
 pub record Operands (a b : Model) : Type 0 where

@@ -17,7 +17,7 @@ use Rattle.model_types.specs.PairedLaws.{length_paired}
 use Rattle.model_slices.specs.HandedModels.{terms_of}
 use Rattle.model_slices.specs.HeldModels.{held, Room}
 use Rattle.model_slices.specs.HeldModelsLaws.{pair, stored_more, own_view}
-use Rattle.model_places.specs.SlicePlaces.{Places}
+use Rattle.model_unary.specs.model_places.SlicePlaces.{Places}
 use Rattle.model_addition.specs.declared.Next.{Next}
 use Rattle.model_addition.specs.Addition.{Operands, SumFrom, SumOf, SumIn}
 use Rattle.model_addition.specs.Merge.{Takes}
@@ -25,7 +25,7 @@ use Rattle.model_addition.specs.MergeLaws.{Mergeable, Merged, Iteration, nothing
 use Rattle.model_addition.specs.MergeLaws.{too_many}
 use Rattle.model_addition.specs.AddedLaws.{Whole, coefficient_within, radius_within, mergeable}
 use Rattle.model_addition.specs.AddedLaws.{answer_too_many, sum_packed, sum_answer}
-use Rattle.model_places.specs.SlicePlacesLaws.{places_long, places_at, room_places}
+use Rattle.model_unary.specs.model_places.SlicePlacesLaws.{places_long, places_at, room_places}
 
 module _ {c d : ℕ} {ks ks₂ : List ℕ} {cs cs₂ : List ℤ} (w : SumFrom c ks cs d ks₂ cs₂) where
   abbrev a : Model

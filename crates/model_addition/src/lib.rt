@@ -5,7 +5,7 @@ ghost use Rattle.calculus.specs.Operations.{add, subtract};
 ghost use Rattle.model_types.specs.ModelStruct.{view, answer};
 ghost use Rattle.model_slices.specs.HeldModels.{model_places, held, Room, Clear};
 ghost use Rattle.model_slices.specs.HeldModelsLaws.{pair};
-ghost use Rattle.model_places.specs.SlicePlaces.{Places};
+ghost use Rattle.model_unary.specs.model_places.SlicePlaces.{Places};
 ghost use Rattle.model_addition.specs.Merge.{Ready, Takes};
 ghost use Rattle.model_addition.specs.Addition.{Operands, SumFrom, SumOf, SumIn};
 

@@ -27,7 +27,7 @@ use Rattle.model_limits.specs.Limits.{Packed}
 use Rattle.model_addition.specs.Addition.{Operands}
 use Rattle.model_powers.specs.Powers.{InVariable}
 use Rattle.model_powers.specs.PowersLaws.{part_sound}
-use Rattle.model_scaling.specs.Scaling.{Scalable}
+use Rattle.model_horner.specs.model_scaling.Scaling.{Scalable}
 use Rattle.model_evaluation.specs.Evaluate.{Putting, put_iteration, Iterating}
 use Rattle.model_evaluation.specs.ConstantLaws.{constant_in_box}
 

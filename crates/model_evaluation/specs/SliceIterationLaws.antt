@@ -18,8 +18,8 @@ use Rattle.model_types.specs.ModelStruct.{view, pack, answer, refusal}
 use Rattle.model_limits.specs.Limits.{Packed, LeftIn}
 use Rattle.model_limits.specs.LimitLaws.{packed_radius, limited_capped}
 use Rattle.model_addition.specs.Addition.{Operands, SumOf, SumIn}
-use Rattle.model_scaling.specs.Scaling.{scaled_pass}
-use Rattle.model_scaling.specs.ScaledAnswerLaws.{scaled_packed, scaled_answer}
+use Rattle.model_horner.specs.model_scaling.Scaling.{scaled_pass}
+use Rattle.model_horner.specs.model_scaling.ScaledAnswerLaws.{scaled_packed, scaled_answer}
 use Rattle.model_limits.specs.declared.Left.{Left}
 use Rattle.model_slices.specs.HeldModels.{held, Room}
 use Rattle.model_powers.specs.Powers.{KeysOf, PartOf}

@@ -5,7 +5,7 @@ ghost use Rattle.calculus.specs.Shares.{product_shares};
 ghost use Rattle.model_types.specs.ModelStruct.{view};
 ghost use Rattle.model_types.specs.SharesStruct.{accounted};
 ghost use Rattle.model_slices.specs.HeldModels.{held, Room};
-ghost use Rattle.product_room.specs.ProductTerms.{ScratchRoom};
+ghost use Rattle.model_horner_product.specs.product_room.ProductTerms.{ScratchRoom};
 ghost use Rattle.model_horner_iteration.specs.HornerIteration.{horner_iteration, IterationOf};
 ghost use Rattle.model_horner_iteration.specs.HornerIteration.{KeptIn};
 

@@ -6,11 +6,14 @@ ghost use Rattle.calculus.specs.Shares.{product_shares};
 ghost use Rattle.model_types.specs.ModelStruct.{view};
 ghost use Rattle.model_types.specs.SharesStruct.{accounted};
 ghost use Rattle.model_slices.specs.HeldModels.{held, Room};
-ghost use Rattle.product_room.specs.ProductTerms.{ScratchRoom};
+ghost use Rattle.product_slices.specs.product_room.ProductTerms.{ScratchRoom};
 ghost use Rattle.model_horner_product.specs.HornerProduct.{FactorsOf, KeptIn};
 
 use model_slices::Kept;
 use model_types::{Key, Verdict};
+
+// Handed on: crates above name these through this crate.
+pub use product_slices;
 
 // h times g with order d: its terms go into the last two slices, unless it is refused. The table is scratch.
 pub fn product(

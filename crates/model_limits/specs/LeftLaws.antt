@@ -6,10 +6,10 @@ use Rattle.numbers.specs.Fixed.{span_limit}
 use Rattle.calculus.specs.Model.{span}
 use Rattle.calculus.specs.Refusal.{at_place}
 use Rattle.calculus.specs.Operations.{limited}
-use Rattle.model_types.specs.declared.Refusal.TheVariants.{OverSpan}
-use Rattle.model_types.specs.declared.Verdict.TheVariants.{Accepted, Refused}
-use Rattle.model_types.specs.declared.Answer.{Answer}
-use Rattle.model_types.specs.ModelStruct.{view, answer, refusal}
+use Rattle.model_slices.specs.model_types.declared.Refusal.TheVariants.{OverSpan}
+use Rattle.model_slices.specs.model_types.declared.Verdict.TheVariants.{Accepted, Refused}
+use Rattle.model_slices.specs.model_types.declared.Answer.{Answer}
+use Rattle.model_slices.specs.model_types.ModelStruct.{view, answer, refusal}
 use Rattle.model_slices.specs.HeldModels.{held}
 use Rattle.model_limits.specs.declared.Left.{Left}
 use Rattle.model_limits.specs.Limits.{Packed, LeftIn}

@@ -13,10 +13,10 @@ use Rattle.calculus.specs.Model as C
 use Rattle.calculus.specs.Model.{most_terms, fits, span}
 use Rattle.calculus.specs.Refusal.{accepted, refused, over_span, too_many_terms, require, stopped, at_place}
 use Rattle.calculus.specs.Operations.{limited}
-use Rattle.model_types.specs.declared.Model.{Model}
-use Rattle.model_types.specs.declared.Verdict.TheVariants.{Accepted}
-use Rattle.model_types.specs.ModelStruct.{zero_term, view, pack, answer, listed}
-use Rattle.model_types.specs.ModelStructLaws.{read, size_more, length_view, view_is, view_pack}
+use Rattle.model_slices.specs.model_types.declared.Model.{Model}
+use Rattle.model_slices.specs.model_types.declared.Verdict.TheVariants.{Accepted}
+use Rattle.model_slices.specs.model_types.ModelStruct.{zero_term, view, pack, answer, listed}
+use Rattle.model_slices.specs.model_types.ModelStructLaws.{read, size_more, length_view, view_is, view_pack}
 use Rattle.model_limits.specs.Limits.{Packed}
 
 -- ---- each case

@@ -1,10 +1,10 @@
 -- What is asked of a model whose limits are tested, and what is left of one in slices.
 use Rattle.std.specs.Prelude.{◌≡◌, List, ℕ, ◌≤◌, ℤ}
 use Rattle.calculus.specs.Model.{most_terms}
-use Rattle.model_types.specs.declared.Model.{Model}
-use Rattle.model_types.specs.declared.Answer.{Answer}
-use Rattle.model_types.specs.declared.Verdict.TheVariants.{Accepted}
-use Rattle.model_types.specs.ModelStruct.{view, pack}
+use Rattle.model_slices.specs.model_types.declared.Model.{Model}
+use Rattle.model_slices.specs.model_types.declared.Answer.{Answer}
+use Rattle.model_slices.specs.model_types.declared.Verdict.TheVariants.{Accepted}
+use Rattle.model_slices.specs.model_types.ModelStruct.{view, pack}
 use Rattle.model_slices.specs.HeldModels.{held}
 use Rattle.model_limits.specs.declared.Left.{Left}
 

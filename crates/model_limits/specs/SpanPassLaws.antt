@@ -5,9 +5,9 @@ use Rattle.std.proofs.Math.Path.{ap}
 use Rattle.std.proofs.Math.IntN.{nat_abs}
 use Rattle.numbers.specs.Fixed.{span_limit, capped}
 use Rattle.calculus.specs.Model.{most_terms, span}
-use Rattle.model_types.specs.declared.Term.{Term}
-use Rattle.model_types.specs.declared.Model.{Model}
-use Rattle.model_types.specs.ModelStruct.{view}
+use Rattle.model_slices.specs.model_types.declared.Term.{Term}
+use Rattle.model_slices.specs.model_types.declared.Model.{Model}
+use Rattle.model_slices.specs.model_types.ModelStruct.{view}
 use Rattle.model_slices.specs.HeldModels.{held, Room}
 use Rattle.model_slices.specs.HeldModelsLaws.{held_whole, held_at}
 use Rattle.model_limits.specs.LimitLaws as L

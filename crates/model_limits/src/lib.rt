@@ -4,11 +4,12 @@ ghost use Rattle.numbers.specs.Fixed.{span_limit};
 ghost use Rattle.calculus.specs.Model.{span};
 ghost use Rattle.calculus.specs.Refusal.{at_place};
 ghost use Rattle.calculus.specs.Operations.{limited, widen};
-ghost use Rattle.model_types.specs.ModelStruct.{view, answer};
+ghost use Rattle.model_slices.specs.model_types.ModelStruct.{view, answer};
 ghost use Rattle.model_slices.specs.HeldModels.{model_places, held, Room};
 ghost use Rattle.model_limits.specs.Limits.{Packed, LeftIn};
 
-use model_types::{Answer, Model, Refusal, Verdict};
+use model_slices::model_types;
+use model_slices::model_types::{Answer, Model, Refusal, Verdict};
 
 // What is left of a model whose terms lie in two slices, or the refusal.
 #[derive(Clone, Copy)]

@@ -5,8 +5,8 @@ use Rattle.calculus.specs.Model.{most_terms}
 use Rattle.model_types.specs.declared.Model.{Model}
 use Rattle.model_types.specs.ModelStructLaws.{limits}
 use Rattle.product_hash_collect.specs.CollectorContracts.{ScratchTable}
-use Rattle.product_room.specs.ProductTerms.{ScratchRoom}
-use Rattle.product_room.specs.ProductTermsLaws.{scratch_room}
+use Rattle.product_slices.specs.product_room.ProductTerms.{ScratchRoom}
+use Rattle.product_slices.specs.product_room.ProductTermsLaws.{scratch_room}
 use Rattle.product_answer.specs.ProductFactors.{Factors}
 
 pub factors_room : {d : ℕ} {f g : Model} {slots keys : List ℕ} {sums : List ℤ} → Factors d f g

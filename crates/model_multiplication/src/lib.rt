@@ -7,7 +7,7 @@ ghost use Rattle.calculus.specs.Operations.{multiply};
 ghost use Rattle.calculus.specs.Shares.{product_shares};
 ghost use Rattle.model_types.specs.ModelStruct.{view, answer};
 ghost use Rattle.model_types.specs.SharesStruct.{accounted};
-ghost use Rattle.product_room.specs.ProductTerms.{ScratchRoom};
+ghost use Rattle.product_slices.specs.product_room.ProductTerms.{ScratchRoom};
 ghost use Rattle.product_answer.specs.ProductFactors.{Factors};
 
 use model_types::{Accounted, Answer, Model};

@@ -6,7 +6,7 @@ use Rattle.model_types.specs.declared.Answer.{Answer}
 use Rattle.model_types.specs.declared.Verdict.{Verdict}
 use Rattle.model_types.specs.declared.Verdict.TheVariants.{Accepted, Refused}
 use Rattle.model_types.specs.ModelStruct.{view, pack}
-use Rattle.model_slices.specs.HeldModels.{held}
+use Rattle.model_limits.specs.model_slices.HeldModels.{held}
 use Rattle.model_limits.specs.declared.Left.{Left}
 use Rattle.model_places.specs.SlicePlaces.{Places}
 

@@ -18,8 +18,8 @@ use Rattle.model_types.specs.declared.Verdict.TheVariants.{Accepted, Refused}
 use Rattle.model_types.specs.Arrays.{padded}
 use Rattle.model_types.specs.ModelStruct.{view, pad, pack, answer, cause, paired, listed}
 use Rattle.model_types.specs.ModelStructLaws.{Limits, limits, within_span, refusal_cause}
-use Rattle.model_slices.specs.HeldModels.{held, Room}
-use Rattle.model_slices.specs.HeldModelsLaws.{own_view}
+use Rattle.model_limits.specs.model_slices.HeldModels.{held, Room}
+use Rattle.model_limits.specs.model_slices.HeldModelsLaws.{own_view}
 use Rattle.model_limits.specs.declared.Left.{Left}
 use Rattle.model_places.specs.LeftModels.{Lies, Zeros, left_model, unless_refused, left_answer}
 use Rattle.model_places.specs.SlicePlacesLaws.{room_places, places_long, places_at}

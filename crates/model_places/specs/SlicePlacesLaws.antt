@@ -12,10 +12,10 @@ use Rattle.model_types.specs.ArrayLaws.{length_padded, take_padded}
 use Rattle.model_types.specs.ModelStruct.{zero_term, view_term, view, pad, pack, paired, listed, of_terms}
 use Rattle.model_types.specs.ModelStructLaws.{view_is, pack_view}
 use Rattle.model_types.specs.PairedLaws.{paired_of}
-use Rattle.model_slices.specs.HandedModels.{terms_of, handed}
-use Rattle.model_slices.specs.HandedModelsLaws.{length_terms, terms_paired, taken_view}
-use Rattle.model_slices.specs.HeldModels.{held, Room}
-use Rattle.model_slices.specs.HeldModelsLaws.{pair}
+use Rattle.model_limits.specs.model_slices.HandedModels.{terms_of, handed}
+use Rattle.model_limits.specs.model_slices.HandedModelsLaws.{length_terms, terms_paired, taken_view}
+use Rattle.model_limits.specs.model_slices.HeldModels.{held, Room}
+use Rattle.model_limits.specs.model_slices.HeldModelsLaws.{pair}
 use Rattle.model_places.specs.SlicePlaces.{Places}
 
 -- slices of 64 places have those that a count names

@@ -1,0 +1,2 @@
+// Handed on: crates above name these through this crate.
+pub use model_limits;

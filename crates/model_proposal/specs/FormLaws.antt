@@ -24,7 +24,7 @@ use Rattle.model_types.specs.ModelStruct.{view, pack, answer}
 use Rattle.model_types.specs.ModelStructLaws.{sound_vars}
 use Rattle.model_types.specs.ResultLaws.{sound_in, sound_order, sound_struct, Holds, held_view, held_sound, held_vars}
 use Rattle.model_types.specs.ResultLaws.{taken_sound, taken_vars, taken_then, refused_then}
-use Rattle.model_addition.specs.Addition.{Operands}
+use Rattle.model_slice_results.specs.model_addition.Addition.{Operands}
 use Rattle.product_answer.specs.ProductFactors.{Factors}
 use Rattle.model_proposal.specs.Proposal.{gap, Gap, Proposal}
 

@@ -7,11 +7,14 @@ ghost use Rattle.model_types.specs.ModelStruct.{view, answer};
 ghost use Rattle.model_slices.specs.HandedModels.{handed};
 ghost use Rattle.model_slices.specs.HeldModels.{Room};
 ghost use Rattle.model_limits.specs.Limits.{LeftIn};
-ghost use Rattle.product_room.specs.ProductTerms.{ScratchRoom};
+ghost use Rattle.model_slice_results.specs.product_room.ProductTerms.{ScratchRoom};
 ghost use Rattle.product_answer.specs.ProductFactors.{Factors};
 
 use model_limits::Left;
 use model_types::{Key, MOST_TERMS, Verdict};
+
+// Handed on: crates above name these through this crate.
+pub use model_slice_results;
 
 // 1 - w × g, where w is the first and g the second in slices: its terms are left in the last two. The table is scratch
 // for the product. The model of 1 has one term, of key 0.

@@ -13,7 +13,11 @@ ghost use Rattle.model_proposal.specs.Proposal.{Proposal, quotient_products};
 ghost use Rattle.model_quotient.specs.Refusing.{Refuses};
 
 use model_limits::Left;
+use model_proposal::model_slice_results;
 use model_types::{Answer, Key, MOST_TERMS, Model, Refusal, Verdict};
+
+// Handed on: crates above name these through this crate.
+pub use model_multiplication;
 
 // The first form, w × (g × h - f): its terms are left in the last two slices. The table is scratch for both products.
 fn defect(

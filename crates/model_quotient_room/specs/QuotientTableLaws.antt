@@ -5,8 +5,8 @@ use Rattle.calculus.specs.Model.{most_terms}
 use Rattle.model_types.specs.declared.Model.{Model}
 use Rattle.model_types.specs.ModelStructLaws.{limits}
 use Rattle.product_hash_table.specs.Table.{most_entries}
-use Rattle.model_proposal.specs.Proposal.{Proposal, quotient_products}
-use Rattle.model_proposal.specs.SliceFormLaws.{products_most}
+use Rattle.model_quotient.specs.model_proposal.Proposal.{Proposal, quotient_products}
+use Rattle.model_quotient.specs.model_proposal.SliceFormLaws.{products_most}
 
 -- those of a form
 pub products_form : (g h w : ℕ) → g * h ≤ 64 * w → 64 * w ≡ quotient_products g h w

@@ -6,10 +6,14 @@ ghost use Rattle.calculus.specs.Model.{most_terms};
 ghost use Rattle.calculus.specs.Refusal.{at_place};
 ghost use Rattle.calculus.specs.Operations.{quotient};
 ghost use Rattle.model_types.specs.ModelStruct.{view, answer};
-ghost use Rattle.model_proposal.specs.Proposal.{Proposal, quotient_products};
+ghost use Rattle.model_quotient.specs.model_proposal.Proposal.{Proposal, quotient_products};
 ghost use Rattle.model_quotient_room.specs.QuotientTables.{few_products, some_products};
 
 use model_types::{Answer, MOST_TERMS, Model};
+
+// Handed on: crates above name these through this crate.
+pub use model_quotient;
+pub use model_quotient::model_multiplication;
 
 // The products that the smallest table has room for: w has up to four terms.
 pub const FEW_PRODUCTS: usize = 256;

@@ -7,10 +7,11 @@ ghost use Rattle.model_types.specs.ModelStruct.{view, answer};
 ghost use Rattle.model_slices.specs.HandedModels.{handed};
 ghost use Rattle.model_slices.specs.HeldModels.{held, Room};
 ghost use Rattle.model_limits.specs.Limits.{LeftIn};
-ghost use Rattle.product_room.specs.ProductTerms.{ScratchRoom};
+ghost use Rattle.model_horner_product.specs.product_room.ProductTerms.{ScratchRoom};
 ghost use Rattle.product_answer.specs.ProductFactors.{Factors};
 ghost use Rattle.model_slice_results.specs.Addends.{Addends};
 
+use model_horner_product::product_slices;
 use model_limits::Left;
 use model_slices::Kept;
 use model_types::{Key, MOST_TERMS, Refusal, Verdict};

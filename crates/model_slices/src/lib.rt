@@ -9,6 +9,9 @@ ghost use Rattle.model_slices.specs.HandedModels.{stored_keys, stored_coefficien
 
 use model_types::{Key, Model, Shares, Verdict};
 
+// Handed on: crates above name these through this crate.
+pub use model_types;
+
 // The answer of a product. Its terms, unless it is refused, are the first `count` of two arrays, by wide keys.
 #[derive(Clone, Copy)]
 pub struct Kept {

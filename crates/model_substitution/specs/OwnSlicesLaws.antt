@@ -29,7 +29,7 @@ use Rattle.model_slices.specs.declared.Kept.{Kept}
 use Rattle.model_slices.specs.HeldModels.{model_places, held, Room}
 use Rattle.model_slices.specs.HeldModelsLaws.{own_view}
 use Rattle.product_answer.specs.KeptProduct.{model_unless}
-use Rattle.model_horner_iteration.specs.HornerIteration.{KeptIn}
+use Rattle.model_substitution_slices.specs.model_horner_iteration.HornerIteration.{KeptIn}
 use Rattle.model_substitution_slices.specs.Substituting.{Substitution, SubstitutionOf}
 
 -- ---- the answer as a struct

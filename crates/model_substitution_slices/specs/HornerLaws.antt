@@ -28,8 +28,9 @@ use Rattle.model_types.specs.ModelStructLaws.{sound_vars}
 use Rattle.model_limits.specs.Limits.{Packed}
 use Rattle.product_answer.specs.ErrorLaws.{error_fits}
 use Rattle.model_powers.specs.PowersLaws.{part_sound}
-use Rattle.model_horner_iteration.specs.HornerIteration.{horner_iteration, Iteration}
-use Rattle.model_horner_iteration.specs.IterationLaws.{refused_accounted, accepted_shares, iteration_sound}
+use Rattle.model_widening.specs.model_horner_iteration.HornerIteration.{horner_iteration, Iteration}
+use Rattle.model_widening.specs.model_horner_iteration.IterationLaws.{refused_accounted, accepted_shares}
+use Rattle.model_widening.specs.model_horner_iteration.IterationLaws.{iteration_sound}
 use Rattle.model_substitution_slices.specs.Substituting.{Substitution}
 use Rattle.model_types.specs.ResultLaws.{Holds, held_view, held_sound, held_vars, Got, got, then_is}
 

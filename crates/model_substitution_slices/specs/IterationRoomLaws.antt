@@ -8,7 +8,7 @@ use Rattle.model_types.specs.declared.Model.{Model}
 use Rattle.model_types.specs.ModelStructLaws.{limits}
 use Rattle.product_room.specs.ProductTerms.{ScratchRoom}
 use Rattle.product_room.specs.ProductTermsLaws.{fewer_room}
-use Rattle.model_horner_iteration.specs.HornerIteration.{Iteration}
+use Rattle.model_widening.specs.model_horner_iteration.HornerIteration.{Iteration}
 
 pub iteration_room : {slots keys : List ℕ} {sums : List ℤ} {d : ℕ} {h g q : Model} → Iteration d h g q
     → ScratchRoom (most_terms * g.count) slots keys sums → ScratchRoom (h.count * g.count) slots keys sums

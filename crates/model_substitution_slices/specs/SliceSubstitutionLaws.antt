@@ -24,7 +24,7 @@ use Rattle.model_limits.specs.Limits.{Packed, LeftIn}
 use Rattle.model_limits.specs.LimitLaws.{packed_radius, limited_capped}
 use Rattle.product_room.specs.ProductTerms.{ScratchRoom}
 use Rattle.model_powers.specs.Powers.{InVariable, KeysOf, PartOf}
-use Rattle.model_horner_iteration.specs.HornerIteration.{horner_iteration, IterationOf, KeptIn}
+use Rattle.model_widening.specs.model_horner_iteration.HornerIteration.{horner_iteration, IterationOf, KeptIn}
 use Rattle.model_substitution_slices.specs.Substituting.{Substitution, SubstitutionOf}
 use Rattle.model_substitution_slices.specs.IterationRoomLaws.{iteration_room}
 use Rattle.model_substitution_slices.specs.HornerLaws as H

@@ -7,12 +7,13 @@ ghost use Rattle.model_types.specs.ModelStruct.{view};
 ghost use Rattle.model_types.specs.SharesStruct.{accounted};
 ghost use Rattle.product_room.specs.ProductTerms.{ScratchRoom};
 ghost use Rattle.model_slices.specs.HeldModels.{held, Room};
-ghost use Rattle.model_horner_iteration.specs.HornerIteration.{KeptIn};
+ghost use Rattle.model_widening.specs.model_horner_iteration.HornerIteration.{KeptIn};
 ghost use Rattle.model_substitution_slices.specs.Substituting.{SubstitutionOf};
 
 use model_powers::Powers;
 use model_slices::Kept;
 use model_types::{Key, Shares, Verdict};
+use model_widening::model_horner_iteration;
 
 // g in the place of variable i of f, with order d: Horner's rule from the highest power down, with the shares of its
 // last product and the radius of f. What is left goes into the slices after the table; the others are at hand for each

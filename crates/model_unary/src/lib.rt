@@ -10,7 +10,7 @@ ghost use Rattle.model_slices.specs.HandedModels.{over};
 ghost use Rattle.model_slices.specs.HeldModels.{held};
 ghost use Rattle.model_places.specs.LeftModels.{Lies, Zeros, left_answer};
 
-use model_limits::Left;
+use model_places::model_limits::Left;
 use model_types::{Accounted, Answer, Key, MOST_TERMS, Model, Verdict};
 
 // Whether a term is swept: not the constant one, and not above the threshold.

@@ -14,6 +14,9 @@ use model_limits::Left;
 use model_slices::Kept;
 use model_types::Shares;
 
+// Handed on: crates above name these through this crate.
+pub use model_horner_iteration;
+
 // U × e more under carried.
 fn carrying(e: u64, s: Shares) -> Shares
     requires carried_bound { s.carried < 2 ^ 63 }

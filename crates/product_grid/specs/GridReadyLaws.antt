@@ -16,10 +16,10 @@ use Rattle.product_grid_index.specs.Degrees.{TopDegree}
 use Rattle.product_grid_index.specs.DigitLaws.{digits_sum}
 use Rattle.product_grid_index.specs.DegreeLaws.{degree_most, degree_plus, word_plus}
 use Rattle.product_grid_fill.specs.Filling.{AllFit, SummedUp}
-use Rattle.product_rising.specs.Rising.{Scanned}
+use Rattle.product_grid_scan.specs.product_rising.Rising.{Scanned}
 use Rattle.product_grid_scan.specs.GridTerms.{ScanReady, grid_terms}
 use Rattle.product_grid.specs.GridContracts.{GridReady, Zeros}
-use Rattle.product_rising.specs.SameSumsLaws.{scanned_gathering}
+use Rattle.product_grid_scan.specs.product_rising.SameSumsLaws.{scanned_gathering}
 use Rattle.product_grid.specs.GridWalkLaws.{Keyed}
 use Rattle.product_grid.specs.GridSumsLaws.{Reached, keyed_products, sums_rising, first_distinct, same_sums}
 use Rattle.product_grid.specs.GridSumsLaws.{sums_small}

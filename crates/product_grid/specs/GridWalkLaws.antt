@@ -10,7 +10,7 @@ use Rattle.calculus_laws.specs.TestLaws.{both}
 use Rattle.calculus_laws.specs.TermsLaws.{every_head, every_tail}
 use Rattle.product_sums.specs.TermArrays.{at_key}
 use Rattle.product_sums.specs.InsertLaws.{less_key}
-use Rattle.product_rising.specs.Rising.{in_turn}
+use Rattle.product_grid_scan.specs.product_rising.Rising.{in_turn}
 use Rattle.product_grid_scan.specs.GridTerms.{steps_within, first_step, second_step, third_step, fourth_step}
 use Rattle.product_grid_scan.specs.GridTerms.{row_terms, line_terms, plane_terms, grid_terms}
 use Rattle.product_grid_scan.specs.GridTermsLaws.{steps_left}

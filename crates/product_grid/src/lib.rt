@@ -5,6 +5,7 @@ ghost use Rattle.product_sums.specs.ProductSums.{ProductGathered};
 ghost use Rattle.product_grid.specs.GridContracts.{GridReady, Zeros};
 
 use product_grid_index::Sides;
+use product_grid_scan::model_types;
 use product_sums::Gathered;
 
 // The terms that order d keeps of the products of each of the first na terms with each of the first nb, rising, with

@@ -9,6 +9,9 @@ ghost use Rattle.product_grid_scan.specs.GridTerms.{ScanReady, grid_terms};
 
 use product_sums::Gathered;
 
+// Handed on: crates above name these through this crate.
+pub use product_rising::model_types;
+
 // The count that says that a product has more terms than a model can hold.
 const TOO_MANY: usize = model_types::MOST_TERMS + 1;
 

@@ -2,10 +2,14 @@
 ghost use Rattle.std.specs.Prelude.{◌*◌};
 ghost use Rattle.product_sums.specs.TermArrays.{terms};
 ghost use Rattle.product_sums.specs.ProductSums.{ProductGathered};
-ghost use Rattle.product_hash_collect.specs.CollectorContracts.{HeldFactors, EmptyTable};
+ghost use Rattle.product_room.specs.product_hash_collect.CollectorContracts.{HeldFactors, EmptyTable};
 ghost use Rattle.product_room.specs.ProductTerms.{ScratchRoom, KeptRoom};
 
+use product_room::{product_hash_collect, product_hash_gather};
 use product_sums::Gathered;
+
+// Handed on: crates above name these through this crate.
+pub use product_room::product_grid;
 
 // What order d keeps, in a table whose slots are empty, with room for so many products.
 pub fn in_table(

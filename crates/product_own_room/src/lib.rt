@@ -3,13 +3,14 @@
 ghost use Rattle.std.specs.Prelude.{◌≡◌, ◌*◌, ◌≤◌};
 ghost use Rattle.product_sums.specs.TermArrays.{terms, scratch_places};
 ghost use Rattle.product_sums.specs.ProductSums.{ProductGathered};
-ghost use Rattle.product_hash_collect.specs.CollectorContracts.{HeldFactors};
+ghost use Rattle.product_in_table.specs.product_hash_collect.CollectorContracts.{HeldFactors};
 ghost use Rattle.product_grid_index.specs.Grid.{extents, sides_for};
-ghost use Rattle.product_room.specs.ProductTerms.{half_products, few_products, fewest_products};
-ghost use Rattle.product_room.specs.ProductTerms.{few_places};
-ghost use Rattle.product_room.specs.ProductTerms.{KeptRoom};
+ghost use Rattle.product_in_table.specs.product_room.ProductTerms.{half_products, few_products, fewest_products};
+ghost use Rattle.product_in_table.specs.product_room.ProductTerms.{few_places};
+ghost use Rattle.product_in_table.specs.product_room.ProductTerms.{KeptRoom};
 
 use product_grid_index::Sides;
+use product_in_table::product_grid;
 use product_sums::Gathered;
 
 // For how many products the smaller tables of its own have room, and for how many the smallest.

@@ -8,6 +8,9 @@ ghost use Rattle.product_rising.specs.Rising.{Room, OneReady, Part};
 
 use product_sums::Gathered;
 
+// Handed on: crates above name these through this crate.
+pub use model_types;
+
 // The sum z of one monomial, by its key and the degree in it: rounded and put after the n that are kept, or swept. A
 // sum of 0 is rounded to 0 and leaves nothing, so nobody asks for it. Once there are too many, no more is put anywhere.
 pub fn push(

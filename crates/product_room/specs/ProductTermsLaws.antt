@@ -15,7 +15,7 @@ use Rattle.product_hash_collect.specs.CollectorContracts.{Collected, HeldFactors
 use Rattle.product_hash_collect.specs.FactorArrayLaws.{monomial_at, first_key, first_monomial, second_key}
 use Rattle.product_hash_collect.specs.FactorArrayLaws.{second_monomial}
 use Rattle.product_hash_collect.specs.FactorArrayLaws.{factors_size, factors_keys, first_keys_rise, second_keys_rise}
-use Rattle.product_rising.specs.Rising.{Room, OneReady}
+use Rattle.product_grid.specs.product_rising.Rising.{Room, OneReady}
 use Rattle.product_grid_index.specs.declared.Extents.{Extents}
 use Rattle.product_grid_index.specs.declared.Sides.{Sides}
 use Rattle.product_grid_index.specs.Grid.{Low, extents, sides_for, place, Gridded}

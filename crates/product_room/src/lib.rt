@@ -1,0 +1,4 @@
+// Handed on: crates above name these through this crate.
+pub use product_grid;
+pub use product_hash_collect;
+pub use product_hash_collect::product_hash_gather;

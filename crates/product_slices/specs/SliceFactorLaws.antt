@@ -19,8 +19,8 @@ use Rattle.model_types.specs.SharesStruct.{accounted}
 use Rattle.model_slices.specs.HandedModels.{handed}
 use Rattle.product_sums.specs.declared.Gathered.{Gathered}
 use Rattle.product_sums.specs.ProductSums.{ProductGathered}
-use Rattle.product_hash_collect.specs.CollectorContracts.{HeldFactors}
-use Rattle.product_hash_collect.specs.FactorArrayLaws.{sums_answer}
+use Rattle.product_terms.specs.product_hash_collect.CollectorContracts.{HeldFactors}
+use Rattle.product_terms.specs.product_hash_collect.FactorArrayLaws.{sums_answer}
 use Rattle.product_answer.specs.CollectedProduct.{Product}
 use Rattle.product_answer.specs.ProductFactors.{Factors, Unpacked}
 use Rattle.product_slices.specs.HandedTerms.{Handed}

@@ -7,7 +7,7 @@ ghost use Rattle.calculus.specs.Shares.{product_shares};
 ghost use Rattle.model_types.specs.ModelStruct.{view};
 ghost use Rattle.model_types.specs.SharesStruct.{accounted};
 ghost use Rattle.model_slices.specs.HandedModels.{handed, stored_keys, stored_coefficients};
-ghost use Rattle.product_room.specs.ProductTerms.{ScratchRoom, KeptRoom};
+ghost use Rattle.product_terms.specs.product_room.ProductTerms.{ScratchRoom, KeptRoom};
 ghost use Rattle.product_answer.specs.ProductFactors.{Factors, Unpacked};
 ghost use Rattle.product_slices.specs.HandedTerms.{Handed};
 ghost use Rattle.product_answer.specs.KeptProduct.{kept_model, kept_accounted, KeptReady};
@@ -17,6 +17,7 @@ ghost use Rattle.product_slices.specs.KeptPlaces.{zeroed};
 use model_keys::Key;
 pub use model_slices::Kept;
 use model_types::{Accounted, Verdict};
+use product_terms::product_strategy;
 
 // ---- the factors
 // The terms of a model go into an array by their wide keys; the sum of their |c|. The coefficients stay where they are.

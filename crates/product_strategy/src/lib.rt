@@ -3,12 +3,13 @@
 ghost use Rattle.std.specs.Prelude.{◌≡◌, true, ◌*◌, ◌≤◌};
 ghost use Rattle.product_hash_table.specs.Table.{most_entries};
 ghost use Rattle.product_sums.specs.TermArrays.{scratch_places};
-ghost use Rattle.product_hash_collect.specs.CollectorContracts.{HeldFactors};
+ghost use Rattle.product_in_table.specs.product_hash_collect.CollectorContracts.{HeldFactors};
 ghost use Rattle.product_grid_index.specs.Grid.{extents, sides_for};
 ghost use Rattle.product_sums.specs.ProductSums.{ProductGathered};
-ghost use Rattle.product_room.specs.ProductTerms.{ScratchRoom, KeptRoom};
+ghost use Rattle.product_in_table.specs.product_room.ProductTerms.{ScratchRoom, KeptRoom};
 
 use product_grid_index::Sides;
+use product_in_table::product_grid;
 use product_sums::Gathered;
 
 // How many places a grid may have for each product of two terms: a larger one takes longer to empty and to scan than a

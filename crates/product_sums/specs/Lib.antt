@@ -16,3 +16,5 @@ pub mod AccumulatedAllLaws
 pub mod ChangeLaws
 pub mod OccurrenceLaws
 pub mod ProductAnswerLaws
+-- Handed on: crates above name these through this crate.
+pub use Rattle.calculus_laws.specs as calculus_laws

@@ -3,11 +3,14 @@
 // where they are not.
 ghost use Rattle.product_sums.specs.TermArrays.{terms};
 ghost use Rattle.product_sums.specs.ProductSums.{ProductGathered};
-ghost use Rattle.product_hash_collect.specs.CollectorContracts.{HeldFactors};
-ghost use Rattle.product_room.specs.ProductTerms.{KeptRoom};
+ghost use Rattle.product_own_room.specs.product_hash_collect.CollectorContracts.{HeldFactors};
+ghost use Rattle.product_own_room.specs.product_room.ProductTerms.{KeptRoom};
 
 use product_grid_index::Sides;
 use product_sums::Gathered;
+
+// Handed on: crates above name these through this crate.
+pub use product_strategy;
 
 // What is kept of products that are summed, in a grid or in a table. (A function of its own, so that the compiler puts
 // the arrays of all sizes into one frame, and not one upon another.)

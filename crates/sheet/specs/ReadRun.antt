@@ -8,7 +8,7 @@ use Rattle.format.specs.HeldBook.{HeldBook, view_book, HeldPasses}
 use Rattle.sheet_book.specs.declared.Report.{Report}
 use Rattle.sheet_book.specs.SummaryStruct.{run_answer}
 use Rattle.sheet_book.specs.ReportStruct.{report}
-use Rattle.sheet_running.specs.declared.Ran.{Ran}
+use Rattle.sheet_run_bytes.specs.sheet_running.declared.Ran.{Ran}
 use Rattle.sheet_run_bytes.specs.RunBytes.{ran_read}
 
 -- the run of what was read

@@ -44,7 +44,7 @@ use Rattle.sheet_book.specs.declared.Summary.{Summary}
 use Rattle.sheet_book.specs.SummaryStruct.{stored_ends, stored_exact, ends_of, exact_of, summary_of}
 use Rattle.sheet_book.specs.SummaryStruct.{refused_summary, run_answer}
 use Rattle.sheet_book.specs.SummaryStructLaws.{answer_number}
-use Rattle.sheet_run_laws.specs.RunLaws.{in_limits_of}
+use Rattle.sheet_run_bytes.specs.sheet_run_laws.RunLaws.{in_limits_of}
 use Rattle.sheet.specs.Sheet.{Encloses}
 use Rattle.sheet.specs.SheetLaws.{exact_result}
 use Rattle.sheet.specs.Refuted.{Program, are_bytes, ExactProgram, Enclosing, model_by, AcceptedSheet, book_of}

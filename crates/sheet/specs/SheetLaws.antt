@@ -37,11 +37,11 @@ use Rattle.sheet_book.specs.SummaryStructLaws.{summary_back}
 use Rattle.sheet.specs.ReadRun.{run_read, report_read, RunOf}
 use Rattle.sheet_run_bytes.specs.RunBytes.{ran_read, ran_sheet}
 use Rattle.sheet.specs.Sheet.{run_held, rows_held, Encloses, EnclosesBook}
-use Rattle.model.specs.OperationLaws.{sound_order}
-use Rattle.sheet_running.specs.declared.Ran.{Ran}
-use Rattle.sheet_run_laws.specs.LastResult.{last_result}
-use Rattle.sheet_running.specs.Running.{ran}
-use Rattle.sheet_run_laws.specs.RunLaws.{in_limits_of}
+use Rattle.sheet_summary.specs.model.OperationLaws.{sound_order}
+use Rattle.sheet_run_bytes.specs.sheet_running.declared.Ran.{Ran}
+use Rattle.sheet_run_bytes.specs.sheet_run_laws.LastResult.{last_result}
+use Rattle.sheet_run_bytes.specs.sheet_running.Running.{ran}
+use Rattle.sheet_run_bytes.specs.sheet_run_laws.RunLaws.{in_limits_of}
 
 -- ---- the result of a held book that passes is sound
 module _ (h : HeldBook) (p : HeldPasses h) (s : B.Summary) (e : run_sound (view_book h) ≡ done s) where

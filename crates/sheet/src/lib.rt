@@ -15,7 +15,9 @@ ghost use Rattle.sheet.specs.ReadRun.{report_read, RunOf};
 pub use model_types::{Model, Refusal, Shares, Verdict};
 pub use sheet_book::{Book, Ends, Kind, Read, Report, Start, Step, Summary, Written};
 pub use sheet_records::{Opened, Records};
-use sheet_running::Ran;
+use sheet_run_bytes::sheet_running;
+use sheet_run_bytes::sheet_running::Ran;
+use sheet_writer::sheet_book_tests;
 
 // ---- reading, writing and stepping: made in crates of their own
 // A sheet's book, or the first refusal of tests 1 to 6 in their order, with a book of zeros.

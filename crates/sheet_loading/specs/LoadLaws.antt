@@ -19,10 +19,11 @@ use Rattle.format.specs.Bytes.{byte, u32}
 use Rattle.format.specs.HeldBook.{HeldModel, view_model}
 use Rattle.format.specs.Format.{read_model}
 use Rattle.sheet_book.specs.BookStruct.{stored_term, stored_model}
-use Rattle.sheet_walk.specs.Walk.{held_keys, held_coefficients, RecordRead, Walk, walk, models_walked}
-use Rattle.sheet_walk.specs.TermWalkLaws.{view_stored, held_struct, count_at}
-use Rattle.sheet_walk.specs.ModelWalkLaws.{ModelsSoFar, Ends, models_first, models_iteration, walk_place}
-use Rattle.sheet_walk.specs.ModelWalkLaws.{walk_after, read_passed, sound_few}
+use Rattle.sheet_read_walk.specs.sheet_walk.Walk.{held_keys, held_coefficients, RecordRead, Walk, walk, models_walked}
+use Rattle.sheet_read_walk.specs.sheet_walk.TermWalkLaws.{view_stored, held_struct, count_at}
+use Rattle.sheet_read_walk.specs.sheet_walk.ModelWalkLaws.{ModelsSoFar, Ends, models_first, models_iteration}
+use Rattle.sheet_read_walk.specs.sheet_walk.ModelWalkLaws.{walk_place}
+use Rattle.sheet_read_walk.specs.sheet_walk.ModelWalkLaws.{walk_after, read_passed, sound_few}
 use Rattle.sheet_results.specs.Results.{Results, results, Roomy, held_result, spliced, with_result}
 use Rattle.sheet_results.specs.ResultsLaws.{spliced_part, length_spliced, result_here, result_other, roomy_still}
 use Rattle.sheet_results.specs.ResultsLaws.{roomy_less}

@@ -23,8 +23,8 @@ use Rattle.sheet_book.specs.BookStruct.{no_step, held_step, stored_step}
 use Rattle.sheet_book.specs.BookStructLaws.{held_stored_step}
 use Rattle.sheet_decode.specs.declared.Trailer.{Trailer}
 use Rattle.sheet_decode.specs.Trailer.{held_trailer}
-use Rattle.sheet_walk.specs.declared.ModelsWalked.{ModelsWalked}
-use Rattle.sheet_walk.specs.Walk.{walk, models_walked, steps_walked}
+use Rattle.sheet_read_walk.specs.sheet_walk.declared.ModelsWalked.{ModelsWalked}
+use Rattle.sheet_read_walk.specs.sheet_walk.Walk.{walk, models_walked, steps_walked}
 use Rattle.sheet_tests.specs.RecordTestLaws.{gone, with_models, all_passed, model_fault, bytes_left, step_fault}
 use Rattle.sheet_tests.specs.RecordTestLaws.{whole_sheet}
 use Rattle.sheet_read_walk.specs.declared.StepsRead.{StepsRead}

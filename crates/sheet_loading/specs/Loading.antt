@@ -7,8 +7,8 @@ use Rattle.model_types.specs.declared.Verdict.TheVariants.{Accepted, Refused}
 use Rattle.model_types.specs.declared.Refusal.TheVariants.{BadModel, BadStep}
 use Rattle.model_types.specs.ModelStruct.{view, verdict}
 use Rattle.format.specs.HeldBook.{HeldModel, HeldBook, view_model}
-use Rattle.sheet_walk.specs.declared.ModelsWalked.{ModelsWalked}
-use Rattle.sheet_walk.specs.Walk.{walk, models_walked}
+use Rattle.sheet_read_walk.specs.sheet_walk.declared.ModelsWalked.{ModelsWalked}
+use Rattle.sheet_read_walk.specs.sheet_walk.Walk.{walk, models_walked}
 use Rattle.sheet_results.specs.Results.{Results, Roomy, held_result}
 use Rattle.sheet_run_laws.specs.Run as R
 use Rattle.sheet_run_laws.specs.Run.{SameSteps}

@@ -9,8 +9,12 @@ ghost use Rattle.sheet_loading.specs.Loading.{ModelsLoaded, fault_of, RecordsLoa
 
 use model_types::{Key, Refusal, Verdict};
 use sheet_decode::Trailer;
+use sheet_read_walk::sheet_walk;
+use sheet_read_walk::sheet_walk::ModelsWalked;
 use sheet_run_laws::StepList;
-use sheet_walk::ModelsWalked;
+
+// Handed on: crates above name these through this crate.
+pub use sheet_tests;
 
 // What is left of a sheet once its models stand in slices: its steps, and the verdict of tests 5 and 6.
 #[derive(Clone, Copy)]

@@ -2,3 +2,5 @@
 pub mod KeptRecords
 -- Laws: what they keep, iteration by iteration.
 pub mod KeptLaws
+-- Handed on: crates above name these through this crate.
+pub use Rattle.sheet_walk.specs as sheet_walk

@@ -8,6 +8,9 @@ ghost use Rattle.sheet_read_walk.specs.KeptRecords.{models_read, steps_read};
 use model_types::{Key, Model};
 use sheet_book::Step;
 
+// Handed on: crates above name these through this crate.
+pub use sheet_walk;
+
 // How far the records of models go: the number of the first faulty one or that of all, the place after the others, and
 // these.
 #[derive(Clone, Copy)]

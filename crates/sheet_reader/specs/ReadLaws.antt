@@ -10,8 +10,8 @@ use Rattle.format.proofs.WriteBackLaws.{length_read_steps}
 use Rattle.sheet_book.specs.BookStruct.{no_model, no_step, stored_model, stored_step, stored_book, read_answer}
 use Rattle.sheet_decode.specs.declared.Trailer.{Trailer}
 use Rattle.sheet_decode.specs.Trailer.{held_trailer}
-use Rattle.sheet_walk.specs.declared.ModelsWalked.{ModelsWalked}
-use Rattle.sheet_walk.specs.Walk.{models_walked, steps_walked}
+use Rattle.sheet_read_walk.specs.sheet_walk.declared.ModelsWalked.{ModelsWalked}
+use Rattle.sheet_read_walk.specs.sheet_walk.Walk.{models_walked, steps_walked}
 use Rattle.sheet_tests.specs.RecordTestLaws.{gone, all_passed, whole_sheet}
 use Rattle.sheet_read_walk.specs.declared.ModelsRead.{ModelsRead}
 use Rattle.sheet_read_walk.specs.declared.StepsRead.{StepsRead}

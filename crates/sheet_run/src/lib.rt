@@ -1,12 +1,12 @@
 // The steps of a book in order: each after the results so far, until the last or until one is refused. The book's
 // models and the results stand in flat slices, and a step copies only those that it names. All products share one
 // table: a small one first, a larger one from the first step on that needs it, and so the full one.
-ghost use Rattle.model.specs.OperationContracts.{most_entries};
+ghost use Rattle.sheet_run_tables.specs.model.OperationContracts.{most_entries};
 ghost use Rattle.sheet_results.specs.Results.{results};
-ghost use Rattle.sheet_run_laws.specs.Run.{Part, Stopped};
+ghost use Rattle.sheet_run_tables.specs.sheet_run_laws.Run.{Part, Stopped};
 
 use model_types::{Key, Verdict};
-use sheet_run_laws::{StepList, Stop};
+use sheet_run_tables::sheet_run_laws::{StepList, Stop};
 
 // The steps from one on, with the middle table and, where that does not serve, from there on with the full one. (It
 // calls itself, since the compiler then leaves both tables in frames of their own: a run needs no more stack than for

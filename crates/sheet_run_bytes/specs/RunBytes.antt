@@ -6,7 +6,7 @@ use Rattle.model_types.specs.ModelStruct.{answer}
 use Rattle.model_types.specs.SharesStruct.{stored_shares}
 use Rattle.format.specs.HeldBook.{HeldBook, view_book}
 use Rattle.format.specs.Format.{read}
-use Rattle.sheet_run_laws.specs.LastResult.{last_result}
+use Rattle.sheet_loading.specs.sheet_run_laws.LastResult.{last_result}
 use Rattle.sheet_running.specs.declared.Ran.{Ran}
 
 -- of what was read: the last result of a book, or the refusal of a test or a step; and the rows, all zeros where a test

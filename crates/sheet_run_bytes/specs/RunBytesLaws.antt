@@ -18,12 +18,12 @@ use Rattle.format.proofs.WriteBackLaws.{read_passes}
 use Rattle.sheet_book.specs.TestedLaws.{IsDone, accepted_done, refused_stopped}
 use Rattle.sheet_decode.specs.declared.Trailer.{Trailer}
 use Rattle.sheet_decode.specs.Trailer.{held_trailer}
-use Rattle.sheet_tests.specs.HeadedLaws.{HeadPasses, head_refused}
-use Rattle.sheet_tests.specs.Headed.{headed}
-use Rattle.sheet_tests.specs.RecordTestLaws.{trailer_limits}
+use Rattle.sheet_loading.specs.sheet_tests.HeadedLaws.{HeadPasses, head_refused}
+use Rattle.sheet_loading.specs.sheet_tests.Headed.{headed}
+use Rattle.sheet_loading.specs.sheet_tests.RecordTestLaws.{trailer_limits}
 use Rattle.sheet_results.specs.Results.{Results, results, Roomy}
 use Rattle.sheet_results.specs.ResultsLaws.{roomy_zeros}
-use Rattle.sheet_run_laws.specs.Run.{Prepared}
+use Rattle.sheet_loading.specs.sheet_run_laws.Run.{Prepared}
 use Rattle.sheet_running.specs.declared.Ran.{Ran}
 use Rattle.sheet_running.specs.Running.{few_steps, ran}
 use Rattle.sheet_loading.specs.declared.Loaded.{Loaded}

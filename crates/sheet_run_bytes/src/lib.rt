@@ -4,14 +4,18 @@ ghost use Rattle.std.specs.Prelude.{◌≡◌, ◌+◌, ◌≤◌};
 ghost use Rattle.calculus.specs.Refusal.{stopped};
 ghost use Rattle.calculus.specs.Book.{most_models};
 ghost use Rattle.model_types.specs.ModelStruct.{cause};
-ghost use Rattle.sheet_tests.specs.HeadedLaws.{HeadPasses};
+ghost use Rattle.sheet_loading.specs.sheet_tests.HeadedLaws.{HeadPasses};
 ghost use Rattle.sheet_results.specs.Results.{results, Roomy};
 ghost use Rattle.sheet_running.specs.Running.{few_steps};
 ghost use Rattle.sheet_run_bytes.specs.RunBytes.{ran_read, ran_sheet};
 
 use model_types::{Key, Refusal, Shares, Verdict};
 use sheet_decode::Trailer;
+use sheet_loading::sheet_tests;
 use sheet_running::Ran;
+
+// Handed on: crates above name these through this crate.
+pub use sheet_running;
 
 // The places of a short run and of any other, a model or a result each, and their terms. The arrays of a short run are
 // shorter, since an array is filled with zeros first.

@@ -5,6 +5,11 @@ ghost use Rattle.sheet_run_laws.specs.Run.{InputStep, Iterated};
 
 use model_types::{Key, Verdict};
 use sheet_book::Step;
+use sheet_run_laws::sheet_steps;
+
+// Handed on: crates above name these through this crate.
+pub use sheet_run_laws;
+pub use sheet_run_laws::model;
 
 // An input: the model that it names is its result, all of its radius carried.
 pub fn input_step(

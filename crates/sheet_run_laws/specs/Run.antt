@@ -17,7 +17,7 @@ use Rattle.model_types.specs.declared.Verdict.TheVariants.{Accepted, Refused}
 use Rattle.model_types.specs.Arrays.{first_places}
 use Rattle.model_types.specs.ModelStruct.{view, cause}
 use Rattle.model_types.specs.SharesStruct.{stored_shares}
-use Rattle.model.specs.OperationContracts.{Proposal, quotient_products}
+use Rattle.sheet_steps.specs.model.OperationContracts.{Proposal, quotient_products}
 use Rattle.format.specs.HeldBook.{HeldStep, HeldBook, view_book, HeldPasses}
 use Rattle.sheet_book.specs.BookStruct.{no_step, held_step}
 use Rattle.sheet_results.specs.Results.{Results, Roomy, held_result, row_at, most_row_numbers}
@@ -27,7 +27,7 @@ use Rattle.sheet_run_laws.specs.LastResult.{last_result}
 -- the codes of steps that a run tells apart
 pub use Rattle.sheet_steps.specs.Steps.{input_code, multiply_code, substitute_code, quotient_code}
 -- the scratch memory for so many products, and how many the full table has room for
-pub use Rattle.model.specs.OperationContracts.{ScratchRoom, most_entries}
+pub use Rattle.sheet_steps.specs.model.OperationContracts.{ScratchRoom, most_entries}
 
 -- ---- a book whose models stand in flat slices
 -- the steps that a list of steps holds: places beyond the count are not looked at

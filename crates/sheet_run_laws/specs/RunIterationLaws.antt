@@ -23,10 +23,10 @@ use Rattle.model_types.specs.ModelStruct.{view, cause, answer}
 use Rattle.model_types.specs.ModelStructLaws.{length_view}
 use Rattle.model_types.specs.SharesStruct.{accounted}
 use Rattle.model_slices.specs.HandedModels.{handed}
-use Rattle.model.specs.OperationContracts.{Factors, Proposal}
-use Rattle.model.specs.OperationLaws.{fewer_room, copied_proposal, bare_proposal, bare_quotient}
+use Rattle.sheet_steps.specs.model.OperationContracts.{Factors, Proposal}
+use Rattle.sheet_steps.specs.model.OperationLaws.{fewer_room, copied_proposal, bare_proposal, bare_quotient}
 -- the scratch memory still serves as long as the slices keep their lengths
-pub use Rattle.model.specs.OperationLaws.{free_room}
+pub use Rattle.sheet_steps.specs.model.OperationLaws.{free_room}
 use Rattle.format.specs.HeldBook.{HeldStep, HeldBook}
 use Rattle.sheet_results.specs.Results.{Results, Roomy, held_result, settled_results, settled_rows, most_row_numbers}
 use Rattle.sheet_results.specs.ResultsLaws.{roomy_less}

@@ -46,8 +46,8 @@ use Rattle.model_types.specs.SharesStruct.{stored_shares, accounted}
 use Rattle.model_types.specs.ResultLaws.{sound_in}
 use Rattle.model_types.specs.ModelStructLaws.{cause_refusal, vars_within, listed_pack}
 use Rattle.model_slices.specs.HandedModels.{handed}
-use Rattle.model.specs.OperationContracts.{Factors, Proposal}
-use Rattle.model.specs.OperationLaws.{sound_order, Holds, held_vars, held_view, held_sound, Got, got}
+use Rattle.sheet_steps.specs.model.OperationContracts.{Factors, Proposal}
+use Rattle.sheet_steps.specs.model.OperationLaws.{sound_order, Holds, held_vars, held_view, held_sound, Got, got}
 use Rattle.format.proofs.SmallLaws.{under_cond}
 use Rattle.format.specs.HeldBook.{HeldStep, HeldBook, view_model, view_step, view_book, outline, outline_of}
 use Rattle.format.specs.HeldBook.{held_step_sound, HeldPasses}

@@ -3,6 +3,10 @@
 use model_types::Verdict;
 use sheet_book::Step;
 
+// Handed on: crates above name these through this crate.
+pub use sheet_steps;
+pub use sheet_steps::model;
+
 // What is left of a book when its models stand in flat slices: n, the order d and the first `count` of its steps.
 #[derive(Clone, Copy)]
 pub struct StepList {

@@ -1,9 +1,13 @@
 // The steps of a book in order, each after the results so far, as far as the scratch memory for products serves.
 ghost use Rattle.sheet_results.specs.Results.{results};
-ghost use Rattle.sheet_run_laws.specs.Run.{ScratchRoom, Part, Stopped};
+ghost use Rattle.sheet_run_room.specs.sheet_run_laws.Run.{ScratchRoom, Part, Stopped};
 
 use model_types::{Key, Verdict};
-use sheet_run_laws::{StepList, Stop};
+use sheet_run_room::sheet_run_laws::{StepList, Stop};
+
+// Handed on: crates above name these through this crate.
+pub use sheet_run_room::sheet_run_laws;
+pub use sheet_run_steps::model;
 
 // The steps from one on, until the end, a refusal, or a step that asks more room than there is.
 pub fn steps(

@@ -10,6 +10,9 @@ use model_types::Key;
 use sheet_book::Book;
 use sheet_run_laws::StepList;
 
+// Handed on: crates above name these through this crate.
+pub use sheet_run_laws;
+
 // The models, one after the other; and the steps.
 pub fn load(
     b: Book,

@@ -2,12 +2,13 @@
 ghost use Rattle.std.specs.Prelude.{◌≡◌};
 ghost use Rattle.sheet_book.specs.BookStruct.{held_step};
 ghost use Rattle.sheet_results.specs.Results.{results};
-ghost use Rattle.sheet_steps.specs.Steps.{names_second};
+ghost use Rattle.sheet_run_laws.specs.sheet_steps.Steps.{names_second};
 ghost use Rattle.sheet_run_laws.specs.Run.{Iteration, Iterated, Served};
 ghost use Rattle.sheet_run_laws.specs.Run.{input_code, multiply_code, quotient_code};
 
 use model_types::{Key, Verdict};
 use sheet_book::Step;
+use sheet_run_laws::sheet_steps;
 
 // Whether a step, a quotient apart, names a second result.
 fn names_second(code: u8) -> bool

@@ -1,11 +1,14 @@
 // Whether a table for products serves a step.
 ghost use Rattle.std.specs.Prelude.{◌≡◌, true, ◌≤◌, leb};
 ghost use Rattle.calculus.specs.Model.{most_terms};
-ghost use Rattle.model.specs.OperationContracts.{most_entries, quotient_products};
+ghost use Rattle.sheet_run_laws.specs.model.OperationContracts.{most_entries, quotient_products};
 ghost use Rattle.sheet_book.specs.BookStruct.{held_step};
 ghost use Rattle.sheet_run_laws.specs.Run.{Counted, Fit};
 
 use sheet_book::Step;
+
+// Handed on: crates above name these through this crate.
+pub use sheet_run_laws;
 
 // Whether there is room for the products of a quotient's forms, where g, h and w have so many terms.
 fn quotient_fits(g: usize, h: usize, w: usize, room: usize) -> bool

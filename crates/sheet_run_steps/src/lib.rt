@@ -4,14 +4,18 @@ ghost use Rattle.calculus.specs.Operations.{multiply};
 ghost use Rattle.calculus.specs.Shares.{product_shares};
 ghost use Rattle.model_types.specs.ModelStruct.{view, answer};
 ghost use Rattle.model_types.specs.SharesStruct.{accounted};
-ghost use Rattle.model.specs.OperationContracts.{Factors, ScratchRoom, quotient_products};
+ghost use Rattle.sheet_run_inputs.specs.model.OperationContracts.{Factors, ScratchRoom, quotient_products};
 ghost use Rattle.sheet_book.specs.BookStruct.{held_step};
 ghost use Rattle.sheet_results.specs.Results.{results, Roomy, held_result};
-ghost use Rattle.sheet_run_laws.specs.Run.{Iteration, Iterated, Served, Proposed, quotient_at};
-ghost use Rattle.sheet_run_laws.specs.Run.{multiply_code, quotient_code};
+ghost use Rattle.sheet_run_inputs.specs.sheet_run_laws.Run.{Iteration, Iterated, Served, Proposed, quotient_at};
+ghost use Rattle.sheet_run_inputs.specs.sheet_run_laws.Run.{multiply_code, quotient_code};
 
 use model_types::{Accounted, Answer, Key, Verdict};
 use sheet_book::Step;
+use sheet_run_inputs::sheet_run_laws;
+
+// Handed on: crates above name these through this crate.
+pub use sheet_run_inputs::model;
 
 // The product of two results.
 fn product(

@@ -1,10 +1,14 @@
 // The steps of a book with scratch memory for products: a small table, a larger one, or the full one.
-ghost use Rattle.model.specs.OperationContracts.{most_entries};
+ghost use Rattle.sheet_run_loop.specs.model.OperationContracts.{most_entries};
 ghost use Rattle.sheet_results.specs.Results.{results};
-ghost use Rattle.sheet_run_laws.specs.Run.{few_products, some_products, Part, Stopped};
+ghost use Rattle.sheet_run_loop.specs.sheet_run_laws.Run.{few_products, some_products, Part, Stopped};
 
 use model_types::Key;
-use sheet_run_laws::{StepList, Stop};
+use sheet_run_loop::model;
+use sheet_run_loop::sheet_run_laws::{StepList, Stop};
+
+// Handed on: crates above name these through this crate.
+pub use sheet_run_loop::sheet_run_laws;
 
 // The products of the small table, and its size. The full one has room for those of 64 terms with 64.
 const FEW_PRODUCTS: usize = 256;

@@ -4,7 +4,7 @@ use Rattle.calculus.specs.Book.{Book}
 use Rattle.calculus.specs.Shares.{all_rows, rows_sound}
 use Rattle.model_types.specs.ModelStruct.{answer}
 use Rattle.model_types.specs.SharesStruct.{stored_shares}
-use Rattle.sheet_run_laws.specs.LastResult.{last_result}
+use Rattle.sheet_run_models.specs.sheet_run_laws.LastResult.{last_result}
 use Rattle.sheet_running.specs.declared.Ran.{Ran}
 
 -- the steps of a short run

@@ -14,11 +14,11 @@ use Rattle.model_types.specs.SharesStruct.{stored_shares}
 use Rattle.format.specs.HeldBook.{HeldBook, view_book}
 use Rattle.sheet_results.specs.Results.{Results, held_result, first_rows}
 use Rattle.sheet_step_answers.specs.Answers.{accepted_answer}
-use Rattle.sheet_run_laws.specs.declared.StepList.{StepList}
-use Rattle.sheet_run_laws.specs.declared.Stop.{Stop}
-use Rattle.sheet_run_laws.specs.Run.{most_entries, Ended, Stopped}
-use Rattle.sheet_run_laws.specs.RunLaws.{rows_are}
-use Rattle.sheet_run_laws.specs.MemoryLaws.{run_ended}
+use Rattle.sheet_run_models.specs.sheet_run_laws.declared.StepList.{StepList}
+use Rattle.sheet_run_models.specs.sheet_run_laws.declared.Stop.{Stop}
+use Rattle.sheet_run_models.specs.sheet_run_laws.Run.{most_entries, Ended, Stopped}
+use Rattle.sheet_run_models.specs.sheet_run_laws.RunLaws.{rows_are}
+use Rattle.sheet_run_models.specs.sheet_run_laws.MemoryLaws.{run_ended}
 use Rattle.sheet_running.specs.declared.Ran.{Ran}
 use Rattle.sheet_running.specs.Running.{ran}
 

@@ -3,12 +3,12 @@ ghost use Rattle.std.specs.Prelude.{◌≡◌, ◌≤◌};
 ghost use Rattle.format.specs.HeldBook.{view_book, HeldPasses};
 ghost use Rattle.sheet_book.specs.BookStruct.{held_book};
 ghost use Rattle.sheet_results.specs.Results.{results};
-ghost use Rattle.sheet_run_laws.specs.Run.{Prepared};
+ghost use Rattle.sheet_run_models.specs.sheet_run_laws.Run.{Prepared};
 ghost use Rattle.sheet_running.specs.Running.{few_steps, ran};
 
 use model_types::{Answer, Key, Shares, Verdict};
 use sheet_book::Book;
-use sheet_run_laws::StepList;
+use sheet_run_models::sheet_run_laws::StepList;
 
 // What the steps lead to: the last result, or the refusal of a step; and the rows of the steps before that one, with
 // zeros after them.

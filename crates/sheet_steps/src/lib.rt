@@ -16,6 +16,9 @@ ghost use Rattle.sheet_steps.specs.Steps.{step_answer, step_row, StepReady, Dire
 use model_types::{Accounted, Answer, Model};
 use sheet_book::Step;
 
+// Handed on: crates above name these through this crate.
+pub use model;
+
 // The codes of steps.
 pub const INPUT: u8 = 0;
 

@@ -7,6 +7,9 @@ ghost use Rattle.sheet_book.specs.BookStruct.{held_book, write_answer};
 use model_types::{Refusal, Verdict};
 use sheet_book::{Book, Written};
 
+// Handed on: crates above name these through this crate.
+pub use sheet_book_tests;
+
 // The sheet of a book, its length answered; bytes beyond that length stay. A refused write answers the length 0, and
 // all bytes stay.
 pub fn write(book: Book, buffer: &mut [u8]) -> Written

@@ -11,6 +11,9 @@ ghost use Rattle.sheet_book.specs.SummaryStruct.{summary_of};
 use model_types::{Verdict, number};
 use sheet::{Summary, run};
 
+// Handed on: crates above name these through this crate.
+pub use sheet;
+
 // No text is longer, whatever the sheet: a buffer of this length always holds the whole of it.
 pub const MOST_TEXT: usize = 4096;
 

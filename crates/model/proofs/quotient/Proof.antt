@@ -11,7 +11,7 @@ use Rattle.model_types.specs.declared.Answer.{Answer}
 use Rattle.model_types.specs.declared.Verdict.TheVariants.{Accepted}
 use Rattle.model_call_tests.specs.Admission.{dividing}
 use Rattle.model_call_tests.specs.AdmissionLaws.{dividing_passed, goes_on, is_refused}
-use Rattle.model_proposal.specs.Proposal.{Proposal}
+use Rattle.model_quotient_room.specs.model_proposal.Proposal.{Proposal}
 use Rattle.model_quotient_room.specs.QuotientTableLaws.{counts_few}
 use Rattle.model.specs.CallLaws.{quotient_is}
 use Rattle.model.proofs.quotient.Statement.{statement}

@@ -4,7 +4,7 @@ use borrow.Author.Rules.{rules}
 use lib.Dec.{leb}
 use Rattle.numbers.specs.Fixed.{span_limit}
 use Rattle.calculus.specs.Model.{most_terms, span}
-use Rattle.model_types.specs.ModelStruct.{view, cause}
+use Rattle.model_slices.specs.model_types.ModelStruct.{view, cause}
 use Rattle.model_slices.specs.HeldModels.{Room}
 use Rattle.model_slices.specs.HeldModelsLaws.{own_view}
 use Rattle.model_limits.specs.LimitLaws.{answer_within, answer_over}

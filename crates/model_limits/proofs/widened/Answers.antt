@@ -4,7 +4,7 @@ use Prim.Native.Nat.{◌+◌}
 use borrow.Author.Rules.{rules}
 use Rattle.calculus.specs.Refusal.{at_place}
 use Rattle.calculus.specs.Operations.{limited, widen}
-use Rattle.model_types.specs.ModelStruct.{view, answer}
+use Rattle.model_slices.specs.model_types.ModelStruct.{view, answer}
 use Rattle.model_limits.specs.LimitLaws.{limited_capped, packed_radius}
 use Rattle.model_limits.proofs.widened.Goals as goal
 

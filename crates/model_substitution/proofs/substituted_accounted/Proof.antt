@@ -7,7 +7,7 @@ use Rattle.calculus.specs.Operations.{range_in_box}
 use Rattle.model_types.specs.ModelStruct.{view, cause}
 use Rattle.model_types.specs.ResultLaws.{sound_order}
 use Rattle.model_slices.specs.HeldModels.{Room}
-use Rattle.model_horner_iteration.specs.HornerIteration.{KeptIn}
+use Rattle.model_substitution_slices.specs.model_horner_iteration.HornerIteration.{KeptIn}
 use Rattle.model_substitution_slices.specs.HornerLaws.{outside}
 use Rattle.model_substitution.specs.OwnSlicesLaws.{kept_answer, own_of, answers, own_answer, own_few}
 use Rattle.model_substitution.proofs.substituted_accounted.Statement.{statement}

@@ -1,11 +1,11 @@
 -- `in_table` has the products collected, and then gathered.
 use borrow.Author.Rules.{rules}
-use Rattle.product_hash_collect.specs.FactorArrayLaws.{collect_ready, gather_ready}
+use Rattle.product_room.specs.product_hash_collect.FactorArrayLaws.{collect_ready, gather_ready}
 use Rattle.product_room.specs.ProductTermsLaws.{collected_gathering}
 use Rattle.product_in_table.proofs.in_table.Reads as reads
 use Rattle.product_in_table.proofs.in_table.Lts as lts
-use Rattle.product_hash_collect.proofs.collect.Reads as collect-reads
-use Rattle.product_hash_gather.proofs.gather.Reads as gather-reads
+use Rattle.product_room.proofs.product_hash_collect.collect.Reads as collect-reads
+use Rattle.product_room.proofs.product_hash_gather.gather.Reads as gather-reads
 use Rattle.product_in_table.proofs.in_table.Goals as goal
 
 pub collect-n-requires : goal.collect-n-requires

@@ -1,8 +1,8 @@
 -- `in_half_table` makes a table of zeros.
 use borrow.Author.Rules.{rules}
 use lib.Dec.{lit≤}
-use Rattle.product_room.specs.ProductTerms.{half_products}
-use Rattle.product_room.specs.ProductTermsLaws.{zeros_empty}
+use Rattle.product_in_table.specs.product_room.ProductTerms.{half_products}
+use Rattle.product_in_table.specs.product_room.ProductTermsLaws.{zeros_empty}
 use Rattle.product_own_room.proofs.in_half_table.Reads as reads
 use Rattle.product_own_room.proofs.in_half_table.Lts as lts
 use Rattle.product_in_table.proofs.in_table.Reads as in-table-reads

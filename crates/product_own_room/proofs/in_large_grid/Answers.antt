@@ -2,11 +2,11 @@
 use native.Mathlib.Omega.{arith}
 use borrow.Author.Rules.{rules}
 use Rattle.product_sums.specs.TermArrays.{scratch_places}
-use Rattle.product_grid.specs.GridReadyLaws.{fresh_zeros}
-use Rattle.product_room.specs.ProductTermsLaws.{grid_ready}
+use Rattle.product_in_table.specs.product_grid.GridReadyLaws.{fresh_zeros}
+use Rattle.product_in_table.specs.product_room.ProductTermsLaws.{grid_ready}
 use Rattle.product_own_room.proofs.in_large_grid.Reads as reads
 use Rattle.product_own_room.proofs.in_large_grid.Lts as lts
-use Rattle.product_grid.proofs.gathered_empty.Reads as gathered-empty-reads
+use Rattle.product_in_table.proofs.product_grid.gathered_empty.Reads as gathered-empty-reads
 use Rattle.product_own_room.proofs.in_large_grid.Goals as goal
 
 pub gathered_empty-requires : goal.gathered_empty-requires

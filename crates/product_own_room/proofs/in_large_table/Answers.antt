@@ -2,7 +2,7 @@
 use borrow.Author.Rules.{rules}
 use lib.Dec.{lit≤}
 use Rattle.product_hash_table.specs.Table.{most_entries}
-use Rattle.product_room.specs.ProductTermsLaws.{zeros_empty, products_few}
+use Rattle.product_in_table.specs.product_room.ProductTermsLaws.{zeros_empty, products_few}
 use Rattle.product_own_room.proofs.in_large_table.Reads as reads
 use Rattle.product_own_room.proofs.in_large_table.Lts as lts
 use Rattle.product_in_table.proofs.in_table.Reads as in-table-reads

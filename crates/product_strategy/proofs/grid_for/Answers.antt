@@ -2,7 +2,7 @@
 use mathlib.Core.Path.{◌∙◌, ap₂}
 use borrow.Author.Rules.{rules}
 use Rattle.product_grid_index.specs.Grid.{sides_for}
-use Rattle.product_room.specs.ProductTermsLaws.{first_low, second_low}
+use Rattle.product_in_table.specs.product_room.ProductTermsLaws.{first_low, second_low}
 use Rattle.product_strategy.proofs.grid_for.Reads as reads
 use Rattle.product_strategy.proofs.grid_for.Lts as lts
 use Rattle.product_grid_index.proofs.extents_of.Reads as extents-of-reads

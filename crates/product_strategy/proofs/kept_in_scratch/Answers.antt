@@ -1,11 +1,12 @@
 -- `kept_in_scratch` chooses between one pass, a grid and a table.
 use native.Mathlib.Omega.{arith}
 use borrow.Author.Rules.{rules}
-use Rattle.product_room.specs.ProductTermsLaws.{first_one, second_one, none_kept, products_few, grid_ready}
+use Rattle.product_in_table.specs.product_room.ProductTermsLaws.{first_one, second_one, none_kept, products_few}
+use Rattle.product_in_table.specs.product_room.ProductTermsLaws.{grid_ready}
 use Rattle.product_rising.specs.OneTermLaws.{turned_gathered}
 use Rattle.product_strategy.proofs.kept_in_scratch.Reads as reads
 use Rattle.product_strategy.proofs.kept_in_scratch.Lts as lts
-use Rattle.product_grid.proofs.gathered.Reads as gathered-reads
+use Rattle.product_in_table.proofs.product_grid.gathered.Reads as gathered-reads
 use Rattle.product_rising.proofs.one_times.Reads as one-times-reads
 use Rattle.product_strategy.proofs.grid_for.Reads as grid-for-reads
 use Rattle.product_strategy.proofs.in_grid.Reads as in-grid-reads

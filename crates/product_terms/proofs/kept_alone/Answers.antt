@@ -1,7 +1,7 @@
 -- `kept_alone` chooses between one pass and sums.
 use native.Mathlib.Omega.{arith}
 use borrow.Author.Rules.{rules}
-use Rattle.product_room.specs.ProductTermsLaws.{first_one, second_one, none_kept}
+use Rattle.product_own_room.specs.product_room.ProductTermsLaws.{first_one, second_one, none_kept}
 use Rattle.product_rising.specs.OneTermLaws.{turned_gathered}
 use Rattle.product_terms.proofs.kept_alone.Reads as reads
 use Rattle.product_terms.proofs.kept_alone.Lts as lts

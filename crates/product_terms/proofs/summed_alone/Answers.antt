@@ -1,7 +1,7 @@
 -- `summed_alone` chooses between a grid and a table, each large enough.
 use native.Mathlib.Omega.{arith}
 use borrow.Author.Rules.{rules}
-use Rattle.product_room.specs.ProductTermsLaws.{products_few}
+use Rattle.product_own_room.specs.product_room.ProductTermsLaws.{products_few}
 use Rattle.product_terms.proofs.summed_alone.Reads as reads
 use Rattle.product_terms.proofs.summed_alone.Lts as lts
 use Rattle.product_strategy.proofs.grid_for.Reads as grid-for-reads

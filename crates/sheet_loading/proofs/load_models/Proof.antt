@@ -8,7 +8,7 @@ use lib.ListN.{length, drop, take, length-take, length-drop, length-set}
 use mir.Syntax.{w64}
 use mir.Val.{Fits}
 use Rattle.calculus.specs.Model.{most_terms}
-use Rattle.sheet_walk.specs.ModelWalkLaws.{models_iteration, models_fault, models_end, head_inside}
+use Rattle.sheet_read_walk.specs.sheet_walk.ModelWalkLaws.{models_iteration, models_fault, models_end, head_inside}
 use Rattle.sheet_results.specs.Results.{Results, results}
 use Rattle.sheet_loading.specs.LoadLaws.{Loading, load_first, load_iteration, load_end, load_fault}
 use Rattle.sheet_loading.specs.LoadLaws.{keys_inside, coefficients_inside, count_inside, radius_inside}

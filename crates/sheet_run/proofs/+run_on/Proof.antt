@@ -7,7 +7,7 @@ use native.Mathlib.Omega.{arith}
 use borrow.Author.Rules.{rules}
 use borrow.Fn.Kinds.{In}
 use borrow.Fn.PlainCycle.{Measures, is, falls, and}
-use Rattle.sheet_run_laws.specs.RunIterationLaws.{not_both, stopped_on}
+use Rattle.sheet_run_tables.specs.sheet_run_laws.RunIterationLaws.{not_both, stopped_on}
 use Rattle.sheet_run.proofs.run_on.Reads as run-on
 use Rattle.sheet_run.proofs.run_on.Kinds as run-on-kinds
 use Rattle.sheet_run.proofs.+run_on.Lts-run_on as run-on-lts

@@ -1,6 +1,6 @@
 -- `run` goes on with the next tables where the small one did not serve.
 use native.Mathlib.Omega.{arith}
-use Rattle.sheet_run_laws.specs.RunIterationLaws.{not_both, stopped_on}
+use Rattle.sheet_run_tables.specs.sheet_run_laws.RunIterationLaws.{not_both, stopped_on}
 use borrow.Author.Rules.{rules}
 use Rattle.sheet_run.proofs.run.Statement.{statement}
 use Rattle.sheet_run.proofs.run.Tie as tie

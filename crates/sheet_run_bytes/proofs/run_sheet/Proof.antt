@@ -4,8 +4,8 @@ use native.Mathlib.Omega.{arith}
 use borrow.Author.Rules.{rules}
 use Rattle.model_types.specs.declared.Verdict.TheVariants.{Accepted}
 use Rattle.model_types.specs.ModelStruct.{verdict}
-use Rattle.sheet_tests.specs.Headed.{headed}
-use Rattle.sheet_tests.specs.HeadedLaws.{HeadPasses, head_long, head_passes}
+use Rattle.sheet_loading.specs.sheet_tests.Headed.{headed}
+use Rattle.sheet_loading.specs.sheet_tests.HeadedLaws.{HeadPasses, head_long, head_passes}
 use Rattle.sheet_run_bytes.specs.RunBytesLaws.{head_ran}
 use Rattle.sheet_run_bytes.proofs.run_sheet.Statement.{statement}
 use Rattle.sheet_run_bytes.proofs.run_sheet.Tie as tie

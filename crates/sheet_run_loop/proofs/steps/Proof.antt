@@ -9,11 +9,12 @@ use Rattle.calculus.specs.Book.{most_steps}
 use Rattle.sheet_book.specs.declared.Step.{Step}
 use Rattle.sheet_book.specs.BookStruct.{no_step, held_step}
 use Rattle.sheet_results.specs.Results.{results}
-use Rattle.sheet_run_laws.specs.declared.StepList.{StepList}
-use Rattle.sheet_run_laws.specs.Run.{Iteration, Begun, Part, ScratchRoom}
-use Rattle.sheet_run_laws.specs.RunIterationLaws.{iteration_counted, fit_served, free_room}
-use Rattle.sheet_run_laws.specs.RunIterationLaws.{stopped_short, stopped_whole, stopped_refused, true_false}
-use Rattle.sheet_run_laws.specs.MemoryLaws.{few_steps, step_here}
+use Rattle.sheet_run_room.specs.sheet_run_laws.declared.StepList.{StepList}
+use Rattle.sheet_run_room.specs.sheet_run_laws.Run.{Iteration, Begun, Part, ScratchRoom}
+use Rattle.sheet_run_room.specs.sheet_run_laws.RunIterationLaws.{iteration_counted, fit_served, free_room}
+use Rattle.sheet_run_room.specs.sheet_run_laws.RunIterationLaws.{stopped_short, stopped_whole, stopped_refused}
+use Rattle.sheet_run_room.specs.sheet_run_laws.RunIterationLaws.{true_false}
+use Rattle.sheet_run_room.specs.sheet_run_laws.MemoryLaws.{few_steps, step_here}
 use Rattle.sheet_run_loop.proofs.steps.Statement.{statement}
 use Rattle.sheet_run_loop.proofs.steps.Tie as tie
 

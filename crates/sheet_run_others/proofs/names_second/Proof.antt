@@ -2,7 +2,7 @@
 use mathlib.Core.Path.{◌≡◌, sym}
 use borrow.Author.Tests.{le-leb, lt-leb}
 use native.Mathlib.Omega.{arith}
-use Rattle.sheet_steps.specs.Steps.{add_code, names_second}
+use Rattle.sheet_run_laws.specs.sheet_steps.Steps.{add_code, names_second}
 use Rattle.sheet_run_others.proofs.names_second.Statement.{statement}
 use Rattle.sheet_run_others.proofs.names_second.Tie as tie
 

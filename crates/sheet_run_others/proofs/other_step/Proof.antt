@@ -9,7 +9,7 @@ use Rattle.model_types.specs.declared.Model.{Model}
 use Rattle.model_types.specs.ModelStruct.{view}
 use Rattle.sheet_book.specs.BookStruct.{held_step}
 use Rattle.sheet_results.specs.Results.{Results, results, held_result}
-use Rattle.sheet_steps.specs.Steps.{negate_code, names_second}
+use Rattle.sheet_run_laws.specs.sheet_steps.Steps.{negate_code, names_second}
 use Rattle.sheet_run_laws.specs.RunIterationLaws.{iteration_small, iteration_first, iteration_second, iteration_room}
 use Rattle.sheet_run_laws.specs.RunIterationLaws.{iteration_rows}
 use Rattle.sheet_run_laws.specs.RunIterationLaws.{other_ready, other_room, other_iterated}

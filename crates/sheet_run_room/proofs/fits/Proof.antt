@@ -10,8 +10,8 @@ use mir.Syntax.{w64}
 use mir.Val.{to_z, of_z}
 use Rattle.calculus.specs.Model.{most_terms}
 use Rattle.calculus.specs.Book.{most_models}
-use Rattle.model.specs.OperationContracts.{quotient_products}
-use Rattle.model.specs.OperationLaws.{products_most}
+use Rattle.sheet_run_laws.specs.model.OperationContracts.{quotient_products}
+use Rattle.sheet_run_laws.specs.model.OperationLaws.{products_most}
 use Rattle.sheet_book.specs.BookStruct.{held_step}
 use Rattle.sheet_run_laws.specs.Run.{multiply_code, substitute_code, quotient_code, most_entries}
 use Rattle.sheet_run_laws.specs.RunIterationLaws.{products_few}

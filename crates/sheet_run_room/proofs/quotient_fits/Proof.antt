@@ -8,7 +8,7 @@ use native.Mathlib.Omega.{arith}
 use native.Mathlib.Nat as NatL
 use lib.Dec.{leb}
 use Rattle.calculus.specs.Model.{most_terms}
-use Rattle.model.specs.OperationContracts.{quotient_products}
+use Rattle.sheet_run_laws.specs.model.OperationContracts.{quotient_products}
 use Rattle.sheet_run_room.proofs.quotient_fits.Statement.{statement}
 use Rattle.sheet_run_room.proofs.quotient_fits.Tie as tie
 

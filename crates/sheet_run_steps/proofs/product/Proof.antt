@@ -8,9 +8,9 @@ use Rattle.calculus.specs.Operations.{multiply}
 use Rattle.calculus.specs.Shares.{product_shares}
 use Rattle.model_types.specs.ModelStruct.{view}
 use Rattle.model_types.specs.SharesStruct.{accounted}
-use Rattle.model.specs.OperationContracts.{Factors}
+use Rattle.sheet_run_inputs.specs.model.OperationContracts.{Factors}
 use Rattle.sheet_results.specs.Results.{Results, results}
-use Rattle.sheet_run_laws.specs.RunIterationLaws.{result_part, factors_part, part_holds}
+use Rattle.sheet_run_inputs.specs.sheet_run_laws.RunIterationLaws.{result_part, factors_part, part_holds}
 use borrow.Author.Rules.{rules}
 use Rattle.sheet_run_steps.proofs.product.Statement.{statement}
 use Rattle.sheet_run_steps.proofs.product.Tie as tie

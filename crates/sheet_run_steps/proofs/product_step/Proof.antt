@@ -2,9 +2,10 @@
 use native.Mathlib.Omega.{arith}
 use Rattle.calculus.specs.Book.{most_models}
 use Rattle.sheet_book.specs.BookStruct.{held_step}
-use Rattle.sheet_run_laws.specs.RunIterationLaws.{iteration_small, iteration_first, iteration_second, iteration_room}
-use Rattle.sheet_run_laws.specs.RunIterationLaws.{iteration_rows}
-use Rattle.sheet_run_laws.specs.RunIterationLaws.{iteration_factors, product_iterated}
+use Rattle.sheet_run_inputs.specs.sheet_run_laws.RunIterationLaws.{iteration_small, iteration_first, iteration_second}
+use Rattle.sheet_run_inputs.specs.sheet_run_laws.RunIterationLaws.{iteration_room}
+use Rattle.sheet_run_inputs.specs.sheet_run_laws.RunIterationLaws.{iteration_rows}
+use Rattle.sheet_run_inputs.specs.sheet_run_laws.RunIterationLaws.{iteration_factors, product_iterated}
 use borrow.Author.Rules.{rules}
 use Rattle.sheet_run_steps.proofs.product_step.Statement.{statement}
 use Rattle.sheet_run_steps.proofs.product_step.Tie as tie

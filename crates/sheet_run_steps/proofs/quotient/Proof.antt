@@ -8,7 +8,8 @@ use Rattle.model_types.specs.declared.Model.{Model}
 use Rattle.model_types.specs.ModelStruct.{view}
 use Rattle.model_slices.specs.HandedModels.{handed}
 use Rattle.sheet_results.specs.Results.{Results, results}
-use Rattle.sheet_run_laws.specs.RunIterationLaws.{result_part, part_holds, parts_proposal, parts_quotient}
+use Rattle.sheet_run_inputs.specs.sheet_run_laws.RunIterationLaws.{result_part, part_holds, parts_proposal}
+use Rattle.sheet_run_inputs.specs.sheet_run_laws.RunIterationLaws.{parts_quotient}
 use borrow.Author.Rules.{rules}
 use mir.Syntax.{w64}
 use mir.Val.{Fits}

@@ -8,11 +8,12 @@ use mir.Facts.{to_z-of_z}
 use mir.Syntax.{w64}
 use mir.Val.{to_z, of_z}
 use Rattle.calculus.specs.Book.{most_models, most_steps}
-use Rattle.model.specs.OperationContracts.{ScratchRoom, quotient_products}
+use Rattle.sheet_run_inputs.specs.model.OperationContracts.{ScratchRoom, quotient_products}
 use Rattle.sheet_book.specs.BookStruct.{held_step}
-use Rattle.sheet_run_laws.specs.RunLaws.{fourth_earlier}
-use Rattle.sheet_run_laws.specs.RunIterationLaws.{iteration_small, iteration_room, iteration_rows}
-use Rattle.sheet_run_laws.specs.RunIterationLaws.{iteration_proposed, quotient_within, quotient_settled}
+use Rattle.sheet_run_inputs.specs.sheet_run_laws.RunLaws.{fourth_earlier}
+use Rattle.sheet_run_inputs.specs.sheet_run_laws.RunIterationLaws.{iteration_small, iteration_room, iteration_rows}
+use Rattle.sheet_run_inputs.specs.sheet_run_laws.RunIterationLaws.{iteration_proposed, quotient_within}
+use Rattle.sheet_run_inputs.specs.sheet_run_laws.RunIterationLaws.{quotient_settled}
 use borrow.Author.Rules.{rules}
 use Rattle.sheet_run_steps.proofs.quotient_step.Statement.{statement}
 use Rattle.sheet_run_steps.proofs.quotient_step.Tie as tie

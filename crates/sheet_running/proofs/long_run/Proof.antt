@@ -6,7 +6,7 @@ use Rattle.calculus.specs.Book.{most_models}
 use Rattle.sheet_book.specs.BookStruct.{held_book}
 use Rattle.sheet_book.specs.FailingLaws.{count_steps}
 use Rattle.sheet_results.specs.ResultsLaws.{roomy_zeros, roomy_less}
-use Rattle.sheet_run_laws.specs.RunLaws.{in_limits_of}
+use Rattle.sheet_run_models.specs.sheet_run_laws.RunLaws.{in_limits_of}
 use borrow.Author.Rules.{rules}
 use Rattle.sheet_running.proofs.long_run.Statement.{statement}
 use Rattle.sheet_running.proofs.long_run.Tie as tie

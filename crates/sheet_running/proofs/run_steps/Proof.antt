@@ -7,7 +7,7 @@ use Rattle.calculus.specs.Book.{most_models, most_steps}
 use Rattle.model_types.specs.ModelStruct.{cause, answer}
 use Rattle.sheet_results.specs.ResultsLaws.{roomy_less}
 use Rattle.sheet_step_answers.specs.Answers.{accepted_answer}
-use Rattle.sheet_run_laws.specs.MemoryLaws.{count_listed, few_steps, some_step, part_first, last_sound}
+use Rattle.sheet_run_models.specs.sheet_run_laws.MemoryLaws.{count_listed, few_steps, some_step, part_first, last_sound}
 use Rattle.sheet_running.specs.RunningLaws.{ended_ran, last_ran}
 use borrow.Author.Rules.{rules}
 use Rattle.sheet_running.proofs.run_steps.Statement.{statement}
