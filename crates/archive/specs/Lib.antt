@@ -7,7 +7,4 @@ pub mod ArchiveEdges
 pub mod RankLaws
 pub mod RankSums
 pub mod RankSumLaws
-pub mod EarlierLaws
-pub mod ArchiveLaws
-pub mod StoredAgainLaws
 pub mod WidenedLaws

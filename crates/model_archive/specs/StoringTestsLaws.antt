@@ -18,7 +18,7 @@ use Rattle.model_archive.specs.declared.Stored.{Stored}
 use Rattle.model_archive.specs.StoredStruct.{store_answer}
 use Rattle.archive.specs.Ranks.{rank_width}
 use Rattle.archive.specs.Archive.{model_stored, store, stored}
-use Rattle.archive.specs.ArchiveLaws.{length_stored}
+use Rattle.archive.proofs.ArchiveLaws.{length_stored}
 
 -- an answer and a buffer that are those of storing
 pub record Outcome (m : Model) (entry : List ℕ) (answer : Stored) (exit : List ℕ) : Type 0 where

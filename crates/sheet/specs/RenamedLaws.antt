@@ -14,8 +14,8 @@ use Rattle.format.specs.HeldBookLaws.{held_tested_passes}
 use Rattle.format.specs.Format.{read, sheet_bytes, run_sheet, sheet_rows}
 use Rattle.format.proofs.ReadBackLaws.{read_back}
 use Rattle.renaming.specs.Reordering.{Reordering, rename_summary, rename_result, rename_held}
-use Rattle.renaming.specs.RenamedHeldLaws.{held_renamed_passes}
-use Rattle.renaming.specs.RenamedSheetLaws.{run_read, renamed_sheet, renamed_sheet_rows}
+use Rattle.renaming.proofs.RenamedHeldLaws.{held_renamed_passes}
+use Rattle.renaming.proofs.RenamedSheetLaws.{run_read, renamed_sheet, renamed_sheet_rows}
 use Rattle.sheet_book.specs.declared.Summary.{Summary}
 use Rattle.sheet_book.specs.declared.Report.{Report}
 use Rattle.sheet_book.specs.SummaryStruct.{refused_summary, run_answer, summary_of}

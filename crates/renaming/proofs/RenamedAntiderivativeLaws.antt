@@ -16,11 +16,11 @@ use Rattle.calculus_laws.specs.GrowthLaws.{up, new_exponent, stays, divided_sum,
 use Rattle.calculus_laws.specs.GrowthLaws.{swept_sum}
 use Rattle.calculus_laws.specs.SoundLaws.{Sound, antiderivative_sound}
 use Rattle.renaming.specs.Reordering.{Reordering, rename, rename_variable, rename_terms, rename_model}
-use Rattle.renaming.specs.RenamedMonomialLaws.{renamed_inside, exponent_renamed, raise_renamed}
-use Rattle.renaming.specs.SymmetryLaws.{degree_renamed}
+use Rattle.renaming.proofs.RenamedMonomialLaws.{renamed_inside, exponent_renamed, raise_renamed}
+use Rattle.renaming.proofs.SymmetryLaws.{degree_renamed}
 use Rattle.renaming.specs.TermSumLaws.{sum_agree}
-use Rattle.renaming.specs.RenamedTermsLaws.{InOrder, long, sum_renamed, renamed_at, renamed_unique}
-use Rattle.renaming.specs.RenamedModelLaws.{canonical_in_order, sound_renamed, model_renamed}
+use Rattle.renaming.proofs.RenamedTermsLaws.{InOrder, long, sum_renamed, renamed_at, renamed_unique}
+use Rattle.renaming.proofs.RenamedModelLaws.{canonical_in_order, sound_renamed, model_renamed}
 
 module _ {n : ℕ} (ρ : Reordering n) (d v : ℕ) (inside : index_of v < n) where
   -- the renamed variable

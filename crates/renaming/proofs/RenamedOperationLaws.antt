@@ -20,11 +20,11 @@ use Rattle.calculus_laws.specs.CanonicalLaws.{canonical_rising, canonical_coeffi
 use Rattle.calculus_laws.specs.SoundLaws.{Canonical, negate_canonical}
 use Rattle.renaming.specs.Reordering.{Reordering, rename, rename_variable, rename_terms, rename_model}
 use Rattle.renaming.specs.RenamedAnswerLaws.{rename_answer}
-use Rattle.renaming.specs.RenamedMonomialLaws.{rename_zeros, rename_single}
-use Rattle.renaming.specs.RenamedTermsLaws.{long, InOrder, Symmetric, sum_renamed, renamed_at}
-use Rattle.renaming.specs.RenamedTermsLaws.{coefficient_renamed, renamed_unique, select_renamed}
-use Rattle.renaming.specs.RenamedModelLaws.{canonical_in_order, canonical_renamed, model_renamed, limited_renamed}
-use Rattle.renaming.specs.RenamedModelLaws.{constant_symmetric, selected_size}
+use Rattle.renaming.proofs.RenamedMonomialLaws.{rename_zeros, rename_single}
+use Rattle.renaming.proofs.RenamedTermsLaws.{long, InOrder, Symmetric, sum_renamed, renamed_at}
+use Rattle.renaming.proofs.RenamedTermsLaws.{coefficient_renamed, renamed_unique, select_renamed}
+use Rattle.renaming.proofs.RenamedModelLaws.{canonical_in_order, canonical_renamed, model_renamed, limited_renamed}
+use Rattle.renaming.proofs.RenamedModelLaws.{constant_symmetric, selected_size}
 
 module _ {n : ℕ} (ρ : Reordering n) where
   -- ---- constant and variable

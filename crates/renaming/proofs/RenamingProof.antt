@@ -9,14 +9,14 @@ use Rattle.format.proofs.WriteBackLaws.{read_passes, read_sheet}
 use Rattle.format.proofs.WrittenBytesLaws.{sheet_all}
 use Rattle.renaming.specs.RenamingClaim.{EveryModelRenames, EveryBookRenames, EveryHeldRenames}
 use Rattle.renaming.specs.RenamingClaim.{EverySheetRenames}
-use Rattle.renaming.specs.RenamedValueLaws.{box_renamed, value_renamed}
-use Rattle.renaming.specs.RenamedTestLaws.{renamed_passes}
-use Rattle.renaming.specs.RenamedRunLaws.{renamed_run}
-use Rattle.renaming.specs.RenamedShareLaws.{renamed_rows}
-use Rattle.renaming.specs.InverseLaws.{book_there_and_back}
-use Rattle.renaming.specs.RenamedHeldLaws.{held_renamed_passes, view_book_renamed}
-use Rattle.renaming.specs.HeldInverseLaws.{held_there_and_back, sheet_length_renamed}
-use Rattle.renaming.specs.RenamedSheetLaws.{renamed_read, renamed_sheet, renamed_sheet_rows}
+use Rattle.renaming.proofs.RenamedValueLaws.{box_renamed, value_renamed}
+use Rattle.renaming.proofs.RenamedTestLaws.{renamed_passes}
+use Rattle.renaming.proofs.RenamedRunLaws.{renamed_run}
+use Rattle.renaming.proofs.RenamedShareLaws.{renamed_rows}
+use Rattle.renaming.proofs.InverseLaws.{book_there_and_back}
+use Rattle.renaming.proofs.RenamedHeldLaws.{held_renamed_passes, view_book_renamed}
+use Rattle.renaming.proofs.HeldInverseLaws.{held_there_and_back, sheet_length_renamed}
+use Rattle.renaming.proofs.RenamedSheetLaws.{renamed_read, renamed_sheet, renamed_sheet_rows}
 
 pub every_model_renames : EveryModelRenames
 every_model_renames d m h ρ = record {

@@ -13,9 +13,9 @@ use Rattle.calculus_laws.specs.SoundLaws.{Canonical, Sound, constant_sound, subt
 use Rattle.calculus_laws.specs.SoundLaws.{bare_canonical, one_constant}
 use Rattle.renaming.specs.Reordering.{Reordering, rename_model}
 use Rattle.renaming.specs.RenamedAnswerLaws.{rename_answer, then_renamed, require_renamed}
-use Rattle.renaming.specs.RenamedModelLaws.{canonical_in_order, widen_renamed, largest_value_renamed}
-use Rattle.renaming.specs.RenamedOperationLaws.{constant_renamed, subtract_renamed}
-use Rattle.renaming.specs.RenamedProductLaws.{multiply_renamed}
+use Rattle.renaming.proofs.RenamedModelLaws.{canonical_in_order, widen_renamed, largest_value_renamed}
+use Rattle.renaming.proofs.RenamedOperationLaws.{constant_renamed, subtract_renamed}
+use Rattle.renaming.proofs.RenamedProductLaws.{multiply_renamed}
 
 module _ {n : ℕ} (ρ : Reordering n) (d : ℕ) where
   bare_renamed : (m : Model) → bare (rename_model ρ m) ≡ rename_model ρ (bare m)

@@ -17,7 +17,7 @@ use Rattle.calculus_laws.specs.BookLaws.{Passes, model_vars, variable_inside}
 use Rattle.calculus_laws.specs.BookSoundLaws.{vars_pass}
 use Rattle.format.specs.HeldBookLaws.{step_same}
 use Rattle.renaming.specs.Reordering.{Reordering, rename_variable, rename_model, rename_step, rename_book}
-use Rattle.renaming.specs.RenamedModelLaws.{sound_renamed}
+use Rattle.renaming.proofs.RenamedModelLaws.{sound_renamed}
 
 -- a test of each of a list, from one that passes before
 pub all_from_map : {A B : Type 0} (f : A → B) (i : ℕ) (ok : ℕ → A → Bool) (ok' : ℕ → B → Bool) (l : List A)

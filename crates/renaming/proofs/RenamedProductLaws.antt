@@ -25,14 +25,14 @@ use Rattle.calculus_laws.specs.ProductLaws.{rounding_same, swept_same, products_
 use Rattle.calculus_laws.specs.ProductLaws.{products_coefficients, kept_coefficient, coefficient_kept, kept_rising}
 use Rattle.renaming.specs.Reordering.{Reordering, rename, rename_terms, rename_model}
 use Rattle.renaming.specs.RenamedAnswerLaws.{rename_answer}
-use Rattle.renaming.specs.RenamedMonomialLaws.{rename_add}
-use Rattle.renaming.specs.SymmetryLaws.{degree_renamed}
+use Rattle.renaming.proofs.RenamedMonomialLaws.{rename_add}
+use Rattle.renaming.proofs.SymmetryLaws.{degree_renamed}
 use Rattle.renaming.specs.TermSumLaws.{sum_agree, with_term, sum_product}
-use Rattle.renaming.specs.RenamedTermsLaws.{long, Long, InOrder, Symmetric, sum_renamed, sum_select_symmetric}
-use Rattle.renaming.specs.RenamedTermsLaws.{size_renamed, renamed_in_order, renamed_at, coefficient_renamed}
-use Rattle.renaming.specs.RenamedTermsLaws.{renamed_unique}
-use Rattle.renaming.specs.RenamedModelLaws.{model_renamed, limited_renamed}
-use Rattle.renaming.specs.RenamedOperationLaws.{renamed_at_drop_zeros, renamed_at_collect}
+use Rattle.renaming.proofs.RenamedTermsLaws.{long, Long, InOrder, Symmetric, sum_renamed, sum_select_symmetric}
+use Rattle.renaming.proofs.RenamedTermsLaws.{size_renamed, renamed_in_order, renamed_at, coefficient_renamed}
+use Rattle.renaming.proofs.RenamedTermsLaws.{renamed_unique}
+use Rattle.renaming.proofs.RenamedModelLaws.{model_renamed, limited_renamed}
+use Rattle.renaming.proofs.RenamedOperationLaws.{renamed_at_drop_zeros, renamed_at_collect}
 
 -- products of monomials in n variables are such again
 long_product : (n : ℕ) (k l : List ℕ) → T (long n k) → T (long n l) → T (long n (add_exponents k l))

@@ -21,14 +21,14 @@ use Rattle.calculus_laws.specs.SoundLaws.{Canonical, Sound, add_sound, multiply_
 use Rattle.renaming.specs.Reordering.{Reordering, rename, rename_variable, rename_terms, rename_model}
 use Rattle.renaming.specs.RenamedAnswerLaws.{rename_answer, then_renamed, require_renamed}
 use Rattle.renaming.specs.Additions.{ℕ_max}
-use Rattle.renaming.specs.RenamedMonomialLaws.{exponent_renamed, without_renamed}
+use Rattle.renaming.proofs.RenamedMonomialLaws.{exponent_renamed, without_renamed}
 use Rattle.renaming.specs.TermSumLaws.{largest_exponent_sum}
-use Rattle.renaming.specs.RenamedTermsLaws.{InOrder, select_in_order, sum_renamed, renamed_at, renamed_unique}
-use Rattle.renaming.specs.RenamedTermsLaws.{select_by_renamed}
-use Rattle.renaming.specs.RenamedModelLaws.{canonical_in_order, canonical_renamed, model_renamed, widen_renamed}
-use Rattle.renaming.specs.RenamedModelLaws.{range_in_box_renamed}
-use Rattle.renaming.specs.RenamedOperationLaws.{add_renamed}
-use Rattle.renaming.specs.RenamedProductLaws.{multiply_renamed}
+use Rattle.renaming.proofs.RenamedTermsLaws.{InOrder, select_in_order, sum_renamed, renamed_at, renamed_unique}
+use Rattle.renaming.proofs.RenamedTermsLaws.{select_by_renamed}
+use Rattle.renaming.proofs.RenamedModelLaws.{canonical_in_order, canonical_renamed, model_renamed, widen_renamed}
+use Rattle.renaming.proofs.RenamedModelLaws.{range_in_box_renamed}
+use Rattle.renaming.proofs.RenamedOperationLaws.{add_renamed}
+use Rattle.renaming.proofs.RenamedProductLaws.{multiply_renamed}
 
 module _ {n : ℕ} (ρ : Reordering n) where
   module _ (i : ℕ) (inside : index_of i < n) where

@@ -11,9 +11,9 @@ use Rattle.format.proofs.ReadBackLaws.{read_back}
 use Rattle.format.proofs.WriteBackLaws.{read_passes}
 use Rattle.format.proofs.SheetRowLaws.{sheet_rows_are}
 use Rattle.renaming.specs.Reordering.{Reordering, rename_result, rename_book, rename_held}
-use Rattle.renaming.specs.RenamedHeldLaws.{held_renamed_passes, view_book_renamed}
-use Rattle.renaming.specs.RenamedRunLaws.{run_sound_renamed}
-use Rattle.renaming.specs.RenamedShareLaws.{renamed_rows}
+use Rattle.renaming.proofs.RenamedHeldLaws.{held_renamed_passes, view_book_renamed}
+use Rattle.renaming.proofs.RenamedRunLaws.{run_sound_renamed}
+use Rattle.renaming.proofs.RenamedShareLaws.{renamed_rows}
 
 -- the run of a sheet that is read
 pub run_read : (bytes : List ℕ) (h : HeldBook) → read bytes ≡ done h → run_sheet bytes ≡ run_sound (view_book h)

@@ -21,15 +21,15 @@ use Rattle.calculus_laws.specs.BookSoundLaws.{Good, operand, step_good, run_good
 use Rattle.renaming.specs.Reordering.{Reordering, rename_model, rename_step, rename_summary, rename_result}
 use Rattle.renaming.specs.Reordering.{rename_book}
 use Rattle.renaming.specs.RenamedAnswerLaws.{rename_answer}
-use Rattle.renaming.specs.RenamedModelLaws.{canonical_in_order, range_renamed, integral_renamed}
-use Rattle.renaming.specs.RenamedModelLaws.{exact_part_renamed}
-use Rattle.renaming.specs.RenamedOperationLaws.{zero_renamed, constant_renamed, variable_renamed, negate_renamed}
-use Rattle.renaming.specs.RenamedOperationLaws.{add_renamed, subtract_renamed, sweep_renamed}
-use Rattle.renaming.specs.RenamedProductLaws.{multiply_renamed}
-use Rattle.renaming.specs.RenamedSubstituteLaws.{substitute_renamed}
-use Rattle.renaming.specs.RenamedQuotientLaws.{quotient_renamed}
-use Rattle.renaming.specs.RenamedAntiderivativeLaws.{antiderivative_renamed}
-use Rattle.renaming.specs.RenamedTestLaws.{renamed_passes}
+use Rattle.renaming.proofs.RenamedModelLaws.{canonical_in_order, range_renamed, integral_renamed}
+use Rattle.renaming.proofs.RenamedModelLaws.{exact_part_renamed}
+use Rattle.renaming.proofs.RenamedOperationLaws.{zero_renamed, constant_renamed, variable_renamed, negate_renamed}
+use Rattle.renaming.proofs.RenamedOperationLaws.{add_renamed, subtract_renamed, sweep_renamed}
+use Rattle.renaming.proofs.RenamedProductLaws.{multiply_renamed}
+use Rattle.renaming.proofs.RenamedSubstituteLaws.{substitute_renamed}
+use Rattle.renaming.proofs.RenamedQuotientLaws.{quotient_renamed}
+use Rattle.renaming.proofs.RenamedAntiderivativeLaws.{antiderivative_renamed}
+use Rattle.renaming.proofs.RenamedTestLaws.{renamed_passes}
 
 module _ (b : Book) (p : Passes b) (ρ : Reordering b.vars) where
   -- ---- operands

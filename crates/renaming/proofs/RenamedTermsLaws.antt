@@ -19,7 +19,7 @@ use Rattle.calculus_laws.specs.CanonicalLaws.{canonical_unique, sum_collect_dist
 use Rattle.renaming.specs.Reordering.{Reordering, rename, rename_terms}
 use Rattle.renaming.specs.Additions.{both_tests}
 use Rattle.renaming.specs.TermSumLaws.{every_sum, length_sum, sum_agree}
-use Rattle.renaming.specs.RenamedMonomialLaws.{length_rename, rename_injective}
+use Rattle.renaming.proofs.RenamedMonomialLaws.{length_rename, rename_injective}
 
 -- ---- terms in n variables, in order
 -- n exponents

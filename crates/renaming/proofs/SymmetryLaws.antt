@@ -9,7 +9,7 @@ use Rattle.calculus_laws.specs.SumLaws.{Addition, ℕ_addition}
 use Rattle.renaming.specs.Reordering.{Reordering, rename}
 use Rattle.renaming.specs.Additions.{ℕ_product, both_tests}
 use Rattle.renaming.specs.TotalLaws.{total, total_cong, total_first, total_reordered}
-use Rattle.renaming.specs.RenamedMonomialLaws.{length_rename, exponent_from}
+use Rattle.renaming.proofs.RenamedMonomialLaws.{length_rename, exponent_from}
 
 -- ---- sums over the exponents
 module _ {A : Type 0} (N : Addition A) (g : ℕ → A) where

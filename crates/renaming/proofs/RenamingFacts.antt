@@ -15,7 +15,7 @@ use Rattle.calculus.specs.Computing.{calls}
 use Rattle.calculus_laws.specs.SoundLaws.{Canonical}
 use Rattle.calculus.specs.Forms.{at_key, model, ends, minus, forms}
 use Rattle.renaming.specs.Reordering.{Reordering, rename_model}
-use Rattle.renaming.specs.RenamedModelLaws.{canonical_in_order, range_renamed}
+use Rattle.renaming.proofs.RenamedModelLaws.{canonical_in_order, range_renamed}
 use Rattle.renaming.specs.Computing.{renames}
 use Rattle.renaming.specs.Edges.{circle, renaming_forms}
 

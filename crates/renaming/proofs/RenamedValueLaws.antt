@@ -16,10 +16,10 @@ use Rattle.calculus_laws.specs.SoundLaws.{Canonical}
 use Rattle.renaming.specs.Reordering.{Reordering, tabulate, rename, rename_point, rename_model}
 use Rattle.renaming.specs.TotalLaws.{total, total_cong, total_first, total_reordered}
 use Rattle.renaming.specs.ExponentLaws.{length_tabulate, element_tabulate}
-use Rattle.renaming.specs.RenamedMonomialLaws.{length_rename, exponent_from}
+use Rattle.renaming.proofs.RenamedMonomialLaws.{length_rename, exponent_from}
 use Rattle.renaming.specs.TermSumLaws.{sum_agree}
-use Rattle.renaming.specs.RenamedTermsLaws.{InOrder, long, sum_renamed}
-use Rattle.renaming.specs.RenamedModelLaws.{canonical_in_order}
+use Rattle.renaming.proofs.RenamedTermsLaws.{InOrder, long, sum_renamed}
+use Rattle.renaming.proofs.RenamedModelLaws.{canonical_in_order}
 open ℚR use {1#, *-one, *-comm, *-assoc}
 
 -- the product of fractions

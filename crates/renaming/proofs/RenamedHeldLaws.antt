@@ -35,9 +35,9 @@ use Rattle.format.proofs.ReadBackLaws.{limits}
 use Rattle.renaming.specs.Reordering.{Reordering, rename_terms, rename_model, rename_step, rename_book, held_term}
 use Rattle.renaming.specs.Reordering.{names_variable, rename_held_model, rename_field, rename_held_step}
 use Rattle.renaming.specs.Reordering.{rename_held}
-use Rattle.renaming.specs.RenamedTermsLaws.{InOrder}
-use Rattle.renaming.specs.RenamedModelLaws.{canonical_in_order, canonical_renamed}
-use Rattle.renaming.specs.RenamedTestLaws.{all_from_map, rules_renamed, step_sound_renamed}
+use Rattle.renaming.proofs.RenamedTermsLaws.{InOrder}
+use Rattle.renaming.proofs.RenamedModelLaws.{canonical_in_order, canonical_renamed}
+use Rattle.renaming.proofs.RenamedTestLaws.{all_from_map, rules_renamed, step_sound_renamed}
 
 -- the codes whose field v is renamed are those whose field v test 6 takes for a variable
 pub names_agree : (code : ℕ) → names_variable code ≡ F.names_variable code

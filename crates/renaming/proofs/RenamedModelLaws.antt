@@ -23,10 +23,10 @@ use Rattle.calculus_laws.specs.SumLaws.{ℕ_addition, ℤ_addition}
 use Rattle.calculus_laws.specs.SoundLaws.{Canonical, Bounded, Sound}
 use Rattle.renaming.specs.Reordering.{Reordering, rename, rename_terms, rename_model}
 use Rattle.renaming.specs.RenamedAnswerLaws.{rename_answer, require_renamed}
-use Rattle.renaming.specs.RenamedMonomialLaws.{length_rename}
-use Rattle.renaming.specs.SymmetryLaws.{degree_renamed, all_even_renamed, divisor_renamed}
-use Rattle.renaming.specs.RenamedTermsLaws.{InOrder, long, Symmetric, sum_select_symmetric, every_symmetric}
-use Rattle.renaming.specs.RenamedTermsLaws.{length_renamed, size_renamed, renamed_nonzero, renamed_in_order}
+use Rattle.renaming.proofs.RenamedMonomialLaws.{length_rename}
+use Rattle.renaming.proofs.SymmetryLaws.{degree_renamed, all_even_renamed, divisor_renamed}
+use Rattle.renaming.proofs.RenamedTermsLaws.{InOrder, long, Symmetric, sum_select_symmetric, every_symmetric}
+use Rattle.renaming.proofs.RenamedTermsLaws.{length_renamed, size_renamed, renamed_nonzero, renamed_in_order}
 
 -- the terms of a canonical model are in order
 pub canonical_in_order : {n d : ℕ} {m : Model} → Canonical n d m → InOrder n m.terms

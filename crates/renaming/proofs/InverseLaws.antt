@@ -19,11 +19,11 @@ use Rattle.calculus_laws.specs.SoundLaws.{Canonical, sound_parts}
 use Rattle.calculus_laws.specs.BookLaws.{Passes, model_vars, between_low, variable_inside}
 use Rattle.renaming.specs.Reordering.{Reordering, inverse, rename, rename_variable, rename_terms, rename_model}
 use Rattle.renaming.specs.Reordering.{rename_step, rename_book}
-use Rattle.renaming.specs.RenamedMonomialLaws.{exponent_from, rename_unique, index_renamed}
+use Rattle.renaming.proofs.RenamedMonomialLaws.{exponent_from, rename_unique, index_renamed}
 use Rattle.renaming.specs.TermSumLaws.{sum_agree}
-use Rattle.renaming.specs.RenamedTermsLaws.{InOrder, long, sum_renamed, renamed_at, renamed_unique}
-use Rattle.renaming.specs.RenamedTermsLaws.{renamed_in_order, renamed_nonzero}
-use Rattle.renaming.specs.RenamedModelLaws.{canonical_in_order}
+use Rattle.renaming.proofs.RenamedTermsLaws.{InOrder, long, sum_renamed, renamed_at, renamed_unique}
+use Rattle.renaming.proofs.RenamedTermsLaws.{renamed_in_order, renamed_nonzero}
+use Rattle.renaming.proofs.RenamedModelLaws.{canonical_in_order}
 
 -- there and back, for each of a list that passes a test
 pub map_there_and_back : {A B : Type 0} (f : A → B) (g : B → A) (i : ℕ) (ok : ℕ → A → Bool) (l : List A)

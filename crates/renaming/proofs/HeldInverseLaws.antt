@@ -30,10 +30,10 @@ use Rattle.format.proofs.ReadBackLaws.{length_model, sheet_length}
 use Rattle.renaming.specs.Reordering.{Reordering, inverse, rename_variable, rename_terms, held_term}
 use Rattle.renaming.specs.Reordering.{names_variable, rename_held_model, rename_field, rename_held_step}
 use Rattle.renaming.specs.Reordering.{rename_held}
-use Rattle.renaming.specs.RenamedTermsLaws.{InOrder, length_renamed}
-use Rattle.renaming.specs.InverseLaws.{map_there_and_back, variable_back, terms_back}
-use Rattle.renaming.specs.RenamedHeldLaws.{few, low, same_n, held_canonical, viewed_in_order, renamed_viewed}
-use Rattle.renaming.specs.RenamedHeldLaws.{held_renamed_passes}
+use Rattle.renaming.proofs.RenamedTermsLaws.{InOrder, length_renamed}
+use Rattle.renaming.proofs.InverseLaws.{map_there_and_back, variable_back, terms_back}
+use Rattle.renaming.proofs.RenamedHeldLaws.{few, low, same_n, held_canonical, viewed_in_order, renamed_viewed}
+use Rattle.renaming.proofs.RenamedHeldLaws.{held_renamed_passes}
 
 -- ---- terms
 -- a term whose monomial fits is that of the monomial's key

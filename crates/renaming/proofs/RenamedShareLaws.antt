@@ -24,16 +24,16 @@ use Rattle.calculus_laws.specs.SoundLaws.{Canonical, part_canonical}
 use Rattle.calculus_laws.specs.BookLaws.{Passes, tested_passes, variable_inside, next_number}
 use Rattle.calculus_laws.specs.BookSoundLaws.{Good, operand, step_good}
 use Rattle.renaming.specs.Reordering.{Reordering, rename_variable, rename_model, rename_step, rename_book}
-use Rattle.renaming.specs.RenamedTermsLaws.{InOrder}
+use Rattle.renaming.proofs.RenamedTermsLaws.{InOrder}
 use Rattle.renaming.specs.RenamedAnswerLaws.{rename_answer}
-use Rattle.renaming.specs.RenamedModelLaws.{canonical_in_order, selected_size}
-use Rattle.renaming.specs.RenamedOperationLaws.{small_symmetric}
-use Rattle.renaming.specs.RenamedProductLaws.{rounding_renamed, swept_renamed, carried_renamed, error_renamed}
-use Rattle.renaming.specs.RenamedSubstituteLaws.{largest_exponent_renamed, part_renamed, iteration_renamed}
-use Rattle.renaming.specs.RenamedSubstituteLaws.{iteration_canonical}
-use Rattle.renaming.specs.RenamedAntiderivativeLaws.{growth_rounding_renamed, growth_swept_renamed}
-use Rattle.renaming.specs.RenamedTestLaws.{renamed_passes}
-use Rattle.renaming.specs.RenamedRunLaws.{result_of_renamed, step_renamed, map_snoc}
+use Rattle.renaming.proofs.RenamedModelLaws.{canonical_in_order, selected_size}
+use Rattle.renaming.proofs.RenamedOperationLaws.{small_symmetric}
+use Rattle.renaming.proofs.RenamedProductLaws.{rounding_renamed, swept_renamed, carried_renamed, error_renamed}
+use Rattle.renaming.proofs.RenamedSubstituteLaws.{largest_exponent_renamed, part_renamed, iteration_renamed}
+use Rattle.renaming.proofs.RenamedSubstituteLaws.{iteration_canonical}
+use Rattle.renaming.proofs.RenamedAntiderivativeLaws.{growth_rounding_renamed, growth_swept_renamed}
+use Rattle.renaming.proofs.RenamedTestLaws.{renamed_passes}
+use Rattle.renaming.proofs.RenamedRunLaws.{result_of_renamed, step_renamed, map_snoc}
 
 module _ {n : ℕ} (ρ : Reordering n) where
   -- ---- a product
