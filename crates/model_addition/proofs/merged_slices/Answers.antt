@@ -112,27 +112,25 @@ loop-i-smaller-then-z-ne0 c =
 
 pub loop-i-preserved-then-z-ne0 : goal.loop-i-preserved-then-z-ne0
 unfolding most_terms
-loop-i-preserved-then-z-ne0 c =
-    (
-      room_still _ _ _ c.loop-i.invariant.0,
-      λ w. merge_store w _ _ (c.loop-i.invariant.1 w) _ (turned (goal.at.loop-i-preserved-then-z-ne0 c).After-take_next-next w) (nonzero_bits _ c.if-z-ne0.true)
-          (omega (arith, c.if-count-ge-MOST_TERMS.false)) c.loop-i.invariant.0
-          (to_z-of_z {w = w64} (record { sfits = c.struct_told-1.given.1.0.1 })),
-      λ z. clear_more _ _ (c.loop-i.invariant.2 z) c.loop-i.invariant.0 (omega (arith, c.if-count-ge-MOST_TERMS.false)),
-    )
+loop-i-preserved-then-z-ne0 c = (
+  room_still _ _ _ c.loop-i.invariant.0,
+  λ w. merge_store w _ _ (c.loop-i.invariant.1 w) _ (turned (goal.at.loop-i-preserved-then-z-ne0 c).After-take_next-next w) (nonzero_bits _ c.if-z-ne0.true)
+      (omega (arith, c.if-count-ge-MOST_TERMS.false)) c.loop-i.invariant.0
+      (to_z-of_z {w = w64} (record { sfits = c.struct_told-1.given.1.0.1 })),
+  λ z. clear_more _ _ (c.loop-i.invariant.2 z) c.loop-i.invariant.0 (omega (arith, c.if-count-ge-MOST_TERMS.false)),
+)
 
 pub loop-i-smaller : goal.loop-i-smaller
 loop-i-smaller c =
     omega (arith, (turned (goal.at.loop-i-smaller c).After-take_next-next c.requires.sum_from).on)
 
 pub loop-i-preserved : goal.loop-i-preserved
-loop-i-preserved c =
-    (
-      c.loop-i.invariant.0,
-      λ w. merge_skip w _ _ (c.loop-i.invariant.1 w) _ (turned (goal.at.loop-i-preserved c).After-take_next-next w)
-          (zero_bits (record { sfits = c.struct_told-1.given.1.0.1 }) c.if-z-ne0.false),
-      c.loop-i.invariant.2,
-    )
+loop-i-preserved c = (
+  c.loop-i.invariant.0,
+  λ w. merge_skip w _ _ (c.loop-i.invariant.1 w) _ (turned (goal.at.loop-i-preserved c).After-take_next-next w)
+      (zero_bits (record { sfits = c.struct_told-1.given.1.0.1 }) c.if-z-ne0.false),
+  c.loop-i.invariant.2,
+)
 
 pub shape_of-stored : goal.shape_of-stored
 shape_of-stored c =

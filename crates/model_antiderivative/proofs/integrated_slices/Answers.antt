@@ -203,13 +203,12 @@ loop-j-smaller c = omega (arith, inside (goal.at.loop-j-smaller c).After-c-1)
 
 pub loop-j-preserved : goal.loop-j-preserved
 unfolding held
-loop-j-preserved c =
-    (
-      c.loop-j.invariant.0,
-      λ w. gathered_drop w.integrand (in_long w) (c.loop-j.invariant.1 w) (inside (goal.at.loop-j-preserved c).After-c-1) (radius_is (goal.at.loop-j-preserved c).After-growth-radius w)
-          (subst (λ b. T (not b)) (sym (ap is_nonzero (sym (new_in (goal.at.loop-j-preserved c).After-divided-new w))
-          ∙ zero_bits (record { sfits = c.divided-new.type_inv }) c.if-new-ne0.false)) tt),
-    )
+loop-j-preserved c = (
+  c.loop-j.invariant.0,
+  λ w. gathered_drop w.integrand (in_long w) (c.loop-j.invariant.1 w) (inside (goal.at.loop-j-preserved c).After-c-1) (radius_is (goal.at.loop-j-preserved c).After-growth-radius w)
+      (subst (λ b. T (not b)) (sym (ap is_nonzero (sym (new_in (goal.at.loop-j-preserved c).After-divided-new w))
+      ∙ zero_bits (record { sfits = c.divided-new.type_inv }) c.if-new-ne0.false)) tt),
+)
 
 pub shape_of-stored : goal.shape_of-stored
 shape_of-stored c =

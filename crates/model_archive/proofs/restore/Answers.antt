@@ -64,14 +64,14 @@ restored_model-requires c =
       n_value = sym c.from_one.ensures
           ∙ c.if-not-from_one.false;
       few_le_count = omega (
-          arith,
-          c.fewer-few.ensures,
-          NatL.min-le_right c.args.terms
-              (byte 5 c.args.bytes.now),
-        );
+        arith,
+        c.fewer-few.ensures,
+        NatL.min-le_right c.args.terms
+            (byte 5 c.args.bytes.now),
+      );
       s_len = c.if-bytes-count.false;
       t = ranks_passed 0 0 l (c.ranks_tested-v.ensures _
-              ∙ ap (λ v. go_on v (stopped bad_length 0)) c.in-Accepted.is);
+          ∙ ap (λ v. go_on v (stopped bad_length 0)) c.in-Accepted.is);
     }
 
 pub returns-in-Refused : goal.returns-in-Refused

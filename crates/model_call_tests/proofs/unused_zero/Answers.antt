@@ -33,13 +33,12 @@ loop-i-smaller c = search rules
 
 pub loop-i-preserved : goal.loop-i-preserved
 unfolding key_width
-loop-i-preserved c =
-    (
-      omega arith,
-      c.loop-i.invariant.1
-          ∙ zero_next c.args.xs c.loop-i.i (omega (arith, long (goal.at.loop-i-preserved c).Start))
-          (zero_bits (record { sfits = c.x-1.given }) c.if-x-ne0.false),
-    )
+loop-i-preserved c = (
+  omega arith,
+  c.loop-i.invariant.1
+      ∙ zero_next c.args.xs c.loop-i.i (omega (arith, long (goal.at.loop-i-preserved c).Start))
+      (zero_bits (record { sfits = c.x-1.given }) c.if-x-ne0.false),
+)
 
 pub returns : goal.returns
 returns c =

@@ -58,13 +58,12 @@ pub loop-i-smaller : goal.loop-i-smaller
 loop-i-smaller c = omega arith
 
 pub loop-i-preserved : goal.loop-i-preserved
-loop-i-preserved c =
-    (
-      omega arith,
-      c.loop-i.invariant.1
-          ∙ unit_next c.args.xs c.args.n c.loop-i.i (omega (arith, long (goal.at.loop-i-preserved c).Start)) (omega arith)
-          (sym (tested (goal.at.loop-i-preserved c).After-within_unit) ∙ c.if-not-within_unit.false),
-    )
+loop-i-preserved c = (
+  omega arith,
+  c.loop-i.invariant.1
+      ∙ unit_next c.args.xs c.args.n c.loop-i.i (omega (arith, long (goal.at.loop-i-preserved c).Start)) (omega arith)
+      (sym (tested (goal.at.loop-i-preserved c).After-within_unit) ∙ c.if-not-within_unit.false),
+)
 
 pub returns : goal.returns
 returns c =

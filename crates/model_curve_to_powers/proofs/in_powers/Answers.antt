@@ -91,12 +91,11 @@ pub loop-i-smaller-then-size-eq0 : goal.loop-i-smaller-then-size-eq0
 loop-i-smaller-then-size-eq0 c = omega (arith, inside (goal.at.loop-i-smaller-then-size-eq0 c).After-magnitude-size)
 
 pub loop-i-preserved-then-size-eq0 : goal.loop-i-preserved-then-size-eq0
-loop-i-preserved-then-size-eq0 c =
-    (
-      c.loop-i.invariant.0,
-      converted_drop _ _ (whole (goal.at.loop-i-preserved-then-size-eq0 c).After-in_rows-row) (radius_small (goal.at.loop-i-preserved-then-size-eq0 c).After-in_rows-row) _ _ _ _ c.loop-i.invariant.1 (inside (goal.at.loop-i-preserved-then-size-eq0 c).After-magnitude-size)
-          (omega (arith, size_is (goal.at.loop-i-preserved-then-size-eq0 c).After-magnitude-size, c.if-size-eq0.true)),
-    )
+loop-i-preserved-then-size-eq0 c = (
+  c.loop-i.invariant.0,
+  converted_drop _ _ (whole (goal.at.loop-i-preserved-then-size-eq0 c).After-in_rows-row) (radius_small (goal.at.loop-i-preserved-then-size-eq0 c).After-in_rows-row) _ _ _ _ c.loop-i.invariant.1 (inside (goal.at.loop-i-preserved-then-size-eq0 c).After-magnitude-size)
+      (omega (arith, size_is (goal.at.loop-i-preserved-then-size-eq0 c).After-magnitude-size, c.if-size-eq0.true)),
+)
 
 pub overflow_add-span : goal.overflow_add-span
 overflow_add-span c =

@@ -63,14 +63,13 @@ module _ (c : After-part-c) where
   }
 
 pub loop-k-init : goal.loop-k-init
-loop-k-init c =
-    (
-      first_room (goal.at.loop-k-init c).After-part-c,
-      c.requires.room_2,
-      c.requires.room_3,
-      λ w. put_first w (c.by_powers-p.ensures.largest (put_keys w)) _ _ _ (c.part-c.ensures (put_part w)),
-      c.by_powers-p.ensures.chained.low,
-    )
+loop-k-init c = (
+  first_room (goal.at.loop-k-init c).After-part-c,
+  c.requires.room_2,
+  c.requires.room_3,
+  λ w. put_first w (c.by_powers-p.ensures.largest (put_keys w)) _ _ _ (c.part-c.ensures (put_part w)),
+  c.by_powers-p.ensures.chained.low,
+)
 
 abbrev start : At-loop-k → Start
 start l = l.before.before.before.before.before.before.before.before.before.before.before.before.before
@@ -183,16 +182,15 @@ loop-k-smaller c =
     omega (arith, some (goal.at.loop-k-smaller c).After-part-d)
 
 pub loop-k-preserved : goal.loop-k-preserved
-loop-k-preserved c =
-    (
-      left_room (goal.at.loop-k-preserved c).After-put_iteration-iteration,
-      next_room (goal.at.loop-k-preserved c).After-part-d,
-      spare_room (goal.at.loop-k-preserved c).After-put_iteration-iteration,
-      λ w. put_goes_on w _ _ _ _ (c.loop-k.invariant.3 w) _ _ _ (next_is (goal.at.loop-k-preserved c).After-part-d w) (some (goal.at.loop-k-preserved c).After-part-d) _ _
-          (c.put_iteration-iteration.ensures (put_iterating w _ _ _ _ (c.loop-k.invariant.3 w) _ _ _ (next_is (goal.at.loop-k-preserved c).After-part-d w) c.loop-k.invariant.0
-          (next_room (goal.at.loop-k-preserved c).After-part-d))) c.in-Accepted.is,
-      omega (arith, c.loop-k.invariant.4),
-    )
+loop-k-preserved c = (
+  left_room (goal.at.loop-k-preserved c).After-put_iteration-iteration,
+  next_room (goal.at.loop-k-preserved c).After-part-d,
+  spare_room (goal.at.loop-k-preserved c).After-put_iteration-iteration,
+  λ w. put_goes_on w _ _ _ _ (c.loop-k.invariant.3 w) _ _ _ (next_is (goal.at.loop-k-preserved c).After-part-d w) (some (goal.at.loop-k-preserved c).After-part-d) _ _
+      (c.put_iteration-iteration.ensures (put_iterating w _ _ _ _ (c.loop-k.invariant.3 w) _ _ _ (next_is (goal.at.loop-k-preserved c).After-part-d w) c.loop-k.invariant.0
+      (next_room (goal.at.loop-k-preserved c).After-part-d))) c.in-Accepted.is,
+  omega (arith, c.loop-k.invariant.4),
+)
 
 pub limited_slices-requires : goal.limited_slices-requires
 limited_slices-requires c =

@@ -139,25 +139,23 @@ pub loop-j-smaller-then-new-ne0 : goal.loop-j-smaller-then-new-ne0
 loop-j-smaller-then-new-ne0 c = omega (arith, inside (goal.at.loop-j-smaller-then-new-ne0 c).After-c-1)
 
 pub loop-j-preserved-then-new-ne0 : goal.loop-j-preserved-then-new-ne0
-loop-j-preserved-then-new-ne0 c =
-    (
-      room_still _ _ _ c.loop-j.invariant.0,
-      λ w. scale_keep w _ _ (c.loop-j.invariant.1 w) (inside (goal.at.loop-j-preserved-then-new-ne0 c).After-c-1) (error_is (goal.at.loop-j-preserved-then-new-ne0 c).After-scaled_residual-error) c.loop-j.invariant.0
-          (subst T (sym (ap is_nonzero (sym (new_is (goal.at.loop-j-preserved-then-new-ne0 c).After-scaled_coefficient-new)) ∙ nonzero_bits _ c.if-new-ne0.true)) tt)
-          (answered c.scaled_coefficient-new.type_inv (new_is (goal.at.loop-j-preserved-then-new-ne0 c).After-scaled_coefficient-new)),
-    )
+loop-j-preserved-then-new-ne0 c = (
+  room_still _ _ _ c.loop-j.invariant.0,
+  λ w. scale_keep w _ _ (c.loop-j.invariant.1 w) (inside (goal.at.loop-j-preserved-then-new-ne0 c).After-c-1) (error_is (goal.at.loop-j-preserved-then-new-ne0 c).After-scaled_residual-error) c.loop-j.invariant.0
+      (subst T (sym (ap is_nonzero (sym (new_is (goal.at.loop-j-preserved-then-new-ne0 c).After-scaled_coefficient-new)) ∙ nonzero_bits _ c.if-new-ne0.true)) tt)
+      (answered c.scaled_coefficient-new.type_inv (new_is (goal.at.loop-j-preserved-then-new-ne0 c).After-scaled_coefficient-new)),
+)
 
 pub loop-j-smaller : goal.loop-j-smaller
 loop-j-smaller c = omega (arith, inside (goal.at.loop-j-smaller c).After-c-1)
 
 pub loop-j-preserved : goal.loop-j-preserved
-loop-j-preserved c =
-    (
-      c.loop-j.invariant.0,
-      λ w. scale_drop w _ _ (c.loop-j.invariant.1 w) (inside (goal.at.loop-j-preserved c).After-c-1) (error_is (goal.at.loop-j-preserved c).After-scaled_residual-error)
-          (subst (λ b. T (not b)) (sym (ap is_nonzero (sym (new_is (goal.at.loop-j-preserved c).After-scaled_coefficient-new))
-          ∙ zero_bits (record { sfits = c.scaled_coefficient-new.type_inv }) c.if-new-ne0.false)) tt),
-    )
+loop-j-preserved c = (
+  c.loop-j.invariant.0,
+  λ w. scale_drop w _ _ (c.loop-j.invariant.1 w) (inside (goal.at.loop-j-preserved c).After-c-1) (error_is (goal.at.loop-j-preserved c).After-scaled_residual-error)
+      (subst (λ b. T (not b)) (sym (ap is_nonzero (sym (new_is (goal.at.loop-j-preserved c).After-scaled_coefficient-new))
+      ∙ zero_bits (record { sfits = c.scaled_coefficient-new.type_inv }) c.if-new-ne0.false)) tt),
+)
 
 pub shape_of-stored : goal.shape_of-stored
 shape_of-stored c =

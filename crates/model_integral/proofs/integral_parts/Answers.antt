@@ -66,17 +66,16 @@ overflow_add-i c = omega (arith, few (goal.at.overflow_add-i c).Start, inside c)
 
 pub parts-requires : goal.parts-requires
 unfolding most_parts
-parts-requires c =
-    (
-      omega (arith, scaled (goal.at.parts-requires c).After-c-1, volume_le _ c.requires.n_bound),
-      rw (read_back (goal.at.parts-requires c).After-c-1)
-          (omega (
-            arith,
-            parts_fit,
-            NatL.mul-le-mul_right (16 * common_denominator)
-                (coefficient_small c.requires.terms_in c.loop-i.i (inside (goal.at.parts-requires c).After-c-1)),
-          )),
-    )
+parts-requires c = (
+  omega (arith, scaled (goal.at.parts-requires c).After-c-1, volume_le _ c.requires.n_bound),
+  rw (read_back (goal.at.parts-requires c).After-c-1)
+      (omega (
+        arith,
+        parts_fit,
+        NatL.mul-le-mul_right (16 * common_denominator)
+            (coefficient_small c.requires.terms_in c.loop-i.i (inside (goal.at.parts-requires c).After-c-1)),
+      )),
+)
 
 module _ (c : After-parts) where
   shared : (w : TermsIn c.args.n c.args.count c.args.keys.now

@@ -21,11 +21,10 @@ multiplied c =
     answered c.product.type_inv (c.product.ensures ∙ ap₂ ◌*ℤ◌ (to_z-of_z f.coefficient) (to_z-of_z f.scale))
 
 pub divided-requires : goal.divided-requires
-divided-requires c =
-    (
-      rw (multiplied (goal.at.divided-requires c).After-product) (omega (arith, c.requires, nat_abs_mul c.args.coefficient c.args.scale)),
-      omega (arith, c.divisor.ensures, divisor_pos key_width (key_exponents key_width key_width c.args.key)),
-    )
+divided-requires c = (
+  rw (multiplied (goal.at.divided-requires c).After-product) (omega (arith, c.requires, nat_abs_mul c.args.coefficient c.args.scale)),
+  omega (arith, c.divisor.ensures, divisor_pos key_width (key_exponents key_width key_width c.args.key)),
+)
 
 pub returns : goal.returns
 returns c =

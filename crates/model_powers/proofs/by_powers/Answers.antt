@@ -80,13 +80,12 @@ pub loop-j-smaller : goal.loop-j-smaller
 loop-j-smaller c = omega (arith, some (goal.at.loop-j-smaller c).In-loop-j)
 
 pub loop-j-preserved : goal.loop-j-preserved
-loop-j-preserved c =
-    (
-      chaining_iteration c.loop-j.invariant.0 (some (goal.at.loop-j-preserved c).In-loop-j) (few (goal.at.loop-j-preserved c).Start) (low (goal.at.loop-j-preserved c).After-exponent_of-exponent) (is_exponent (goal.at.loop-j-preserved c).After-exponent_of-exponent) refl,
-      λ w. largest_iteration w (c.loop-j.invariant.1 w) (some (goal.at.loop-j-preserved c).In-loop-j) (omega (arith, some (goal.at.loop-j-preserved c).In-loop-j, c.loop-j.invariant.0.within))
-          (c.larger-largest.ensures ∙ ap (max c.loop-j.largest) (is_exponent (goal.at.loop-j-preserved c).After-exponent_of-exponent)),
-      omega (arith, c.larger-largest.ensures, low (goal.at.loop-j-preserved c).After-exponent_of-exponent, c.loop-j.invariant.2),
-    )
+loop-j-preserved c = (
+  chaining_iteration c.loop-j.invariant.0 (some (goal.at.loop-j-preserved c).In-loop-j) (few (goal.at.loop-j-preserved c).Start) (low (goal.at.loop-j-preserved c).After-exponent_of-exponent) (is_exponent (goal.at.loop-j-preserved c).After-exponent_of-exponent) refl,
+  λ w. largest_iteration w (c.loop-j.invariant.1 w) (some (goal.at.loop-j-preserved c).In-loop-j) (omega (arith, some (goal.at.loop-j-preserved c).In-loop-j, c.loop-j.invariant.0.within))
+      (c.larger-largest.ensures ∙ ap (max c.loop-j.largest) (is_exponent (goal.at.loop-j-preserved c).After-exponent_of-exponent)),
+  omega (arith, c.larger-largest.ensures, low (goal.at.loop-j-preserved c).After-exponent_of-exponent, c.loop-j.invariant.2),
+)
 
 pub returns : goal.returns
 returns c = record {

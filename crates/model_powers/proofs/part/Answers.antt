@@ -101,16 +101,15 @@ loop-j-smaller c =
     omega (arith, inside (goal.at.loop-j-smaller c).After-c-1, (next (goal.at.loop-j-smaller c).After-c-1).above)
 
 pub loop-j-preserved : goal.loop-j-preserved
-loop-j-preserved c =
-    (
-      room_still _ _ _ c.loop-j.invariant.0,
-      λ w. walked w c.args.k _ _ _
-          (part_in w _ _ (c.loop-j.invariant.1 w) (inside (goal.at.loop-j-preserved c).After-c-1) c.loop-j.invariant.0 (of_power (goal.at.loop-j-preserved c).After-c-1) c.without.ensures
-          (to_z-of_z {w = w64} (record { sfits = c.c-1.given })))
-          (next (goal.at.loop-j-preserved c).After-c-1),
-      (next (goal.at.loop-j-preserved c).After-c-1).within,
-      (next (goal.at.loop-j-preserved c).After-c-1).here,
-    )
+loop-j-preserved c = (
+  room_still _ _ _ c.loop-j.invariant.0,
+  λ w. walked w c.args.k _ _ _
+      (part_in w _ _ (c.loop-j.invariant.1 w) (inside (goal.at.loop-j-preserved c).After-c-1) c.loop-j.invariant.0 (of_power (goal.at.loop-j-preserved c).After-c-1) c.without.ensures
+      (to_z-of_z {w = w64} (record { sfits = c.c-1.given })))
+      (next (goal.at.loop-j-preserved c).After-c-1),
+  (next (goal.at.loop-j-preserved c).After-c-1).within,
+  (next (goal.at.loop-j-preserved c).After-c-1).here,
+)
 
 pub shape_of-stored : goal.shape_of-stored
 shape_of-stored c =

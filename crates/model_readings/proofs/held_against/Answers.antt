@@ -14,18 +14,17 @@ loop-k-smaller c =
     c.following-k.ensures
 
 pub loop-k-preserved : goal.loop-k-preserved
-loop-k-preserved c =
-    (
-      next_within c.iteration-s.result c.loop-k.k (length c.args.rows.now % 257 * 4) c.following-k.result
-          c.following-k.ensures,
-      kept c.args.m c.args.rows.now (length c.args.rows.now % 257 * 4) c.loop-k.k c.loop-k.s c.iteration-s.result _
-          c.following-k.result c.loop-k-test.true
-          (c.iteration-s.ensures
-          ∙ ap (iteration_of c.args.m c.loop-k.s c.loop-k.k (length c.args.rows.now))
-          (get_or_default c.args.rows.now (c.loop-k.k % length c.args.rows.now) _ no_reading
-          (within_row (length c.args.rows.now) c.loop-k.k c.loop-k-test.true)))
-          c.following-k.ensures c.loop-k.invariant.1,
-    )
+loop-k-preserved c = (
+  next_within c.iteration-s.result c.loop-k.k (length c.args.rows.now % 257 * 4) c.following-k.result
+      c.following-k.ensures,
+  kept c.args.m c.args.rows.now (length c.args.rows.now % 257 * 4) c.loop-k.k c.loop-k.s c.iteration-s.result _
+      c.following-k.result c.loop-k-test.true
+      (c.iteration-s.ensures
+      ∙ ap (iteration_of c.args.m c.loop-k.s c.loop-k.k (length c.args.rows.now))
+      (get_or_default c.args.rows.now (c.loop-k.k % length c.args.rows.now) _ no_reading
+      (within_row (length c.args.rows.now) c.loop-k.k c.loop-k-test.true)))
+      c.following-k.ensures c.loop-k.invariant.1,
+)
 
 pub returns : goal.returns
 unfolding iteration_count

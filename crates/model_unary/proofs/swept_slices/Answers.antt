@@ -123,16 +123,15 @@ loop-i-smaller-then-is_small c = omega (arith, inside (goal.at.loop-i-smaller-th
 
 pub loop-i-preserved-then-is_small : goal.loop-i-preserved-then-is_small
 unfolding held
-loop-i-preserved-then-is_small c =
-    (
-      c.loop-i.invariant.0,
-      λ w. subst
-          (λ r. Swept c.args.threshold (model (goal.at.loop-i-preserved-then-is_small c).After-c-1 w) (paired c.loop-i.stored c.loop-i.out)
-          c.loop-i.count (c.loop-i.radius + r) (c.loop-i.i + 1))
-          (ap (λ (c : Term). nat_abs c.coefficient) (here (goal.at.loop-i-preserved-then-is_small c).After-c-1 w) ∙ sym (size_is (goal.at.loop-i-preserved-then-is_small c).After-magnitude-size))
-          (swept_drop _ _ (lies_long w) _ _ _ _ (c.loop-i.invariant.1 w) (inside (goal.at.loop-i-preserved-then-is_small c).After-c-1) (lies_limits w).width
-          (small_here (goal.at.loop-i-preserved-then-is_small c).After-c-1 w) (tested (goal.at.loop-i-preserved-then-is_small c).After-is_small w ∙ c.if-is_small.true)),
-    )
+loop-i-preserved-then-is_small c = (
+  c.loop-i.invariant.0,
+  λ w. subst
+      (λ r. Swept c.args.threshold (model (goal.at.loop-i-preserved-then-is_small c).After-c-1 w) (paired c.loop-i.stored c.loop-i.out)
+      c.loop-i.count (c.loop-i.radius + r) (c.loop-i.i + 1))
+      (ap (λ (c : Term). nat_abs c.coefficient) (here (goal.at.loop-i-preserved-then-is_small c).After-c-1 w) ∙ sym (size_is (goal.at.loop-i-preserved-then-is_small c).After-magnitude-size))
+      (swept_drop _ _ (lies_long w) _ _ _ _ (c.loop-i.invariant.1 w) (inside (goal.at.loop-i-preserved-then-is_small c).After-c-1) (lies_limits w).width
+      (small_here (goal.at.loop-i-preserved-then-is_small c).After-c-1 w) (tested (goal.at.loop-i-preserved-then-is_small c).After-is_small w ∙ c.if-is_small.true)),
+)
 
 pub offset_bounds-stored-count : goal.offset_bounds-stored-count
 offset_bounds-stored-count c = omega (arith, room (goal.at.offset_bounds-stored-count c).After-c-1)

@@ -14,12 +14,11 @@ pub loop-i-init : goal.loop-i-init
 loop-i-init c = (omega arith, refl, λ j h. absurd (omega arith))
 
 pub loop-i-preserved : goal.loop-i-preserved
-loop-i-preserved c =
-    (
-      omega arith,
-      length-set c.loop-i.sums c.loop-i.i _ ∙ c.loop-i.invariant.1,
-      zeros_more c.loop-i.sums c.loop-i.i (omega arith) c.loop-i.invariant.2,
-    )
+loop-i-preserved c = (
+  omega arith,
+  length-set c.loop-i.sums c.loop-i.i _ ∙ c.loop-i.invariant.1,
+  zeros_more c.loop-i.sums c.loop-i.i (omega arith) c.loop-i.invariant.2,
+)
 
 pub returns : goal.returns
 returns c = λ i h. c.loop-i.invariant.2 i (omega arith)

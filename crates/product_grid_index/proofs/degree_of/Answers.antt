@@ -21,12 +21,11 @@ overflow_cast-degree c =
     omega (arith, c.wide_degree-degree.ensures, degree_byte k)
 
 pub loop-i-preserved : goal.loop-i-preserved
-loop-i-preserved c =
-    (
-      omega (arith, c.loop-i-test.true),
-      rw c.larger-most.ensures
-          (top_more _ _ _ _ c.loop-i.invariant.1 c.wide_degree-degree.ensures),
-    )
+loop-i-preserved c = (
+  omega (arith, c.loop-i-test.true),
+  rw c.larger-most.ensures
+      (top_more _ _ _ _ c.loop-i.invariant.1 c.wide_degree-degree.ensures),
+)
 
 pub overflow_cast-result : goal.overflow_cast-result
 overflow_cast-result c = omega (arith, top_byte c.loop-i.invariant.1)

@@ -15,12 +15,11 @@ pub loop-i-init : goal.loop-i-init
 loop-i-init c = (omega arith, refl, λ j h. absurd (omega arith))
 
 pub loop-i-preserved : goal.loop-i-preserved
-loop-i-preserved c =
-    (
-      omega arith,
-      length-set c.loop-i.words c.loop-i.i _ ∙ c.loop-i.invariant.1,
-      stored_more c.loop-i.words c.loop-i.i _ _ (omega arith) c.loop-i.invariant.2 c.word_of.ensures,
-    )
+loop-i-preserved c = (
+  omega arith,
+  length-set c.loop-i.words c.loop-i.i _ ∙ c.loop-i.invariant.1,
+  stored_more c.loop-i.words c.loop-i.i _ _ (omega arith) c.loop-i.invariant.2 c.word_of.ensures,
+)
 
 pub returns : goal.returns
 returns c = λ i h. c.loop-i.invariant.2 i (omega arith)

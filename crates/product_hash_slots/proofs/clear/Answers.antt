@@ -13,12 +13,11 @@ pub loop-i-init : goal.loop-i-init
 loop-i-init c = (omega arith, refl, λ s h. absurd (omega arith))
 
 pub loop-i-preserved : goal.loop-i-preserved
-loop-i-preserved c =
-    (
-      omega arith,
-      length-set c.loop-i.slots c.loop-i.i _ ∙ c.loop-i.invariant.1,
-      cleared_more c.loop-i.slots c.loop-i.i (omega arith) c.loop-i.invariant.2,
-    )
+loop-i-preserved c = (
+  omega arith,
+  length-set c.loop-i.slots c.loop-i.i _ ∙ c.loop-i.invariant.1,
+  cleared_more c.loop-i.slots c.loop-i.i (omega arith) c.loop-i.invariant.2,
+)
 
 pub returns : goal.returns
 returns c =

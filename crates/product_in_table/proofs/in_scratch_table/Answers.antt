@@ -29,12 +29,12 @@ in_table-requires c =
     record {
       held_factors = c.requires.held_factors;
       empty_table = record {
-          enough = omega arith;
-          few = omega (arith, products_few c.requires.held_factors);
-          empty = c.clear.ensures;
-          slots_room = omega (arith, c.clear.auto.slots, part_long (goal.at.in_table-requires c).Start);
-          keys_room = omega (arith, c.requires.scratch_room.keys_room);
-          sums_room = omega (arith, c.requires.scratch_room.sums_room);
-        };
+        enough = omega arith;
+        few = omega (arith, products_few c.requires.held_factors);
+        empty = c.clear.ensures;
+        slots_room = omega (arith, c.clear.auto.slots, part_long (goal.at.in_table-requires c).Start);
+        keys_room = omega (arith, c.requires.scratch_room.keys_room);
+        sums_room = omega (arith, c.requires.scratch_room.sums_room);
+      };
       kept_room = c.requires.kept_room;
     }

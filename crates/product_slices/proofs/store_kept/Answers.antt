@@ -33,10 +33,9 @@ store_zeros-requires c =
     }
 
 pub returns : goal.returns
-returns c n =
-    (
-      c.store_zeros.ensures.0 ∙ ap (zeroed 0 _ most_terms) c.store_first.ensures.0
-          ∙ rw c.kept_count-count.ensures (keys_stored _ _ _ c.requires.kept_ready n _),
-      c.store_zeros.ensures.1 ∙ ap (zeroed (pos 0) _ most_terms) c.store_first.ensures.1
-          ∙ rw c.kept_count-count.ensures (coefficients_stored _ _ _ c.requires.kept_ready n _),
-    )
+returns c n = (
+  c.store_zeros.ensures.0 ∙ ap (zeroed 0 _ most_terms) c.store_first.ensures.0
+      ∙ rw c.kept_count-count.ensures (keys_stored _ _ _ c.requires.kept_ready n _),
+  c.store_zeros.ensures.1 ∙ ap (zeroed (pos 0) _ most_terms) c.store_first.ensures.1
+      ∙ rw c.kept_count-count.ensures (coefficients_stored _ _ _ c.requires.kept_ready n _),
+)

@@ -33,14 +33,13 @@ overflow_add-total c =
     record { fits = omega (arith, room, size_at c) }
 
 pub loop-i-preserved : goal.loop-i-preserved
-loop-i-preserved c =
-    (
-      omega arith,
-      length-set c.loop-i.wide c.loop-i.i _ ∙ c.loop-i.invariant.1,
-      λ w. rw (c.wide_key.ensures, size_at c)
-          (handed_iteration w (c.loop-i.invariant.2 w) (omega arith) (omega arith)
-          (word_key _ (c.shared_slice_known-1.given c.loop-i.i).fits)),
-    )
+loop-i-preserved c = (
+  omega arith,
+  length-set c.loop-i.wide c.loop-i.i _ ∙ c.loop-i.invariant.1,
+  λ w. rw (c.wide_key.ensures, size_at c)
+      (handed_iteration w (c.loop-i.invariant.2 w) (omega arith) (omega arith)
+      (word_key _ (c.shared_slice_known-1.given c.loop-i.i).fits)),
+)
 
 pub returns : goal.returns
 returns c w = handed_end w (c.loop-i.invariant.2 w) (omega arith)

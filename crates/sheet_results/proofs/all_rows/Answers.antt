@@ -18,12 +18,11 @@ loop-i-init c = (omega arith, refl)
 
 pub loop-i-preserved : goal.loop-i-preserved
 unfolding row_at
-loop-i-preserved c =
-    (
-      omega arith,
-      ap (λ r. set r c.loop-i.i (row_at c.args.flat.now c.loop-i.i)) c.loop-i.invariant.1
-          ∙ rows_more (stored_shares no_shares) c.args.flat.now c.loop-i.i (omega arith),
-    )
+loop-i-preserved c = (
+  omega arith,
+  ap (λ r. set r c.loop-i.i (row_at c.args.flat.now c.loop-i.i)) c.loop-i.invariant.1
+      ∙ rows_more (stored_shares no_shares) c.args.flat.now c.loop-i.i (omega arith),
+)
 
 pub returns : goal.returns
 unfolding most_steps
