@@ -1,5 +1,7 @@
 // Books in memory that are handed over, run; and runs of sheets and of books with where the radius of each step came
 // from.
+#![tactic(auto)]
+
 ghost use Rattle.std.specs.Prelude.{◌≡◌, ◌&&◌, leb, length, ◌^◌, ◌<◌, ◌≤◌};
 ghost use Rattle.calculus.specs.Model.{most_terms};
 ghost use Rattle.format.specs.Format.{run_sheet, sheet_rows};

@@ -1,5 +1,7 @@
 // Books that are handed over as numbers and slices: for each model an entry of ns, counts and radii and 64 keys and
 // coefficients; for each step the four bytes of its code, a, b and v, and a value.
+#![tactic(auto)]
+
 ghost use Rattle.std.specs.Prelude.{◌≡◌, ◌<◌, length};
 ghost use Rattle.c_books.specs.HandedBooks.{step_places, handed_steps, model_places, handed_models};
 ghost use Rattle.c_books.specs.HandedBooks.{model_at, handed_book};

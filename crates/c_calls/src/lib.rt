@@ -1,4 +1,6 @@
 // The single call that a code names, on models that are handed over, and its answer stored into slices.
+#![tactic(auto)]
+
 ghost use Rattle.std.specs.Prelude.{◌≡◌, ◌^◌, ◌<◌, ◌≤◌, length};
 ghost use Rattle.calculus.specs.Model.{most_terms};
 ghost use Rattle.calculus.specs.Calls.{call_evaluate};

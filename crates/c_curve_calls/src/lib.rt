@@ -1,5 +1,7 @@
 // Calls on curves in Chebyshev polynomials that are handed over, and their conversion to and from powers: each tests
 // the slices, makes the call and stores its answer.
+#![tactic(auto)]
+
 ghost use Rattle.std.specs.Prelude.{◌≡◌, length};
 ghost use Rattle.chebyshev.specs.CurveCalls.{call_range, call_to_powers, call_from_powers};
 ghost use Rattle.model_types.specs.ModelStruct.{view};

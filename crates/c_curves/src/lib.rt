@@ -1,4 +1,6 @@
 // Calls on curves in Chebyshev polynomials that are handed over as slices, and their answers stored into slices.
+#![tactic(auto)]
+
 ghost use Rattle.std.specs.Prelude.{◌≡◌, ◌≤◌, length};
 ghost use Rattle.chebyshev.specs.PowerRows.{places};
 ghost use Rattle.model_slices.specs.HandedModels.{over};

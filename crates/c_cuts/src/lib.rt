@@ -1,4 +1,6 @@
 // The range of a cut box on a model that is handed over: the test of its slices, the call, and its answer stored.
+#![tactic(auto)]
+
 ghost use Rattle.std.specs.Prelude.{◌≡◌, ◌≤◌, length};
 ghost use Rattle.model_types.specs.ModelStruct.{bounds};
 ghost use Rattle.c_cuts.specs.CutCalls.{handed_cut, cut_fits, cut_state, stored_cut};

@@ -1,4 +1,6 @@
 // The single call that a code names: from slices to slices where it can be, by structs else.
+#![tactic(auto)]
+
 ghost use Rattle.std.specs.Prelude.{true, ◌≡◌, ◌≤◌, length};
 ghost use Rattle.calculus.specs.Model.{most_terms};
 ghost use Rattle.model_types.specs.ModelStruct.{view, answer, integral_answer};

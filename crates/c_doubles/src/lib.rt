@@ -1,4 +1,6 @@
 // A curve in doubles that is handed over as four numbers.
+#![tactic(auto)]
+
 ghost use Rattle.std.specs.Prelude.{◌≡◌, length};
 ghost use Rattle.model_types.specs.ModelStruct.{answer};
 ghost use Rattle.c_doubles.specs.HandedDoubles.{handed_doubles};

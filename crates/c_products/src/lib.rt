@@ -1,4 +1,6 @@
 // A product of two models that are handed over, straight from their slices into those of the answer.
+#![tactic(auto)]
+
 ghost use Rattle.std.specs.Prelude.{true, ◌≡◌, ◌≤◌, length};
 ghost use Rattle.calculus.specs.Calls.{call_multiply};
 ghost use Rattle.calculus.specs.Model.{most_terms};

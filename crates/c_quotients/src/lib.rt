@@ -1,4 +1,6 @@
 // The quotient of four models that are handed over one after the other: f, g, h, w.
+#![tactic(auto)]
+
 ghost use Rattle.std.specs.Prelude.{◌≡◌, ◌≤◌, length};
 ghost use Rattle.model_types.specs.ModelStruct.{answer};
 ghost use Rattle.c_books.specs.HandedBooks.{model_places};

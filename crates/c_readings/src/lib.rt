@@ -1,5 +1,7 @@
 // A row of readings that is handed over in flat slices, held against a model that is handed over, and what is found
 // stored into a slice.
+#![tactic(auto)]
+
 ghost use Rattle.std.specs.Prelude.{map, ◌≡◌, ◌≤◌, ◌<◌, length};
 ghost use Rattle.readings.specs.Readings.{call_readings};
 ghost use Rattle.model_types.specs.ModelStruct.{view};

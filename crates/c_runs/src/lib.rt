@@ -1,4 +1,6 @@
 // Sheets that are handed over and run, and what a run answers stored into slices.
+#![tactic(auto)]
+
 ghost use Rattle.std.specs.Prelude.{◌≡◌, ◌^◌, ◌<◌, ◌≤◌, leb, length};
 ghost use Rattle.calculus.specs.Model.{most_terms};
 ghost use Rattle.format.specs.Format.{run_sheet};

@@ -1,4 +1,6 @@
 // The rows of a run, stored into a slice: four numbers for each of 64 steps.
+#![tactic(auto)]
+
 ghost use Rattle.std.specs.Prelude.{◌≡◌, ◌≤◌, length};
 ghost use Rattle.c_shares.specs.HandedShares.{report_numbers, stored_rows, report_room};
 

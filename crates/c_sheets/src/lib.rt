@@ -1,4 +1,6 @@
 // Sheets that are handed over: run to the program's lines, and taken apart record by record.
+#![tactic(auto)]
+
 ghost use Rattle.std.specs.Prelude.{◌≡◌, leb, length};
 ghost use Rattle.format.specs.Lines.{printed};
 ghost use Rattle.text.specs.sheet.Stepping.{record_bytes, start_answer, kind_at, bytes_at, next_at};

@@ -1,4 +1,6 @@
 // Books that are handed over and written as sheets, and sheets written back.
+#![tactic(auto)]
+
 ghost use Rattle.std.specs.Prelude.{◌≡◌, ◌≤◌, leb, length};
 ghost use Rattle.format.specs.Format.{read};
 ghost use Rattle.sheet_book.specs.BookStruct.{held_book, read_answer};

@@ -1,6 +1,8 @@
 // Numbers in fixed point: the unit, the span limit, exact arithmetic on 64-bit numbers, and rounding to the unit.
 // No function traps or wraps: each takes every input, or a `requires` leaves out what has no answer in 64 bits.
 // Callers know the limits and the rounding by name and by the laws in crates/numbers (FixedLaws and DivisionLaws).
+#![tactic(auto)]
+
 ghost use Rattle.std.specs.Prelude.{◌&&◌, ◌≡◌, ◌+◌, ◌*◌, ◌^◌, ◌<◌, leb, pos, negsuc, nat_abs, neg_ℤ, ◌+ℤ◌, ◌-ℤ◌, ◌*ℤ◌};
 ghost use Rattle.std.specs.Int.Signed.{non_neg};
 ghost use Rattle.numbers.specs.Division.{floor, ceiling, remainder, divided_up, nearest};

@@ -2,6 +2,8 @@
 // hold, makes the tests in document 01's order, and answers the result or the refusal with its place. The numbers in a
 // call's comment are its refusals, in the order of the tests. The constructors `Model::constant` and `Model::variable`
 // stand with the type.
+#![tactic(auto)]
+
 ghost use Rattle.std.specs.Prelude.{◌≡◌, ◌≤◌};
 ghost use Rattle.calculus.specs.Model.{zero_model, one_model};
 ghost use Rattle.calculus.specs.Refusal.{at_place};

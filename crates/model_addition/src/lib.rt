@@ -1,4 +1,6 @@
 // Sums of models held in memory: a merge of two lists of terms whose keys rise, then the limits.
+#![tactic(auto)]
+
 ghost use Rattle.std.specs.Prelude.{◌≡◌, ◌≤◌, ◌<◌, pos, get_or};
 ghost use Rattle.calculus.specs.Refusal.{at_place};
 ghost use Rattle.calculus.specs.Operations.{add, subtract};

@@ -1,4 +1,6 @@
 // The antiderivative of a model in one of its variables.
+#![tactic(auto)]
+
 ghost use Rattle.std.specs.Prelude.{◌≡◌, ◌+◌, ◌^◌, ◌<◌, nat_abs};
 ghost use Rattle.calculus.specs.Refusal.{accepted, done};
 ghost use Rattle.calculus.specs.Operations.{antiderivative, growth_rounding};

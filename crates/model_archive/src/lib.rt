@@ -1,5 +1,7 @@
 // The archive: models in bytes, low degrees first, so that the first terms can be read alone. Both calls take anything.
 // The numbers in a call's comment are its refusals, in the order of the tests.
+#![tactic(auto)]
+
 ghost use Rattle.std.specs.Prelude.{◌≡◌, min};
 ghost use Rattle.model_types.specs.ModelStruct.{view, answer};
 ghost use Rattle.archive.specs.Archive.{store, stored, restored};

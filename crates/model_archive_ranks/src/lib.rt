@@ -1,4 +1,6 @@
 // The list of all keys of the archive, and their ranks.
+#![tactic(auto)]
+
 ghost use Rattle.std.specs.Prelude.{◌≡◌, ◌%◌, ◌≤◌};
 ghost use Rattle.calculus.specs.Key.{key_degree};
 ghost use Rattle.calculus.specs.Model.{most_degree};

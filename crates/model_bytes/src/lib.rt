@@ -1,4 +1,6 @@
 // Numbers of 2 and 4 bytes at a place of a slice, little-endian: read, and put.
+#![tactic(auto)]
+
 ghost use Rattle.std.specs.Prelude.{◌≡◌, ◌+◌, ◌^◌, ◌<◌, ◌≤◌, nat_abs, length, drop};
 ghost use Rattle.std.proofs.lemmas.List.Edits.{sets};
 ghost use Rattle.format.specs.Bytes.{byte, u16, u32, signed, u16_bytes, u32_bytes, bits};

@@ -1,5 +1,7 @@
 // The tests of the single calls, in document 01's order: each function gives the verdict that lets a call go on, or
 // refuses it. The numbers in its comment are the refusals, in the order of the tests.
+#![tactic(auto)]
+
 ghost use Rattle.std.specs.Prelude.{◌≡◌, take, drop, ◌≤◌};
 ghost use Rattle.calculus.specs.Key.{key_width};
 ghost use Rattle.calculus.specs.Tests.{all_zero, all_in_unit};

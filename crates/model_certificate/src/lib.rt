@@ -1,4 +1,6 @@
 // What the two forms of a proposal certify: a radius around the proposed quotient, from the ranges of both.
+#![tactic(auto)]
+
 ghost use Rattle.std.specs.Prelude.{◌≡◌, ◌≤◌, T, length};
 ghost use Rattle.numbers.specs.Fixed.{span_limit};
 ghost use Rattle.calculus.specs.Model.{most_degree, most_terms, sound};

@@ -1,4 +1,6 @@
 // Curves in Chebyshev polynomials, held in memory.
+#![tactic(auto)]
+
 ghost use Rattle.std.specs.Prelude.{◌≡◌, T};
 ghost use Rattle.calculus.specs.Refusal.{stopped, at_place};
 ghost use Rattle.chebyshev.specs.Curve.{sound, span};

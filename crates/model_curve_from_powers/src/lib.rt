@@ -1,4 +1,6 @@
 // Models in powers of one variable as curves.
+#![tactic(auto)]
+
 ghost use Rattle.std.specs.Prelude.{◌≡◌, ◌^◌, ◌<◌, T, pos};
 ghost use Rattle.calculus.specs.Model.{most_degree};
 ghost use Rattle.calculus.specs.Model as M;

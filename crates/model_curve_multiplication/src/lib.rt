@@ -1,4 +1,6 @@
 // Products of curves.
+#![tactic(auto)]
+
 ghost use Rattle.std.specs.Prelude.{◌≡◌, ◌+◌, ◌*◌, ◌^◌, ◌≤◌, ◌<◌, T, length, pos, nat_abs, ◌-ℤ◌, ◌*ℤ◌};
 ghost use Rattle.numbers.specs.Division.{nearest};
 ghost use Rattle.chebyshev.specs.Recurrence as R;

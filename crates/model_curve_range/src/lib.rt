@@ -1,4 +1,6 @@
 // The range of a curve.
+#![tactic(auto)]
+
 ghost use Rattle.std.specs.Prelude.{◌≡◌, T};
 ghost use Rattle.chebyshev.specs.Curve.{sound};
 ghost use Rattle.chebyshev.specs.CurveOperations.{variation};

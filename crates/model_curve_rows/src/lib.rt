@@ -1,4 +1,6 @@
 // Rows of coefficients: each coefficient times its row of a table, all added.
+#![tactic(auto)]
+
 ghost use Rattle.std.specs.Prelude.{◌≡◌, map, ◌+◌, ◌*◌, ◌^◌, ◌<◌, T, nat_abs, length, replicate};
 ghost use Rattle.chebyshev.specs.Coefficients.{sum, scale, size};
 ghost use Rattle.chebyshev.specs.PowerRows.{zeros, combine};

@@ -1,4 +1,6 @@
 // Curves in powers: the model that a curve becomes, exactly.
+#![tactic(auto)]
+
 ghost use Rattle.std.specs.Prelude.{◌≡◌, ◌<◌, T, pos, get_or};
 ghost use Rattle.calculus.specs.Refusal.{at_place};
 ghost use Rattle.chebyshev.specs.Curve.{sound};

@@ -1,6 +1,8 @@
 // Curves in Chebyshev polynomials of one variable: the single calls of document 02's request 10. Each takes anything,
 // whatever its fields hold, makes the tests in the request's order, and answers the result or the refusal with its
 // place. The numbers in a call's comment are its refusals, in the order of the tests.
+#![tactic(auto)]
+
 pub use model_types::{Answer, Bounds, Curve, CurveAnswer, Model};
 
 // All signs turned. 5.

@@ -1,4 +1,6 @@
 // The pieces of a variable that is cut: what is put in for it, and the range of a model over one piece.
+#![tactic(auto)]
+
 ghost use Rattle.std.specs.Prelude.{◌≡◌, ◌*◌, ◌^◌, ◌≤◌, ◌<◌};
 ghost use Rattle.calculus.specs.Key.{key_width};
 ghost use Rattle.calculus.specs.Refusal.{at_place};

@@ -1,5 +1,7 @@
 // The range of a model, narrower by cutting the box: one variable is cut into 2^k equal pieces. The call takes
 // anything, makes the tests in order, and answers two ends or the refusal with its place.
+#![tactic(auto)]
+
 ghost use Rattle.std.specs.Prelude.{◌≡◌};
 ghost use Rattle.product_room.specs.ProductTerms.{ScratchRoom};
 ghost use Rattle.model_types.specs.ModelStruct.{view, bounds};

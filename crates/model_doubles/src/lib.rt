@@ -1,5 +1,7 @@
 // A curve delivered in doubles becomes a model. Each double is taken apart from its bits: nothing is computed in
 // floats.
+#![tactic(auto)]
+
 ghost use Rattle.std.specs.Prelude.{◌≡◌, not, ◌&&◌, leb, ◌%◌, ◌^◌, ◌<◌, ◌≤◌};
 ghost use Rattle.numbers.specs.Division.{divided_up};
 ghost use Rattle.calculus.specs.Model as C;

@@ -1,6 +1,8 @@
 // The value of a model at a point: its coordinates put in for the variables, then the range of what is left. A
 // coordinate is a constant, so that each product of Horner's rule is one pass over the terms, without a table. They lie
 // in slices, so that no step copies a model.
+#![tactic(auto)]
+
 ghost use Rattle.std.specs.Prelude.{◌≡◌, take};
 ghost use Rattle.calculus.specs.Refusal.{at_place};
 ghost use Rattle.calculus.specs.Operations as Op;

@@ -1,5 +1,7 @@
 // The product with a coordinate in Horner's rule, on models that lie in slices of 64 places, and the copy of what is
 // left. After the terms that a count names any numbers may stand.
+#![tactic(auto)]
+
 ghost use Rattle.std.specs.Prelude.{◌≡◌, ℕ, ◌≤◌};
 ghost use Rattle.model_types.specs.ModelStruct.{view, pack};
 ghost use Rattle.model_slices.specs.HeldModels.{model_places, held, Room};

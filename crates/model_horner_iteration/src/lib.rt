@@ -1,5 +1,7 @@
 // One iteration of Horner's rule on models that lie in slices of 64 places: the product with what is put in, then the
 // next power's terms added. After the terms that a count names any numbers may stand.
+#![tactic(auto)]
+
 ghost use Rattle.std.specs.Prelude.{◌≡◌, ◌*◌};
 ghost use Rattle.calculus.specs.Shares.{product_shares};
 ghost use Rattle.model_types.specs.ModelStruct.{view};

@@ -1,5 +1,7 @@
 // The product in an iteration of Horner's rule, of models that lie in slices of 64 places. After the terms that a count
 // names any numbers may stand.
+#![tactic(auto)]
+
 ghost use Rattle.std.specs.Prelude.{◌*◌};
 ghost use Rattle.calculus.specs.Operations.{multiply};
 ghost use Rattle.calculus.specs.Shares.{product_shares};

@@ -1,4 +1,6 @@
 // The integral of a model over the box: of its polynomial part exactly, and two ends around it.
+#![tactic(auto)]
+
 ghost use Rattle.std.specs.Prelude.{◌≡◌, ◌*◌, ◌/◌, ◌^◌, ◌<◌, ◌≤◌, T, pos, nat_abs, ◌*ℤ◌};
 ghost use Rattle.numbers.specs.Division.{floor, remainder};
 ghost use Rattle.calculus.specs.Key.{key_width};

@@ -1,5 +1,7 @@
 // Keys of monomials: all arithmetic of their digits. A key holds the exponents of a monomial as the digits of one
 // number, that of variable 1 the highest, four bits each; a wide key has seven bits for each, and the degree.
+#![tactic(auto)]
+
 ghost use Rattle.std.specs.Prelude.{◌≡◌, [], ◌∷◌, ℕ, ◌+◌, ◌-◌, ◌*◌, ◌/◌, ◌%◌, ◌≤◌, ◌<◌};
 ghost use Rattle.polynomial.specs.Polynomial.{exponent};
 ghost use Rattle.calculus.specs.Key.{key, monomial_of, key_width, key_fits, key_degree, Below};

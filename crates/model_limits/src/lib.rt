@@ -1,4 +1,6 @@
 // The limits on every result: the span of what a sum or a product leaves is tested.
+#![tactic(auto)]
+
 ghost use Rattle.std.specs.Prelude.{◌≡◌, List, ℕ, ◌≤◌, leb, length};
 ghost use Rattle.numbers.specs.Fixed.{span_limit};
 ghost use Rattle.calculus.specs.Model.{span};

@@ -1,6 +1,8 @@
 // The product of two models, in scratch memory or in room of its own: the product of models in slices borrows the
 // arrays of both. (Keys are copied before: `&` of two fields of one struct is not covered by the borrow checker where
 // the callee takes them at two lifetimes.)
+#![tactic(auto)]
+
 ghost use Rattle.std.specs.Prelude.{◌≡◌, ◌*◌};
 ghost use Rattle.calculus.specs.Refusal.{at_place};
 ghost use Rattle.calculus.specs.Operations.{multiply};

@@ -1,4 +1,6 @@
 // A model by the powers of one of its variables: the largest exponent, and what multiplies each power.
+#![tactic(auto)]
+
 ghost use Rattle.std.specs.Prelude.{◌≡◌, ◌<◌, max};
 ghost use Rattle.calculus.specs.Operations.{largest_exponent, part};
 ghost use Rattle.model_types.specs.ModelStruct.{view, pack};

@@ -1,5 +1,7 @@
 // The second form that checks a proposal h, w for the quotient f / g: 1 - w × g. The models lie in slices, each a count
 // and two slices that may be longer than it; w has no radius.
+#![tactic(auto)]
+
 ghost use Rattle.std.specs.Prelude.{◌*◌, ◌≤◌, length};
 ghost use Rattle.calculus.specs.Refusal.{at_place};
 ghost use Rattle.calculus.specs.Operations.{deviation};

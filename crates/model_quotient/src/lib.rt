@@ -1,6 +1,8 @@
 // Quotients, checked from a proposal: its two forms bound how far the proposed quotient is off. All models lie in
 // slices, each a count and two slices that may be longer than it; a struct lends its arrays. Of the forms, whose ranges
 // alone are asked for, only the terms are stored.
+#![tactic(auto)]
+
 ghost use Rattle.std.specs.Prelude.{◌≡◌, ◌≤◌, length};
 ghost use Rattle.calculus.specs.Refusal.{at_place};
 ghost use Rattle.calculus.specs.Operations.{defect, quotient};

@@ -1,6 +1,8 @@
 // Quotients of structs with a table of their own. A table is filled with zeros where it is declared, which takes longer
 // for the full one than a quotient of few terms. So its size goes by the most products that one of the forms can have,
 // and each size has a function; the call chooses, since a chooser between would copy the four structs once more.
+#![tactic(auto)]
+
 ghost use Rattle.std.specs.Prelude.{◌≡◌, ◌≤◌};
 ghost use Rattle.calculus.specs.Model.{most_terms};
 ghost use Rattle.calculus.specs.Refusal.{at_place};

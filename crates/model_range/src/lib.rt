@@ -1,4 +1,6 @@
 // The range of a model over the box.
+#![tactic(auto)]
+
 ghost use Rattle.std.specs.Prelude.{◌≡◌, T};
 ghost use Rattle.calculus.specs.Model.{most_degree, sound};
 ghost use Rattle.calculus.specs.Refusal.{done};

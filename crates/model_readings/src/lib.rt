@@ -1,5 +1,7 @@
 // Readings of the bench held against a model: which of them contradicts it first. One thin function walks over the
 // borrowed slice; what it does at each iteration stands in the functions before it.
+#![tactic(auto)]
+
 ghost use Rattle.std.specs.Prelude.{◌≡◌, map, min, max};
 ghost use Rattle.std.proofs.Math.Option.{none, some};
 ghost use Rattle.calculus.specs.Key.{key_width};

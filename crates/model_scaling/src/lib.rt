@@ -1,5 +1,7 @@
 // A coefficient times a constant from -U to U, for Horner's rule at a point. That a model's product with a constant is
 // one pass of these over its terms, since nothing of it is collected, is ScalingLaws `multiply_scaled`.
+#![tactic(auto)]
+
 ghost use Rattle.std.specs.Prelude.{◌≡◌, ◌*◌, ◌^◌, ◌<◌, nat_abs};
 ghost use Rattle.model_scaling.specs.Scaling.{scaled_coefficient, scaled_residual};
 

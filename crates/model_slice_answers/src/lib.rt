@@ -1,4 +1,6 @@
 // Answers stored into slices: all 64 places of a model's terms, and its numbers.
+#![tactic(auto)]
+
 ghost use Rattle.std.specs.Prelude.{[], ◌∷◌, ◌≡◌, ◌≤◌, length};
 ghost use Rattle.calculus.specs.Model.{most_terms};
 ghost use Rattle.calculus.specs.Refusal.{stopped};

@@ -1,6 +1,7 @@
 // Single calls on models in slices, for other languages: each reads its models where they lie, and makes the tests in
 // document 01's order. Those that answer with a model store all its 64 places and the numbers into slices, and answer
 // with the number of the refusal.
+#![tactic(auto)]
 
 // ---- for the layer above: slices that have the places which their counts name
 // The sum of two models. 5 at place 0 or 1, 10, 8, 7.

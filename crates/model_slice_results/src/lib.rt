@@ -1,5 +1,7 @@
 // Products and differences of models in slices, whose terms are left in two other slices of 64 places. Zeros are not
 // stored after the terms.
+#![tactic(auto)]
+
 ghost use Rattle.std.specs.Prelude.{◌*◌, ◌≤◌, length};
 ghost use Rattle.calculus.specs.Operations.{multiply, subtract};
 ghost use Rattle.calculus.specs.Refusal.{at_place};

@@ -1,4 +1,6 @@
 // The tests of the calls on models that lie in slices, without a struct on the way.
+#![tactic(auto)]
+
 ghost use Rattle.std.specs.Prelude.{true, ◌≡◌, length};
 ghost use Rattle.model_types.specs.ModelStruct.{view, verdict};
 ghost use Rattle.model_slices.specs.HandedModels.{handed, borrowed};

@@ -1,5 +1,7 @@
 // Models that are handed over as numbers and slices, and models stored into slices. A model is its n, its count and its
 // radius, and slices of keys and of coefficients, which may be longer than its count.
+#![tactic(auto)]
+
 ghost use Rattle.std.specs.Prelude.{◌≡◌, ◌≤◌, min, length, take};
 ghost use Rattle.calculus.specs.Model.{most_terms};
 ghost use Rattle.model_types.specs.ModelStruct.{view, verdict_number, verdict_place};

@@ -1,5 +1,7 @@
 // The rules that a model must keep: the tests of one term, of a model that lies in slices, and of a struct, which lends
 // its arrays.
+#![tactic(auto)]
+
 ghost use Rattle.std.specs.Prelude.{true, ◌≡◌, ◌≤◌, length};
 ghost use Rattle.calculus.specs.Key.{key_width};
 ghost use Rattle.calculus.specs.Model.{sound};

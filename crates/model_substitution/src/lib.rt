@@ -1,4 +1,6 @@
 // Substitution: two models lend their arrays, and the answer is packed as a struct.
+#![tactic(auto)]
+
 ghost use Rattle.std.specs.Prelude.{◌≡◌, ◌*◌, ◌≤◌};
 ghost use Rattle.calculus.specs.Model.{most_terms};
 ghost use Rattle.calculus.specs.Refusal.{at_place};

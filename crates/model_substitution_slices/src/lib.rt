@@ -1,4 +1,6 @@
 // Substitution of models in slices, by Horner's rule.
+#![tactic(auto)]
+
 ghost use Rattle.std.specs.Prelude.{◌*◌};
 ghost use Rattle.calculus.specs.Model.{most_terms};
 ghost use Rattle.calculus.specs.Operations.{substitute};

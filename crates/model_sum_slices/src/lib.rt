@@ -1,6 +1,8 @@
 // The single calls `add` and `subtract` from slices to slices. They take anything that these can hold, make the tests
 // in document 01's order, store the sum or the refusal with its place, and answer with the number of that, 0 without
 // one.
+#![tactic(auto)]
+
 ghost use Rattle.std.specs.Prelude.{true, ◌≡◌, ℕ, ◌+◌, ◌^◌, ◌≤◌, ◌<◌, length};
 ghost use Rattle.calculus.specs.Calls.{call_add, call_subtract};
 ghost use Rattle.calculus.specs.Model.{most_terms};

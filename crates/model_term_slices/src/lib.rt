@@ -1,6 +1,8 @@
 // The single calls of one model in slices. They take anything that these can hold, and make the tests in document 01's
 // order. `negate`, `sweep` and `antiderivative` store the answer or the refusal with its place into slices, and answer
 // with the number of that, 0 without one; `range` and `integral` answer with a struct.
+#![tactic(auto)]
+
 ghost use Rattle.std.specs.Prelude.{true, ◌≡◌, ◌≤◌, length};
 ghost use Rattle.calculus.specs.Calls.{call_negate, call_sweep, call_antiderivative};
 ghost use Rattle.calculus.specs.Calls.{call_range, call_integral};

@@ -1,4 +1,6 @@
 // Models held in memory: their types, the answers of a refused call, and the models of constants and variables.
+#![tactic(auto)]
+
 ghost use Rattle.std.specs.Prelude.{◌≡◌, ◌+◌, ◌*◌, ◌^◌, ◌≤◌, ◌<◌};
 ghost use Rattle.numbers.specs.Fixed.{U, span_limit};
 ghost use Rattle.calculus.specs.Key.{key_width};

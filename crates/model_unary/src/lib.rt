@@ -1,4 +1,6 @@
 // Operations on one model: the signs turned, and small terms swept into the radius.
+#![tactic(auto)]
+
 ghost use Rattle.std.specs.Prelude.{◌≡◌, not, ◌&&◌, map, ℕ, ◌^◌, ◌≤◌, ◌<◌, T, eqb, leb, pos, nat_abs, neg_ℤ, length, take, get_or};
 ghost use Rattle.calculus.specs.Model.{most_degree, sound};
 ghost use Rattle.calculus.specs.Refusal.{accepted, done};

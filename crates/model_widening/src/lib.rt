@@ -1,4 +1,6 @@
 // A model in slices with a radius added to its own, and its shares: the end of a substitution.
+#![tactic(auto)]
+
 ghost use Rattle.std.specs.Prelude.{◌≡◌, List, ℕ, ◌^◌, ◌≤◌, ◌<◌, length};
 ghost use Rattle.numbers.specs.Fixed.{span_limit};
 ghost use Rattle.calculus.specs.Operations.{widen};

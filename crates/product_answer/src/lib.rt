@@ -1,5 +1,7 @@
 // The answer of a product of models: its radius, and the terms that are kept, within the limits, in two arrays or as a
 // struct.
+#![tactic(auto)]
+
 ghost use Rattle.std.specs.Prelude.{◌≡◌, List, ℕ, ◌+◌, ◌*◌, ◌^◌, ◌<◌, ◌≤◌, leb, length};
 ghost use Rattle.numbers.specs.Fixed.{round_up, span_limit};
 ghost use Rattle.calculus.specs.Terms.{size};

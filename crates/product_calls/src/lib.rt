@@ -1,5 +1,7 @@
 // The single call `multiply` on models that lie in slices. It takes anything that they can hold, makes the tests in
 // document 01's order, and answers the product or the refusal with its place.
+#![tactic(auto)]
+
 ghost use Rattle.std.specs.Prelude.{true, ◌≡◌, length};
 ghost use Rattle.calculus.specs.Calls.{call_multiply};
 ghost use Rattle.model_types.specs.ModelStruct.{view, answer};

@@ -1,4 +1,6 @@
 // What an order keeps of all products of two lists of terms, by way of a grid.
+#![tactic(auto)]
+
 ghost use Rattle.polynomial.specs.Polynomial.{product};
 ghost use Rattle.product_sums.specs.TermArrays.{terms};
 ghost use Rattle.product_sums.specs.ProductSums.{ProductGathered};

@@ -1,5 +1,7 @@
 // The products of two lists of terms, each added at its place in a grid, which is told the pair's degree: no search,
 // and no key is looked at. What the grid and the keys are stands in what is asked.
+#![tactic(auto)]
+
 ghost use Rattle.std.specs.Prelude.{◌≡◌, ℕ, ◌<◌, ◌≤◌, pos, length, get_or};
 ghost use Rattle.algebra.specs.IntegerRing.{ℤR};
 ghost use Rattle.polynomial.specs.Polynomial.{times, product};

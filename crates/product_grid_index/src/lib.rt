@@ -1,5 +1,7 @@
 // Products in a grid: where the exponents of two factors are small beside the number of their terms, each monomial of
 // the product has a place of its own, the sum of two numbers that are found once for each term.
+#![tactic(auto)]
+
 ghost use Rattle.std.specs.Prelude.{◌≡◌, ℕ, max, ◌<◌, ◌≤◌, length, get_or};
 ghost use Rattle.product_grid_index.specs.Grid.{first_of, second_of, third_of, fourth_of, others_of};
 ghost use Rattle.product_grid_index.specs.Grid.{Low};

@@ -1,6 +1,8 @@
 // What an order keeps of the sums in a grid: rounded, without zeros, in the order of their keys, and what it loses. A
 // place tells its exponents, and beside each sum stands the degree that its pairs of terms brought: that one keeps or
 // sweeps. No place is looked at whose degree no product has.
+#![tactic(auto)]
+
 ghost use Rattle.std.specs.Prelude.{◌≡◌};
 ghost use Rattle.product_rising.specs.Rising.{Room, Part, Scanned};
 ghost use Rattle.product_grid_scan.specs.GridTerms.{steps_within, row_terms, line_terms, plane_terms};

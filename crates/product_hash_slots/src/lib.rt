@@ -1,4 +1,6 @@
 // An index of slots that lead to entries by their keys: where a search begins, how it goes on, and emptying.
+#![tactic(auto)]
+
 ghost use Rattle.std.specs.Prelude.{◌≡◌, ℕ, ◌<◌, ◌≤◌, get_or};
 ghost use Rattle.product_hash_slots.specs.Slots.{home_slots, home_slot, Told, path, Searchable, Missed};
 ghost use Rattle.product_hash_slots.specs.Slots.{Found};

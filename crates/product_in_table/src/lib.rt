@@ -1,4 +1,6 @@
 // What an order keeps of all products of two lists of terms, summed in a table that is handed over.
+#![tactic(auto)]
+
 ghost use Rattle.std.specs.Prelude.{◌*◌};
 ghost use Rattle.product_sums.specs.TermArrays.{terms};
 ghost use Rattle.product_sums.specs.ProductSums.{ProductGathered};

@@ -1,5 +1,7 @@
 // What an order keeps of all products of two lists of terms, summed in room of its own: a local array is filled with
 // zeros where it is declared, so each size has a function.
+#![tactic(auto)]
+
 ghost use Rattle.std.specs.Prelude.{◌≡◌, ◌*◌, ◌≤◌};
 ghost use Rattle.product_sums.specs.TermArrays.{terms, scratch_places};
 ghost use Rattle.product_sums.specs.ProductSums.{ProductGathered};

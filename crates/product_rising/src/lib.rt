@@ -1,5 +1,7 @@
 // What an order keeps of sums whose keys rise: each is rounded and put after the others, or swept. So are the products
 // of one term with others: no two of them meet, and they rise as those do.
+#![tactic(auto)]
+
 ghost use Rattle.std.specs.Prelude.{◌≡◌, [], ◌∷◌};
 ghost use Rattle.model_keys.specs.Keys.{wide_degree};
 ghost use Rattle.product_sums.specs.TermArrays.{at_key};

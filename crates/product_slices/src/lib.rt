@@ -1,5 +1,7 @@
 // The product of two models that lie in slices, without a struct of either: their terms are unpacked by wide keys, and
 // what is kept of the products stays in two arrays until it is stored.
+#![tactic(auto)]
+
 ghost use Rattle.std.specs.Prelude.{◌≡◌, ℕ, ◌*◌, ◌≤◌, pos, length};
 ghost use Rattle.calculus.specs.Model.{most_terms};
 ghost use Rattle.calculus.specs.Operations.{multiply};

@@ -1,5 +1,7 @@
 // Whether the products of two lists of terms held by wide keys are summed in a grid, and in which; and what an order
 // keeps of them in scratch memory.
+#![tactic(auto)]
+
 ghost use Rattle.std.specs.Prelude.{◌≡◌, true, ◌*◌, ◌≤◌};
 ghost use Rattle.product_hash_table.specs.Table.{most_entries};
 ghost use Rattle.product_sums.specs.TermArrays.{scratch_places};

@@ -1,6 +1,8 @@
 // What an order keeps of all products of two lists of terms held by wide keys, without scratch memory: no two of them
 // meet where one list is a single term; else they are summed in a grid where the monomials are few, and in a table
 // where they are not.
+#![tactic(auto)]
+
 ghost use Rattle.product_sums.specs.TermArrays.{terms};
 ghost use Rattle.product_sums.specs.ProductSums.{ProductGathered};
 ghost use Rattle.product_own_room.specs.product_hash_collect.CollectorContracts.{HeldFactors};

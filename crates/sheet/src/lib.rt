@@ -1,6 +1,8 @@
 // Sheets: read, written, stepped through record by record, and run. Each function takes anything, whatever the bytes or
 // the fields hold. The run of a sheet or a book is made here: its steps in order, then the last result with its range
 // and its integral, and the rows.
+#![tactic(auto)]
+
 ghost use Rattle.std.specs.Prelude.{◌≡◌, []};
 ghost use Rattle.calculus.specs.Book.{run_sound};
 ghost use Rattle.calculus.specs.Shares.{all_rows, rows_sound};

@@ -1,5 +1,7 @@
 // The types of the sheet layer: books held in memory, what reading, writing and a run answer, and records; test 3, and
 // test 6 of one step.
+#![tactic(auto)]
+
 ghost use Rattle.std.specs.Prelude.{◌≡◌};
 ghost use Rattle.calculus.specs.Book.{limits_sound};
 ghost use Rattle.format.specs.HeldBook.{outline};

@@ -1,4 +1,6 @@
 // The verdict of a whole book: tests 3, 5 and 6, before any step runs.
+#![tactic(auto)]
+
 ghost use Rattle.std.specs.Prelude.{◌≡◌, ◌&&◌, ◌≤◌, eqb};
 ghost use Rattle.calculus.specs.Model.{sound};
 ghost use Rattle.calculus.specs.Book.{most_models, most_steps};

@@ -1,4 +1,6 @@
 // The fields of a sheet's records at a place of its bytes: terms, steps and the trailer.
+#![tactic(auto)]
+
 ghost use Rattle.std.specs.Prelude.{◌≡◌, ◌+◌, ◌≤◌, length, drop};
 ghost use Rattle.format.specs.Format.{term_length, step_length, trailer_length};
 ghost use Rattle.format.specs.Format.{read_term, read_step, read_trailer};

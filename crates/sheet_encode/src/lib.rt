@@ -1,5 +1,7 @@
 // A sheet put into a borrowed buffer, one function for each part: its records, their fields one after the other;
 // and its sections, all models, all steps and the trailer.
+#![tactic(auto)]
+
 ghost use Rattle.std.specs.Prelude.{◌≡◌, ◌+◌, ◌*◌, ◌^◌, ◌<◌, ◌≤◌, map, nat_abs, length};
 ghost use Rattle.std.proofs.lemmas.List.Edits.{sets};
 ghost use Rattle.format.specs.Bytes.{join};

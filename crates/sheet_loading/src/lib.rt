@@ -1,5 +1,7 @@
 // A sheet's records loaded for a run: its models go straight into flat slices, a place each, and are tested there; its
 // steps go into an array. No book is built.
+#![tactic(auto)]
+
 ghost use Rattle.std.specs.Prelude.{◌≡◌, ◌+◌, ◌*◌, T, length};
 ghost use Rattle.calculus.specs.Book.{most_models};
 ghost use Rattle.format.specs.Format.{step_length, trailer_length, trailer_sound, read_records};

@@ -1,4 +1,6 @@
 // Opening a sheet for stepping through it, and its records by their numbers.
+#![tactic(auto)]
+
 ghost use Rattle.std.specs.Prelude.{◌≡◌, length};
 ghost use Rattle.format.specs.Format.{returned_records};
 ghost use Rattle.sheet_opening.specs.Opening.{start_answer, record_bytes};

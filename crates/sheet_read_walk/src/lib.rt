@@ -1,4 +1,6 @@
 // The walk over a sheet's records that also keeps them: its models, then its steps, up to the first fault.
+#![tactic(auto)]
+
 ghost use Rattle.std.specs.Prelude.{◌≡◌, ◌+◌, ◌*◌, ◌≤◌, length, drop};
 ghost use Rattle.calculus.specs.Key.{key_width};
 ghost use Rattle.calculus.specs.Book.{most_models, most_steps};

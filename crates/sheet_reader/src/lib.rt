@@ -1,4 +1,6 @@
 // Reading a sheet: tests 1 to 6 in order, over the whole sheet, and its book.
+#![tactic(auto)]
+
 ghost use Rattle.std.specs.Prelude.{◌≡◌, ◌+◌, ◌*◌, T, length};
 ghost use Rattle.calculus.specs.Refusal.{stopped};
 ghost use Rattle.model_types.specs.ModelStruct.{cause};

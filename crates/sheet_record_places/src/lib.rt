@@ -1,5 +1,7 @@
 // The record at a place of a sheet: what it is, how long it is, its bytes without copying them, and where the next one
 // stands.
+#![tactic(auto)]
+
 ghost use Rattle.std.specs.Prelude.{◌≡◌, ◌+◌, ◌≤◌, ◌<◌, length};
 ghost use Rattle.format.specs.Format.{trailer_length};
 ghost use Rattle.sheet_record_places.specs.Places.{first_step, vars_of, record_size, length_at};

@@ -1,4 +1,6 @@
 // Stepping through a sheet record by record without copying it.
+#![tactic(auto)]
+
 ghost use Rattle.std.specs.Prelude.{◌≡◌};
 ghost use Rattle.sheet_record_places.specs.Places.{kind_at, bytes_at, next_at};
 ghost use Rattle.sheet_opening.specs.Opening.{start_answer};

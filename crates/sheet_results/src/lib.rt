@@ -1,6 +1,8 @@
 // A book's models and the results of its steps, in flat slices: 64 keys and 64 coefficients for each, a count and a
 // radius; and the rows of the results, four numbers for each. The models stand first, model a at place a, and the
 // result of step i at place 16 + i. A step reads what it names out of them, so that nothing else is copied.
+#![tactic(auto)]
+
 ghost use Rattle.std.specs.Prelude.{◌≡◌, cond, ◌+◌, ◌≤◌, ◌<◌, length, take, set};
 ghost use Rattle.calculus.specs.Model.{most_terms, zero_model};
 ghost use Rattle.calculus.specs.Book.{most_models, most_steps};

@@ -1,6 +1,8 @@
 // The steps of a book in order: each after the results so far, until the last or until one is refused. The book's
 // models and the results stand in flat slices, and a step copies only those that it names. All products share one
 // table: a small one first, a larger one from the first step on that needs it, and so the full one.
+#![tactic(auto)]
+
 ghost use Rattle.sheet_run_tables.specs.model.OperationContracts.{most_entries};
 ghost use Rattle.sheet_results.specs.Results.{results};
 ghost use Rattle.sheet_run_tables.specs.sheet_run_laws.Run.{Part, Stopped};

@@ -1,5 +1,7 @@
 // The run of a sheet from its bytes: its records are loaded into flat slices, and its steps run there. No book is
 // built.
+#![tactic(auto)]
+
 ghost use Rattle.std.specs.Prelude.{◌≡◌, ◌+◌, ◌≤◌};
 ghost use Rattle.calculus.specs.Refusal.{stopped};
 ghost use Rattle.calculus.specs.Book.{most_models};

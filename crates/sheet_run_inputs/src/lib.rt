@@ -1,4 +1,6 @@
 // A step that is an input.
+#![tactic(auto)]
+
 ghost use Rattle.sheet_book.specs.BookStruct.{held_step};
 ghost use Rattle.sheet_results.specs.Results.{results};
 ghost use Rattle.sheet_run_laws.specs.Run.{InputStep, Iterated};

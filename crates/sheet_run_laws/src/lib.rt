@@ -1,5 +1,7 @@
 // The steps of a book whose models stand in flat slices, and where a part of a run stopped. Beside them stand the
 // definitions and laws of a run whose models and results stand in flat slices.
+#![tactic(auto)]
+
 use model_types::Verdict;
 use sheet_book::Step;
 

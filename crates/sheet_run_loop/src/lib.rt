@@ -1,4 +1,6 @@
 // The steps of a book in order, each after the results so far, as far as the scratch memory for products serves.
+#![tactic(auto)]
+
 ghost use Rattle.sheet_results.specs.Results.{results};
 ghost use Rattle.sheet_run_room.specs.sheet_run_laws.Run.{ScratchRoom, Part, Stopped};
 

@@ -1,4 +1,6 @@
 // The models of a book are put into flat slices, model a at place a, and what is left of the book is its list of steps.
+#![tactic(auto)]
+
 ghost use Rattle.std.specs.Prelude.{◌+◌};
 ghost use Rattle.calculus.specs.Book.{most_models};
 ghost use Rattle.format.specs.HeldBook.{HeldPasses};

@@ -1,4 +1,6 @@
 // Any step but an input, a product or a quotient: the results that it names are taken out, its own is put.
+#![tactic(auto)]
+
 ghost use Rattle.std.specs.Prelude.{◌≡◌};
 ghost use Rattle.sheet_book.specs.BookStruct.{held_step};
 ghost use Rattle.sheet_results.specs.Results.{results};

@@ -1,4 +1,6 @@
 // Whether a table for products serves a step.
+#![tactic(auto)]
+
 ghost use Rattle.std.specs.Prelude.{◌≡◌, true, ◌≤◌, leb};
 ghost use Rattle.calculus.specs.Model.{most_terms};
 ghost use Rattle.sheet_run_laws.specs.model.OperationContracts.{most_entries, quotient_products};

@@ -1,4 +1,6 @@
 // The steps of a book with scratch memory for products: a small table, a larger one, or the full one.
+#![tactic(auto)]
+
 ghost use Rattle.sheet_run_loop.specs.model.OperationContracts.{most_entries};
 ghost use Rattle.sheet_results.specs.Results.{results};
 ghost use Rattle.sheet_run_loop.specs.sheet_run_laws.Run.{few_products, some_products, Part, Stopped};

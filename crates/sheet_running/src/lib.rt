@@ -1,4 +1,6 @@
 // The run of a book: all its steps in order, then the last result or the refusal, with the rows.
+#![tactic(auto)]
+
 ghost use Rattle.std.specs.Prelude.{◌≡◌, ◌≤◌};
 ghost use Rattle.format.specs.HeldBook.{view_book, HeldPasses};
 ghost use Rattle.sheet_book.specs.BookStruct.{held_book};

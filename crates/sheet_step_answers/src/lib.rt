@@ -1,5 +1,7 @@
 // What a step answers besides an operation's own answer: a model that is not refused, and an input with zeros beyond
 // its count.
+#![tactic(auto)]
+
 ghost use Rattle.std.specs.Prelude.{◌≡◌, T};
 ghost use Rattle.calculus.specs.Model.{most_degree, sound};
 ghost use Rattle.model_types.specs.ModelStruct.{view, pack};

@@ -1,5 +1,7 @@
 // One step of a book, a product and a quotient apart: the operation that its code names, on the model or the results
 // that its fields name.
+#![tactic(auto)]
+
 ghost use Rattle.std.specs.Prelude.{◌≡◌, ℕ, ◌-◌, ◌*◌, min, T};
 ghost use Rattle.calculus.specs.Model as C;
 ghost use Rattle.calculus.specs.Model.{most_degree, most_terms, sound};

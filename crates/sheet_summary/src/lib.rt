@@ -1,4 +1,6 @@
 // The answers of a run: a result with its range and its integral, or a refusal.
+#![tactic(auto)]
+
 ghost use Rattle.std.specs.Prelude.{◌≡◌, T};
 ghost use Rattle.calculus.specs.Model.{most_degree, sound};
 ghost use Rattle.calculus.specs.Refusal.{done};

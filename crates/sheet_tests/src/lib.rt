@@ -1,4 +1,6 @@
 // Tests 1 to 6 of a sheet in order, over the whole sheet: the verdict alone, by walks that keep nothing of it.
+#![tactic(auto)]
+
 ghost use Rattle.std.specs.Prelude.{◌≡◌, ◌+◌, ◌*◌, T, length};
 ghost use Rattle.calculus.specs.Model.{between};
 ghost use Rattle.model_types.specs.ModelStruct.{verdict};

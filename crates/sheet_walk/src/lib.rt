@@ -1,4 +1,6 @@
 // Walking forward through a sheet's records, its models and then its steps, up to the first fault. Nothing is kept.
+#![tactic(auto)]
+
 ghost use Rattle.std.specs.Prelude.{◌≡◌, ◌+◌, ◌*◌, ◌≤◌, length, drop};
 ghost use Rattle.calculus.specs.Key.{key_width};
 ghost use Rattle.calculus.specs.Model.{most_terms};

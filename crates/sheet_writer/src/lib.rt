@@ -1,5 +1,7 @@
 // Writing a book into a borrowed buffer as a sheet: tests 3, 5, 6 and 11 come first, so a refused write changes no
 // byte.
+#![tactic(auto)]
+
 ghost use Rattle.std.specs.Prelude.{◌≡◌};
 ghost use Rattle.format.specs.Format.{write, written};
 ghost use Rattle.sheet_book.specs.BookStruct.{held_book, write_answer};

@@ -1,4 +1,6 @@
 // The program's lines, made of a sheet and written into a borrowed buffer.
+#![tactic(auto)]
+
 ghost use Rattle.std.specs.Prelude.{◌≡◌, T, length};
 ghost use Rattle.calculus.specs.Model.{most_degree, sound};
 ghost use Rattle.calculus.specs.Refusal.{done};

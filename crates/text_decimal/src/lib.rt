@@ -1,4 +1,6 @@
 // Bytes and decimal numbers, put into a borrowed buffer.
+#![tactic(auto)]
+
 ghost use Rattle.std.specs.Prelude.{◌≡◌, ◌∷◌, [], ◌+◌, ◌<◌};
 ghost use Rattle.format.specs.Lines.{decimal};
 ghost use Rattle.text_decimal.specs.Put.{Put, Room, natural, integer};

@@ -1,4 +1,6 @@
 // The program's lines, put into a borrowed buffer one by one.
+#![tactic(auto)]
+
 ghost use Rattle.std.specs.Prelude.{map, T};
 ghost use Rattle.calculus.specs.Key.{monomial_of};
 ghost use Rattle.calculus.specs.Model.{most_degree, sound};
