@@ -1,0 +1,49 @@
+-- `product` keeps the product in two arrays of its own, and stores its terms by their keys.
+use mathlib.Core.Path.{◌≡◌}
+use native.Mathlib.Omega.{arith}
+use borrow.Author.Rules.{rules}
+use lib.Dec.{lit≤}
+use Rattle.calculus.specs.Model.{most_terms}
+use Rattle.model_types.specs.declared.Verdict.TheVariants.{Accepted}
+use Rattle.model_horner_product.specs.SliceProductLaws.{product_stops, product_stored}
+use Rattle.model_slice_results.specs.LeftProductLaws.{kept_left}
+use Rattle.model_slice_results.proofs.product.Goals as goal
+use Rattle.model_slice_results.proofs.product.Goals.{In-Accepted}
+
+pub multiplied_slices-k-requires : goal.multiplied_slices-k-requires
+unfolding most_terms
+multiplied_slices-k-requires c =
+    record {
+      factors = c.requires.factors;
+      count1_in_bounds = c.requires.counta_in_bounds;
+      count2_in_bounds = c.requires.countb_in_bounds;
+      scratch_room = c.requires.scratch_room;
+      kept_room = record { kept_room = lit≤ tt; coefficients_room = lit≤ tt };
+    }
+
+pub returns-in_default : goal.returns-in_default
+returns-in_default c =
+    kept_left _ _
+    (product_stops c.args.n c.multiplied_slices-k.ensures.ready c.multiplied_slices-k.ensures.exact
+    c.in_default.is _ _)
+
+-- it is accepted
+module _ (c : In-Accepted) where
+  taken : c.multiplied_slices-k.result.verdict ≡ Accepted
+  taken = c.in-Accepted.is
+
+pub store_first-requires : goal.store_first-requires
+unfolding most_terms
+store_first-requires c =
+    let r = c.multiplied_slices-k.ensures.ready.ready (taken (goal.at.store_first-requires c).In-Accepted) in
+    let room = c.requires.room in
+    record {
+      pack_ready = r;
+      count_in_bounds = (omega (arith, r.few, room.keys), omega (arith, r.few, room.coefficients));
+    }
+
+pub returns : goal.returns
+returns c =
+    kept_left _ _
+    (product_stored c.args.n c.multiplied_slices-k.ensures.ready c.multiplied_slices-k.ensures.exact (taken (goal.at.returns c).In-Accepted)
+    _ _ c.store_first.ensures.0 c.store_first.ensures.1)
