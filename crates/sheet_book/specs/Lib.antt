@@ -5,9 +5,7 @@ pub mod CodeLaws
 pub mod Failing
 pub mod FailingLaws
 pub mod Cleared
-pub mod UndoLaws
 pub mod Zeros
-pub mod ZeroLaws
 pub mod SummaryStruct
 pub mod SummaryStructLaws
 pub mod ReportStruct

@@ -17,7 +17,7 @@ use Rattle.format.specs.Format.{read_model, read_step, read_steps}
 use Rattle.sheet_book.specs.declared.Step.{Step}
 use Rattle.sheet_book.specs.BookStruct.{no_model, no_step, stored_model, stored_step}
 use Rattle.sheet_book.specs.Failing.{first_failing}
-use Rattle.sheet_book.specs.ZeroLaws.{no_model_packed}
+use Rattle.sheet_book.proofs.ZeroLaws.{no_model_packed}
 use Rattle.sheet_walk.specs.Walk.{Walk, walk, steps_walked}
 use Rattle.sheet_walk.specs.ModelWalkLaws.{ModelsSoFar, Ends, walk_place, walk_after, models_first}
 use Rattle.sheet_walk.specs.StepWalkLaws.{StepsSoFar, steps_first, steps_here, steps_inside}

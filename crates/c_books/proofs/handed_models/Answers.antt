@@ -7,7 +7,7 @@ use lib.ListN.{length, replicate}
 use Rattle.calculus.specs.Book.{most_models}
 use Rattle.model_types.specs.Arrays.{padded}
 use Rattle.sheet_book.specs.BookStruct.{no_model}
-use Rattle.sheet_book.specs.ZeroLaws.{no_model_packed}
+use Rattle.sheet_book.proofs.ZeroLaws.{no_model_packed}
 use Rattle.c_books.specs.HandedBooks.{table, model_at, handed_models}
 use Rattle.c_books.specs.HandedBooksLaws.{ModelsBorrowed, models_borrowed, table_more}
 use Rattle.c_books.proofs.handed_models.Goals as goal
