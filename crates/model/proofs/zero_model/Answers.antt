@@ -3,12 +3,8 @@ use mathlib.Core.Path.{refl}
 use Rattle.calculus.specs.Model.{zero_model, most_terms}
 use Rattle.model_types.specs.Arrays.{padded}
 use Rattle.model_types.specs.ModelStruct.{pack}
-use Rattle.model.proofs.zero_model.Statement.{statement}
-use Rattle.model.proofs.zero_model.Tie as tie
+use Rattle.model.proofs.zero_model.Goals as goal
 
-returns : tie.Need-returns
+pub returns : goal.returns
 unfolding zero_model most_terms pack padded
 returns c = refl
-
-pub zero_model_spec : {M : Type 1} → statement M
-zero_model_spec = tie.close (tie.spec returns)

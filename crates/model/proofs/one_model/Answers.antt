@@ -6,12 +6,8 @@ use Rattle.calculus.specs.Key.{encode, key_width}
 use Rattle.calculus.specs.Model.{one_model, most_terms}
 use Rattle.model_types.specs.Arrays.{padded}
 use Rattle.model_types.specs.ModelStruct.{pack, pack_term}
-use Rattle.model.proofs.one_model.Statement.{statement}
-use Rattle.model.proofs.one_model.Tie as tie
+use Rattle.model.proofs.one_model.Goals as goal
 
-returns : tie.Need-returns
+pub returns : goal.returns
 unfolding numbers zeros encode key_width one_model most_terms pack pack_term padded
 returns c = refl
-
-pub one_model_spec : {M : Type 1} → statement M
-one_model_spec = tie.close (tie.spec returns)
