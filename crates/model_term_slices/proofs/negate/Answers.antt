@@ -1,0 +1,34 @@
+-- `negate` makes its tests, then the operation, or stores the refusal.
+use mathlib.Core.Path.{◌≡◌, sym, ◌∙◌}
+use borrow.Author.Rules.{rules}
+use Rattle.model_types.specs.ModelStruct.{view, verdict}
+use Rattle.model_types.specs.declared.Verdict.TheVariants.{Accepted}
+use Rattle.model_slices.specs.HandedModels.{handed}
+use Rattle.model_call_tests.specs.Admission.{single_model}
+use Rattle.model_slice_answers.specs.StoredAnswersLaws.{stored_same}
+use Rattle.model_term_slices.specs.TermCallLaws.{single_sound, negate_passed, negate_refused}
+use Rattle.model_term_slices.proofs.negate.Goals as goal
+use Rattle.model_term_slices.proofs.negate.Goals.{In-Accepted}
+
+-- the tests have passed
+module _ (c : In-Accepted) where
+  passed : verdict (single_model
+      (view (handed c.args.n c.args.count c.args.radius c.args.keys.now
+      c.args.coefficients.now))) ≡ Accepted
+  passed = sym c.single_model-v.ensures ∙ c.in-Accepted.is
+
+pub store_negated-requires : goal.store_negated-requires
+store_negated-requires c =
+    record {
+      sound_slices = single_sound _ _ _ _ _ c.requires.coefficients_value (passed (goal.at.store_negated-requires c).In-Accepted);
+      most_terms_in_bounds = c.requires.most_terms_in_bounds;
+    }
+
+pub returns-in-Accepted : goal.returns-in-Accepted
+returns-in-Accepted c =
+    stored_same (negate_passed _ _ _ _ _ c.requires.coefficients_value (passed (goal.at.returns-in-Accepted c).In-Accepted)) c.store_negated.ensures
+
+pub returns-in-Refused : goal.returns-in-Refused
+returns-in-Refused c =
+    let e = sym c.single_model-v.ensures ∙ c.in-Refused.is in
+    stored_same (negate_refused _ _ _ _ _ _ _ e) c.store_refused.ensures
