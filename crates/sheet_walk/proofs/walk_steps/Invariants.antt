@@ -1,0 +1,13 @@
+-- `walk_steps` tests step after step, and stops at the first fault.
+use mathlib.Core.Path.{sym, ◌∙◌}
+use Prim.Native.Nat.{◌-◌}
+use borrow.Author.Rules.{rules}
+use borrow.Author.Tests.{not-true, not-false}
+use Rattle.sheet_walk.specs.StepWalkLaws.{StepsSoFar, steps_first, steps_iteration, steps_bad, steps_end}
+use Rattle.sheet_walk.proofs.walk_steps.Given as goal
+
+abbrev pub invariant-steps : goal.invariant-steps
+invariant-steps l = StepsSoFar l.s l.offset l.n l.models l.count l.at l.k
+
+abbrev pub decreases-steps : goal.decreases-steps
+decreases-steps l = l.count - l.k
