@@ -36,7 +36,6 @@ module _ (s : Start) where
 
 pub product-k-requires : goal.product-k-requires
 product-k-requires c =
-    
     record {
       factors = c.requires.factors;
       counta_in_bounds = c.requires.na_in_bounds;

@@ -44,13 +44,13 @@ module _ (s : Start) where
 
 pub product-k-requires : goal.product-k-requires
 product-k-requires c =
-     record {
-       factors = gap_factors (gap_asked c.requires.proposal) (third (goal.at.product-k-requires c).Start) (third_bare (goal.at.product-k-requires c).Start);
-       counta_in_bounds = c.requires.ng_in_bounds;
-       countb_in_bounds = c.requires.nh_in_bounds;
-       scratch_room = fewer_room c.requires.scratch_room (gap_products c.args.ng c.args.nh c.args.nw);
-       room = c.requires.room;
-     }
+    record {
+      factors = gap_factors (gap_asked c.requires.proposal) (third (goal.at.product-k-requires c).Start) (third_bare (goal.at.product-k-requires c).Start);
+      counta_in_bounds = c.requires.ng_in_bounds;
+      countb_in_bounds = c.requires.nh_in_bounds;
+      scratch_room = fewer_room c.requires.scratch_room (gap_products c.args.ng c.args.nh c.args.nw);
+      room = c.requires.room;
+    }
 
 -- ---- g × h
 module _ (c : After-product-k) where
@@ -153,14 +153,13 @@ pub product-requires : goal.product-requires
 product-requires c =
     let v = c.in-Accepted-u.is in
     let s = begin (goal.at.product-requires c).After-difference-l in
-    
     let free = free_room s.requires.scratch_room c.product-k.auto.slots c.product-k.auto.keys c.product-k.auto.sums in record {
       factors = defect_asked s.requires.proposal (fourth_bare s) (less (goal.at.product-requires c).After-difference-l) v (rest_room (goal.at.product-requires c).After-difference-l);
       counta_in_bounds = s.requires.nw_in_bounds;
       countb_in_bounds = defect_long s.requires.proposal (fourth_bare s) (less (goal.at.product-requires c).After-difference-l) v (rest_room (goal.at.product-requires c).After-difference-l);
       scratch_room = fewer_room free
-                (form_products s.args.ng s.args.nh s.args.nw c.difference-l.result.count
-                (defect_few s.requires.proposal (fourth_bare s) (less (goal.at.product-requires c).After-difference-l) v (rest_room (goal.at.product-requires c).After-difference-l)));
+          (form_products s.args.ng s.args.nh s.args.nw c.difference-l.result.count
+          (defect_few s.requires.proposal (fourth_bare s) (less (goal.at.product-requires c).After-difference-l) v (rest_room (goal.at.product-requires c).After-difference-l)));
       room = room (goal.at.product-requires c).After-product-k;
     }
 

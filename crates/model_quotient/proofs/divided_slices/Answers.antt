@@ -26,15 +26,15 @@ module _ (s : Start) where
 
 pub defect-first-requires : goal.defect-first-requires
 defect-first-requires c =
-     record {
-       proposal = c.requires.proposal;
-       nf_in_bounds = c.requires.countf_in_bounds;
-       ng_in_bounds = c.requires.countg_in_bounds;
-       nh_in_bounds = c.requires.counth_in_bounds;
-       nw_in_bounds = c.requires.countw_in_bounds;
-       scratch_room = c.requires.scratch_room;
-       room = record { keys = refl; coefficients = refl };
-     }
+    record {
+      proposal = c.requires.proposal;
+      nf_in_bounds = c.requires.countf_in_bounds;
+      ng_in_bounds = c.requires.countg_in_bounds;
+      nh_in_bounds = c.requires.counth_in_bounds;
+      nw_in_bounds = c.requires.countw_in_bounds;
+      scratch_room = c.requires.scratch_room;
+      room = record { keys = refl; coefficients = refl };
+    }
 
 -- ---- the first form
 module _ (c : After-defect-first) where
@@ -66,13 +66,12 @@ module _ (c : In-Accepted) where
 
 pub deviation-second-requires : goal.deviation-second-requires
 deviation-second-requires c =
-    
     let free = free_room c.requires.scratch_room c.defect-first.auto.slots c.defect-first.auto.keys c.defect-first.auto.sums in record {
       factors = second_factors c.requires.proposal;
       na_in_bounds = c.requires.countw_in_bounds;
       nb_in_bounds = c.requires.countg_in_bounds;
       scratch_room = fewer_room free
-                (form_products c.args.countg c.args.counth c.args.countw c.args.countg (few_second (goal.at.deviation-second-requires c).Start));
+          (form_products c.args.countg c.args.counth c.args.countw c.args.countg (few_second (goal.at.deviation-second-requires c).Start));
       room = record { keys = refl; coefficients = refl };
     }
 

@@ -51,14 +51,13 @@ module _ (c : After-put_in-k) where
   left = own_answer c.requires.substitution (outer_room c.before.before.before.before.before.before.before.before.before.before.before.before.before.before.before.before.before.before.before.before.before.before) (inner_room c.before.before.before.before.before.before.before.before.before.before.before.before.before.before.before.before.before.before.before.before.before.before) c.put_in-k.ensures
 
 pub packed_answer-answer-requires : goal.packed_answer-answer-requires
-packed_answer-answer-requires c =
-    (
-      own_few c.requires.substitution (outer_room (goal.at.packed_answer-answer-requires c).Start) (inner_room (goal.at.packed_answer-answer-requires c).Start) (left (goal.at.packed_answer-answer-requires c).After-put_in-k),
-      record {
-        keys = c.put_in-k.auto.remaining;
-        coefficients = c.put_in-k.auto.rest;
-      },
-    )
+packed_answer-answer-requires c = (
+  own_few c.requires.substitution (outer_room (goal.at.packed_answer-answer-requires c).Start) (inner_room (goal.at.packed_answer-answer-requires c).Start) (left (goal.at.packed_answer-answer-requires c).After-put_in-k),
+  record {
+    keys = c.put_in-k.auto.remaining;
+    coefficients = c.put_in-k.auto.rest;
+  },
+)
 
 pub returns : goal.returns
 returns c =

@@ -178,18 +178,17 @@ pub loop-k-smaller : goal.loop-k-smaller
 loop-k-smaller c = omega (arith, some (goal.at.loop-k-smaller c).After-part-t)
 
 pub loop-k-preserved : goal.loop-k-preserved
-loop-k-preserved c =
-    (
-      left_room (goal.at.loop-k-preserved c).After-iterated-r,
-      next_room (goal.at.loop-k-preserved c).After-part-t,
-      spare_room (goal.at.loop-k-preserved c).After-iterated-r,
-      slots_long (goal.at.loop-k-preserved c).After-iterated-r,
-      table_long (goal.at.loop-k-preserved c).After-iterated-r,
-      sums_long (goal.at.loop-k-preserved c).After-iterated-r,
-      put_goes_on (start (goal.at.loop-k-preserved c).At-loop-k).requires.substitution_of _ _ _ _ c.loop-k.invariant.6 _ _ _ (next_is (goal.at.loop-k-preserved c).After-part-t) (some (goal.at.loop-k-preserved c).After-part-t) _ _ c.iterated-r.ensures
-          c.in-Accepted.is,
-      omega (arith, c.loop-k.invariant.7),
-    )
+loop-k-preserved c = (
+  left_room (goal.at.loop-k-preserved c).After-iterated-r,
+  next_room (goal.at.loop-k-preserved c).After-part-t,
+  spare_room (goal.at.loop-k-preserved c).After-iterated-r,
+  slots_long (goal.at.loop-k-preserved c).After-iterated-r,
+  table_long (goal.at.loop-k-preserved c).After-iterated-r,
+  sums_long (goal.at.loop-k-preserved c).After-iterated-r,
+  put_goes_on (start (goal.at.loop-k-preserved c).At-loop-k).requires.substitution_of _ _ _ _ c.loop-k.invariant.6 _ _ _ (next_is (goal.at.loop-k-preserved c).After-part-t) (some (goal.at.loop-k-preserved c).After-part-t) _ _ c.iterated-r.ensures
+      c.in-Accepted.is,
+  omega (arith, c.loop-k.invariant.7),
+)
 
 -- ---- after the loop
 pub widened-requires : goal.widened-requires
