@@ -1,2 +1,0 @@
--- Laws: the tests by what the walks answer.
-pub mod ReadLaws

@@ -1,2 +1,0 @@
--- What walks by hand share.
-mod Apart

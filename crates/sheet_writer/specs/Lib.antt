@@ -1,3 +1,0 @@
-pub mod SheetStoreLaws
-pub mod WriteLaws
-pub mod WriteAnswerLaws
