@@ -1,0 +1,2 @@
+-- Laws: the tests by what the walks answer.
+pub mod ReadLaws

@@ -1,0 +1,2 @@
+-- What walks by hand share.
+mod Apart

@@ -1,0 +1,4 @@
+pub mod Steps
+pub mod StepLaws
+-- Handed on: crates above name these through this crate.
+pub use Rattle.model.specs as model

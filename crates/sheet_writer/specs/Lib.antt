@@ -1,0 +1,3 @@
+pub mod SheetStoreLaws
+pub mod WriteLaws
+pub mod WriteAnswerLaws
