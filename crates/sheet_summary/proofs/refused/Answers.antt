@@ -4,12 +4,8 @@ use Rattle.calculus.specs.Model.{most_terms, zero_model}
 use Rattle.model_types.specs.Arrays.{padded}
 use Rattle.model_types.specs.ModelStruct.{pack}
 use Rattle.sheet_book.specs.SummaryStruct.{refused_summary}
-use Rattle.sheet_summary.proofs.refused.Statement.{statement}
-use Rattle.sheet_summary.proofs.refused.Tie as tie
+use Rattle.sheet_summary.proofs.refused.Goals as goal
 
-returns : tie.Need-returns
+pub returns : goal.returns
 unfolding refused_summary pack zero_model padded most_terms
 returns c = refl
-
-pub refused_spec : {M : Type 1} → statement M
-refused_spec = tie.close (tie.spec returns)

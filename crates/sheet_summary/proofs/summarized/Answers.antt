@@ -16,14 +16,13 @@ use Rattle.sheet_book.specs.declared.Ends.{Ends}
 use Rattle.sheet_book.specs.declared.Exact.{Exact}
 use Rattle.sheet_book.specs.declared.Summary.{Summary}
 use Rattle.sheet_book.specs.SummaryStruct.{stored_ends, stored_exact, run_answer}
-use Rattle.sheet_summary.proofs.summarized.Statement.{statement}
-use Rattle.sheet_summary.proofs.summarized.Tie as tie
+use Rattle.sheet_summary.proofs.summarized.Goals as goal
 
-range-of-requires : tie.Need-range-of-requires
-range-of-requires c κs = c.requires.0
+pub range_of-range-requires : goal.range_of-range-requires
+range_of-range-requires c = c.requires.0
 
-integral-of-requires : tie.Need-integral-of-requires
-integral-of-requires c κs = c.before.requires.0
+pub integral_of-integral-requires : goal.integral_of-integral-requires
+integral_of-integral-requires c = c.requires.0
 
 -- two ends, q and r, and a summary of them
 abbrev ends : ℤ → ℤ → Ends
@@ -40,26 +39,22 @@ beside_is : {m k : Model} {r s i j : Ends} {x y : Exact} → m ≡ k → r ≡ s
 beside_is {m = m} {r = r} {s = s} {j = j} {x = x} {y = y} e f g h =
     ap₂ (λ i x. beside m r i x) g h ∙ ap₂ (λ m r. beside m r j y) e f
 
-returns : tie.Need-returns
+pub returns : goal.returns
 unfolding run_answer stored_ends stored_exact summary bounds integral_answer whole_integral
 returns c =
-    let b = c.before in
-    let r = b.before.before.before.range_of in
-    let i = b.before.before.integral_of in
-    let t = b.before.struct_told.given in
-    let u = b.struct-told2.given in
-    let r_low : to_z w64 (of_z w64 r.result.low) ≡ r.result.low = to_z-of_z (record { sfits = t.0.1 }) in
-    let r_high : to_z w64 (of_z w64 r.result.high) ≡ r.result.high = to_z-of_z (record { sfits = t.1.0.1 }) in
-    let i_low : to_z w64 (of_z w64 i.result.low) ≡ i.result.low = to_z-of_z (record { sfits = u.0.1 }) in
-    let i_high : to_z w64 (of_z w64 i.result.high) ≡ i.result.high = to_z-of_z (record { sfits = u.1.0.1 }) in
+    let r = c.range_of-range in
+    let i = c.integral_of-integral in
+    let t = c.struct_told-1.given in
+    let u = c.struct_told-2-1.given in
+    let r_low : to_z w64 (of_z w64 r.result.low) ≡ r.result.low = to_z-of_z {w = w64} (record { sfits = t.0.1 }) in
+    let r_high : to_z w64 (of_z w64 r.result.high) ≡ r.result.high = to_z-of_z {w = w64} (record { sfits = t.1.0.1 }) in
+    let i_low : to_z w64 (of_z w64 i.result.low) ≡ i.result.low = to_z-of_z {w = w64} (record { sfits = u.0.1 }) in
+    let i_high : to_z w64 (of_z w64 i.result.high) ≡ i.result.high = to_z-of_z {w = w64} (record { sfits = u.1.0.1 }) in
     let i_whole : to_z w64 (of_z w64 i.result.quotient) ≡ i.result.quotient =
-    to_z-of_z (record { sfits = u.1.1.0.1 }) in
-    let of : Bounds → Ends = λ b. ends b.low b.high in
-    let around : Integral → Ends = λ b. ends b.low b.high in
-    let whole : Integral → Exact = λ b. exact b.quotient b.remainder in
-    beside_is (sym b.before.before.before.before.requires.1) (ap₂ ends r_low r_high ∙ ap of r.ensures)
+    to_z-of_z {w = w64} (record { sfits = u.1.1.0.1 }) in
+    let of : Bounds → Ends = λ c. ends c.low c.high in
+    let around : Integral → Ends = λ c. ends c.low c.high in
+    let whole : Integral → Exact = λ c. exact c.quotient c.remainder in
+    beside_is (sym c.requires.1) (ap₂ ends r_low r_high ∙ ap of r.ensures)
     (ap₂ ends i_low i_high ∙ ap around i.ensures)
     (ap (λ q. exact q i.result.remainder) i_whole ∙ ap whole i.ensures)
-
-pub summarized_spec : {M : Type 1} → statement M
-summarized_spec = tie.close (tie.spec range-of-requires integral-of-requires returns)
