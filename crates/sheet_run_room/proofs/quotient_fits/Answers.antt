@@ -9,8 +9,7 @@ use native.Mathlib.Nat as NatL
 use lib.Dec.{leb}
 use Rattle.calculus.specs.Model.{most_terms}
 use Rattle.sheet_run_laws.specs.model.OperationContracts.{quotient_products}
-use Rattle.sheet_run_room.proofs.quotient_fits.Statement.{statement}
-use Rattle.sheet_run_room.proofs.quotient_fits.Tie as tie
+use Rattle.sheet_run_room.proofs.quotient_fits.Goals as goal
 
 -- the larger of two, of which the first is within a bound
 larger_within : (a b r : ℕ) → a ≤ r → leb (max a b) r ≡ leb b r
@@ -19,29 +18,26 @@ larger_within a b r h = elim (dec_le b r) [
   | no k ↦ lt-leb (max a b) r (omega arith) ∙ sym (lt-leb b r (omega arith))
 ]
 
-mul-products : tie.Need-overflow-mul-products
+pub overflow_mul-products : goal.overflow_mul-products
 unfolding most_terms
-mul-products c =
+overflow_mul-products c =
     let p : c.args.g * c.args.h ≤ 64 * 64 = NatL.mul-le-mul c.requires.0 c.requires.1 in
     search rules
 
-mul-others : tie.Need-overflow-mul-others
+pub overflow_mul-others : goal.overflow_mul-others
 unfolding most_terms
-mul-others c =
+overflow_mul-others c =
     let p = c.requires.2 in
     search rules
 
-returns : tie.Need-returns
+pub returns-then-room-products : goal.returns-then-room-products
+unfolding quotient_products most_terms
+returns-then-room-products c =
+    let s = c.args in
+    sym (lt-leb (max (s.g * s.h) (64 * s.w)) s.room (omega (arith, c.if-room-products.true)))
+
+pub returns : goal.returns
 unfolding quotient_products most_terms
 returns c =
-    let s = c.before.args in
-    sym (lt-leb (max (s.g * s.h) (64 * s.w)) s.room (omega (arith, c.if1.true)))
-
-returns-2 : tie.Need-returns-2
-unfolding quotient_products most_terms
-returns-2 c =
-    let s = c.before.args in
-    sym (larger_within (s.g * s.h) (64 * s.w) s.room (omega (arith, c.if1.false)))
-
-pub quotient_fits_spec : {M : Type 1} → statement M
-quotient_fits_spec = tie.close (tie.spec mul-products mul-others returns returns-2)
+    let s = c.args in
+    sym (larger_within (s.g * s.h) (64 * s.w) s.room (omega (arith, c.if-room-products.false)))
