@@ -17,7 +17,7 @@ use Rattle.sheet_step_answers.specs.Answers.{accepted_answer}
 use Rattle.sheet_book.specs.BookStruct.{held_step}
 use Rattle.sheet_steps.specs.Steps.{constant_code, variable_code, negate_code, add_code, subtract_code}
 use Rattle.sheet_steps.specs.Steps.{code_answer, step_answer}
-use Rattle.sheet_steps.specs.StepLaws.{codes, accepted_is, answered_is}
+use Rattle.sheet_steps.proofs.StepLaws.{codes, accepted_is, answered_is}
 use Rattle.sheet_steps.proofs.direct_answer.Goals as goal
 use Rattle.sheet_steps.proofs.direct_answer.Goals.{In_default, Start}
 

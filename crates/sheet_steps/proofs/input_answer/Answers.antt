@@ -2,7 +2,7 @@
 use borrow.Author.Rules.{rules}
 use Rattle.calculus.specs.Refusal.{accepted}
 use Rattle.model_types.specs.ModelStruct.{view}
-use Rattle.sheet_steps.specs.StepLaws.{input_bounded, input_given}
+use Rattle.sheet_steps.proofs.StepLaws.{input_bounded, input_given}
 use Rattle.sheet_steps.proofs.input_answer.Goals as goal
 
 pub all_carried-requires : goal.all_carried-requires

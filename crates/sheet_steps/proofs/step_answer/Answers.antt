@@ -18,8 +18,8 @@ use Rattle.model_types.specs.SharesStruct.{accounted}
 use Rattle.sheet_book.specs.BookStruct.{held_step}
 use Rattle.sheet_steps.specs.Steps.{substitute_code, sweep_code, antiderivative_code}
 use Rattle.sheet_steps.specs.Steps.{code_answer, code_shares, step_answer, step_row, DirectReady}
-use Rattle.sheet_steps.specs.StepLaws.{substitution, swept_sound, integrand, direct_ready, codes}
-use Rattle.sheet_steps.specs.StepLaws.{accounted_is, direct_bounded, carried_is}
+use Rattle.sheet_steps.proofs.StepLaws.{substitution, swept_sound, integrand, direct_ready, codes}
+use Rattle.sheet_steps.proofs.StepLaws.{accounted_is, direct_bounded, carried_is}
 use Rattle.sheet_steps.proofs.step_answer.Goals as goal
 use Rattle.sheet_steps.proofs.step_answer.Goals.{In_default, Start}
 
