@@ -61,8 +61,8 @@ use Rattle.sheet_results.specs.ResultsLaws.{settled_put, settled_row, settled_ke
 use Rattle.sheet_results.specs.RowsLaws.{length_row, row_here, row_other, length_rows, rows_at}
 use Rattle.sheet_steps.specs.Steps.{input_code, negate_code, multiply_code, quotient_code}
 use Rattle.sheet_steps.specs.Steps.{step_answer, step_row, names_second, StepReady}
-use Rattle.sheet_steps.specs.StepLaws.{radius_small, radius_bounded, only_named, row_named, step_is, row_is}
-use Rattle.sheet_steps.specs.StepLaws.{input_is, input_row, product_is, product_row, quotient_is, quotient_row}
+use Rattle.sheet_steps.proofs.StepLaws.{radius_small, radius_bounded, only_named, row_named, step_is, row_is}
+use Rattle.sheet_steps.proofs.StepLaws.{input_is, input_row, product_is, product_row, quotient_is, quotient_row}
 use Rattle.sheet_step_answers.specs.Answers.{accepted_answer}
 use Rattle.sheet_run_laws.specs.LastResult.{last_result}
 use Rattle.sheet_run_laws.specs.Run.{Loaded, RowsStored, Good, Running, Ended, StepAtIndex, Iterated}

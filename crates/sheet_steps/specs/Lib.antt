@@ -1,4 +1,3 @@
 pub mod Steps
-pub mod StepLaws
 -- Handed on: crates above name these through this crate.
 pub use Rattle.model.specs as model

@@ -94,7 +94,7 @@ refused_line r i = refl
 -- two ends as a call sees them
 pub ends_back : {low high : ℤ} → mag low < 2 ^ hbits w64 → mag high < 2 ^ hbits w64
     → ends (to_z w64 (of_z w64 low)) (to_z w64 (of_z w64 high)) ≡ ends low high
-ends_back h k = ap₂ ends (to_z-of_z (record { sfits = h })) (to_z-of_z (record { sfits = k }))
+ends_back h k = ap₂ ends (to_z-of_z {w = w64} (record { sfits = h })) (to_z-of_z {w = w64} (record { sfits = k }))
 
 -- ---- the terms of a struct
 pub term_of : (m : Model) (i : ℕ) → m.count ≤ length (listed m) → i < m.count
