@@ -43,8 +43,8 @@ other_step-requires c =
       iteration = c.requires.iteration;
       served = c.requires.served;
       fact = (
-          c.if-code-eq-INPUT.false,
-          c.if-code-eq-MULTIPLY.false,
-          c.if-code-eq-QUOTIENT.false,
-        );
+        c.if-code-eq-INPUT.false,
+        c.if-code-eq-MULTIPLY.false,
+        c.if-code-eq-QUOTIENT.false,
+      );
     }
