@@ -1,2 +1,0 @@
-pub mod ArchiveCalls
-pub mod ArchiveCallsLaws

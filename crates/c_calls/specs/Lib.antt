@@ -1,4 +1,0 @@
-pub mod CallCodes
-pub mod CallCodesLaws
-pub mod CallKinds
-pub mod CallKindsLaws

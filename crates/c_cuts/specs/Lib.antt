@@ -1,2 +1,0 @@
-pub mod CutCalls
-pub mod CutCallsLaws

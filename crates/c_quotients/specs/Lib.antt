@@ -1,2 +1,0 @@
-pub mod HandedQuotients
-pub mod HandedQuotientsLaws

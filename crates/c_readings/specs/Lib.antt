@@ -1,2 +1,0 @@
-pub mod HandedReadings
-pub mod HandedReadingsLaws

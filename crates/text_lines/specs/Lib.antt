@@ -1,2 +1,0 @@
-pub mod LineParts
-pub mod LineLaws
