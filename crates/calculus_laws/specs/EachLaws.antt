@@ -19,7 +19,8 @@ module _ {A B : Type 0} (R : A → B → Type 0) where
   each_snoc nil r = cons r nil
   each_snoc (cons h e) r = cons h (each_snoc e r)
 
-  pub each_at : {l : List A} {k : List B} (a : A) (b : B) → R a b → Each R l k → (i : ℕ) → R (get_or l i a) (get_or k i b)
+  pub each_at : {l : List A} {k : List B} (a : A) (b : B) → R a b → Each R l k → (i : ℕ)
+      → R (get_or l i a) (get_or k i b)
   each_at a b r nil i = r
   each_at a b r (cons h e) zero = h
   each_at a b r (cons h e) (suc i) = each_at a b r e i

@@ -14,7 +14,6 @@ use Rattle.algebra.proofs.RationalRing.{ℚR}
 use Rattle.algebra.proofs.RationalOrder.{ℚO}
 use Rattle.algebra.proofs.RationalField.{ℚF}
 use Rattle.algebra.proofs.RationalLaws.{≤-whole, nat_whole, whole-+, whole_neg, whole_reciprocal}
-use Rattle.polynomial.specs.Polynomial as P
 use Rattle.polynomial.specs.Polynomial.{eval, monomial, exponent, raise, replace}
 use Rattle.polynomial.proofs.PolynomialLaws.{eval_sum, eval_constant}
 use Rattle.polynomial.specs.Integral as I
@@ -42,7 +41,7 @@ use Rattle.calculus_laws.specs.EnclosureLaws.{zero_near}
 use Rattle.calculus_laws.specs.ChainLaws.{◌≡≤◌, ◌≤≡◌}
 use Rattle.claim.proofs.ClaimFacts.{own_polynomial, own_polynomial_within, both_near}
 use Rattle.claim.proofs.ClaimProof.{claim}
-use Rattle.claim.proofs.JumpFacts.{Jump, up, down, height, height_fits, bounded, left}
+use Rattle.claim.proofs.JumpFacts.{Jump, up, down, height, shifted, height_fits, bounded, left}
 use Rattle.claim.proofs.QuotientFacts.{right, right_inside}
 
 -- ---- what feeds an antiderivative
@@ -123,9 +122,6 @@ unfolding promises
 quotient_operands = refl
 
 -- ---- the outcome follows the input: its polynomial moved up or down by the model's radius
-unfoldable pub shifted : Jump → Book → ℕ → ℚPolynomial
-shifted j b a = P.sum ℚR (own_polynomial b a) (P.constant ℚR (height j (model_of b a)))
-
 -- within the models of every book
 pub shifted_within : (j : Jump) (b : Book) → AllWithin b (polynomials (shifted j b))
 unfolding AllWithin Within At distance shifted input_outcome value_of value own_polynomial

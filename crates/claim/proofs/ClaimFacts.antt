@@ -23,7 +23,7 @@ use Rattle.numbers.specs.Fixed.{U}
 use Rattle.calculus.specs.Model.{Model, zero_model, ◌/U, ◌-ℚ◌, distance, Point, InBox, polynomial, value, At}
 use Rattle.calculus.specs.Model.{Within}
 use Rattle.calculus.specs.Operations as Op
-use Rattle.calculus.specs.Operations.{Ends, zero_ends, Mixed, zero_mixed}
+use Rattle.calculus.specs.Operations.{Ends, zero_ends, Mixed}
 use Rattle.calculus.specs.Book.{constant, negate, Book, model_of, Summary, last}
 use Rattle.calculus.specs.Functions.{Function, 0ℚ, ℚPolynomial, value_of, exact_integral, Lies}
 use Rattle.claim.specs.Outcome.{functions, polynomials, input_outcome, step_value, step_polynomial, step_outcome}
@@ -153,12 +153,6 @@ pub outcome_made : (v : ℕ) (s : Summary) → Claim (one_step v []) s
     → IsPolynomial v (outcome (polynomials (own_polynomial (one_step v []))) (one_step v []).steps)
 unfolding one_step promises
 outcome_made v s c = c.outcome_is_polynomial (own_polynomial (one_step v [])) tt
-
--- so the zero model with ends 0 is not the answer to every book
-pub claim_refuted : Claim (one_step 1 [])
-    (record { model = zero_model 1; range = zero_ends; integral = zero_ends; exact = zero_mixed })
-    → ⊥
-claim_refuted = range_refutes 1 (zero_model 1) zero_ends zero_mixed
 
 -- ---- and an operand passed through is not the answer of the step that takes it
 -- 1 / U, and minus that

@@ -21,6 +21,7 @@ use Rattle.algebra.proofs.RationalOrder.{ℚO, ≤ℚ_refl, class_≤}
 use Rattle.algebra.proofs.RationalField.{ℚF, archimedean}
 use Rattle.algebra.specs.FieldLaws.{reciprocal_nonneg}
 use Rattle.algebra.proofs.RationalLaws.{≤-whole, whole-+, whole-*, whole_neg, reciprocal_class}
+use Rattle.polynomial.specs.Polynomial as P
 use Rattle.polynomial.specs.Polynomial.{monomial, eval, replace}
 use Rattle.polynomial.specs.Box.{none, more}
 use Rattle.polynomial.proofs.BoxLaws.{monomial_le}
@@ -43,7 +44,7 @@ use Rattle.calculus_laws.specs.UnitLaws.{natural, natural_≤, abs_whole, U_time
 use Rattle.calculus_laws.specs.ValueLaws.{Near, at_near, abs_zero}
 use Rattle.calculus_laws.specs.EnclosureLaws.{zero_near}
 use Rattle.calculus_laws.specs.ChainLaws.{◌≤≤◌, ◌≡≤◌, ◌≤≡◌, equal}
-use Rattle.claim.proofs.ClaimFacts.{own, own_within, radius_nonneg, origin, origin_inside, false_≤, both_near}
+use Rattle.claim.proofs.ClaimFacts.{own, own_within, own_polynomial, radius_nonneg, origin, origin_inside, false_≤, both_near}
 use Rattle.claim.proofs.ClaimProof.{claim}
 open ℚR use {+-neg}
 
@@ -56,6 +57,11 @@ pub data Jump : Type 0 where
 unfoldable pub height : Jump → Model → ℚ
 height up m = pos m.radius /U
 height down m = negℚ (pos m.radius /U)
+
+-- the polynomial of the model that step a names, moved up or down by that much (AntiderivativeFacts asks what comes of
+-- it: in a file of its own, so that an edit of this definition fails there and not here)
+unfoldable pub shifted : Jump → Book → ℕ → ℚPolynomial
+shifted j b a = P.sum ℚR (own_polynomial b a) (P.constant ℚR (height j (model_of b a)))
 
 -- the polynomial of model a, and the same by that much higher where coordinate 1 is above 0
 unfoldable pub jumping : Jump → Book → ℕ → Function

@@ -1,5 +1,6 @@
 -- Facts beside the range. It cannot be narrower: both ends of one even power are attained. And books that the symmetric
--- range refused, a substitution and a quotient, run, with everything that the claim asks for.
+-- range refused, a substitution and a quotient, run, with everything that the claim asks for. First, what comes of the
+-- range alone: not every answer meets the claim.
 use Rattle.std.specs.Prelude.{◌≡◌, Bool, ◌&&◌, [], ◌∷◌, ltb, ℤ, negsuc, ◌+ℤ◌, nat_abs}
 use Rattle.std.proofs.Math.Path.{refl, ap, ap₂, subst}
 use Rattle.std.proofs.Common.{sym, ◌∙◌}
@@ -25,9 +26,9 @@ use Rattle.polynomial.specs.Integral.{even, first, rest, all_even}
 use Rattle.numbers.specs.Fixed.{U}
 use Rattle.calculus.specs.Monomial.{degree}
 use Rattle.calculus.specs.Terms.{term, sum_over}
-use Rattle.calculus.specs.Model.{Model, one_model, ◌-ℚ◌, Point, InBox, value, Within}
+use Rattle.calculus.specs.Model.{Model, zero_model, one_model, ◌-ℚ◌, Point, InBox, value, Within}
 use Rattle.calculus.specs.Refusal.{accepted, done}
-use Rattle.calculus.specs.Operations.{Ends, is_constant, constant_part, even_powers, can_fall, can_rise, below}
+use Rattle.calculus.specs.Operations.{Ends, zero_ends, zero_mixed, is_constant, constant_part, even_powers, can_fall, can_rise, below}
 use Rattle.calculus.specs.Operations.{above, range, deviation, largest_end}
 use Rattle.calculus.specs.Book.{input, constant, variable, multiply, substitute, quotient, Book, summary, run}
 use Rattle.calculus.specs.Functions.{Function, Lies}
@@ -42,10 +43,17 @@ use Rattle.calculus_laws.specs.ValueLaws.{scaled_value, Near, U_value, near_at, 
 use Rattle.calculus_laws.specs.SumLaws.{ℕ_addition, if_ℤ, if_so}
 use Rattle.calculus_laws.specs.RangeLaws.{steady_sum, below_sum, above_sum}
 use Rattle.calculus_laws.specs.RangeInsideLaws.{Inside}
+use Rattle.claim.proofs.ClaimFacts.{one_step, range_refutes}
 use Rattle.claim.proofs.ClaimProof.{claim}
 use Rattle.claim.proofs.JumpFacts.{Jump, jumping, jumping_within, left, left_inside}
 use Rattle.calculus_laws.specs.ChainLaws.{◌≤≤◌, ◌≡≤◌, ◌≤≡◌, equal}
 open ℚR use {+-neg}
+
+-- ---- the zero model with ends 0 is not the answer to every book
+pub claim_refuted : Claim (one_step 1 [])
+    (record { model = zero_model 1; range = zero_ends; integral = zero_ends; exact = zero_mixed })
+    → ⊥
+claim_refuted = range_refutes 1 (zero_model 1) zero_ends zero_mixed
 
 -- ---- both ends of one even power are attained
 -- c x^e, in units of 1/U, radius 0

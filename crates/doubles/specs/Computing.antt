@@ -6,6 +6,7 @@ use Rattle.doubles.specs.Doubles.{coefficient, inexact, radius_up, model_of, con
 
 -- opened by its name
 unfoldable pub conversions : Unit {0}
-unfolding count_trailing_zeros odd of_fields of_bits lt signed numerator denominator is_finite is_negative units coefficient
+unfolding count_trailing_zeros odd of_fields of_bits lt signed numerator denominator is_finite is_negative units
+    coefficient
     inexact radius_up model_of converted deliverable call_doubles
 conversions = tt

@@ -12,7 +12,8 @@ use Rattle.chebyshev.proofs.CurveSoundLaws.{sound_span}
 use Rattle.chebyshev.specs.CurveCalls.{call_range}
 use Rattle.model_types.specs.ModelStruct.{bounds}
 
-pub size_drop : (l : Row) (i : ℕ) → i < length l → size (drop i l) ≡ nat_abs (get_or l i (pos 0)) + size (drop (suc i) l)
+pub size_drop : (l : Row) (i : ℕ) → i < length l → size (drop i l) ≡ nat_abs (get_or l i (pos 0)) + size
+    (drop (suc i) l)
 unfolding size
 size_drop [] i h = absurd (omega arith)
 size_drop (a ∷ l) zero h = refl

@@ -128,7 +128,8 @@ module _ (c : ℤ) (row t₀ : Row) (u : length t₀ ≡ 16) (w : length row ≡
       entry_le t₀ k,
     )
 
-    pub scaling_iteration : (x : ℤ) → x ≡ c *ℤ get_or row k (pos 0) +ℤ get_or t k (pos 0) → Scaling c row t₀ (set t k x) k
+    pub scaling_iteration : (x : ℤ) → x ≡ c *ℤ get_or row k (pos 0) +ℤ get_or t k (pos 0)
+        → Scaling c row t₀ (set t k x) k
     scaling_iteration x e = record {
       most = omega (arith, h.most);
       made = ap₂ (λ l x. set l k x) at_hand

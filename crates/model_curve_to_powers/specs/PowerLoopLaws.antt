@@ -115,7 +115,8 @@ module _ (r : Row) (radius : ℕ) (w : length r ≡ 16) (s : radius < 2 ^ 31) wh
           small = omega (arith, h.small);
         }
 
-    pub converted_keep : (z : ℤ) (n w : ℕ) → z ≡ get_or r i (pos 0) → n ≡ nat_abs (get_or r i (pos 0)) → 0 < n → n ≤ 2 ^ 50
+    pub converted_keep : (z : ℤ) (n w : ℕ) → z ≡ get_or r i (pos 0) → n ≡ nat_abs (get_or r i (pos 0)) → 0 < n
+        → n ≤ 2 ^ 50
         → w ≡ key key_width (i ∷ [])
         → Converted r radius (set out count (record { key = w; coefficient = z })) (count + 1) (span + n) (i + 1)
     unfolding is_nonzero most_terms

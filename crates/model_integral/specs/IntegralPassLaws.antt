@@ -113,7 +113,8 @@ module _ {n count : ℕ} {ks : List ℕ} {cs : List ℤ} (w : TermsIn n count ks
         tested e = ap (λ (t : Term). all_even n (monomial_of n t.key)) (at_is i l) ∙ even_at i l ∙ e
 
         -- there is room for the next one
-        pub even_room : nat_abs total + nat_abs (g (powers i l) (get_or cs i (pos 0))) ≤ sum_ℕ (λ k c. nat_abs (g k c)) terms
+        pub even_room : nat_abs total + nat_abs (g (powers i l) (get_or cs i (pos 0))) ≤ sum_ℕ (λ k c. nat_abs (g k c))
+            terms
         unfolding held
         even_room = omega (
           arith,

@@ -92,7 +92,8 @@ module _ {i count : ℕ} {ks : List ℕ} where
             (λ o. q (sym (is ∙ o))))
       ];
       goes_on = λ x b l. elim (ℕ_discrete x (j - 1)) [
-        | yes q ↦ subst (λ x. Next i count ks (key_exponent i (get_or ks x 0)) (x + 1) (get_or (set next (j - 1) a) x 0))
+        | yes q ↦ subst (λ x. Next i count ks (key_exponent i (get_or ks x 0)) (x + 1)
+            (get_or (set next (j - 1) a) x 0))
             (sym q)
             (subst (Next i count ks (key_exponent i (get_or ks (j - 1) 0)) (j - 1 + 1))
             (sym (get_or-set_same next (j - 1) a 0 (omega (arith, h, few, c.within, c.next_long)) ∙ after))

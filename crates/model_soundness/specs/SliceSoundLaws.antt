@@ -91,7 +91,8 @@ module _ (d n count radius : ℕ) (ks : List ℕ) (cs : List ℤ) where
             (subst (λ (x : Term). term_sound n d least x.key x.coefficient ≡ true) (sym here) t) next
             (subst (λ (x : Term). next ≡ capped (total + nat_abs x.coefficient)) (sym here) e))
 
-        pub slices_not : term_sound n d least (get_or ks i 0) (get_or cs i (pos 0)) ≡ false → sound d (view held) ≡ false
+        pub slices_not : term_sound n d least (get_or ks i 0) (get_or cs i (pos 0)) ≡ false
+            → sound d (view held) ≡ false
         unfolding handed
         slices_not t =
             passed_not d held v f long total least i h l small_here

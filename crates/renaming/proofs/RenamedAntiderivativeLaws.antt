@@ -41,7 +41,8 @@ module _ {n : ℕ} (ρ : Reordering n) (d v : ℕ) (inside : index_of v < n) whe
 
     rounding_of_renamed : (c : ℤ) → rounding_of d w (rename ρ k) c ≡ rounding_of d v k c
     unfolding is_inexact
-    rounding_of_renamed c = ap₂ (λ b e. if_ℕ b (if_ℕ (not (eqb (nat_abs c % e) 0)) 1)) stays_renamed new_exponent_renamed
+    rounding_of_renamed c = ap₂ (λ b e. if_ℕ b (if_ℕ (not (eqb (nat_abs c % e) 0)) 1)) stays_renamed
+        new_exponent_renamed
 
     swept_of_renamed : (c : ℤ) → swept_of d w (rename ρ k) c ≡ swept_of d v k c
     swept_of_renamed c = ap₂ (λ b e. if_ℕ (not b) (divided_up (nat_abs c) e)) stays_renamed new_exponent_renamed

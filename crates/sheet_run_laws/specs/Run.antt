@@ -44,7 +44,8 @@ pub record SameSteps (h : HeldBook) (l : StepList) : Type 0 where
 pub record Loaded (h : HeldBook) (m : Results) : Type 0 where
   pub each : (a : ℕ) → a < length h.models → view (held_result h.n m a) ≡ model_of (view_book h) a
 
--- a book that passes its tests has these steps, its models stand in the slices, and there is a place for each held_result
+-- a book that passes its tests has these steps, its models stand in the slices, and there is a place for each
+-- held_result
 pub record Prepared (l : StepList) (m : Results) : Type 0 where
   pub held : HeldBook
   pub passes : HeldPasses held
@@ -123,7 +124,8 @@ pub record Proposed (n d a b v w : ℕ) (m : Results) : Type 0 where
 
 -- their quotient
 unfoldable pub quotient_at : (n d a b v w : ℕ) → Results → R.Result C.Model
-quotient_at n d a b v w m = at_place 0 (quotient d (view (held_result n m a)) (view (held_result n m b)) (view (held_result n m v))
+quotient_at n d a b v w m = at_place 0 (quotient d (view (held_result n m a)) (view (held_result n m b))
+    (view (held_result n m v))
     (view (held_result n m w)))
 
 -- ---- scratch memory

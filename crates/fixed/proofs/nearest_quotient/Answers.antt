@@ -34,7 +34,9 @@ overflow_add-result c =
     record { fits = omega (arith, c.before.requires, NatL.div-le_self c.before.args.n c.before.args.d) }
 
 pub returns-then-twice-odd : goal.returns-then-twice-odd
-returns-then-twice-odd c = quotient_below c.before.args.n c.before.args.d c.before.requires.d_nonzero c.if-twice-odd.true
+returns-then-twice-odd c = quotient_below c.before.args.n c.before.args.d c.before.requires.d_nonzero
+    c.if-twice-odd.true
 
 pub returns-else-twice-odd : goal.returns-else-twice-odd
-returns-else-twice-odd c = quotient_above c.before.args.n c.before.args.d c.before.requires.d_nonzero c.if-twice-odd.false
+returns-else-twice-odd c = quotient_above c.before.args.n c.before.args.d c.before.requires.d_nonzero
+    c.if-twice-odd.false

@@ -18,7 +18,8 @@ pub integral_of-requires : goal.integral_of-requires
 integral_of-requires c = single_passed _ (passed c)
 
 pub returns-in-Accepted : goal.returns-in-Accepted
-returns-in-Accepted c = c.integral_of.ensures ∙ ap integral_answer (sym (integral_is _ ∙ goes_on _ _ (passed (goal.at.returns-in-Accepted c).In-Accepted)))
+returns-in-Accepted c = c.integral_of.ensures ∙ ap integral_answer
+    (sym (integral_is _ ∙ goes_on _ _ (passed (goal.at.returns-in-Accepted c).In-Accepted)))
 
 pub returns-in-Refused : goal.returns-in-Refused
 returns-in-Refused c =

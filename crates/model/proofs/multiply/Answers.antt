@@ -26,7 +26,8 @@ multiplied_alone-requires c =
     }
 
 pub returns-in-Accepted : goal.returns-in-Accepted
-returns-in-Accepted c = c.multiplied_alone.ensures ∙ ap answer (sym (multiply_is _ _ _ ∙ goes_on _ _ (passed (goal.at.returns-in-Accepted c).In-Accepted)))
+returns-in-Accepted c = c.multiplied_alone.ensures
+    ∙ ap answer (sym (multiply_is _ _ _ ∙ goes_on _ _ (passed (goal.at.returns-in-Accepted c).In-Accepted)))
 
 pub returns-in-Refused : goal.returns-in-Refused
 returns-in-Refused c =

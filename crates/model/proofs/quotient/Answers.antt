@@ -58,7 +58,8 @@ divided_few-requires c = record {
 }
 
 pub returns-then-products-le-FEW_PRODUCTS : goal.returns-then-products-le-FEW_PRODUCTS
-returns-then-products-le-FEW_PRODUCTS c = answers (goal.at.returns-then-products-le-FEW_PRODUCTS c).In-Accepted c.divided_few.ensures
+returns-then-products-le-FEW_PRODUCTS c = answers (goal.at.returns-then-products-le-FEW_PRODUCTS c).In-Accepted
+    c.divided_few.ensures
 
 -- ---- some
 pub divided_some-requires : goal.divided_some-requires
@@ -69,14 +70,16 @@ divided_some-requires c =
     }
 
 pub returns-then-products-le-SOME_PRODUCTS : goal.returns-then-products-le-SOME_PRODUCTS
-returns-then-products-le-SOME_PRODUCTS c = answers (goal.at.returns-then-products-le-SOME_PRODUCTS c).In-Accepted c.divided_some.ensures
+returns-then-products-le-SOME_PRODUCTS c = answers (goal.at.returns-then-products-le-SOME_PRODUCTS c).In-Accepted
+    c.divided_some.ensures
 
 -- ---- any number
 pub divided_any-requires : goal.divided_any-requires
 divided_any-requires c = asked (goal.at.divided_any-requires c).In-Accepted
 
 pub returns-else-products-le-SOME_PRODUCTS : goal.returns-else-products-le-SOME_PRODUCTS
-returns-else-products-le-SOME_PRODUCTS c = answers (goal.at.returns-else-products-le-SOME_PRODUCTS c).In-Accepted c.divided_any.ensures
+returns-else-products-le-SOME_PRODUCTS c = answers (goal.at.returns-else-products-le-SOME_PRODUCTS c).In-Accepted
+    c.divided_any.ensures
 
 pub returns-in-Refused : goal.returns-in-Refused
 returns-in-Refused c =

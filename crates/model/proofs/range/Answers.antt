@@ -18,7 +18,8 @@ pub range_of-requires : goal.range_of-requires
 range_of-requires c = single_passed _ (passed c)
 
 pub returns-in-Accepted : goal.returns-in-Accepted
-returns-in-Accepted c = c.range_of.ensures ∙ ap bounds (sym (range_is _ ∙ goes_on _ _ (passed (goal.at.returns-in-Accepted c).In-Accepted)))
+returns-in-Accepted c = c.range_of.ensures ∙ ap bounds
+    (sym (range_is _ ∙ goes_on _ _ (passed (goal.at.returns-in-Accepted c).In-Accepted)))
 
 pub returns-in-Refused : goal.returns-in-Refused
 returns-in-Refused c =

@@ -22,7 +22,8 @@ subtracted-requires c =
     let p = two_passed _ _ _ (passed c) in record { first = p.first; second = p.second; vars = p.vars }
 
 pub returns-in-Accepted : goal.returns-in-Accepted
-returns-in-Accepted c = c.subtracted.ensures ∙ ap answer (sym (subtract_is _ _ ∙ goes_on _ _ (passed (goal.at.returns-in-Accepted c).In-Accepted)))
+returns-in-Accepted c = c.subtracted.ensures ∙ ap answer
+    (sym (subtract_is _ _ ∙ goes_on _ _ (passed (goal.at.returns-in-Accepted c).In-Accepted)))
 
 pub returns-in-Refused : goal.returns-in-Refused
 unfolding most_degree

@@ -26,7 +26,8 @@ module _ (c : Start) where
 pub merged-count-requires : goal.merged-count-requires
 merged-count-requires c =
     record {
-      sum_of = borrowed_sum c.requires (first_room (goal.at.merged-count-requires c).Start) (second_room (goal.at.merged-count-requires c).Start);
+      sum_of = borrowed_sum c.requires (first_room (goal.at.merged-count-requires c).Start)
+          (second_room (goal.at.merged-count-requires c).Start);
       room = record { keys = refl; coefficients = refl };
     }
 
@@ -34,13 +35,17 @@ pub returns-then-count-gt-MOST_TERMS : goal.returns-then-count-gt-MOST_TERMS
 unfolding cause
 returns-then-count-gt-MOST_TERMS c =
     c.refuse.ensures
-    ∙ sym ((c.merged-count.ensures.terms (borrowed_sum c.requires (first_room (goal.at.returns-then-count-gt-MOST_TERMS c).Start) (second_room (goal.at.returns-then-count-gt-MOST_TERMS c).Start))).many
+    ∙ sym ((c.merged-count.ensures.terms (borrowed_sum c.requires
+        (first_room (goal.at.returns-then-count-gt-MOST_TERMS c).Start)
+        (second_room (goal.at.returns-then-count-gt-MOST_TERMS c).Start))).many
     (omega (arith, c.if-count-gt-MOST_TERMS.true)))
-    ∙ borrowed_answer c.requires (first_room (goal.at.returns-then-count-gt-MOST_TERMS c).Start) (second_room (goal.at.returns-then-count-gt-MOST_TERMS c).Start)
+    ∙ borrowed_answer c.requires (first_room (goal.at.returns-then-count-gt-MOST_TERMS c).Start)
+        (second_room (goal.at.returns-then-count-gt-MOST_TERMS c).Start)
 
 pub overflow_add-radius : goal.overflow_add-radius
 overflow_add-radius c =
-    record { fits = borrowed_radius c.requires (first_room (goal.at.overflow_add-radius c).Start) (second_room (goal.at.overflow_add-radius c).Start) }
+    record { fits = borrowed_radius c.requires (first_room (goal.at.overflow_add-radius c).Start)
+        (second_room (goal.at.overflow_add-radius c).Start) }
 
 pub limited-requires : goal.limited-requires
 unfolding padded most_terms terms_of held
@@ -48,7 +53,8 @@ limited-requires c =
     let few : c.merged-count.result ≤ 64 = omega (arith, c.if-count-gt-MOST_TERMS.false) in
     subst Packed
     (sym (clear_struct _ _ (c.merged-count.ensures.clear few (record { keys_are = refl; coefficients_are = refl }))))
-    ((c.merged-count.ensures.terms (borrowed_sum c.requires (first_room (goal.at.limited-requires c).Start) (second_room (goal.at.limited-requires c).Start))).packed few)
+    ((c.merged-count.ensures.terms (borrowed_sum c.requires (first_room (goal.at.limited-requires c).Start)
+        (second_room (goal.at.limited-requires c).Start))).packed few)
 
 pub returns : goal.returns
 unfolding padded most_terms terms_of held
@@ -57,5 +63,6 @@ returns c =
     c.limited.ensures
     ∙ ap (λ v. answer (at_place 0 (limited (view v))))
     (clear_struct _ _ (c.merged-count.ensures.clear few (record { keys_are = refl; coefficients_are = refl })))
-    ∙ (c.merged-count.ensures.terms (borrowed_sum c.requires (first_room (goal.at.returns c).Start) (second_room (goal.at.returns c).Start))).sum few
+    ∙ (c.merged-count.ensures.terms (borrowed_sum c.requires (first_room (goal.at.returns c).Start)
+        (second_room (goal.at.returns c).Start))).sum few
     ∙ borrowed_answer c.requires (first_room (goal.at.returns c).Start) (second_room (goal.at.returns c).Start)

@@ -43,10 +43,12 @@ pub loop-i-init : goal.loop-i-init
 loop-i-init c = (c.requires.room, λ w. merge_first w _ _, λ z. z)
 
 pub overflow_add-i : goal.overflow_add-i
-overflow_add-i c = omega (arith, left c, right c, few_first (goal.at.overflow_add-i c).Start, few_second (goal.at.overflow_add-i c).Start)
+overflow_add-i c = omega (arith, left c, right c, few_first (goal.at.overflow_add-i c).Start,
+    few_second (goal.at.overflow_add-i c).Start)
 
 pub overflow_add-c : goal.overflow_add-c
-overflow_add-c c = omega (arith, few_first (goal.at.overflow_add-c c).Start, few_second (goal.at.overflow_add-c c).Start)
+overflow_add-c c = omega (arith, few_first (goal.at.overflow_add-c c).Start,
+    few_second (goal.at.overflow_add-c c).Start)
 
 pub term_at-x-requires : goal.term_at-x-requires
 term_at-x-requires c = c.requires.sum_from.first_places
@@ -86,7 +88,9 @@ pub returns-then-count-ge-MOST_TERMS : goal.returns-then-count-ge-MOST_TERMS
 unfolding most_terms
 returns-then-count-ge-MOST_TERMS c =
     record {
-      terms = λ w. merge_many w _ _ (c.loop-i.invariant.1 w) _ (turned (goal.at.returns-then-count-ge-MOST_TERMS c).After-take_next-next w) (nonzero_bits _ c.if-z-ne0.true) c.if-count-ge-MOST_TERMS.true
+      terms = λ w. merge_many w _ _ (c.loop-i.invariant.1 w) _
+          (turned (goal.at.returns-then-count-ge-MOST_TERMS c).After-take_next-next w) (nonzero_bits _ c.if-z-ne0.true)
+          c.if-count-ge-MOST_TERMS.true
           _ _;
       clear = λ h z. absurd (omega arith);
     }
@@ -114,7 +118,8 @@ pub loop-i-preserved-then-z-ne0 : goal.loop-i-preserved-then-z-ne0
 unfolding most_terms
 loop-i-preserved-then-z-ne0 c = (
   room_still _ _ _ c.loop-i.invariant.0,
-  λ w. merge_store w _ _ (c.loop-i.invariant.1 w) _ (turned (goal.at.loop-i-preserved-then-z-ne0 c).After-take_next-next w) (nonzero_bits _ c.if-z-ne0.true)
+  λ w. merge_store w _ _ (c.loop-i.invariant.1 w) _
+      (turned (goal.at.loop-i-preserved-then-z-ne0 c).After-take_next-next w) (nonzero_bits _ c.if-z-ne0.true)
       (omega (arith, c.if-count-ge-MOST_TERMS.false)) c.loop-i.invariant.0
       (to_z-of_z {w = w64} (record { sfits = c.struct_told-1.given.1.0.1 })),
   λ z. clear_more _ _ (c.loop-i.invariant.2 z) c.loop-i.invariant.0 (omega (arith, c.if-count-ge-MOST_TERMS.false)),

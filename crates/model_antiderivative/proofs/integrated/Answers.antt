@@ -24,4 +24,5 @@ integrated_arrays-l-requires c =
 pub returns : goal.returns
 returns c =
     left_done _ _ _ _ _ (c.integrated_arrays-l.ensures (own_in c.args.f c.requires (room (goal.at.returns c).Start)))
-    ∙ ap (λ m. pack (antiderivative c.args.d c.args.i m)) (own_same c.args.f c.requires (room (goal.at.returns c).Start))
+    ∙ ap (λ m. pack (antiderivative c.args.d c.args.i m))
+        (own_same c.args.f c.requires (room (goal.at.returns c).Start))

@@ -109,7 +109,8 @@ growth-radius-requires c = let w = c.requires.integrand_in in slot w.integrand (
 
 -- and what it adds
 module _ (c : After-growth-radius) where
-  radius_is : (w : Lent (goal.at.overflow_add-radius c).After-c-1) → c.loop-j.radius + c.growth-radius.result ≡ c.loop-j.radius
+  radius_is : (w : Lent (goal.at.overflow_add-radius c).After-c-1)
+      → c.loop-j.radius + c.growth-radius.result ≡ c.loop-j.radius
       + key_growth c.args.d c.args.i
       (get_or (listed (model (goal.at.overflow_add-radius c).After-c-1 w)) c.loop-j.j zero_term).key
       (get_or (listed (model (goal.at.overflow_add-radius c).After-c-1 w)) c.loop-j.j zero_term).coefficient
@@ -138,7 +139,8 @@ overflow_add-radius c =
       span_fits,
       (in_limits w).small,
       radius_is c w,
-      gathered_within w.integrand (in_long w) (c.loop-j.invariant.1 w) (inside (goal.at.overflow_add-radius c).After-c-1),
+      gathered_within w.integrand (in_long w) (c.loop-j.invariant.1 w)
+          (inside (goal.at.overflow_add-radius c).After-c-1),
     )
 
 pub overflow_add-j : goal.overflow_add-j
@@ -154,7 +156,8 @@ raised-requires c =
     let w = c.requires.integrand_in in
     subst (λ (x : Term). Raisable c.args.i x.key) (here (goal.at.raised-requires c).After-c-1 w)
     (raisable w.integrand (in_long w) c.loop-j.j (inside (goal.at.raised-requires c).After-c-1)
-    (nonzero_stays _ _ _ _ (subst (λ z. T (is_nonzero z)) (new_in (goal.at.raised-requires c).After-divided-new w) (nonzero c))))
+    (nonzero_stays _ _ _ _ (subst (λ z. T (is_nonzero z)) (new_in (goal.at.raised-requires c).After-divided-new w)
+        (nonzero c))))
 
 pub offset_bounds-stored-count : goal.offset_bounds-stored-count
 offset_bounds-stored-count c = omega (arith, room (goal.at.offset_bounds-stored-count c).After-growth-radius)
@@ -184,18 +187,26 @@ loop-j-preserved-then-new-ne0 c =
       λ w.
           let put = listed_put (listed_own _ _ (r.keys ∙ sym r.coefficients)) c.loop-j.count
           (record {
-            key = key_raised c.args.i (get_or (listed (model (goal.at.loop-j-preserved-then-new-ne0 c).After-c-1 w)) c.loop-j.j zero_term).key;
+            key = key_raised c.args.i (get_or (listed (model (goal.at.loop-j-preserved-then-new-ne0 c).After-c-1 w))
+                c.loop-j.j zero_term).key;
             coefficient = key_coefficient c.args.d c.args.i
                 (get_or (listed (model (goal.at.loop-j-preserved-then-new-ne0 c).After-c-1 w)) c.loop-j.j zero_term).key
-                (get_or (listed (model (goal.at.loop-j-preserved-then-new-ne0 c).After-c-1 w)) c.loop-j.j zero_term).coefficient;
+                (get_or (listed (model (goal.at.loop-j-preserved-then-new-ne0 c).After-c-1 w)) c.loop-j.j
+                    zero_term).coefficient;
           })
-          (c.raised.ensures ∙ ap (λ (x : Term). key_raised c.args.i x.key) (sym (here (goal.at.loop-j-preserved-then-new-ne0 c).After-c-1 w)))
+          (c.raised.ensures ∙ ap (λ (x : Term). key_raised c.args.i x.key)
+              (sym (here (goal.at.loop-j-preserved-then-new-ne0 c).After-c-1 w)))
           (answered c.divided-new.type_inv (new_in (goal.at.loop-j-preserved-then-new-ne0 c).After-divided-new w)) in
-          subst (λ l. Gathered c.args.d c.args.i (model (goal.at.loop-j-preserved-then-new-ne0 c).After-c-1 w) l (c.loop-j.count + 1)
+          subst (λ l. Gathered c.args.d c.args.i (model (goal.at.loop-j-preserved-then-new-ne0 c).After-c-1 w) l
+              (c.loop-j.count + 1)
           (c.loop-j.radius + c.growth-radius.result) (c.loop-j.j + 1)) (sym put.1)
-          (gathered_keep w.integrand (in_long w) (c.loop-j.invariant.1 w) (inside (goal.at.loop-j-preserved-then-new-ne0 c).After-c-1) (radius_is (goal.at.loop-j-preserved-then-new-ne0 c).After-growth-radius w)
-          (subst (λ z. T (is_nonzero z)) (new_in (goal.at.loop-j-preserved-then-new-ne0 c).After-divided-new w) (nonzero (goal.at.loop-j-preserved-then-new-ne0 c).Then-new-ne0))
-          (omega (arith, few (goal.at.loop-j-preserved-then-new-ne0 c).Start, inside (goal.at.loop-j-preserved-then-new-ne0 c).After-c-1)) refl refl),
+          (gathered_keep w.integrand (in_long w) (c.loop-j.invariant.1 w)
+              (inside (goal.at.loop-j-preserved-then-new-ne0 c).After-c-1)
+              (radius_is (goal.at.loop-j-preserved-then-new-ne0 c).After-growth-radius w)
+          (subst (λ z. T (is_nonzero z)) (new_in (goal.at.loop-j-preserved-then-new-ne0 c).After-divided-new w)
+              (nonzero (goal.at.loop-j-preserved-then-new-ne0 c).Then-new-ne0))
+          (omega (arith, few (goal.at.loop-j-preserved-then-new-ne0 c).Start,
+              inside (goal.at.loop-j-preserved-then-new-ne0 c).After-c-1)) refl refl),
     )
 
 pub loop-j-smaller : goal.loop-j-smaller
@@ -205,7 +216,8 @@ pub loop-j-preserved : goal.loop-j-preserved
 unfolding held
 loop-j-preserved c = (
   c.loop-j.invariant.0,
-  λ w. gathered_drop w.integrand (in_long w) (c.loop-j.invariant.1 w) (inside (goal.at.loop-j-preserved c).After-c-1) (radius_is (goal.at.loop-j-preserved c).After-growth-radius w)
+  λ w. gathered_drop w.integrand (in_long w) (c.loop-j.invariant.1 w) (inside (goal.at.loop-j-preserved c).After-c-1)
+      (radius_is (goal.at.loop-j-preserved c).After-growth-radius w)
       (subst (λ b. T (not b)) (sym (ap is_nonzero (sym (new_in (goal.at.loop-j-preserved c).After-divided-new w))
       ∙ zero_bits (record { sfits = c.divided-new.type_inv }) c.if-new-ne0.false)) tt),
 )

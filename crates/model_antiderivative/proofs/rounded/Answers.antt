@@ -68,7 +68,8 @@ module _ (c : After-c-1) where
   key_is = sym (key_at _ _ c.loop-j.j (even c.before.before.before.before))
 
   read_back : to_z w64 (of_z w64 (get_or c.args.f.coefficients c.loop-j.j (pos 0))) ≡ at.coefficient
-  read_back = to_z-of_z {w = w64} (record { sfits = c.c-1.given }) ∙ sym (coefficient_at _ _ c.loop-j.j (even c.before.before.before.before))
+  read_back = to_z-of_z {w = w64} (record { sfits = c.c-1.given })
+      ∙ sym (coefficient_at _ _ c.loop-j.j (even c.before.before.before.before))
 
 pub growth_by_rounding-sum-requires : goal.growth_by_rounding-sum-requires
 growth_by_rounding-sum-requires c = slot c.requires (long (goal.at.growth_by_rounding-sum-requires c).Start)
@@ -89,7 +90,8 @@ overflow_add-sum c =
       span_fits,
       (known c.requires (long (goal.at.overflow_add-sum c).Start)).small,
       next c,
-      rounded_within c.requires (long (goal.at.overflow_add-sum c).Start) c.loop-j.invariant (inside (goal.at.overflow_add-sum c).After-c-1),
+      rounded_within c.requires (long (goal.at.overflow_add-sum c).Start) c.loop-j.invariant
+          (inside (goal.at.overflow_add-sum c).After-c-1),
     )
 
 pub overflow_add-j : goal.overflow_add-j
@@ -100,7 +102,8 @@ loop-j-smaller c = omega arith
 
 pub loop-j-preserved : goal.loop-j-preserved
 loop-j-preserved c =
-    rounded_iteration c.requires (long (goal.at.loop-j-preserved c).Start) c.loop-j.invariant (inside (goal.at.loop-j-preserved c).After-c-1) (next c)
+    rounded_iteration c.requires (long (goal.at.loop-j-preserved c).Start) c.loop-j.invariant
+        (inside (goal.at.loop-j-preserved c).After-c-1) (next c)
 
 pub returns : goal.returns
 returns c =

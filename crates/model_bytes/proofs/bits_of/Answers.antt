@@ -47,7 +47,8 @@ pub overflow_cast-result : goal.overflow_cast-result
 overflow_cast-result c = castable c _ (lit≤ tt) (lit≤ tt)
 
 pub returns-then-z-lt0 : goal.returns-then-z-lt0
-returns-then-z-lt0 c = ap nat_abs (read_back c _ (lit≤ tt) (lit≤ tt)) ∙ sym (ap bits (is_negative c) ∙ bits_negsuc (mag (z c)))
+returns-then-z-lt0 c = ap nat_abs (read_back c _ (lit≤ tt) (lit≤ tt))
+    ∙ sym (ap bits (is_negative c) ∙ bits_negsuc (mag (z c)))
 
 -- ---- another stays
 module _ (c : Else-z-lt0) where

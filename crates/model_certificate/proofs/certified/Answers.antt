@@ -31,7 +31,8 @@ pub returns-then-unit-mu : goal.returns-then-unit-mu
 unfolding cause
 returns-then-unit-mu c =
     c.refuse.ensures
-    ∙ certified_not _ _ _ (omega (arith, unit_is (goal.at.returns-then-unit-mu c).After-magnitude-unit, c.if-unit-mu.true))
+    ∙ certified_not _ _ _ (omega (arith, unit_is (goal.at.returns-then-unit-mu c).After-magnitude-unit,
+        c.if-unit-mu.true))
 
 pub overflow_mul-product : goal.overflow_mul-product
 overflow_mul-product c = rw (unit_is (goal.at.overflow_mul-product c).After-magnitude-unit) (record {
@@ -47,14 +48,16 @@ divided_up-radius-requires c = omega (arith, c.if-unit-mu.false)
 pub copied-requires : goal.copied-requires
 copied-requires c =
     record {
-      count_le_most_terms = copied_few c.args.n c.args.count 0 c.args.keys.now c.args.coefficients.now c.requires.count_in_bounds
+      count_le_most_terms = copied_few c.args.n c.args.count 0 c.args.keys.now c.args.coefficients.now
+          c.requires.count_in_bounds
           c.requires.t;
       count_in_bounds = c.requires.count_in_bounds;
     }
 
 pub limited-requires : goal.limited-requires
 limited-requires c =
-    subst Packed (sym (c.copied.ensures ∙ widened (goal.at.limited-requires c).Start _)) (radius_packed _ _ c.requires.t)
+    subst Packed (sym (c.copied.ensures ∙ widened (goal.at.limited-requires c).Start _))
+        (radius_packed _ _ c.requires.t)
 
 pub returns : goal.returns
 returns c =

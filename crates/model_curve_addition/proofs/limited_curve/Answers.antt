@@ -11,7 +11,8 @@ whole : (c : Start) → length c.args.c.coefficients ≡ 16
 whole c = search rules
 
 pub returns-then-curve_sound : goal.returns-then-curve_sound
-returns-then-curve_sound c = limited_in _ (whole (goal.at.returns-then-curve_sound c).Start) (sym c.curve_sound.ensures ∙ c.if-curve_sound.true)
+returns-then-curve_sound c = limited_in _ (whole (goal.at.returns-then-curve_sound c).Start) (sym c.curve_sound.ensures
+    ∙ c.if-curve_sound.true)
 
 pub returns : goal.returns
 unfolding cause

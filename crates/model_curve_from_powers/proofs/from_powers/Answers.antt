@@ -34,7 +34,8 @@ tested c = c.sound.ensures
 pub returns-then-not-sound : goal.returns-then-not-sound
 unfolding cause
 returns-then-not-sound c =
-    c.refuse_curve.ensures ∙ model_unsound _ (sym (tested (goal.at.returns-then-not-sound c).After-sound) ∙ c.if-not-sound.true)
+    c.refuse_curve.ensures ∙ model_unsound _ (sym (tested (goal.at.returns-then-not-sound c).After-sound)
+        ∙ c.if-not-sound.true)
 
 is_sound : (c : Else-not-sound) → M.sound most_degree (view c.args.m) ≡ true
 is_sound c = sym (tested c.before) ∙ c.if-not-sound.false
@@ -46,7 +47,9 @@ other c =
 
 pub returns-then-n-ne1 : goal.returns-then-n-ne1
 unfolding cause
-returns-then-n-ne1 c = c.refuse_curve-then-n-ne1.ensures ∙ more_variables _ (is_sound (goal.at.returns-then-n-ne1 c).Else-not-sound) (other (goal.at.returns-then-n-ne1 c).Then-n-ne1)
+returns-then-n-ne1 c = c.refuse_curve-then-n-ne1.ensures
+    ∙ more_variables _ (is_sound (goal.at.returns-then-n-ne1 c).Else-not-sound)
+    (other (goal.at.returns-then-n-ne1 c).Then-n-ne1)
 
 one : (c : Else-n-ne1) → eqb (view c.args.m).vars 1 ≡ true
 one c =
@@ -78,7 +81,8 @@ rounded_degrees-r-requires c = record {
     arith,
     small (goal.at.rounded_degrees-r-requires c).Else-n-ne1,
     ap size c.degrees_from-z.ensures,
-    degrees_small c.row_from-row.result.coefficients (row_small (goal.at.rounded_degrees-r-requires c).After-row_from-row),
+    degrees_small c.row_from-row.result.coefficients
+        (row_small (goal.at.rounded_degrees-r-requires c).After-row_from-row),
   );
   d_nonzero = omega arith;
   d_bound = omega arith;

@@ -56,7 +56,8 @@ module _ (c : In-loop-j) where
   B = get_or (G c.before.before) degree (pos 0)
 
   within : degree < 16
-  within = inside _ _ _ _ (low c.before.before) (whole c.before.before) (small c.before.before) _ _ c.loop-j.invariant c.loop-j-test.true
+  within = inside _ _ _ _ (low c.before.before) (whole c.before.before) (small c.before.before) _ _ c.loop-j.invariant
+      c.loop-j-test.true
 
 pub offset_bounds-g-j : goal.offset_bounds-g-j
 offset_bounds-g-j c = omega (arith, within c)
@@ -70,7 +71,8 @@ second_is c = to_z-of_z {w = w64} (record { sfits = c.product-arg-1.given })
 pub product-v-requires : goal.product-v-requires
 product-v-requires c =
     rw (second_is c)
-    (product_room _ _ _ _ (low (goal.at.product-v-requires c).Start) (whole (goal.at.product-v-requires c).Start) (small (goal.at.product-v-requires c).Start) _ _ c.loop-j.invariant c.loop-j-test.true)
+    (product_room _ _ _ _ (low (goal.at.product-v-requires c).Start) (whole (goal.at.product-v-requires c).Start)
+        (small (goal.at.product-v-requires c).Start) _ _ c.loop-j.invariant c.loop-j-test.true)
 
 module _ (c : After-product-v) where
   abbrev v : ℤ
@@ -81,11 +83,13 @@ module _ (c : After-product-v) where
       (c.product-v.ensures ∙ ap (λ z. A c.before.before.before.before *ℤ z) (second_is c.before))
 
 pub overflow_add-far : goal.overflow_add-far
-overflow_add-far c = omega (arith, low (goal.at.overflow_add-far c).Start, within (goal.at.overflow_add-far c).In-loop-j)
+overflow_add-far c = omega (arith, low (goal.at.overflow_add-far c).Start,
+    within (goal.at.overflow_add-far c).In-loop-j)
 
 near_in : (c : After-apart-near) → c.apart-near.result < 31
 near_in c =
-    near_inside _ _ _ _ (low c.before.before.before.before.before) (whole c.before.before.before.before.before) (small c.before.before.before.before.before) _ _ c.loop-j.invariant c.loop-j-test.true _
+    near_inside _ _ _ _ (low c.before.before.before.before.before) (whole c.before.before.before.before.before)
+        (small c.before.before.before.before.before) _ _ c.loop-j.invariant c.loop-j-test.true _
     c.apart-near.ensures
 
 pub offset_bounds-z-near : goal.offset_bounds-z-near
@@ -101,7 +105,8 @@ near_is c = to_z-of_z {w = w64} (record { sfits = c.sum-arg-1.given })
 pub sum-x-requires : goal.sum-x-requires
 sum-x-requires c =
     rw (v_is (goal.at.sum-x-requires c).After-product-v, near_is c)
-    (near_room _ _ _ _ (low (goal.at.sum-x-requires c).Start) (whole (goal.at.sum-x-requires c).Start) (small (goal.at.sum-x-requires c).Start) _ _ c.loop-j.invariant c.loop-j-test.true _
+    (near_room _ _ _ _ (low (goal.at.sum-x-requires c).Start) (whole (goal.at.sum-x-requires c).Start)
+        (small (goal.at.sum-x-requires c).Start) _ _ c.loop-j.invariant c.loop-j-test.true _
     c.apart-near.ensures)
 
 x_is : (c : After-sum-x)
@@ -134,7 +139,8 @@ far_is c = to_z-of_z {w = w64} (record { sfits = c.sum-arg-in-loop-j-1.given })
 pub sum-y-requires : goal.sum-y-requires
 sum-y-requires c =
     rw (v_is (goal.at.sum-y-requires c).After-product-v, far_is c)
-    (far_room _ _ _ _ (low (goal.at.sum-y-requires c).Start) (whole (goal.at.sum-y-requires c).Start) (small (goal.at.sum-y-requires c).Start) _ _ c.loop-j.invariant c.loop-j-test.true _
+    (far_room _ _ _ _ (low (goal.at.sum-y-requires c).Start) (whole (goal.at.sum-y-requires c).Start)
+        (small (goal.at.sum-y-requires c).Start) _ _ c.loop-j.invariant c.loop-j-test.true _
     c.apart-near.ensures _ (x_is (goal.at.sum-y-requires c).After-sum-x))
 
 pub offset_bounds-z-far-in-loop-j : goal.offset_bounds-z-far-in-loop-j
@@ -148,11 +154,15 @@ loop-j-smaller c = omega (arith, c.loop-j-test.true)
 
 pub loop-j-preserved : goal.loop-j-preserved
 loop-j-preserved c =
-    adding_iteration _ _ _ _ (low (goal.at.loop-j-preserved c).Start) (whole (goal.at.loop-j-preserved c).Start) (small (goal.at.loop-j-preserved c).Start) _ _ c.loop-j.invariant c.loop-j-test.true _
+    adding_iteration _ _ _ _ (low (goal.at.loop-j-preserved c).Start) (whole (goal.at.loop-j-preserved c).Start)
+        (small (goal.at.loop-j-preserved c).Start) _ _ c.loop-j.invariant c.loop-j-test.true _
     c.apart-near.ensures _ (x_is (goal.at.loop-j-preserved c).After-sum-x) _
-    (answered c.sum-y.type_inv (c.sum-y.ensures ∙ ap₂ ◌+ℤ◌ (v_is (goal.at.loop-j-preserved c).After-product-v) (far_is (goal.at.loop-j-preserved c).After-sum-arg-in-loop-j-1)))
+    (answered c.sum-y.type_inv (c.sum-y.ensures ∙ ap₂ ◌+ℤ◌ (v_is (goal.at.loop-j-preserved c).After-product-v)
+        (far_is (goal.at.loop-j-preserved c).After-sum-arg-in-loop-j-1)))
 
 pub returns : goal.returns
 returns c =
-    adding_end _ _ _ _ (low (goal.at.returns c).Start) (whole (goal.at.returns c).Start) (small (goal.at.returns c).Start) _ _ c.loop-j.invariant c.loop-j-test.false
-    ∙ ap (λ a. products_of c.args.i a 0 (G (goal.at.returns c).Start) (Z (goal.at.returns c).Start)) (A_is (goal.at.returns c).Start)
+    adding_end _ _ _ _ (low (goal.at.returns c).Start) (whole (goal.at.returns c).Start)
+        (small (goal.at.returns c).Start) _ _ c.loop-j.invariant c.loop-j-test.false
+    ∙ ap (λ a. products_of c.args.i a 0 (G (goal.at.returns c).Start) (Z (goal.at.returns c).Start))
+        (A_is (goal.at.returns c).Start)

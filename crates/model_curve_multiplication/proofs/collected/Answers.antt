@@ -42,8 +42,10 @@ module _ (c : In-loop-i) where
   within : c.loop-i.i - 1 < 16
   within = omega (arith, c.loop-i.invariant.most, c.loop-i-test.true)
 
-  room : 2 * (nat_abs (get_or (F c.before.before) (c.loop-i.i - 1) (pos 0)) * size (G c.before.before)) + size c.loop-i.z < 2 ^ 63
-  room = collecting_room _ _ (first_whole c.before.before) (second_whole c.before.before) (small c.before.before) _ _ c.loop-i.invariant
+  room : 2 * (nat_abs (get_or (F c.before.before) (c.loop-i.i - 1) (pos 0)) * size (G c.before.before)) + size
+      c.loop-i.z < 2 ^ 63
+  room = collecting_room _ _ (first_whole c.before.before) (second_whole c.before.before) (small c.before.before) _ _
+      c.loop-i.invariant
       c.loop-i-test.true
 
 pub offset_bounds-f-i : goal.offset_bounds-f-i
@@ -62,7 +64,8 @@ add_products-requires c =
       i_bound = within (goal.at.add_products-requires c).In-loop-i;
       z_len = c.loop-i.invariant.long;
       g_len = second_whole (goal.at.add_products-requires c).Start;
-      z_bound = rw (first_is (goal.at.add_products-requires c).After-a-1) (room (goal.at.add_products-requires c).In-loop-i);
+      z_bound = rw (first_is (goal.at.add_products-requires c).After-a-1)
+          (room (goal.at.add_products-requires c).In-loop-i);
     }
 
 pub loop-i-smaller : goal.loop-i-smaller
@@ -70,12 +73,16 @@ loop-i-smaller c = omega (arith, c.loop-i-test.true)
 
 pub loop-i-preserved : goal.loop-i-preserved
 loop-i-preserved c =
-    collecting_iteration _ _ (first_whole (goal.at.loop-i-preserved c).Start) (second_whole (goal.at.loop-i-preserved c).Start) (small (goal.at.loop-i-preserved c).Start) _ _ c.loop-i.invariant
+    collecting_iteration _ _ (first_whole (goal.at.loop-i-preserved c).Start)
+        (second_whole (goal.at.loop-i-preserved c).Start) (small (goal.at.loop-i-preserved c).Start) _ _
+        c.loop-i.invariant
     c.loop-i-test.true _
     (c.add_products.ensures
-    ∙ ap (λ z. products_of (c.loop-i.i - 1) z 0 (G (goal.at.loop-i-preserved c).Start) c.loop-i.z) (first_is (goal.at.loop-i-preserved c).After-a-1))
+    ∙ ap (λ z. products_of (c.loop-i.i - 1) z 0 (G (goal.at.loop-i-preserved c).Start) c.loop-i.z)
+        (first_is (goal.at.loop-i-preserved c).After-a-1))
 
 pub returns : goal.returns
 unfolding products
 returns c =
-    collecting_end _ _ (first_whole (goal.at.returns c).Start) (second_whole (goal.at.returns c).Start) (small (goal.at.returns c).Start) _ _ c.loop-i.invariant c.loop-i-test.false
+    collecting_end _ _ (first_whole (goal.at.returns c).Start) (second_whole (goal.at.returns c).Start)
+        (small (goal.at.returns c).Start) _ _ c.loop-i.invariant c.loop-i-test.false

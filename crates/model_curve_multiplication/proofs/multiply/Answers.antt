@@ -30,7 +30,8 @@ pub returns-then-not-curve_sound-2 : goal.returns-then-not-curve_sound-2
 unfolding cause
 returns-then-not-curve_sound-2 c =
     c.refuse_curve-then-not-curve_sound-2.ensures
-    ∙ other_unsound _ _ (first_sound (goal.at.returns-then-not-curve_sound-2 c).Else-not-curve_sound) (sym c.curve_sound-2.ensures ∙ c.if-not-curve_sound-2.true)
+    ∙ other_unsound _ _ (first_sound (goal.at.returns-then-not-curve_sound-2 c).Else-not-curve_sound)
+        (sym c.curve_sound-2.ensures ∙ c.if-not-curve_sound-2.true)
 
 second_sound : (c : Else-not-curve_sound-2) → sound (view_curve c.args.g) ≡ true
 second_sound c = sym c.curve_sound-2.ensures ∙ c.if-not-curve_sound-2.false
@@ -61,7 +62,8 @@ rounded_degrees-r-requires c =
         arith,
         c.crossed-e.ensures,
         ap size c.collected-z.ensures,
-        products_size _ _ (first_T (goal.at.rounded_degrees-r-requires c).Else-not-curve_sound-2) (second_T (goal.at.rounded_degrees-r-requires c).Else-not-curve_sound-2),
+        products_size _ _ (first_T (goal.at.rounded_degrees-r-requires c).Else-not-curve_sound-2)
+            (second_T (goal.at.rounded_degrees-r-requires c).Else-not-curve_sound-2),
       );
       d_nonzero = omega arith;
       d_bound = omega arith;
@@ -77,4 +79,5 @@ returns c =
     (rounded d c.crossed-e.result c.collected-z.result.places)))) two_units
     ∙ ap₂ (λ n z. curve_answer (at_place 0 (limited_curve (rounded (2 * U) n z)))) c.crossed-e.ensures
     c.collected-z.ensures
-    ∙ factors_sound f g (first_sound (goal.at.returns c).Else-not-curve_sound) (second_sound (goal.at.returns c).Else-not-curve_sound-2)
+    ∙ factors_sound f g (first_sound (goal.at.returns c).Else-not-curve_sound)
+        (second_sound (goal.at.returns c).Else-not-curve_sound-2)

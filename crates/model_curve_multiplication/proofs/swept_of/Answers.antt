@@ -42,7 +42,8 @@ pub overflow_add-total : goal.overflow_add-total
 overflow_add-total c =
     omega (
       arith,
-      sweeping_room _ (whole (goal.at.overflow_add-total c).Start) _ _ _ c.loop-i.invariant c.loop-i-test.true (size_is c),
+      sweeping_room _ (whole (goal.at.overflow_add-total c).Start) _ _ _ c.loop-i.invariant c.loop-i-test.true
+          (size_is c),
       c.requires,
     )
 
@@ -51,7 +52,8 @@ loop-i-smaller c = omega (arith, c.loop-i.invariant.above)
 
 pub loop-i-preserved : goal.loop-i-preserved
 loop-i-preserved c =
-    sweeping_iteration _ (whole (goal.at.loop-i-preserved c).Start) _ _ _ c.loop-i.invariant c.loop-i-test.true (size_is c)
+    sweeping_iteration _ (whole (goal.at.loop-i-preserved c).Start) _ _ _ c.loop-i.invariant c.loop-i-test.true
+        (size_is c)
 
 pub returns : goal.returns
 returns c =

@@ -43,7 +43,8 @@ pub overflow_add-total : goal.overflow_add-total
 overflow_add-total c =
     omega (
       arith,
-      gathered_room _ (whole (goal.at.overflow_add-total c).Start) _ _ _ c.loop-i.invariant c.loop-i-test.true (size_is c),
+      gathered_room _ (whole (goal.at.overflow_add-total c).Start) _ _ _ c.loop-i.invariant c.loop-i-test.true
+          (size_is c),
       sizes_small _ c.requires,
     )
 
@@ -52,7 +53,8 @@ loop-i-smaller c = omega (arith, c.loop-i.invariant.above)
 
 pub loop-i-preserved : goal.loop-i-preserved
 loop-i-preserved c =
-    gathered_iteration _ (whole (goal.at.loop-i-preserved c).Start) _ _ _ c.loop-i.invariant c.loop-i-test.true (size_is c)
+    gathered_iteration _ (whole (goal.at.loop-i-preserved c).Start) _ _ _ c.loop-i.invariant c.loop-i-test.true
+        (size_is c)
 
 total_is : (c : After-loop-i)
     → c.loop-i.total + c.args.c.radius

@@ -35,7 +35,8 @@ overflow_sub-k c = omega (arith, c.loop-k-test.true)
 -- the row at hand
 module _ (c : In-loop-k) where
   within : c.loop-k.k - 1 < 16
-  within = row_inside _ _ (whole c.before.before) (small c.before.before) (fit c.before.before) _ _ c.loop-k.invariant c.loop-k-test.true
+  within = row_inside _ _ (whole c.before.before) (small c.before.before) (fit c.before.before) _ _ c.loop-k.invariant
+      c.loop-k-test.true
 
 pub offset_bounds-cs-k : goal.offset_bounds-cs-k
 offset_bounds-cs-k c = omega (arith, within c)
@@ -57,8 +58,11 @@ pub add_scaled-requires : goal.add_scaled-requires
 add_scaled-requires c =
     let h = c.loop-k-test.true in record {
       total_len = c.loop-k.invariant.long;
-      row_len = row_long _ _ (whole (goal.at.add_scaled-requires c).Start) (small (goal.at.add_scaled-requires c).Start) (fit (goal.at.add_scaled-requires c).Start) _ _ c.loop-k.invariant h;
-      total_bound = rw (c_is (goal.at.add_scaled-requires c).After-c-1) (row_room _ _ (whole (goal.at.add_scaled-requires c).Start) (small (goal.at.add_scaled-requires c).Start) (fit (goal.at.add_scaled-requires c).Start) _ _ c.loop-k.invariant h);
+      row_len = row_long _ _ (whole (goal.at.add_scaled-requires c).Start) (small (goal.at.add_scaled-requires c).Start)
+          (fit (goal.at.add_scaled-requires c).Start) _ _ c.loop-k.invariant h;
+      total_bound = rw (c_is (goal.at.add_scaled-requires c).After-c-1)
+          (row_room _ _ (whole (goal.at.add_scaled-requires c).Start) (small (goal.at.add_scaled-requires c).Start)
+          (fit (goal.at.add_scaled-requires c).Start) _ _ c.loop-k.invariant h);
     }
 
 pub loop-k-smaller : goal.loop-k-smaller
@@ -66,10 +70,13 @@ loop-k-smaller c = omega (arith, c.loop-k-test.true)
 
 pub loop-k-preserved : goal.loop-k-preserved
 loop-k-preserved c =
-    combining_iteration _ _ (whole (goal.at.loop-k-preserved c).Start) (small (goal.at.loop-k-preserved c).Start) (fit (goal.at.loop-k-preserved c).Start) _ _ c.loop-k.invariant c.loop-k-test.true _
+    combining_iteration _ _ (whole (goal.at.loop-k-preserved c).Start) (small (goal.at.loop-k-preserved c).Start)
+        (fit (goal.at.loop-k-preserved c).Start) _ _ c.loop-k.invariant c.loop-k-test.true _
     (c.add_scaled.ensures
-    ∙ ap (λ z. sum (scale z (get_or c.args.rows.now (c.loop-k.k - 1) [])) c.loop-k.total) (c_is (goal.at.loop-k-preserved c).After-c-1))
+    ∙ ap (λ z. sum (scale z (get_or c.args.rows.now (c.loop-k.k - 1) [])) c.loop-k.total)
+        (c_is (goal.at.loop-k-preserved c).After-c-1))
 
 pub returns : goal.returns
 returns c =
-    combining_end _ _ (whole (goal.at.returns c).Start) (small (goal.at.returns c).Start) (fit (goal.at.returns c).Start) _ _ c.loop-k.invariant c.loop-k-test.false
+    combining_end _ _ (whole (goal.at.returns c).Start) (small (goal.at.returns c).Start)
+        (fit (goal.at.returns c).Start) _ _ c.loop-k.invariant c.loop-k-test.false

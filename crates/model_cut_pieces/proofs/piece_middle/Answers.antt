@@ -61,4 +61,5 @@ pub returns : goal.returns
 unfolding piece_middle
 returns c =
     answered c.sum.type_inv c.sum.ensures
-    ∙ ap₂ ◌+ℤ◌ (left_is (goal.at.returns c).After-negated-left) (answered c.signed-right.type_inv c.signed-right.ensures ∙ ap pos (right_is (goal.at.returns c).After-negated-left))
+    ∙ ap₂ ◌+ℤ◌ (left_is (goal.at.returns c).After-negated-left) (answered c.signed-right.type_inv c.signed-right.ensures
+        ∙ ap pos (right_is (goal.at.returns c).After-negated-left))

@@ -28,14 +28,16 @@ unfolding cause
 returns-then-not-deliverable c =
     c.refuse.ensures
     ∙ not_delivered _ _ _ _ _ c.taken_apart-a.ensures c.taken_apart-b.ensures c.taken_apart-c.ensures
-    c.taken_apart-e.ensures (sym (delivered_is (goal.at.returns-then-not-deliverable c).After-deliverable) ∙ c.if-not-deliverable.true)
+    c.taken_apart-e.ensures (sym (delivered_is (goal.at.returns-then-not-deliverable c).After-deliverable)
+        ∙ c.if-not-deliverable.true)
 
 pub returns-then-not-moderate : goal.returns-then-not-moderate
 unfolding cause
 returns-then-not-moderate c =
     c.refuse-then-not-moderate.ensures
     ∙ one_huge _ _ _ _ _ c.taken_apart-a.ensures c.taken_apart-b.ensures c.taken_apart-c.ensures
-    c.taken_apart-e.ensures (sym (delivered_is (goal.at.returns-then-not-moderate c).After-deliverable) ∙ c.if-not-deliverable.false)
+    c.taken_apart-e.ensures (sym (delivered_is (goal.at.returns-then-not-moderate c).After-deliverable)
+        ∙ c.if-not-deliverable.false)
     (sym c.moderate.ensures ∙ c.if-not-moderate.true)
 
 -- none is too large
@@ -60,4 +62,5 @@ returns c =
     ∙ ap (λ h. answer (at_place 0 (limited (view h)))) c.joined.ensures
     ∙ answered_by _ _ _ _ _ c.taken_apart-a.ensures c.taken_apart-b.ensures
     c.taken_apart-c.ensures c.taken_apart-e.ensures
-    (sym (delivered_is (goal.at.returns c).After-deliverable) ∙ c.if-not-deliverable.false) (is_moderate (goal.at.returns c).Else-not-moderate)
+    (sym (delivered_is (goal.at.returns c).After-deliverable) ∙ c.if-not-deliverable.false)
+        (is_moderate (goal.at.returns c).Else-not-moderate)

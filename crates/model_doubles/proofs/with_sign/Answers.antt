@@ -27,7 +27,8 @@ pub negated-requires : goal.negated-requires
 negated-requires c = rw (back (goal.at.negated-requires c).After-signed-z) (omega (arith, c.requires))
 
 pub returns-then-negative : goal.returns-then-negative
-returns-then-negative c = answered c.negated.type_inv c.negated.ensures ∙ ap neg_ℤ (back (goal.at.returns-then-negative c).After-signed-z)
+returns-then-negative c = answered c.negated.type_inv c.negated.ensures
+    ∙ ap neg_ℤ (back (goal.at.returns-then-negative c).After-signed-z)
     ∙ signed_by _ _ c.if-negative.true
 
 pub returns : goal.returns

@@ -103,17 +103,28 @@ module _ (c : After-part-d) where
   some : 0 < c.loop-k.k
   some = omega (arith, c.loop-k-test.true)
 
-  module _ (w : Given (start (record { before = c.before.before.before.before.before; type_inv = record { keys = c.shared_slice_known-1.given } }))) where
+  module _ (w : Given (start (record { before = c.before.before.before.before.before; type_inv = record
+      { keys = c.shared_slice_known-1.given } }))) where
     next_is : held w.vars c.part-d.result 0 next_keys nexts
-        ≡ pack (part (start (record { before = c.before.before.before.before.before; type_inv = record { keys = c.shared_slice_known-1.given } })).args.i (c.loop-k.k - 1) (view (held w.vars (start (record { before = c.before.before.before.before.before; type_inv = record { keys = c.shared_slice_known-1.given } })).args.count
-        (start (record { before = c.before.before.before.before.before; type_inv = record { keys = c.shared_slice_known-1.given } })).args.radius (start (record { before = c.before.before.before.before.before; type_inv = record { keys = c.shared_slice_known-1.given } })).args.keys.now (start (record { before = c.before.before.before.before.before; type_inv = record { keys = c.shared_slice_known-1.given } })).args.coefficients.now)))
+        ≡ pack (part (start (record { before = c.before.before.before.before.before; type_inv = record
+            { keys = c.shared_slice_known-1.given } })).args.i (c.loop-k.k - 1)
+            (view (held w.vars (start (record { before = c.before.before.before.before.before; type_inv = record
+            { keys = c.shared_slice_known-1.given } })).args.count
+        (start (record { before = c.before.before.before.before.before; type_inv = record
+            { keys = c.shared_slice_known-1.given } })).args.radius
+            (start (record { before = c.before.before.before.before.before; type_inv = record
+            { keys = c.shared_slice_known-1.given } })).args.keys.now
+            (start (record { before = c.before.before.before.before.before; type_inv = record
+            { keys = c.shared_slice_known-1.given } })).args.coefficients.now)))
     next_is = c.part-d.ensures (put_part w)
 
 pub put_iteration-iteration-requires : goal.put_iteration-iteration-requires
 put_iteration-iteration-requires c =
     let w = given (start (goal.at.put_iteration-iteration-requires c).At-loop-k) in
     record {
-      iteration_of = put_iterating w _ _ _ _ (c.loop-k.invariant.3 w) _ _ _ (next_is (goal.at.put_iteration-iteration-requires c).After-part-d w) c.loop-k.invariant.0 (next_room (goal.at.put_iteration-iteration-requires c).After-part-d);
+      iteration_of = put_iterating w _ _ _ _ (c.loop-k.invariant.3 w) _ _ _
+          (next_is (goal.at.put_iteration-iteration-requires c).After-part-d w) c.loop-k.invariant.0
+          (next_room (goal.at.put_iteration-iteration-requires c).After-part-d);
       room = c.loop-k.invariant.2;
     }
 
@@ -172,9 +183,13 @@ pub returns-in_default : goal.returns-in_default
 returns-in_default c =
     let s = start (goal.at.returns-in_default c).At-loop-k in
     subst (λ z. PutIn s.args.i z s.args.count s.args.radius s.args.keys.now
-    s.args.coefficients.now c.put_iteration-iteration.result (left_keys (goal.at.returns-in_default c).After-put_iteration-iteration) (lefts (goal.at.returns-in_default c).After-put_iteration-iteration))
-    (back s) (λ w. put_stops w _ _ _ _ (c.loop-k.invariant.3 w) _ _ _ (next_is (goal.at.returns-in_default c).After-part-d w) (some (goal.at.returns-in_default c).After-part-d) _ _
-    (c.put_iteration-iteration.ensures (put_iterating w _ _ _ _ (c.loop-k.invariant.3 w) _ _ _ (next_is (goal.at.returns-in_default c).After-part-d w) c.loop-k.invariant.0
+    s.args.coefficients.now c.put_iteration-iteration.result
+        (left_keys (goal.at.returns-in_default c).After-put_iteration-iteration)
+        (lefts (goal.at.returns-in_default c).After-put_iteration-iteration))
+    (back s) (λ w. put_stops w _ _ _ _ (c.loop-k.invariant.3 w) _ _ _
+        (next_is (goal.at.returns-in_default c).After-part-d w) (some (goal.at.returns-in_default c).After-part-d) _ _
+    (c.put_iteration-iteration.ensures (put_iterating w _ _ _ _ (c.loop-k.invariant.3 w) _ _ _
+        (next_is (goal.at.returns-in_default c).After-part-d w) c.loop-k.invariant.0
     (next_room (goal.at.returns-in_default c).After-part-d))) c.in_default.is)
 
 pub loop-k-smaller : goal.loop-k-smaller
@@ -186,8 +201,10 @@ loop-k-preserved c = (
   left_room (goal.at.loop-k-preserved c).After-put_iteration-iteration,
   next_room (goal.at.loop-k-preserved c).After-part-d,
   spare_room (goal.at.loop-k-preserved c).After-put_iteration-iteration,
-  λ w. put_goes_on w _ _ _ _ (c.loop-k.invariant.3 w) _ _ _ (next_is (goal.at.loop-k-preserved c).After-part-d w) (some (goal.at.loop-k-preserved c).After-part-d) _ _
-      (c.put_iteration-iteration.ensures (put_iterating w _ _ _ _ (c.loop-k.invariant.3 w) _ _ _ (next_is (goal.at.loop-k-preserved c).After-part-d w) c.loop-k.invariant.0
+  λ w. put_goes_on w _ _ _ _ (c.loop-k.invariant.3 w) _ _ _ (next_is (goal.at.loop-k-preserved c).After-part-d w)
+      (some (goal.at.loop-k-preserved c).After-part-d) _ _
+      (c.put_iteration-iteration.ensures (put_iterating w _ _ _ _ (c.loop-k.invariant.3 w) _ _ _
+          (next_is (goal.at.loop-k-preserved c).After-part-d w) c.loop-k.invariant.0
       (next_room (goal.at.loop-k-preserved c).After-part-d))) c.in-Accepted.is,
   omega (arith, c.loop-k.invariant.4),
 )

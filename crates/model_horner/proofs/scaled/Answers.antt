@@ -79,7 +79,8 @@ module _ (c : After-c-1) where
   read_back : to_z w64 (of_z w64 at) ≡ at
   read_back = to_z-of_z {w = w64} (record { sfits = c.c-1.given })
 
-  abbrev gathered : Gathered (X c.before.before.before.before.before.before.before.before) (held (scale c.before.before.before.before.before.before.before.before).vars c.args.total c.args.radius
+  abbrev gathered : Gathered (X c.before.before.before.before.before.before.before.before)
+      (held (scale c.before.before.before.before.before.before.before.before).vars c.args.total c.args.radius
       c.args.keys.now c.args.coefficients.now) (pad (terms_of c.loop-j.count c.loop-j.stored
       c.loop-j.out)) c.loop-j.count c.loop-j.error c.loop-j.j
   gathered = c.loop-j.invariant.1 (scale c.before.before.before.before.before.before.before.before)
@@ -88,31 +89,41 @@ module _ (c : After-c-1) where
   fits = scale_fits (scale c.before.before.before.before.before.before.before.before) _ _ gathered inside
 
   room : c.loop-j.count < 64
-  room = omega (arith, few c.before.before.before.before.before.before.before.before, inside, scale_room (scale c.before.before.before.before.before.before.before.before) _ _ gathered)
+  room = omega (arith, few c.before.before.before.before.before.before.before.before, inside,
+      scale_room (scale c.before.before.before.before.before.before.before.before) _ _ gathered)
 
 pub scaled_coefficient-new-requires : goal.scaled_coefficient-new-requires
 scaled_coefficient-new-requires c = rw (read_back c) (fits c)
 
 -- its new coefficient
 new_is : (c : After-scaled_coefficient-new)
-    → c.scaled_coefficient-new.result ≡ scaled_coefficient (X c.before.before.before.before.before.before.before.before.before) (at (goal.at.scaled_residual-error-requires c).After-c-1)
-new_is c = c.scaled_coefficient-new.ensures ∙ ap (scaled_coefficient (X c.before.before.before.before.before.before.before.before.before)) (read_back (goal.at.scaled_residual-error-requires c).After-c-1)
+    → c.scaled_coefficient-new.result ≡ scaled_coefficient
+        (X c.before.before.before.before.before.before.before.before.before)
+        (at (goal.at.scaled_residual-error-requires c).After-c-1)
+new_is c = c.scaled_coefficient-new.ensures ∙ ap (scaled_coefficient
+    (X c.before.before.before.before.before.before.before.before.before))
+    (read_back (goal.at.scaled_residual-error-requires c).After-c-1)
 
 pub scaled_residual-error-requires : goal.scaled_residual-error-requires
-scaled_residual-error-requires c = rw (read_back (goal.at.scaled_residual-error-requires c).After-c-1) (fits (goal.at.scaled_residual-error-requires c).After-c-1)
+scaled_residual-error-requires c = rw (read_back (goal.at.scaled_residual-error-requires c).After-c-1)
+    (fits (goal.at.scaled_residual-error-requires c).After-c-1)
 
 -- and what it leaves
 error_is : (c : After-scaled_residual-error)
     → c.loop-j.error + c.scaled_residual-error.result
-    ≡ c.loop-j.error + scaled_residual (X c.before.before.before.before.before.before.before.before.before.before) (at (goal.at.overflow_add-error c).After-c-1)
+    ≡ c.loop-j.error + scaled_residual (X c.before.before.before.before.before.before.before.before.before.before)
+        (at (goal.at.overflow_add-error c).After-c-1)
 error_is c =
     ap (λ g. c.loop-j.error + g)
-    (c.scaled_residual-error.ensures ∙ ap (scaled_residual (X c.before.before.before.before.before.before.before.before.before.before)) (read_back (goal.at.overflow_add-error c).After-c-1))
+    (c.scaled_residual-error.ensures ∙ ap (scaled_residual
+        (X c.before.before.before.before.before.before.before.before.before.before))
+        (read_back (goal.at.overflow_add-error c).After-c-1))
 
 pub overflow_add-error : goal.overflow_add-error
 overflow_add-error c =
     record {
-      fits = omega (arith, error_is c, scale_within (scale (goal.at.overflow_add-error c).Start) _ _ (gathered (goal.at.overflow_add-error c).After-c-1) (inside (goal.at.overflow_add-error c).After-c-1));
+      fits = omega (arith, error_is c, scale_within (scale (goal.at.overflow_add-error c).Start) _ _
+          (gathered (goal.at.overflow_add-error c).After-c-1) (inside (goal.at.overflow_add-error c).After-c-1));
     }
 
 pub overflow_add-j : goal.overflow_add-j
@@ -141,9 +152,12 @@ loop-j-smaller-then-new-ne0 c = omega (arith, inside (goal.at.loop-j-smaller-the
 pub loop-j-preserved-then-new-ne0 : goal.loop-j-preserved-then-new-ne0
 loop-j-preserved-then-new-ne0 c = (
   room_still _ _ _ c.loop-j.invariant.0,
-  λ w. scale_keep w _ _ (c.loop-j.invariant.1 w) (inside (goal.at.loop-j-preserved-then-new-ne0 c).After-c-1) (error_is (goal.at.loop-j-preserved-then-new-ne0 c).After-scaled_residual-error) c.loop-j.invariant.0
-      (subst T (sym (ap is_nonzero (sym (new_is (goal.at.loop-j-preserved-then-new-ne0 c).After-scaled_coefficient-new)) ∙ nonzero_bits _ c.if-new-ne0.true)) tt)
-      (answered c.scaled_coefficient-new.type_inv (new_is (goal.at.loop-j-preserved-then-new-ne0 c).After-scaled_coefficient-new)),
+  λ w. scale_keep w _ _ (c.loop-j.invariant.1 w) (inside (goal.at.loop-j-preserved-then-new-ne0 c).After-c-1)
+      (error_is (goal.at.loop-j-preserved-then-new-ne0 c).After-scaled_residual-error) c.loop-j.invariant.0
+      (subst T (sym (ap is_nonzero (sym (new_is (goal.at.loop-j-preserved-then-new-ne0 c).After-scaled_coefficient-new))
+          ∙ nonzero_bits _ c.if-new-ne0.true)) tt)
+      (answered c.scaled_coefficient-new.type_inv (new_is
+          (goal.at.loop-j-preserved-then-new-ne0 c).After-scaled_coefficient-new)),
 )
 
 pub loop-j-smaller : goal.loop-j-smaller
@@ -152,8 +166,10 @@ loop-j-smaller c = omega (arith, inside (goal.at.loop-j-smaller c).After-c-1)
 pub loop-j-preserved : goal.loop-j-preserved
 loop-j-preserved c = (
   c.loop-j.invariant.0,
-  λ w. scale_drop w _ _ (c.loop-j.invariant.1 w) (inside (goal.at.loop-j-preserved c).After-c-1) (error_is (goal.at.loop-j-preserved c).After-scaled_residual-error)
-      (subst (λ b. T (not b)) (sym (ap is_nonzero (sym (new_is (goal.at.loop-j-preserved c).After-scaled_coefficient-new))
+  λ w. scale_drop w _ _ (c.loop-j.invariant.1 w) (inside (goal.at.loop-j-preserved c).After-c-1)
+      (error_is (goal.at.loop-j-preserved c).After-scaled_residual-error)
+      (subst (λ b. T (not b)) (sym (ap is_nonzero (sym
+          (new_is (goal.at.loop-j-preserved c).After-scaled_coefficient-new))
       ∙ zero_bits (record { sfits = c.scaled_coefficient-new.type_inv }) c.if-new-ne0.false)) tt),
 )
 

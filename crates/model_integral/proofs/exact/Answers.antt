@@ -62,14 +62,17 @@ total : (c : After-integral_parts-total) → to_z w64 (of_z w64 c.integral_parts
     ≡ integral_parts (seen c.before.before.before)
 total c = answered c.integral_parts-total.type_inv (c.integral_parts-total.ensures (lying c.before.before.before))
 
-quotient : (c : After-floor_divided-quotient) → to_z w64 (of_z w64 c.floor_divided-quotient.result) ≡ q c.before.before.before.before
+quotient : (c : After-floor_divided-quotient) → to_z w64 (of_z w64 c.floor_divided-quotient.result) ≡ q
+    c.before.before.before.before
 unfolding common_denominator
 quotient c = answered c.floor_divided-quotient.type_inv
-    (c.floor_divided-quotient.ensures ∙ ap (λ z. floor z common_denominator) (total (goal.at.rest-remainder-requires c).After-integral_parts-total))
+    (c.floor_divided-quotient.ensures ∙ ap (λ z. floor z common_denominator)
+        (total (goal.at.rest-remainder-requires c).After-integral_parts-total))
 
 above : (c : After-rest-remainder) → c.rest-remainder.result
     ≡ remainder (integral_parts (seen c.before.before.before.before.before)) common_denominator
-above c = c.rest-remainder.ensures ∙ ap (λ z. remainder z common_denominator) (total (goal.at.volume-requires c).After-integral_parts-total)
+above c = c.rest-remainder.ensures ∙ ap (λ z. remainder z common_denominator)
+    (total (goal.at.volume-requires c).After-integral_parts-total)
 
 -- 2^n times the radius, and 1 if there is a remainder
 product : (c : After-volume)
@@ -79,7 +82,8 @@ product c = ap (λ v. v * c.args.radius) c.volume.ensures
 
 around : (c : After-signed-around) → to_z w64 (of_z w64 c.signed-around.result)
     ≡ pos (wide c.before.before.before.before.before.before.before)
-around c = answered c.signed-around.type_inv (c.signed-around.ensures ∙ ap pos (product (goal.at.one_if_any-requires c).After-volume))
+around c = answered c.signed-around.type_inv (c.signed-around.ensures
+    ∙ ap pos (product (goal.at.one_if_any-requires c).After-volume))
 
 one : (c : After-signed-above) → to_z w64 (of_z w64 c.signed-above.result)
     ≡ pos (one_if_any c.rest-remainder.result)
@@ -91,7 +95,8 @@ sum : (c : After-sum) → to_z w64 (of_z w64 c.sum.result)
     +ℤ pos (wide c.before.before.before.before.before.before.before.before.before.before.before)
 sum c =
     answered c.sum.type_inv
-    (c.sum.ensures ∙ ap₂ ◌+ℤ◌ (quotient (goal.at.sum-high-requires c).After-floor_divided-quotient) (around (goal.at.sum-high-requires c).After-signed-around))
+    (c.sum.ensures ∙ ap₂ ◌+ℤ◌ (quotient (goal.at.sum-high-requires c).After-floor_divided-quotient)
+        (around (goal.at.sum-high-requires c).After-signed-around))
 
 pub integral_parts-total-requires : goal.integral_parts-total-requires
 integral_parts-total-requires c = record {
@@ -100,7 +105,8 @@ integral_parts-total-requires c = record {
 }
 
 pub rest-remainder-requires : goal.rest-remainder-requires
-rest-remainder-requires c = rw (quotient c, total (goal.at.rest-remainder-requires c).After-integral_parts-total) (few_parts (goal.at.rest-remainder-requires c).Start, refl)
+rest-remainder-requires c = rw (quotient c, total (goal.at.rest-remainder-requires c).After-integral_parts-total)
+    (few_parts (goal.at.rest-remainder-requires c).Start, refl)
 
 pub volume-requires : goal.volume-requires
 volume-requires c =
@@ -119,12 +125,14 @@ signed-above-requires c =
 
 pub difference-low-requires : goal.difference-low-requires
 difference-low-requires c =
-    rw (quotient (goal.at.difference-low-requires c).After-floor_divided-quotient, around (goal.at.difference-low-requires c).After-signed-around)
+    rw (quotient (goal.at.difference-low-requires c).After-floor_divided-quotient,
+        around (goal.at.difference-low-requires c).After-signed-around)
     (omega (arith, room (goal.at.difference-low-requires c).Start))
 
 pub sum-requires : goal.sum-requires
 sum-requires c =
-    rw (quotient (goal.at.sum-requires c).After-floor_divided-quotient, around (goal.at.sum-requires c).After-signed-around)
+    rw (quotient (goal.at.sum-requires c).After-floor_divided-quotient,
+        around (goal.at.sum-requires c).After-signed-around)
     (omega (arith, room (goal.at.sum-requires c).Start))
 
 pub sum-high-requires : goal.sum-high-requires
@@ -142,10 +150,12 @@ unfolding integral_answer exact_integral exact_ends mixed_part view held
 returns c =
     rw (
       answered c.difference-low.type_inv
-          (c.difference-low.ensures ∙ ap₂ ◌-ℤ◌ (quotient (goal.at.returns c).After-floor_divided-quotient) (around (goal.at.returns c).After-signed-around)),
+          (c.difference-low.ensures ∙ ap₂ ◌-ℤ◌ (quotient (goal.at.returns c).After-floor_divided-quotient)
+              (around (goal.at.returns c).After-signed-around)),
       answered c.sum-high.type_inv
           (c.sum-high.ensures
-          ∙ ap₂ ◌+ℤ◌ (sum (goal.at.returns c).After-sum) (one (goal.at.returns c).After-signed-above ∙ ap (λ c. pos (one_if_any c)) (above (goal.at.returns c).After-rest-remainder))),
+          ∙ ap₂ ◌+ℤ◌ (sum (goal.at.returns c).After-sum) (one (goal.at.returns c).After-signed-above
+              ∙ ap (λ c. pos (one_if_any c)) (above (goal.at.returns c).After-rest-remainder))),
       quotient (goal.at.returns c).After-floor_divided-quotient,
       above (goal.at.returns c).After-rest-remainder,
     )

@@ -23,7 +23,8 @@ seen s = view (held s.args.n s.args.count s.args.radius s.args.keys.now s.args.c
 
 pub returns-then-n-le-MOST_EXACT : goal.returns-then-n-le-MOST_EXACT
 unfolding view held
-returns-then-n-le-MOST_EXACT c = c.exact.ensures ∙ ap (λ i. integral_answer (done i)) (whole_exact (seen (goal.at.returns-then-n-le-MOST_EXACT c).Start) c.if-n-le-MOST_EXACT.true)
+returns-then-n-le-MOST_EXACT c = c.exact.ensures ∙ ap (λ i. integral_answer (done i))
+    (whole_exact (seen (goal.at.returns-then-n-le-MOST_EXACT c).Start) c.if-n-le-MOST_EXACT.true)
 
 pub returns : goal.returns
 unfolding view held integral_answer bounds zero_mixed

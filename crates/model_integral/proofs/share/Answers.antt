@@ -22,7 +22,8 @@ multiplied c =
 
 pub divided-requires : goal.divided-requires
 divided-requires c = (
-  rw (multiplied (goal.at.divided-requires c).After-product) (omega (arith, c.requires, nat_abs_mul c.args.coefficient c.args.scale)),
+  rw (multiplied (goal.at.divided-requires c).After-product)
+      (omega (arith, c.requires, nat_abs_mul c.args.coefficient c.args.scale)),
   omega (arith, c.divisor.ensures, divisor_pos key_width (key_exponents key_width key_width c.args.key)),
 )
 

@@ -39,7 +39,8 @@ product c = ap (λ v. v * c.args.radius) c.volume.ensures
 
 around : (c : After-signed-around) → to_z w64 (of_z w64 c.signed-around.result)
     ≡ pos (2 ^ c.args.n * c.args.radius)
-around c = answered c.signed-around.type_inv (c.signed-around.ensures ∙ ap pos (product (goal.at.integral_sum-requires c).After-volume))
+around c = answered c.signed-around.type_inv (c.signed-around.ensures
+    ∙ ap pos (product (goal.at.integral_sum-requires c).After-volume))
 
 -- the two sums
 lower : (c : After-integral_sum) → to_z w64 (of_z w64 c.integral_sum.result)
@@ -66,7 +67,8 @@ pub integral_sum-requires : goal.integral_sum-requires
 integral_sum-requires c = lying (goal.at.integral_sum-requires c).Start
 
 pub difference-requires : goal.difference-requires
-difference-requires c = rw (lower c, around (goal.at.difference-requires c).After-signed-around) (room (goal.at.difference-requires c).Start false)
+difference-requires c = rw (lower c, around (goal.at.difference-requires c).After-signed-around)
+    (room (goal.at.difference-requires c).Start false)
 
 pub integral_sum-requires-2 : goal.integral_sum-requires-2
 integral_sum-requires-2 c = lying (goal.at.integral_sum-requires-2 c).Start
@@ -79,6 +81,8 @@ pub returns : goal.returns
 unfolding rule term_by_term view held bounds
 returns c =
     rw (
-      answered c.difference.type_inv (c.difference.ensures ∙ ap₂ ◌-ℤ◌ (lower (goal.at.returns c).After-integral_sum) (around (goal.at.returns c).After-signed-around)),
-      answered c.sum.type_inv (c.sum.ensures ∙ ap₂ ◌+ℤ◌ (upper (goal.at.returns c).After-integral_sum-2) (around (goal.at.returns c).After-signed-around)),
+      answered c.difference.type_inv (c.difference.ensures
+          ∙ ap₂ ◌-ℤ◌ (lower (goal.at.returns c).After-integral_sum) (around (goal.at.returns c).After-signed-around)),
+      answered c.sum.type_inv (c.sum.ensures ∙ ap₂ ◌+ℤ◌ (upper (goal.at.returns c).After-integral_sum-2)
+          (around (goal.at.returns c).After-signed-around)),
     )

@@ -43,7 +43,8 @@ offset_bounds-keys-j c = omega (arith, inside c)
 
 pub bounds-keys-j : goal.bounds-keys-j
 bounds-keys-j c =
-    omega (arith, some (goal.at.bounds-keys-j c).In-loop-j, inside (goal.at.bounds-keys-j c).In-loop-j, c.requires.room.keys)
+    omega (arith, some (goal.at.bounds-keys-j c).In-loop-j, inside (goal.at.bounds-keys-j c).In-loop-j,
+        c.requires.room.keys)
 
 pub exponent_of-exponent-requires : goal.exponent_of-exponent-requires
 exponent_of-exponent-requires c = keys_slot c.requires
@@ -81,10 +82,15 @@ loop-j-smaller c = omega (arith, some (goal.at.loop-j-smaller c).In-loop-j)
 
 pub loop-j-preserved : goal.loop-j-preserved
 loop-j-preserved c = (
-  chaining_iteration c.loop-j.invariant.0 (some (goal.at.loop-j-preserved c).In-loop-j) (few (goal.at.loop-j-preserved c).Start) (low (goal.at.loop-j-preserved c).After-exponent_of-exponent) (is_exponent (goal.at.loop-j-preserved c).After-exponent_of-exponent) refl,
-  λ w. largest_iteration w (c.loop-j.invariant.1 w) (some (goal.at.loop-j-preserved c).In-loop-j) (omega (arith, some (goal.at.loop-j-preserved c).In-loop-j, c.loop-j.invariant.0.within))
-      (c.larger-largest.ensures ∙ ap (max c.loop-j.largest) (is_exponent (goal.at.loop-j-preserved c).After-exponent_of-exponent)),
-  omega (arith, c.larger-largest.ensures, low (goal.at.loop-j-preserved c).After-exponent_of-exponent, c.loop-j.invariant.2),
+  chaining_iteration c.loop-j.invariant.0 (some (goal.at.loop-j-preserved c).In-loop-j)
+      (few (goal.at.loop-j-preserved c).Start) (low (goal.at.loop-j-preserved c).After-exponent_of-exponent)
+      (is_exponent (goal.at.loop-j-preserved c).After-exponent_of-exponent) refl,
+  λ w. largest_iteration w (c.loop-j.invariant.1 w) (some (goal.at.loop-j-preserved c).In-loop-j)
+      (omega (arith, some (goal.at.loop-j-preserved c).In-loop-j, c.loop-j.invariant.0.within))
+      (c.larger-largest.ensures ∙ ap (max c.loop-j.largest)
+          (is_exponent (goal.at.loop-j-preserved c).After-exponent_of-exponent)),
+  omega (arith, c.larger-largest.ensures, low (goal.at.loop-j-preserved c).After-exponent_of-exponent,
+      c.loop-j.invariant.2),
 )
 
 pub returns : goal.returns

@@ -55,7 +55,8 @@ module _ (c : After-product-k) where
 
 pub returns-in_default : goal.returns-in_default
 returns-in_default c =
-    deviation_stops c.requires.factors (vars (goal.at.returns-in_default c).Start) (bared (goal.at.returns-in_default c).Start) c.product-k.ensures c.in_default.is _ _
+    deviation_stops c.requires.factors (vars (goal.at.returns-in_default c).Start)
+        (bared (goal.at.returns-in_default c).Start) c.product-k.ensures c.in_default.is _ _
 
 -- it is accepted
 module _ (c : In-Accepted) where
@@ -69,11 +70,15 @@ one_term c = ap (λ (z : ℤ). z ∷ []) (answered c.unit.type_inv c.unit.ensure
 pub difference-requires : goal.difference-requires
 difference-requires c =
     record {
-      addends = deviation_addends c.requires.factors (vars (goal.at.difference-requires c).Start) (bared (goal.at.difference-requires c).Start) c.product-k.ensures (taken (goal.at.difference-requires c).In-Accepted) refl (one_term (goal.at.difference-requires c).After-unit) (room (goal.at.difference-requires c).After-product-k);
+      addends = deviation_addends c.requires.factors (vars (goal.at.difference-requires c).Start)
+          (bared (goal.at.difference-requires c).Start) c.product-k.ensures
+          (taken (goal.at.difference-requires c).In-Accepted) refl (one_term (goal.at.difference-requires c).After-unit)
+          (room (goal.at.difference-requires c).After-product-k);
       room = c.requires.room;
     }
 
 pub returns : goal.returns
 returns c =
-    deviation_left c.requires.factors (vars (goal.at.returns c).Start) (bared (goal.at.returns c).Start) c.product-k.ensures (taken (goal.at.returns c).In-Accepted) refl (one_term (goal.at.returns c).After-unit)
+    deviation_left c.requires.factors (vars (goal.at.returns c).Start) (bared (goal.at.returns c).Start)
+        c.product-k.ensures (taken (goal.at.returns c).In-Accepted) refl (one_term (goal.at.returns c).After-unit)
     c.difference.ensures

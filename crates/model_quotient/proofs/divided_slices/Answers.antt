@@ -66,12 +66,14 @@ module _ (c : In-Accepted) where
 
 pub deviation-second-requires : goal.deviation-second-requires
 deviation-second-requires c =
-    let free = free_room c.requires.scratch_room c.defect-first.auto.slots c.defect-first.auto.keys c.defect-first.auto.sums in record {
+    let free = free_room c.requires.scratch_room c.defect-first.auto.slots c.defect-first.auto.keys
+            c.defect-first.auto.sums in record {
       factors = second_factors c.requires.proposal;
       na_in_bounds = c.requires.countw_in_bounds;
       nb_in_bounds = c.requires.countg_in_bounds;
       scratch_room = fewer_room free
-          (form_products c.args.countg c.args.counth c.args.countw c.args.countg (few_second (goal.at.deviation-second-requires c).Start));
+          (form_products c.args.countg c.args.counth c.args.countw c.args.countg
+              (few_second (goal.at.deviation-second-requires c).Start));
       room = record { keys = refl; coefficients = refl };
     }
 
@@ -97,7 +99,8 @@ pub returns-in_default-u : goal.returns-in_default-u
 returns-in_default-u c =
     let u = c.in_default-u.is in
     c.refused-in_default-u.ensures.refuses _ _ u
-    ∙ second_refused c.requires.proposal c.defect-first.ensures (taken (goal.at.returns-in_default-u c).In-Accepted) c.deviation-second.ensures _ _ u
+    ∙ second_refused c.requires.proposal c.defect-first.ensures (taken (goal.at.returns-in_default-u c).In-Accepted)
+        c.deviation-second.ensures _ _ u
 
 pub judged-requires : goal.judged-requires
 judged-requires c =
@@ -105,8 +108,10 @@ judged-requires c =
     let s = c.requires in record {
       t = proposed_sound s.proposal;
       count_in_bounds = s.counth_in_bounds;
-      lies = first_lies s.proposal c.defect-first.ensures (taken (goal.at.judged-requires c).In-Accepted) (first_room (goal.at.judged-requires c).After-defect-first);
-      lies_2 = second_lies s.proposal c.defect-first.ensures (taken (goal.at.judged-requires c).In-Accepted) c.deviation-second.ensures u (second_room (goal.at.judged-requires c).After-deviation-second);
+      lies = first_lies s.proposal c.defect-first.ensures (taken (goal.at.judged-requires c).In-Accepted)
+          (first_room (goal.at.judged-requires c).After-defect-first);
+      lies_2 = second_lies s.proposal c.defect-first.ensures (taken (goal.at.judged-requires c).In-Accepted)
+          c.deviation-second.ensures u (second_room (goal.at.judged-requires c).After-deviation-second);
     }
 
 pub shape_of-slots : goal.shape_of-slots
@@ -125,4 +130,7 @@ returns c =
     let d = c.defect-first.ensures in
     let e = c.deviation-second.ensures in
     quotient_answer s d (taken (goal.at.returns c).In-Accepted) e u
-    (c.judged.ensures (first_lies s d (taken (goal.at.returns c).In-Accepted) (first_room (goal.at.returns c).After-defect-first)) (second_lies s d (taken (goal.at.returns c).In-Accepted) e u (second_room (goal.at.returns c).After-deviation-second)))
+    (c.judged.ensures (first_lies s d (taken (goal.at.returns c).In-Accepted)
+        (first_room (goal.at.returns c).After-defect-first))
+        (second_lies s d (taken (goal.at.returns c).In-Accepted) e u
+        (second_room (goal.at.returns c).After-deviation-second)))

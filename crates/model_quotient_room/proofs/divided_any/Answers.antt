@@ -10,7 +10,8 @@ pub divided-requires : goal.divided-requires
 divided-requires c =
     record {
       proposal = c.requires;
-      scratch_room = fewer_room {products = most_entries} (record { slots_room = lit≤ tt; keys_room = lit≤ tt; sums_room = lit≤ tt })
+      scratch_room = fewer_room {products = most_entries}
+          (record { slots_room = lit≤ tt; keys_room = lit≤ tt; sums_room = lit≤ tt })
           (products_any c.requires);
     }
 

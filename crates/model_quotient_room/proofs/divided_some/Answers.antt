@@ -8,7 +8,8 @@ pub divided-requires : goal.divided-requires
 divided-requires c =
     record {
       proposal = c.requires.proposal;
-      scratch_room = fewer_room {products = 1024} (record { slots_room = lit≤ tt; keys_room = lit≤ tt; sums_room = lit≤ tt })
+      scratch_room = fewer_room {products = 1024} (record
+          { slots_room = lit≤ tt; keys_room = lit≤ tt; sums_room = lit≤ tt })
           c.requires.count_bound;
     }
 

@@ -44,11 +44,13 @@ pub returns-then-negated-ends : goal.returns-then-negated-ends
 unfolding range_in_box
 returns-then-negated-ends c =
     rw (
-      to_z-of_z {w = w64} (record { sfits = c.struct_told-then-negated-ends-1.given.1.0.1 }) ∙ high_is (goal.at.returns-then-negated-ends c).After-range_of-ends,
+      to_z-of_z {w = w64} (record { sfits = c.struct_told-then-negated-ends-1.given.1.0.1 })
+          ∙ high_is (goal.at.returns-then-negated-ends c).After-range_of-ends,
       unit_is (goal.at.returns-then-negated-ends c).After-unit-unit,
       sym (first (goal.at.returns-then-negated-ends c).After-struct_told-1) ∙ c.if-negated-ends.true,
     )
 
 pub returns-else-negated-ends : goal.returns-else-negated-ends
 unfolding range_in_box
-returns-else-negated-ends c = rw (first (goal.at.returns-else-negated-ends c).After-struct_told-1, sym (first (goal.at.returns-else-negated-ends c).After-struct_told-1) ∙ c.if-negated-ends.false)
+returns-else-negated-ends c = rw (first (goal.at.returns-else-negated-ends c).After-struct_told-1,
+    sym (first (goal.at.returns-else-negated-ends c).After-struct_told-1) ∙ c.if-negated-ends.false)

@@ -16,7 +16,8 @@ read_back s = to_z-of_z s.ranges.coefficient
 
 pub returns-then-coefficient-le0 : goal.returns-then-coefficient-le0
 unfolding even_rise if_so
-returns-then-coefficient-le0 c = rw (sym (ap (λ z. le_z z (pos 0)) (read_back (goal.at.returns-then-coefficient-le0 c).Start)) ∙ c.if-coefficient-le0.true) refl
+returns-then-coefficient-le0 c = rw (sym (ap (λ z. le_z z (pos 0))
+    (read_back (goal.at.returns-then-coefficient-le0 c).Start)) ∙ c.if-coefficient-le0.true) refl
 
 pub returns : goal.returns
 unfolding even_rise if_so

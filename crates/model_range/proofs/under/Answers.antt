@@ -16,7 +16,8 @@ read_back s = to_z-of_z s.ranges.coefficient
 
 pub returns-then-coefficient-ge0 : goal.returns-then-coefficient-ge0
 unfolding even_fall if_so
-returns-then-coefficient-ge0 c = rw (sym (ap (λ z. le_z (pos 0) z) (read_back (goal.at.returns-then-coefficient-ge0 c).Start)) ∙ c.if-coefficient-ge0.true) refl
+returns-then-coefficient-ge0 c = rw (sym (ap (λ z. le_z (pos 0) z)
+    (read_back (goal.at.returns-then-coefficient-ge0 c).Start)) ∙ c.if-coefficient-ge0.true) refl
 
 pub returns : goal.returns
 unfolding even_fall if_so

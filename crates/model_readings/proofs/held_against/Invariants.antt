@@ -1,4 +1,5 @@
--- `held_against` goes through the iterations of the row: those that are left give what all give, and none is left out but
+-- `held_against` goes through the iterations of the row: those that are left give what all give, and none is left out
+-- but
 -- where something is found.
 use mathlib.Core.Path.{◌≡◌}
 use Prim.Native.Nat.{◌-◌, ◌*◌, ◌%◌, ◌≤◌}

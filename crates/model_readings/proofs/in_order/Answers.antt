@@ -22,11 +22,14 @@ high_back c = to_z-of_z {w = w64} (record { sfits = c.struct_told-1.given.1.1.0.
 tested : (c : After-struct_told-2-1) → let r = c.args.r in
     le_z (to_z w64 (of_z w64 r.low)) (to_z w64 (of_z w64 r.high)) ≡ in_order (view_reading r)
 unfolding in_order
-tested c = ap₂ le_z (low_back (record { before = c.before; type_inv = record { r = c.struct_told-1.given } })) (high_back (record { before = c.before; type_inv = record { r = c.struct_told-1.given } }))
+tested c = ap₂ le_z (low_back (record { before = c.before; type_inv = record { r = c.struct_told-1.given } }))
+    (high_back (record { before = c.before; type_inv = record { r = c.struct_told-1.given } }))
 
 pub returns-then-low-high : goal.returns-then-low-high
-returns-then-low-high c = c.nothing.ensures ∙ order_holds _ _ (sym (tested (goal.at.returns-then-low-high c).After-struct_told-2-1) ∙ c.if-low-high.true)
+returns-then-low-high c = c.nothing.ensures ∙ order_holds _ _
+    (sym (tested (goal.at.returns-then-low-high c).After-struct_told-2-1) ∙ c.if-low-high.true)
 
 pub returns : goal.returns
 unfolding cause
-returns c = c.refused_at.ensures ∙ order_fails _ _ (sym (tested (goal.at.returns c).After-struct_told-2-1) ∙ c.if-low-high.false)
+returns c = c.refused_at.ensures ∙ order_fails _ _ (sym (tested (goal.at.returns c).After-struct_told-2-1)
+    ∙ c.if-low-high.false)

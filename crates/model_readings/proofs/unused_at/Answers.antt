@@ -21,8 +21,10 @@ tested c =
     ∙ ap all_zero (drop_eight c.args.n c.args.r.x (whole c.before.before.before))
 
 pub returns-then-unused_zero : goal.returns-then-unused_zero
-returns-then-unused_zero c = c.nothing.ensures ∙ unused_holds _ _ _ (sym (tested (goal.at.returns-then-unused_zero c).After-unused_zero) ∙ c.if-unused_zero.true)
+returns-then-unused_zero c = c.nothing.ensures ∙ unused_holds _ _ _
+    (sym (tested (goal.at.returns-then-unused_zero c).After-unused_zero) ∙ c.if-unused_zero.true)
 
 pub returns : goal.returns
 unfolding cause
-returns c = c.refused_at.ensures ∙ unused_fails _ _ _ (sym (tested (goal.at.returns c).After-unused_zero) ∙ c.if-unused_zero.false)
+returns c = c.refused_at.ensures ∙ unused_fails _ _ _ (sym (tested (goal.at.returns c).After-unused_zero)
+    ∙ c.if-unused_zero.false)

@@ -21,8 +21,10 @@ tested c =
     ∙ ap all_in_unit (take_eight c.args.n c.args.r.x (whole c.before.before.before))
 
 pub returns-then-used_within : goal.returns-then-used_within
-returns-then-used_within c = c.nothing.ensures ∙ within_holds _ _ _ (sym (tested (goal.at.returns-then-used_within c).After-used_within) ∙ c.if-used_within.true)
+returns-then-used_within c = c.nothing.ensures ∙ within_holds _ _ _
+    (sym (tested (goal.at.returns-then-used_within c).After-used_within) ∙ c.if-used_within.true)
 
 pub returns : goal.returns
 unfolding cause
-returns c = c.refused_at.ensures ∙ within_fails _ _ _ (sym (tested (goal.at.returns c).After-used_within) ∙ c.if-used_within.false)
+returns c = c.refused_at.ensures ∙ within_fails _ _ _ (sym (tested (goal.at.returns c).After-used_within)
+    ∙ c.if-used_within.false)

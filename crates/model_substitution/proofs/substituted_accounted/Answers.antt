@@ -36,7 +36,8 @@ pub put_in-k-requires : goal.put_in-k-requires
 put_in-k-requires c =
     let box : range_in_box (view c.args.g) ≡ true =
     sym c.in_box.ensures ∙ c.if-not-in_box.false in record {
-      substitution_of = own_of c.requires.substitution (outer_room (goal.at.put_in-k-requires c).Start) (inner_room (goal.at.put_in-k-requires c).Start) box;
+      substitution_of = own_of c.requires.substitution (outer_room (goal.at.put_in-k-requires c).Start)
+          (inner_room (goal.at.put_in-k-requires c).Start) box;
       scratch_room = c.requires.scratch_room;
       room = record { keys = refl; coefficients = refl };
       room_2 = record { keys = refl; coefficients = refl };
@@ -47,12 +48,16 @@ put_in-k-requires c =
 module _ (c : After-put_in-k) where
   left : KeptIn c.args.f.n c.put_in-k.result c.put_in-k.new.remaining
       c.put_in-k.new.rest
-      (answers c.requires.substitution (outer_room c.before.before.before.before.before.before.before.before.before.before.before.before.before.before.before.before.before.before.before.before.before.before) (inner_room c.before.before.before.before.before.before.before.before.before.before.before.before.before.before.before.before.before.before.before.before.before.before))
-  left = own_answer c.requires.substitution (outer_room c.before.before.before.before.before.before.before.before.before.before.before.before.before.before.before.before.before.before.before.before.before.before) (inner_room c.before.before.before.before.before.before.before.before.before.before.before.before.before.before.before.before.before.before.before.before.before.before) c.put_in-k.ensures
+      (answers c.requires.substitution (outer_room
+          c.before.before.before.before.before.before.before.before.before.before.before.before.before.before.before.before.before.before.before.before.before.before) (inner_room c.before.before.before.before.before.before.before.before.before.before.before.before.before.before.before.before.before.before.before.before.before.before))
+  left = own_answer c.requires.substitution (outer_room
+      c.before.before.before.before.before.before.before.before.before.before.before.before.before.before.before.before.before.before.before.before.before.before) (inner_room c.before.before.before.before.before.before.before.before.before.before.before.before.before.before.before.before.before.before.before.before.before.before) c.put_in-k.ensures
 
 pub packed_answer-answer-requires : goal.packed_answer-answer-requires
 packed_answer-answer-requires c = (
-  own_few c.requires.substitution (outer_room (goal.at.packed_answer-answer-requires c).Start) (inner_room (goal.at.packed_answer-answer-requires c).Start) (left (goal.at.packed_answer-answer-requires c).After-put_in-k),
+  own_few c.requires.substitution (outer_room (goal.at.packed_answer-answer-requires c).Start)
+      (inner_room (goal.at.packed_answer-answer-requires c).Start)
+      (left (goal.at.packed_answer-answer-requires c).After-put_in-k),
   record {
     keys = c.put_in-k.auto.remaining;
     coefficients = c.put_in-k.auto.rest;

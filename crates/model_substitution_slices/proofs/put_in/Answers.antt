@@ -55,7 +55,9 @@ loop-k-init c =
     )
 
 abbrev start : At-loop-k → Start
-start l = l.before.before.before.before.before.before.before.before.before.before.before.before.before.before.before.before
+start
+    l =
+    l.before.before.before.before.before.before.before.before.before.before.before.before.before.before.before.before
 
 pub overflow_sub-k : goal.overflow_sub-k
 overflow_sub-k c = omega arith
@@ -86,18 +88,34 @@ module _ (c : After-part-t) where
   some : 0 < c.loop-k.k
   some = omega (arith, c.loop-k-test.true)
 
-  next_is : held (start (record { before = c.before.before.before.before.before; type_inv = record { keys2 = c.shared_slice_known-2-1.given; keys = c.shared_slice_known-1.given } })).args.n c.part-t.result 0 next_keys nexts
-      ≡ pack (part (start (record { before = c.before.before.before.before.before; type_inv = record { keys2 = c.shared_slice_known-2-1.given; keys = c.shared_slice_known-1.given } })).args.i (c.loop-k.k - 1) (view (held (start (record { before = c.before.before.before.before.before; type_inv = record { keys2 = c.shared_slice_known-2-1.given; keys = c.shared_slice_known-1.given } })).args.n (start (record { before = c.before.before.before.before.before; type_inv = record { keys2 = c.shared_slice_known-2-1.given; keys = c.shared_slice_known-1.given } })).args.count
-      (start (record { before = c.before.before.before.before.before; type_inv = record { keys2 = c.shared_slice_known-2-1.given; keys = c.shared_slice_known-1.given } })).args.radius (start (record { before = c.before.before.before.before.before; type_inv = record { keys2 = c.shared_slice_known-2-1.given; keys = c.shared_slice_known-1.given } })).args.keys.now (start (record { before = c.before.before.before.before.before; type_inv = record { keys2 = c.shared_slice_known-2-1.given; keys = c.shared_slice_known-1.given } })).args.coefficients.now)))
-  next_is = c.part-t.ensures (put_part (start (record { before = c.before.before.before.before.before; type_inv = record { keys2 = c.shared_slice_known-2-1.given; keys = c.shared_slice_known-1.given } })).requires.substitution_of)
+  next_is : held (start (record { before = c.before.before.before.before.before; type_inv = record
+      { keys2 = c.shared_slice_known-2-1.given; keys = c.shared_slice_known-1.given } })).args.n c.part-t.result 0
+      next_keys nexts
+      ≡ pack (part (start (record { before = c.before.before.before.before.before; type_inv = record
+          { keys2 = c.shared_slice_known-2-1.given; keys = c.shared_slice_known-1.given } })).args.i (c.loop-k.k - 1)
+          (view (held (start (record { before = c.before.before.before.before.before; type_inv = record
+          { keys2 = c.shared_slice_known-2-1.given; keys = c.shared_slice_known-1.given } })).args.n
+          (start (record { before = c.before.before.before.before.before; type_inv = record
+          { keys2 = c.shared_slice_known-2-1.given; keys = c.shared_slice_known-1.given } })).args.count
+      (start (record { before = c.before.before.before.before.before; type_inv = record
+          { keys2 = c.shared_slice_known-2-1.given; keys = c.shared_slice_known-1.given } })).args.radius
+          (start (record { before = c.before.before.before.before.before; type_inv = record
+          { keys2 = c.shared_slice_known-2-1.given; keys = c.shared_slice_known-1.given } })).args.keys.now
+          (start (record { before = c.before.before.before.before.before; type_inv = record
+          { keys2 = c.shared_slice_known-2-1.given; keys = c.shared_slice_known-1.given } })).args.coefficients.now)))
+  next_is = c.part-t.ensures (put_part (start (record
+      { before = c.before.before.before.before.before; type_inv = record
+      { keys2 = c.shared_slice_known-2-1.given; keys = c.shared_slice_known-1.given } })).requires.substitution_of)
 
 pub iterated-r-requires : goal.iterated-r-requires
 iterated-r-requires c =
     let i = c.loop-k.invariant in
     let s = start (goal.at.iterated-r-requires c).At-loop-k in
     let w = s.requires.substitution_of in record {
-      iteration_of = put_iteration w _ _ _ _ i.6 _ _ _ (next_is (goal.at.iterated-r-requires c).After-part-t) i.0 (next_room (goal.at.iterated-r-requires c).After-part-t);
-      scratch_room = put_room w _ _ _ _ i.6 _ _ _ (next_is (goal.at.iterated-r-requires c).After-part-t) (free_room s.requires.scratch_room i.3 i.4 i.5);
+      iteration_of = put_iteration w _ _ _ _ i.6 _ _ _ (next_is (goal.at.iterated-r-requires c).After-part-t) i.0
+          (next_room (goal.at.iterated-r-requires c).After-part-t);
+      scratch_room = put_room w _ _ _ _ i.6 _ _ _ (next_is (goal.at.iterated-r-requires c).After-part-t)
+          (free_room s.requires.scratch_room i.3 i.4 i.5);
       room = i.2;
     }
 
@@ -119,15 +137,27 @@ module _ (c : After-iterated-r) where
 
   -- the table keeps its lengths
   slots_long : length c.iterated-r.new.slots
-      ≡ length (start (record { before = c.before.before.before.before.before.before.before.before.before.before.before.before.before.before.before.before; type_inv = record { keys2 = c.shared_slice_known-2-1.given; keys = c.shared_slice_known-1.given } })).args.slots.now
+      ≡ length
+          (start
+          (record
+          { before =
+          c.before.before.before.before.before.before.before.before.before.before.before.before.before.before.before.before; type_inv = record { keys2 = c.shared_slice_known-2-1.given; keys = c.shared_slice_known-1.given } })).args.slots.now
   slots_long = c.iterated-r.auto.slots ∙ c.loop-k.invariant.3
 
   table_long : length c.iterated-r.new.keys
-      ≡ length (start (record { before = c.before.before.before.before.before.before.before.before.before.before.before.before.before.before.before.before; type_inv = record { keys2 = c.shared_slice_known-2-1.given; keys = c.shared_slice_known-1.given } })).args.table.now
+      ≡ length
+          (start
+          (record
+          { before =
+          c.before.before.before.before.before.before.before.before.before.before.before.before.before.before.before.before; type_inv = record { keys2 = c.shared_slice_known-2-1.given; keys = c.shared_slice_known-1.given } })).args.table.now
   table_long = c.iterated-r.auto.keys ∙ c.loop-k.invariant.4
 
   sums_long : length c.iterated-r.new.sums
-      ≡ length (start (record { before = c.before.before.before.before.before.before.before.before.before.before.before.before.before.before.before.before; type_inv = record { keys2 = c.shared_slice_known-2-1.given; keys = c.shared_slice_known-1.given } })).args.sums.now
+      ≡ length
+          (start
+          (record
+          { before =
+          c.before.before.before.before.before.before.before.before.before.before.before.before.before.before.before.before; type_inv = record { keys2 = c.shared_slice_known-2-1.given; keys = c.shared_slice_known-1.given } })).args.sums.now
   sums_long = c.iterated-r.auto.sums ∙ c.loop-k.invariant.5
 
 pub shape_of-slots-in_default : goal.shape_of-slots-in_default
@@ -171,7 +201,9 @@ shape_of-products-in_default c =
 
 pub returns-in_default : goal.returns-in_default
 returns-in_default c =
-    put_stops (start (goal.at.returns-in_default c).At-loop-k).requires.substitution_of _ _ _ _ c.loop-k.invariant.6 _ _ _ (next_is (goal.at.returns-in_default c).After-part-t) (some (goal.at.returns-in_default c).After-part-t) _ _ c.iterated-r.ensures
+    put_stops (start (goal.at.returns-in_default c).At-loop-k).requires.substitution_of _ _ _ _ c.loop-k.invariant.6 _ _
+        _ (next_is (goal.at.returns-in_default c).After-part-t) (some (goal.at.returns-in_default c).After-part-t) _ _
+        c.iterated-r.ensures
     c.in_default.is
 
 pub loop-k-smaller : goal.loop-k-smaller
@@ -185,7 +217,9 @@ loop-k-preserved c = (
   slots_long (goal.at.loop-k-preserved c).After-iterated-r,
   table_long (goal.at.loop-k-preserved c).After-iterated-r,
   sums_long (goal.at.loop-k-preserved c).After-iterated-r,
-  put_goes_on (start (goal.at.loop-k-preserved c).At-loop-k).requires.substitution_of _ _ _ _ c.loop-k.invariant.6 _ _ _ (next_is (goal.at.loop-k-preserved c).After-part-t) (some (goal.at.loop-k-preserved c).After-part-t) _ _ c.iterated-r.ensures
+  put_goes_on (start (goal.at.loop-k-preserved c).At-loop-k).requires.substitution_of _ _ _ _ c.loop-k.invariant.6 _ _ _
+      (next_is (goal.at.loop-k-preserved c).After-part-t) (some (goal.at.loop-k-preserved c).After-part-t) _ _
+      c.iterated-r.ensures
       c.in-Accepted.is,
   omega (arith, c.loop-k.invariant.7),
 )

@@ -24,13 +24,15 @@ module _ (c : In-Accepted) where
 pub store_sum-requires : goal.store_sum-requires
 store_sum-requires c =
     record {
-      addends = passed_addends _ _ _ _ _ _ _ _ _ _ c.requires.coefficients1_value c.requires.coefficients2_value (passed (goal.at.store_sum-requires c).In-Accepted);
+      addends = passed_addends _ _ _ _ _ _ _ _ _ _ c.requires.coefficients1_value c.requires.coefficients2_value
+          (passed (goal.at.store_sum-requires c).In-Accepted);
       most_terms_in_bounds = c.requires.most_terms_in_bounds;
     }
 
 pub returns-in-Accepted : goal.returns-in-Accepted
 returns-in-Accepted c =
-    stored_same (add_passed _ _ _ _ _ _ _ _ _ _ c.requires.coefficients1_value c.requires.coefficients2_value (passed (goal.at.returns-in-Accepted c).In-Accepted)) c.store_sum.ensures
+    stored_same (add_passed _ _ _ _ _ _ _ _ _ _ c.requires.coefficients1_value c.requires.coefficients2_value
+        (passed (goal.at.returns-in-Accepted c).In-Accepted)) c.store_sum.ensures
 
 pub returns-in-Refused : goal.returns-in-Refused
 unfolding most_degree

@@ -21,13 +21,15 @@ module _ (c : In-Accepted) where
 pub store_integrated-requires : goal.store_integrated-requires
 store_integrated-requires c =
     record {
-      integrand_slices = antiderivative_sound _ _ _ _ _ c.requires.coefficients_value _ _ (passed (goal.at.store_integrated-requires c).In-Accepted);
+      integrand_slices = antiderivative_sound _ _ _ _ _ c.requires.coefficients_value _ _
+          (passed (goal.at.store_integrated-requires c).In-Accepted);
       most_terms_in_bounds = c.requires.most_terms_in_bounds;
     }
 
 pub returns-in-Accepted : goal.returns-in-Accepted
 returns-in-Accepted c =
-    stored_same (antiderivative_passed _ _ _ _ _ c.requires.coefficients_value _ _ (passed (goal.at.returns-in-Accepted c).In-Accepted)) c.store_integrated.ensures
+    stored_same (antiderivative_passed _ _ _ _ _ c.requires.coefficients_value _ _
+        (passed (goal.at.returns-in-Accepted c).In-Accepted)) c.store_integrated.ensures
 
 pub returns-in-Refused : goal.returns-in-Refused
 returns-in-Refused c =

@@ -20,13 +20,15 @@ module _ (c : In-Accepted) where
 pub store_negated-requires : goal.store_negated-requires
 store_negated-requires c =
     record {
-      sound_slices = single_sound _ _ _ _ _ c.requires.coefficients_value (passed (goal.at.store_negated-requires c).In-Accepted);
+      sound_slices = single_sound _ _ _ _ _ c.requires.coefficients_value
+          (passed (goal.at.store_negated-requires c).In-Accepted);
       most_terms_in_bounds = c.requires.most_terms_in_bounds;
     }
 
 pub returns-in-Accepted : goal.returns-in-Accepted
 returns-in-Accepted c =
-    stored_same (negate_passed _ _ _ _ _ c.requires.coefficients_value (passed (goal.at.returns-in-Accepted c).In-Accepted)) c.store_negated.ensures
+    stored_same (negate_passed _ _ _ _ _ c.requires.coefficients_value
+        (passed (goal.at.returns-in-Accepted c).In-Accepted)) c.store_negated.ensures
 
 pub returns-in-Refused : goal.returns-in-Refused
 returns-in-Refused c =

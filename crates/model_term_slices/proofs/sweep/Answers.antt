@@ -25,13 +25,15 @@ module _ (c : In-Accepted) where
   passed : verdict (sweeping c.args.t (handed-model c.before.before.before.before.before.before)) ≡ Accepted
   passed =
       sym (c.sweeping-v.ensures
-      ∙ ap (λ t. verdict (sweeping t (handed-model c.before.before.before.before.before.before))) (to_z-of_z c.ranges.t))
+      ∙ ap (λ t. verdict (sweeping t (handed-model c.before.before.before.before.before.before)))
+          (to_z-of_z c.ranges.t))
       ∙ c.in-Accepted.is
 
 pub store_swept-requires : goal.store_swept-requires
 store_swept-requires c =
     record {
-      sound_slices = sweep_sound _ _ _ _ _ c.requires.coefficients_value _ (passed (goal.at.store_swept-requires c).In-Accepted);
+      sound_slices = sweep_sound _ _ _ _ _ c.requires.coefficients_value _
+          (passed (goal.at.store_swept-requires c).In-Accepted);
       most_terms_in_bounds = c.requires.most_terms_in_bounds;
     }
 
@@ -41,10 +43,12 @@ returns-in-Accepted c =
     (ap (λ z. answer (done (Op.sweep z (view (held c.args.n c.args.count c.args.radius c.args.keys.now
     c.args.coefficients.now)))))
     (c.magnitude.ensures ∙ ap nat_abs (to_z-of_z c.ranges.t))
-    ∙ sweep_passed _ _ _ _ _ c.requires.coefficients_value _ (passed (goal.at.returns-in-Accepted c).In-Accepted)) c.store_swept.ensures
+    ∙ sweep_passed _ _ _ _ _ c.requires.coefficients_value _ (passed (goal.at.returns-in-Accepted c).In-Accepted))
+        c.store_swept.ensures
 
 pub returns-in-Refused : goal.returns-in-Refused
 returns-in-Refused c =
-    let e = sym (c.sweeping-v.ensures ∙ ap (λ t. verdict (sweeping t (handed-model (goal.at.returns-in-Refused c).Start))) (to_z-of_z c.ranges.t))
+    let e = sym (c.sweeping-v.ensures ∙ ap (λ t. verdict
+            (sweeping t (handed-model (goal.at.returns-in-Refused c).Start))) (to_z-of_z c.ranges.t))
     ∙ c.in-Refused.is in
     stored_same (sweep_refused _ _ _ _ _ _ _ _ e) c.store_refused.ensures

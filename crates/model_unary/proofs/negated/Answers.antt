@@ -24,4 +24,5 @@ negated_arrays-l-requires c =
 pub returns : goal.returns
 returns c =
     left_done _ _ _ _ _ (c.negated_arrays-l.ensures (own_lies _ (room (goal.at.returns c).Start) c.requires))
-    ∙ ap (λ m. pack (negate m)) (own_view _ (room (goal.at.returns c).Start) (few _ (room (goal.at.returns c).Start) c.requires))
+    ∙ ap (λ m. pack (negate m)) (own_view _ (room (goal.at.returns c).Start)
+        (few _ (room (goal.at.returns c).Start) c.requires))

@@ -21,7 +21,8 @@ module _ (c : In-Accepted) where
 
 pub multiplied_slices_alone-requires : goal.multiplied_slices_alone-requires
 multiplied_slices_alone-requires c =
-    let l = slices_long _ _ _ _ _ _ _ _ _ _ _ (passed (goal.at.multiplied_slices_alone-requires c).In-Accepted) c.requires.coefficients1_value c.requires.coefficients2_value in
+    let l = slices_long _ _ _ _ _ _ _ _ _ _ _ (passed (goal.at.multiplied_slices_alone-requires c).In-Accepted)
+            c.requires.coefficients1_value c.requires.coefficients2_value in
     record {
       factors = slices_factors _ _ _ _ _ _ _ _ _ _ _ (passed (goal.at.multiplied_slices_alone-requires c).In-Accepted);
       count1_in_bounds = l.0;
@@ -32,7 +33,8 @@ multiplied_slices_alone-requires c =
 pub returns-in-Accepted : goal.returns-in-Accepted
 returns-in-Accepted c =
     record {
-      exact = slices_multiplied _ _ _ _ _ _ _ _ _ _ _ (passed (goal.at.returns-in-Accepted c).In-Accepted) _ _ _ _ c.multiplied_slices_alone.ensures.exact;
+      exact = slices_multiplied _ _ _ _ _ _ _ _ _ _ _ (passed (goal.at.returns-in-Accepted c).In-Accepted) _ _ _ _
+          c.multiplied_slices_alone.ensures.exact;
       ready = c.multiplied_slices_alone.ensures.ready;
     }
 

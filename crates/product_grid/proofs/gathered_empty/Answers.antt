@@ -59,7 +59,8 @@ module _ (f : After-fill) where
       (terms f.args.nb f.args.kb.now f.args.cb.now))
       f.fill.new.sums f.fill.new.degrees
   unfolding fits all_fit
-  summed = f.fill.ensures (fits (record { before = f.before.before.before.before.before.before.before; type_inv = record { kept = f.slice_known-1.given; kb = f.shared_slice_known-2-1.given; ka = f.shared_slice_known-1.given } }))
+  summed = f.fill.ensures (fits (record { before = f.before.before.before.before.before.before.before; type_inv = record
+      { kept = f.slice_known-1.given; kb = f.shared_slice_known-2-1.given; ka = f.shared_slice_known-1.given } }))
 
   wide : length f.fill.new.degrees ≡ scratch_places
   wide = f.fill.auto.degrees ∙ length-replicate {A = ℕ} scratch_places 0
@@ -71,12 +72,14 @@ overflow_add-most c =
 pub scan-requires : goal.scan-requires
 scan-requires c =
     let q = c.requires.grid_ready in record {
-      scan_ready = scan_ready q c.degree_of-a.ensures c.degree_of-b.ensures _ _ (summed (goal.at.scan-requires c).After-fill) c.fill.auto.sums
+      scan_ready = scan_ready q c.degree_of-a.ensures c.degree_of-b.ensures _ _
+          (summed (goal.at.scan-requires c).After-fill) c.fill.auto.sums
           (wide (goal.at.scan-requires c).After-fill);
       room = record { taken = omega arith; kept_room = q.kept_room; coefficients_room = q.coefficients_room };
     }
 
 pub returns : goal.returns
 returns c =
-    scanned c.requires.grid_ready c.degree_of-a.ensures c.degree_of-b.ensures _ _ (summed (goal.at.returns c).After-fill) c.fill.auto.sums
+    scanned c.requires.grid_ready c.degree_of-a.ensures c.degree_of-b.ensures _ _
+        (summed (goal.at.returns c).After-fill) c.fill.auto.sums
     (wide (goal.at.returns c).After-fill) c.args.d c.scan.ensures

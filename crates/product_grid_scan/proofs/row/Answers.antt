@@ -43,13 +43,17 @@ overflow_cast-degree c = record { fits = byte_fits _ (byte c _) }
 
 pub overflow_add-bare-in-loop-i : goal.overflow_add-bare-in-loop-i
 overflow_add-bare-in-loop-i c =
-    record { fits = own_key _ _ (bare (goal.at.overflow_add-bare-in-loop-i c).After-shared_slice_known-in-loop-i-1) (short (goal.at.overflow_add-bare-in-loop-i c).After-shared_slice_known-in-loop-i-1) (byte (goal.at.overflow_add-bare-in-loop-i c).After-shared_slice_known-in-loop-i-1 _) }
+    record { fits = own_key _ _ (bare (goal.at.overflow_add-bare-in-loop-i c).After-shared_slice_known-in-loop-i-1)
+        (short (goal.at.overflow_add-bare-in-loop-i c).After-shared_slice_known-in-loop-i-1)
+        (byte (goal.at.overflow_add-bare-in-loop-i c).After-shared_slice_known-in-loop-i-1 _) }
 
 pub push-p-requires : goal.push-p-requires
 push-p-requires c =
     record {
       room = held_room _ _ _ _ _ _ _ _ _ _ _ _ c.loop-i.invariant c.requires.room;
-      degree_value = sym (own_degree (key (goal.at.push-p-requires c).After-shared_slice_known-in-loop-i-1) _ (bare (goal.at.push-p-requires c).After-shared_slice_known-in-loop-i-1) (byte (goal.at.push-p-requires c).After-shared_slice_known-in-loop-i-1 _));
+      degree_value = sym (own_degree (key (goal.at.push-p-requires c).After-shared_slice_known-in-loop-i-1) _
+          (bare (goal.at.push-p-requires c).After-shared_slice_known-in-loop-i-1)
+          (byte (goal.at.push-p-requires c).After-shared_slice_known-in-loop-i-1 _));
     }
 
 -- once a sum is pushed
@@ -72,7 +76,9 @@ overflow_add-rounding c =
       fits =
           omega (
             arith,
-            held_rounding (part (goal.at.overflow_add-rounding c).After-push-p) _ _ _ _ _ _ _ _ _ _ _ c.loop-i.invariant (iteration (goal.at.overflow_add-rounding c).After-push-p) _ _ _ (pushed (goal.at.overflow_add-rounding c).After-push-p),
+            held_rounding (part (goal.at.overflow_add-rounding c).After-push-p) _ _ _ _ _ _ _ _ _ _ _ c.loop-i.invariant
+                (iteration (goal.at.overflow_add-rounding c).After-push-p) _ _ _
+                (pushed (goal.at.overflow_add-rounding c).After-push-p),
             c.requires.row_ready.small,
           );
     }
@@ -83,14 +89,18 @@ overflow_add-swept c =
       fits =
           omega (
             arith,
-            held_swept (part (goal.at.overflow_add-swept c).After-push-p) _ _ _ _ _ _ _ _ _ _ _ c.loop-i.invariant (iteration (goal.at.overflow_add-swept c).After-push-p) _ _ _ (pushed (goal.at.overflow_add-swept c).After-push-p),
+            held_swept (part (goal.at.overflow_add-swept c).After-push-p) _ _ _ _ _ _ _ _ _ _ _ c.loop-i.invariant
+                (iteration (goal.at.overflow_add-swept c).After-push-p) _ _ _
+                (pushed (goal.at.overflow_add-swept c).After-push-p),
             c.requires.row_ready.small,
           );
     }
 
 pub loop-i-preserved : goal.loop-i-preserved
 loop-i-preserved c =
-    held_more (part (goal.at.loop-i-preserved c).After-push-p) _ _ _ _ _ _ _ _ _ _ _ c.loop-i.invariant (iteration (goal.at.loop-i-preserved c).After-push-p) _ _ _ (pushed (goal.at.loop-i-preserved c).After-push-p) c.push-p.auto.keys
+    held_more (part (goal.at.loop-i-preserved c).After-push-p) _ _ _ _ _ _ _ _ _ _ _ c.loop-i.invariant
+        (iteration (goal.at.loop-i-preserved c).After-push-p) _ _ _ (pushed (goal.at.loop-i-preserved c).After-push-p)
+        c.push-p.auto.keys
     c.push-p.auto.coefficients
 
 pub returns : goal.returns

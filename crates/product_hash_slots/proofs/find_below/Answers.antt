@@ -59,13 +59,16 @@ returns-then-keys-x c =
     (rw c.entry_number-x.ensures at c.if-keys-x.true)
 
 pub overflow_mul-h-in-loop-homes : goal.overflow_mul-h-in-loop-homes
-overflow_mul-h-in-loop-homes c = let b = further (goal.at.overflow_mul-h-in-loop-homes c).After-entry_number-x in search rules
+overflow_mul-h-in-loop-homes c = let b = further (goal.at.overflow_mul-h-in-loop-homes c).After-entry_number-x in search
+    rules
 
 pub overflow_add-h-in-loop-homes : goal.overflow_add-h-in-loop-homes
-overflow_add-h-in-loop-homes c = let b = further (goal.at.overflow_add-h-in-loop-homes c).After-entry_number-x in search rules
+overflow_add-h-in-loop-homes c = let b = further (goal.at.overflow_add-h-in-loop-homes c).After-entry_number-x in search
+    rules
 
 pub overflow_add-h-in-loop-homes-2 : goal.overflow_add-h-in-loop-homes-2
-overflow_add-h-in-loop-homes-2 c = let b = further (goal.at.overflow_add-h-in-loop-homes-2 c).After-entry_number-x in search rules
+overflow_add-h-in-loop-homes-2 c = let b = further (goal.at.overflow_add-h-in-loop-homes-2 c).After-entry_number-x
+    in search rules
 
 pub loop-homes-smaller : goal.loop-homes-smaller
 loop-homes-smaller c =

@@ -13,6 +13,7 @@ pub gathered_empty-requires : goal.gathered_empty-requires
 gathered_empty-requires c =
     let few = c.requires.size_le_few_places in
     record {
-      grid_ready = grid_ready c.requires.held_factors _ c.requires.s_value (omega (arith, few)) few c.requires.kept_room;
+      grid_ready = grid_ready c.requires.held_factors _ c.requires.s_value (omega (arith, few)) few
+          c.requires.kept_room;
       zeros = fresh_zeros few_places _;
     }

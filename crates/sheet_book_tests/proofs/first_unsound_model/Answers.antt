@@ -45,7 +45,8 @@ models-preserved c =
     c.models-test.true _ (sym c.model_sound.ensures ∙ c.if-not-model_sound.false)
 
 pub returns-after-models : goal.returns-after-models
-returns-after-models c = models_end _ _ (long (goal.at.returns-after-models c).Start) c.models.invariant c.models-test.false
+returns-after-models c = models_end _ _ (long (goal.at.returns-after-models c).Start) c.models.invariant
+    c.models-test.false
 
 pub returns-then-not-model_sound : goal.returns-then-not-model_sound
 returns-then-not-model_sound c =

@@ -34,7 +34,9 @@ bounds-b-k c = omega (arith, few (goal.at.bounds-b-k c).Start)
 
 pub model_size-size-requires : goal.model_size-size-requires
 model_size-size-requires c =
-    model_at_fits c.args.b c.requires _ _ c.loop-k-test.true (omega (arith, whole (goal.at.model_size-size-requires c).Start, few (goal.at.model_size-size-requires c).Start))
+    model_at_fits c.args.b c.requires _ _ c.loop-k-test.true
+        (omega (arith, whole (goal.at.model_size-size-requires c).Start,
+        few (goal.at.model_size-size-requires c).Start))
 
 module _ (c : After-model_size-size) where
   more : c.loop-k.size + c.model_size-size.result
@@ -50,7 +52,8 @@ module _ (c : After-model_size-size) where
         c.loop-k.invariant.1,
         c.model_size-size.ensures,
         length_more model_bytes (held_book b).models k y (omega (arith, count_models b)),
-        ap (λ m. length (model_bytes m)) (model_at b k x i (omega (arith, whole c.before.before.before.before, few c.before.before.before.before))),
+        ap (λ m. length (model_bytes m)) (model_at b k x i
+            (omega (arith, whole c.before.before.before.before, few c.before.before.before.before))),
       )
 
   small : c.loop-k.size + c.model_size-size.result ≤ 8272

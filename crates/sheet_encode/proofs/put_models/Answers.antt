@@ -66,7 +66,8 @@ module _ (c : After-m-1) where
   model_fits = model_at_fits held c.requires.held_passes _ _ inside whole_count
 
   fits : c.loop-k.place + length (model_bytes (held_model model)) ≤ length c.loop-k.buffer
-  fits = put_room model_bytes _ _ _ c.loop-k.invariant (held_model blank) (held_model model) below here (room c.before.before.before.before)
+  fits = put_room model_bytes _ _ _ c.loop-k.invariant (held_model blank) (held_model model) below here
+      (room c.before.before.before.before)
 
 pub put_model-requires : goal.put_model-requires
 put_model-requires c = record {
@@ -87,7 +88,9 @@ overflow_add-k c = omega (arith, few (goal.at.overflow_add-k c).Start)
 
 pub loop-k-preserved : goal.loop-k-preserved
 loop-k-preserved c =
-    put_iteration model_bytes _ _ _ c.loop-k.invariant (held_model blank) (held_model (model (goal.at.loop-k-preserved c).After-m-1)) (below (goal.at.loop-k-preserved c).After-m-1) (here (goal.at.loop-k-preserved c).After-m-1) _ _
+    put_iteration model_bytes _ _ _ c.loop-k.invariant (held_model blank)
+        (held_model (model (goal.at.loop-k-preserved c).After-m-1)) (below (goal.at.loop-k-preserved c).After-m-1)
+        (here (goal.at.loop-k-preserved c).After-m-1) _ _
     c.put_model.ensures
     (ap (λ n. c.loop-k.place + n) c.model_size-place.ensures)
 

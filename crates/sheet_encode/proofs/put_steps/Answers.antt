@@ -59,14 +59,16 @@ module _ (c : After-s-1) where
   fits : c.loop-k.place + step_length ≤ length c.loop-k.buffer
   fits = omega (
     arith,
-    put_room step_bytes _ _ _ c.loop-k.invariant (held_step no_step) (held_step step) below here (room c.before.before.before.before),
+    put_room step_bytes _ _ _ c.loop-k.invariant (held_step no_step) (held_step step) below here
+        (room c.before.before.before.before),
     length_step (held_step step),
   )
 
 pub put_step-requires : goal.put_step-requires
 put_step-requires c =
     record {
-      value_bound = step_at_fits (held (goal.at.put_step-requires c).After-s-1) c.requires.held_passes _ _ (inside (goal.at.put_step-requires c).After-s-1) (whole_count (goal.at.put_step-requires c).After-s-1);
+      value_bound = step_at_fits (held (goal.at.put_step-requires c).After-s-1) c.requires.held_passes _ _
+          (inside (goal.at.put_step-requires c).After-s-1) (whole_count (goal.at.put_step-requires c).After-s-1);
       step_length_in_bounds = fits (goal.at.put_step-requires c).After-s-1;
     }
 
@@ -80,7 +82,9 @@ overflow_add-k c = omega (arith, few (goal.at.overflow_add-k c).Start)
 
 pub loop-k-preserved : goal.loop-k-preserved
 loop-k-preserved c =
-    put_iteration step_bytes _ _ _ c.loop-k.invariant (held_step no_step) (held_step (step (goal.at.loop-k-preserved c).After-s-1)) (below (goal.at.loop-k-preserved c).After-s-1) (here (goal.at.loop-k-preserved c).After-s-1) _ _
+    put_iteration step_bytes _ _ _ c.loop-k.invariant (held_step no_step)
+        (held_step (step (goal.at.loop-k-preserved c).After-s-1)) (below (goal.at.loop-k-preserved c).After-s-1)
+        (here (goal.at.loop-k-preserved c).After-s-1) _ _
     c.put_step.ensures
     (ap (λ n. c.loop-k.place + n) (sym (length_step (held_step (step (goal.at.loop-k-preserved c).After-s-1)))))
 

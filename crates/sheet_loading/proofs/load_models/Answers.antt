@@ -54,7 +54,8 @@ module _ (c : In-models) where
 -- and of a record that passes
 module _ (e : Else-taken-eq0) where
   head : e.models.at + 5 ≤ length (sheet (goal.at.overflow_add-at e).In-models)
-  head = head_inside _ _ e.models.at (sheet (goal.at.overflow_add-at e).In-models) e.record_at-taken.ensures e.if-taken-eq0.false
+  head = head_inside _ _ e.models.at (sheet (goal.at.overflow_add-at e).In-models) e.record_at-taken.ensures
+      e.if-taken-eq0.false
       (so_far (goal.at.overflow_add-at e).In-models).so_far.within
 
 pub models-init : goal.models-init
@@ -73,13 +74,16 @@ pub slice_bounds-record_at-start : goal.slice_bounds-record_at-start
 slice_bounds-record_at-start c = let h = keys_room c in search rules
 
 pub offset_bounds-coefficients-from : goal.offset_bounds-coefficients-from
-offset_bounds-coefficients-from c = let h = coefficients_room (goal.at.offset_bounds-coefficients-from c).In-models in search rules
+offset_bounds-coefficients-from c = let h = coefficients_room (goal.at.offset_bounds-coefficients-from c).In-models
+    in search rules
 
 pub slice_bounds-record_at-count-in-models : goal.slice_bounds-record_at-count-in-models
-slice_bounds-record_at-count-in-models c = let h = coefficients_room (goal.at.slice_bounds-record_at-count-in-models c).In-models in search rules
+slice_bounds-record_at-count-in-models c = let h = coefficients_room
+    (goal.at.slice_bounds-record_at-count-in-models c).In-models in search rules
 
 pub slice_bounds-record_at-start-in-models : goal.slice_bounds-record_at-start-in-models
-slice_bounds-record_at-start-in-models c = let h = coefficients_room (goal.at.slice_bounds-record_at-start-in-models c).In-models in search rules
+slice_bounds-record_at-start-in-models c = let h = coefficients_room
+    (goal.at.slice_bounds-record_at-start-in-models c).In-models in search rules
 
 pub record_at-taken-requires : goal.record_at-taken-requires
 unfolding most_terms
@@ -89,8 +93,10 @@ record_at-taken-requires c =
     let i = 64 * c.models.k in record {
       at_in_bounds = (so_far (goal.at.record_at-taken-requires c).In-models).so_far.within;
       most_terms_in_bounds = (
-        omega (arith, keys_room (goal.at.record_at-taken-requires c).In-models, length-take (length k - i) (drop i k), length-drop i k),
-        omega (arith, coefficients_room (goal.at.record_at-taken-requires c).In-models, length-take (length z - i) (drop i z), length-drop i z),
+        omega (arith, keys_room (goal.at.record_at-taken-requires c).In-models, length-take (length k - i) (drop i k),
+            length-drop i k),
+        omega (arith, coefficients_room (goal.at.record_at-taken-requires c).In-models,
+            length-take (length z - i) (drop i z), length-drop i z),
       );
     }
 
@@ -119,7 +125,8 @@ pub overflow_add-at-in-models : goal.overflow_add-at-in-models
 overflow_add-at-in-models c =
     omega (
       arith,
-      (models_iteration _ _ _ _ _ _ _ (so_far (goal.at.overflow_add-at-in-models c).In-models).so_far (inside (goal.at.overflow_add-at-in-models c).In-models) _
+      (models_iteration _ _ _ _ _ _ _ (so_far (goal.at.overflow_add-at-in-models c).In-models).so_far
+          (inside (goal.at.overflow_add-at-in-models c).In-models) _
           c.record_at-taken.ensures.taken_is c.if-taken-eq0.false).within,
       short (goal.at.overflow_add-at-in-models c).In-models,
     )
@@ -127,7 +134,8 @@ overflow_add-at-in-models c =
 pub models-preserved : goal.models-preserved
 unfolding most_terms
 models-preserved c =
-    load_iteration (so_far (goal.at.models-preserved c).In-models) c.requires (inside (goal.at.models-preserved c).In-models) c.record_at-taken.ensures c.if-taken-eq0.false _ _
+    load_iteration (so_far (goal.at.models-preserved c).In-models) c.requires
+        (inside (goal.at.models-preserved c).In-models) c.record_at-taken.ensures c.if-taken-eq0.false _ _
     c.byte_at-total.ensures c.u32_at-radius.ensures
 
 pub shape_of-keys-after-models : goal.shape_of-keys-after-models
@@ -166,4 +174,5 @@ pub returns-then-taken-eq0 : goal.returns-then-taken-eq0
 returns-then-taken-eq0 c =
     let h = so_far (goal.at.returns-then-taken-eq0 c).In-models in
     load_fault h c.requires
-    (models_fault _ _ _ _ _ _ _ h.so_far _ c.record_at-taken.ensures.taken_is c.if-taken-eq0.true) (inside (goal.at.returns-then-taken-eq0 c).In-models) _
+    (models_fault _ _ _ _ _ _ _ h.so_far _ c.record_at-taken.ensures.taken_is c.if-taken-eq0.true)
+        (inside (goal.at.returns-then-taken-eq0 c).In-models) _

@@ -31,7 +31,8 @@ read_records-requires c = record {
 }
 
 pub returns-in-Accepted : goal.returns-in-Accepted
-returns-in-Accepted c = c.read_records.ensures ∙ ap read_answer (sym (passed (goal.at.returns-in-Accepted c).After-trailer_at-t).goes_on)
+returns-in-Accepted c = c.read_records.ensures ∙ ap read_answer
+    (sym (passed (goal.at.returns-in-Accepted c).After-trailer_at-t).goes_on)
 
 pub returns-in-Refused : goal.returns-in-Refused
 returns-in-Refused c =

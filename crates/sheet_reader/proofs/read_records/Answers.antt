@@ -55,7 +55,8 @@ returns-then-w-offset c =
     let p = c.requires in
     c.refuse-then-w-offset.ensures
     ∙ ap read_answer
-    (sym (bytes_left _ _ p.t p.trailer_length_value _ (models_far _ _ _ _ _ c.read_models-w.ensures) c.if-place-count.false
+    (sym (bytes_left _ _ p.t p.trailer_length_value _ (models_far _ _ _ _ _ c.read_models-w.ensures)
+        c.if-place-count.false
     c.if-w-offset.true))
 
 pub read_steps-v-requires : goal.read_steps-v-requires
@@ -69,7 +70,8 @@ returns-then-fault-total c =
     let p = c.requires in
     c.refuse-then-fault-total.ensures
     ∙ ap read_answer
-    (sym (step_fault _ _ p.t p.trailer_length_value _ (models_far _ _ _ _ _ c.read_models-w.ensures) c.if-place-count.false
+    (sym (step_fault _ _ p.t p.trailer_length_value _ (models_far _ _ _ _ _ c.read_models-w.ensures)
+        c.if-place-count.false
     c.if-w-offset.false _ (steps_far _ _ _ _ _ c.read_steps-v.ensures) c.if-fault-total.true))
 
 pub returns : goal.returns

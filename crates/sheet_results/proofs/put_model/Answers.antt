@@ -46,13 +46,16 @@ pub slice_bounds-store_named-start : goal.slice_bounds-store_named-start
 slice_bounds-store_named-start c = let h = keys_there (goal.at.slice_bounds-store_named-start c).Start in search rules
 
 pub offset_bounds-coefficients-from : goal.offset_bounds-coefficients-from
-offset_bounds-coefficients-from c = let h = coefficients_there (goal.at.offset_bounds-coefficients-from c).Start in search rules
+offset_bounds-coefficients-from c = let h = coefficients_there (goal.at.offset_bounds-coefficients-from c).Start
+    in search rules
 
 pub slice_bounds-store_named-count-2 : goal.slice_bounds-store_named-count-2
-slice_bounds-store_named-count-2 c = let h = coefficients_there (goal.at.slice_bounds-store_named-count-2 c).Start in search rules
+slice_bounds-store_named-count-2 c = let h = coefficients_there (goal.at.slice_bounds-store_named-count-2 c).Start
+    in search rules
 
 pub slice_bounds-store_named-start-2 : goal.slice_bounds-store_named-start-2
-slice_bounds-store_named-start-2 c = let h = coefficients_there (goal.at.slice_bounds-store_named-start-2 c).Start in search rules
+slice_bounds-store_named-start-2 c = let h = coefficients_there (goal.at.slice_bounds-store_named-start-2 c).Start
+    in search rules
 
 pub store_named-requires : goal.store_named-requires
 unfolding most_terms
@@ -60,8 +63,10 @@ store_named-requires c =
     let k = c.args.keys.now in
     let z = c.args.coefficients.now in
     let i = c.args.i in (
-      omega (arith, keys_there (goal.at.store_named-requires c).Start, length-take (length k - 64 * i) (drop (64 * i) k), length-drop (64 * i) k),
-      omega (arith, coefficients_there (goal.at.store_named-requires c).Start, length-take (length z - 64 * i) (drop (64 * i) z), length-drop (64 * i) z),
+      omega (arith, keys_there (goal.at.store_named-requires c).Start,
+          length-take (length k - 64 * i) (drop (64 * i) k), length-drop (64 * i) k),
+      omega (arith, coefficients_there (goal.at.store_named-requires c).Start,
+          length-take (length z - 64 * i) (drop (64 * i) z), length-drop (64 * i) z),
     )
 
 pub offset_bounds-counts-i : goal.offset_bounds-counts-i

@@ -56,16 +56,20 @@ copy_keys-requires c =
     )
 
 pub offset_bounds-coefficients-from : goal.offset_bounds-coefficients-from
-offset_bounds-coefficients-from c = let h = coefficients_there (goal.at.offset_bounds-coefficients-from c).Start in search rules
+offset_bounds-coefficients-from c = let h = coefficients_there (goal.at.offset_bounds-coefficients-from c).Start
+    in search rules
 
 pub slice_bounds-copy_coefficients-count : goal.slice_bounds-copy_coefficients-count
-slice_bounds-copy_coefficients-count c = let h = coefficients_there (goal.at.slice_bounds-copy_coefficients-count c).Start in search rules
+slice_bounds-copy_coefficients-count c = let h = coefficients_there
+    (goal.at.slice_bounds-copy_coefficients-count c).Start in search rules
 
 pub slice_bounds-copy_coefficients-start : goal.slice_bounds-copy_coefficients-start
-slice_bounds-copy_coefficients-start c = let h = coefficients_there (goal.at.slice_bounds-copy_coefficients-start c).Start in search rules
+slice_bounds-copy_coefficients-start c = let h = coefficients_there
+    (goal.at.slice_bounds-copy_coefficients-start c).Start in search rules
 
 pub slice_bounds-copy_coefficients-end : goal.slice_bounds-copy_coefficients-end
-slice_bounds-copy_coefficients-end c = let h = coefficients_there (goal.at.slice_bounds-copy_coefficients-end c).Start in search rules
+slice_bounds-copy_coefficients-end c = let h = coefficients_there (goal.at.slice_bounds-copy_coefficients-end c).Start
+    in search rules
 
 pub copy_coefficients-requires : goal.copy_coefficients-requires
 copy_coefficients-requires c =
@@ -93,7 +97,9 @@ returns c =
     )
     (ap view (listed_struct (filled_listed (get_or a.counts.now a.j 0) (drop (64 * a.j) a.keys.now)
     (drop (64 * a.j) a.coefficients.now)
-    (omega (arith, few (goal.at.returns c).Start, keys_there (goal.at.returns c).Start, length-drop (64 * a.j) a.keys.now))
-    (omega (arith, few (goal.at.returns c).Start, coefficients_there (goal.at.returns c).Start, length-drop (64 * a.j) a.coefficients.now)))
+    (omega (arith, few (goal.at.returns c).Start, keys_there (goal.at.returns c).Start,
+        length-drop (64 * a.j) a.keys.now))
+    (omega (arith, few (goal.at.returns c).Start, coefficients_there (goal.at.returns c).Start,
+        length-drop (64 * a.j) a.coefficients.now)))
     _ _ _)
     ∙ taken_end c.requires (omega arith) a.n _ refl)

@@ -49,7 +49,8 @@ module _ (c : In-loop-i) where
       passes = begun.passes;
       vars = begun.same.vars;
       order = begun.same.order;
-      at = step_here begun.same begun.passes (steps_long c.before.before.before.before.before.before.before.before) c.loop-i.i inside;
+      at = step_here begun.same begun.passes (steps_long c.before.before.before.before.before.before.before.before)
+          c.loop-i.i inside;
       so_far = begun.so_far;
     }
 
@@ -99,7 +100,8 @@ shape_of-sums-then-not-served c = c.loop-i.invariant.9
 
 pub returns-then-not-served : goal.returns-then-not-served
 returns-then-not-served c = λ t.
-    stopped_short (begun (goal.at.returns-then-not-served c).In-loop-i t) (λ h. true_false (c.fits-served.ensures.1 h) (c.if-not-served.true))
+    stopped_short (begun (goal.at.returns-then-not-served c).In-loop-i t)
+        (λ h. true_false (c.fits-served.ensures.1 h) (c.if-not-served.true))
 
 -- ---- a step
 pub step-v-requires : goal.step-v-requires

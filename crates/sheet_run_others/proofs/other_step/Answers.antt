@@ -57,8 +57,14 @@ pub step_answer-c-requires : goal.step_answer-c-requires
 unfolding held_step
 step_answer-c-requires c =
     let p = c.requires.fact in record {
-      step_ready = other_ready c.requires.iteration (first (goal.at.step_answer-c-requires c).After-operand-g) (second (goal.at.step_answer-c-requires c).After-operand-g) (is_first (goal.at.step_answer-c-requires c).After-operand-g) (is_second (goal.at.step_answer-c-requires c).After-operand-g) p.0 p.1 p.2;
-      scratch_room = other_room c.requires.iteration (first (goal.at.step_answer-c-requires c).After-operand-g) (second (goal.at.step_answer-c-requires c).After-operand-g) (is_first (goal.at.step_answer-c-requires c).After-operand-g) (is_second (goal.at.step_answer-c-requires c).After-operand-g) p.0 p.1 p.2 c.requires.served;
+      step_ready = other_ready c.requires.iteration (first (goal.at.step_answer-c-requires c).After-operand-g)
+          (second (goal.at.step_answer-c-requires c).After-operand-g)
+          (is_first (goal.at.step_answer-c-requires c).After-operand-g)
+          (is_second (goal.at.step_answer-c-requires c).After-operand-g) p.0 p.1 p.2;
+      scratch_room = other_room c.requires.iteration (first (goal.at.step_answer-c-requires c).After-operand-g)
+          (second (goal.at.step_answer-c-requires c).After-operand-g)
+          (is_first (goal.at.step_answer-c-requires c).After-operand-g)
+          (is_second (goal.at.step_answer-c-requires c).After-operand-g) p.0 p.1 p.2 c.requires.served;
     }
 
 pub settled-requires : goal.settled-requires
@@ -73,5 +79,6 @@ unfolding held_step
 returns c = λ t.
     let p = c.requires.fact in
     let w = c.settled.ensures in
-    other_iterated t (first (goal.at.returns c).After-operand-g) (second (goal.at.returns c).After-operand-g) (is_first (goal.at.returns c).After-operand-g) (is_second (goal.at.returns c).After-operand-g) p.0 p.1 p.2
+    other_iterated t (first (goal.at.returns c).After-operand-g) (second (goal.at.returns c).After-operand-g)
+        (is_first (goal.at.returns c).After-operand-g) (is_second (goal.at.returns c).After-operand-g) p.0 p.1 p.2
     c.step_answer-c.ensures w.0 w.1 w.2

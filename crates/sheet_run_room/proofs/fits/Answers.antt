@@ -34,7 +34,8 @@ module _ (s : Start) (e : s.args.s.code ≡ multiply_code) where
   few = products_few _ _ (s.requires.few (16 + s.args.s.a)) (s.requires.few (16 + s.args.s.b))
 
 pub offset_bounds-counts-a : goal.offset_bounds-counts-a
-offset_bounds-counts-a c = let h = first_there (goal.at.offset_bounds-counts-a c).Start c.if-code-eq-MULTIPLY.true in search rules
+offset_bounds-counts-a c = let h = first_there (goal.at.offset_bounds-counts-a c).Start c.if-code-eq-MULTIPLY.true
+    in search rules
 
 pub bounds-counts-a : goal.bounds-counts-a
 bounds-counts-a c =
@@ -86,16 +87,20 @@ module _ (c : After-struct_known-then-code-eq-SUBSTITUTE-1) where
   is_substitution = c.if-code-eq-SUBSTITUTE.true
 
 pub offset_bounds-counts-b-then-code-eq-SUBSTITUTE : goal.offset_bounds-counts-b-then-code-eq-SUBSTITUTE
-offset_bounds-counts-b-then-code-eq-SUBSTITUTE c = let h = inner_there (goal.at.offset_bounds-counts-b-then-code-eq-SUBSTITUTE c).Start (is_substitution c) in search rules
+offset_bounds-counts-b-then-code-eq-SUBSTITUTE c = let h = inner_there
+    (goal.at.offset_bounds-counts-b-then-code-eq-SUBSTITUTE c).Start (is_substitution c) in search rules
 
 pub bounds-counts-b-then-code-eq-SUBSTITUTE : goal.bounds-counts-b-then-code-eq-SUBSTITUTE
 bounds-counts-b-then-code-eq-SUBSTITUTE c =
-    let h = inner_there (goal.at.bounds-counts-b-then-code-eq-SUBSTITUTE c).Start (is_substitution (goal.at.bounds-counts-b-then-code-eq-SUBSTITUTE c).After-struct_known-then-code-eq-SUBSTITUTE-1) in
+    let h = inner_there (goal.at.bounds-counts-b-then-code-eq-SUBSTITUTE c).Start
+            (is_substitution (goal.at.bounds-counts-b-then-code-eq-SUBSTITUTE
+            c).After-struct_known-then-code-eq-SUBSTITUTE-1) in
     search rules
 
 pub overflow_mul-most : goal.overflow_mul-most
 overflow_mul-most c =
-    let p = inner_few (goal.at.overflow_mul-most c).Start (is_substitution (goal.at.overflow_mul-most c).After-struct_known-then-code-eq-SUBSTITUTE-1) in
+    let p = inner_few (goal.at.overflow_mul-most c).Start
+            (is_substitution (goal.at.overflow_mul-most c).After-struct_known-then-code-eq-SUBSTITUTE-1) in
     search rules
 
 pub returns-then-code-eq-SUBSTITUTE : goal.returns-then-code-eq-SUBSTITUTE
@@ -108,7 +113,8 @@ returns-then-code-eq-SUBSTITUTE c =
         substitution = λ q. leb-true (64 * g) c.args.room t;
         quotient = λ q. absurd (omega (arith, q, e));
       },
-      λ h. le-leb (64 * g) c.args.room (omega (arith, h, inner_few (goal.at.returns-then-code-eq-SUBSTITUTE c).Start e)),
+      λ h. le-leb (64 * g) c.args.room (omega (arith, h,
+          inner_few (goal.at.returns-then-code-eq-SUBSTITUTE c).Start e)),
     )
 
 -- ---- a quotient
@@ -138,22 +144,27 @@ module _ (c : After-magnitude) where
       read_back = to_z-of_z {w = w64} (record { sfits = c.struct_told-1.given.1.1.1.1.0.1 })
 
   last_there : 16 + c.magnitude.result < length c.args.counts.now
-  last_there = omega (arith, value_place, inverse_there c.before.before.before.before.before.before.before.before.before is_quotient)
+  last_there = omega (arith, value_place, inverse_there c.before.before.before.before.before.before.before.before.before
+      is_quotient)
 
 pub overflow_add-last : goal.overflow_add-last
 overflow_add-last c = let h = last_there c in search rules
 
 pub offset_bounds-counts-b-then-code-eq-QUOTIENT : goal.offset_bounds-counts-b-then-code-eq-QUOTIENT
-offset_bounds-counts-b-then-code-eq-QUOTIENT c = let h = divisor_there (goal.at.offset_bounds-counts-b-then-code-eq-QUOTIENT c).Start (is_quotient c) in search rules
+offset_bounds-counts-b-then-code-eq-QUOTIENT c = let h = divisor_there
+    (goal.at.offset_bounds-counts-b-then-code-eq-QUOTIENT c).Start (is_quotient c) in search rules
 
 pub bounds-counts-b-then-code-eq-QUOTIENT : goal.bounds-counts-b-then-code-eq-QUOTIENT
-bounds-counts-b-then-code-eq-QUOTIENT c = let h = divisor_there (goal.at.bounds-counts-b-then-code-eq-QUOTIENT c).Start (is_quotient (goal.at.bounds-counts-b-then-code-eq-QUOTIENT c).After-magnitude) in search rules
+bounds-counts-b-then-code-eq-QUOTIENT c = let h = divisor_there (goal.at.bounds-counts-b-then-code-eq-QUOTIENT c).Start
+    (is_quotient (goal.at.bounds-counts-b-then-code-eq-QUOTIENT c).After-magnitude) in search rules
 
 pub offset_bounds-counts-v : goal.offset_bounds-counts-v
-offset_bounds-counts-v c = let h = proposed_there (goal.at.offset_bounds-counts-v c).Start (is_quotient (goal.at.offset_bounds-counts-v c).After-magnitude) in search rules
+offset_bounds-counts-v c = let h = proposed_there (goal.at.offset_bounds-counts-v c).Start
+    (is_quotient (goal.at.offset_bounds-counts-v c).After-magnitude) in search rules
 
 pub bounds-counts-v : goal.bounds-counts-v
-bounds-counts-v c = let h = proposed_there (goal.at.bounds-counts-v c).Start (is_quotient (goal.at.bounds-counts-v c).After-magnitude) in search rules
+bounds-counts-v c = let h = proposed_there (goal.at.bounds-counts-v c).Start
+    (is_quotient (goal.at.bounds-counts-v c).After-magnitude) in search rules
 
 pub offset_bounds-counts-last : goal.offset_bounds-counts-last
 offset_bounds-counts-last c = let h = last_there (goal.at.offset_bounds-counts-last c).After-magnitude in search rules
@@ -178,7 +189,8 @@ returns-then-code-eq-QUOTIENT c =
         product = λ q. absurd (omega (arith, q, e));
         substitution = λ q. absurd (omega (arith, q, e));
         quotient = λ q. subst (λ j. quotient_products g h (get_or c.args.counts.now (16 + j) 0) ≤ c.args.room)
-            (value_place (goal.at.returns-then-code-eq-QUOTIENT c).After-magnitude) (leb-true (quotient_products g h w) c.args.room (sym c.quotient_fits.ensures ∙ t));
+            (value_place (goal.at.returns-then-code-eq-QUOTIENT c).After-magnitude)
+                (leb-true (quotient_products g h w) c.args.room (sym c.quotient_fits.ensures ∙ t));
       },
       λ k. c.quotient_fits.ensures
           ∙ le-leb (quotient_products g h w) c.args.room

@@ -81,37 +81,47 @@ pub offset_bounds-keys-from1 : goal.offset_bounds-keys-from1
 offset_bounds-keys-from1 c = let h = keys_1 (goal.at.offset_bounds-keys-from1 c).Start in search rules
 
 pub slice_bounds-multiplied_slices_accounted-count : goal.slice_bounds-multiplied_slices_accounted-count
-slice_bounds-multiplied_slices_accounted-count c = let h = keys_1 (goal.at.slice_bounds-multiplied_slices_accounted-count c).Start in search rules
+slice_bounds-multiplied_slices_accounted-count c = let h = keys_1
+    (goal.at.slice_bounds-multiplied_slices_accounted-count c).Start in search rules
 
 pub slice_bounds-multiplied_slices_accounted-start : goal.slice_bounds-multiplied_slices_accounted-start
-slice_bounds-multiplied_slices_accounted-start c = let h = keys_1 (goal.at.slice_bounds-multiplied_slices_accounted-start c).Start in search rules
+slice_bounds-multiplied_slices_accounted-start c = let h = keys_1
+    (goal.at.slice_bounds-multiplied_slices_accounted-start c).Start in search rules
 
 pub offset_bounds-coefficients-from1 : goal.offset_bounds-coefficients-from1
-offset_bounds-coefficients-from1 c = let h = coefficients_1 (goal.at.offset_bounds-coefficients-from1 c).Start in search rules
+offset_bounds-coefficients-from1 c = let h = coefficients_1 (goal.at.offset_bounds-coefficients-from1 c).Start in search
+    rules
 
 pub slice_bounds-multiplied_slices_accounted-count-2 : goal.slice_bounds-multiplied_slices_accounted-count-2
-slice_bounds-multiplied_slices_accounted-count-2 c = let h = coefficients_1 (goal.at.slice_bounds-multiplied_slices_accounted-count-2 c).Start in search rules
+slice_bounds-multiplied_slices_accounted-count-2 c = let h = coefficients_1
+    (goal.at.slice_bounds-multiplied_slices_accounted-count-2 c).Start in search rules
 
 pub slice_bounds-multiplied_slices_accounted-start-2 : goal.slice_bounds-multiplied_slices_accounted-start-2
-slice_bounds-multiplied_slices_accounted-start-2 c = let h = coefficients_1 (goal.at.slice_bounds-multiplied_slices_accounted-start-2 c).Start in search rules
+slice_bounds-multiplied_slices_accounted-start-2 c = let h = coefficients_1
+    (goal.at.slice_bounds-multiplied_slices_accounted-start-2 c).Start in search rules
 
 pub offset_bounds-keys-from2 : goal.offset_bounds-keys-from2
 offset_bounds-keys-from2 c = let h = keys_2 (goal.at.offset_bounds-keys-from2 c).Start in search rules
 
 pub slice_bounds-multiplied_slices_accounted-count-3 : goal.slice_bounds-multiplied_slices_accounted-count-3
-slice_bounds-multiplied_slices_accounted-count-3 c = let h = keys_2 (goal.at.slice_bounds-multiplied_slices_accounted-count-3 c).Start in search rules
+slice_bounds-multiplied_slices_accounted-count-3 c = let h = keys_2
+    (goal.at.slice_bounds-multiplied_slices_accounted-count-3 c).Start in search rules
 
 pub slice_bounds-multiplied_slices_accounted-start-3 : goal.slice_bounds-multiplied_slices_accounted-start-3
-slice_bounds-multiplied_slices_accounted-start-3 c = let h = keys_2 (goal.at.slice_bounds-multiplied_slices_accounted-start-3 c).Start in search rules
+slice_bounds-multiplied_slices_accounted-start-3 c = let h = keys_2
+    (goal.at.slice_bounds-multiplied_slices_accounted-start-3 c).Start in search rules
 
 pub offset_bounds-coefficients-from2 : goal.offset_bounds-coefficients-from2
-offset_bounds-coefficients-from2 c = let h = coefficients_2 (goal.at.offset_bounds-coefficients-from2 c).Start in search rules
+offset_bounds-coefficients-from2 c = let h = coefficients_2 (goal.at.offset_bounds-coefficients-from2 c).Start in search
+    rules
 
 pub slice_bounds-multiplied_slices_accounted-count-4 : goal.slice_bounds-multiplied_slices_accounted-count-4
-slice_bounds-multiplied_slices_accounted-count-4 c = let h = coefficients_2 (goal.at.slice_bounds-multiplied_slices_accounted-count-4 c).Start in search rules
+slice_bounds-multiplied_slices_accounted-count-4 c = let h = coefficients_2
+    (goal.at.slice_bounds-multiplied_slices_accounted-count-4 c).Start in search rules
 
 pub slice_bounds-multiplied_slices_accounted-start-4 : goal.slice_bounds-multiplied_slices_accounted-start-4
-slice_bounds-multiplied_slices_accounted-start-4 c = let h = coefficients_2 (goal.at.slice_bounds-multiplied_slices_accounted-start-4 c).Start in search rules
+slice_bounds-multiplied_slices_accounted-start-4 c = let h = coefficients_2
+    (goal.at.slice_bounds-multiplied_slices_accounted-start-4 c).Start in search rules
 
 -- what the slices hold
 abbrev memory : Start → Results
@@ -121,7 +131,8 @@ pub multiplied_slices_accounted-requires : goal.multiplied_slices_accounted-requ
 unfolding most_terms
 multiplied_slices_accounted-requires c =
     let r = c.requires.roomy in record {
-      factors = factors_part c.args.n (memory (goal.at.multiplied_slices_accounted-requires c).Start) c.args.a c.args.b c.requires.factors;
+      factors = factors_part c.args.n (memory (goal.at.multiplied_slices_accounted-requires c).Start) c.args.a c.args.b
+          c.requires.factors;
       count1_in_bounds = part_holds c.args.a r.0;
       count2_in_bounds = part_holds c.args.b r.1;
       scratch_room = c.requires.scratch_room;
@@ -133,4 +144,5 @@ returns c =
     c.multiplied_slices_accounted.ensures
     ∙ ap₂ (λ x y. accounted (multiply c.args.d (view x) (view y)) (λ k. product_shares c.args.d (view x)
     (view y)))
-    (result_part c.args.n (memory (goal.at.returns c).Start) c.args.a) (result_part c.args.n (memory (goal.at.returns c).Start) c.args.b)
+    (result_part c.args.n (memory (goal.at.returns c).Start) c.args.a)
+        (result_part c.args.n (memory (goal.at.returns c).Start) c.args.b)

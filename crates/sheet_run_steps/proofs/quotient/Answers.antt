@@ -160,73 +160,92 @@ pub slice_bounds-divided_slices-start : goal.slice_bounds-divided_slices-start
 slice_bounds-divided_slices-start c = let h = keys_f (goal.at.slice_bounds-divided_slices-start c).Start in search rules
 
 pub offset_bounds-coefficients-fromf : goal.offset_bounds-coefficients-fromf
-offset_bounds-coefficients-fromf c = bytes_coefficients_f (goal.at.offset_bounds-coefficients-fromf c).After-shared_slice_known-3-1
+offset_bounds-coefficients-fromf c = bytes_coefficients_f
+    (goal.at.offset_bounds-coefficients-fromf c).After-shared_slice_known-3-1
 
 pub slice_bounds-divided_slices-count-2 : goal.slice_bounds-divided_slices-count-2
-slice_bounds-divided_slices-count-2 c = let h = coefficients_f (goal.at.slice_bounds-divided_slices-count-2 c).Start in search rules
+slice_bounds-divided_slices-count-2 c = let h = coefficients_f (goal.at.slice_bounds-divided_slices-count-2 c).Start
+    in search rules
 
 pub slice_bounds-divided_slices-start-2 : goal.slice_bounds-divided_slices-start-2
-slice_bounds-divided_slices-start-2 c = let h = coefficients_f (goal.at.slice_bounds-divided_slices-start-2 c).Start in search rules
+slice_bounds-divided_slices-start-2 c = let h = coefficients_f (goal.at.slice_bounds-divided_slices-start-2 c).Start
+    in search rules
 
 pub offset_bounds-keys-fromg : goal.offset_bounds-keys-fromg
 offset_bounds-keys-fromg c = bytes_keys_g (goal.at.offset_bounds-keys-fromg c).After-shared_slice_known-3-1
 
 pub slice_bounds-divided_slices-count-3 : goal.slice_bounds-divided_slices-count-3
-slice_bounds-divided_slices-count-3 c = let h = keys_g (goal.at.slice_bounds-divided_slices-count-3 c).Start in search rules
+slice_bounds-divided_slices-count-3 c = let h = keys_g (goal.at.slice_bounds-divided_slices-count-3 c).Start in search
+    rules
 
 pub slice_bounds-divided_slices-start-3 : goal.slice_bounds-divided_slices-start-3
-slice_bounds-divided_slices-start-3 c = let h = keys_g (goal.at.slice_bounds-divided_slices-start-3 c).Start in search rules
+slice_bounds-divided_slices-start-3 c = let h = keys_g (goal.at.slice_bounds-divided_slices-start-3 c).Start in search
+    rules
 
 pub offset_bounds-coefficients-fromg : goal.offset_bounds-coefficients-fromg
-offset_bounds-coefficients-fromg c = bytes_coefficients_g (goal.at.offset_bounds-coefficients-fromg c).After-shared_slice_known-3-1
+offset_bounds-coefficients-fromg c = bytes_coefficients_g
+    (goal.at.offset_bounds-coefficients-fromg c).After-shared_slice_known-3-1
 
 pub slice_bounds-divided_slices-count-4 : goal.slice_bounds-divided_slices-count-4
-slice_bounds-divided_slices-count-4 c = let h = coefficients_g (goal.at.slice_bounds-divided_slices-count-4 c).Start in search rules
+slice_bounds-divided_slices-count-4 c = let h = coefficients_g (goal.at.slice_bounds-divided_slices-count-4 c).Start
+    in search rules
 
 pub slice_bounds-divided_slices-start-4 : goal.slice_bounds-divided_slices-start-4
-slice_bounds-divided_slices-start-4 c = let h = coefficients_g (goal.at.slice_bounds-divided_slices-start-4 c).Start in search rules
+slice_bounds-divided_slices-start-4 c = let h = coefficients_g (goal.at.slice_bounds-divided_slices-start-4 c).Start
+    in search rules
 
 pub offset_bounds-keys-fromh : goal.offset_bounds-keys-fromh
 offset_bounds-keys-fromh c = bytes_keys_h (goal.at.offset_bounds-keys-fromh c).After-shared_slice_known-3-1
 
 pub slice_bounds-divided_slices-count-5 : goal.slice_bounds-divided_slices-count-5
-slice_bounds-divided_slices-count-5 c = let h = keys_h (goal.at.slice_bounds-divided_slices-count-5 c).Start in search rules
+slice_bounds-divided_slices-count-5 c = let h = keys_h (goal.at.slice_bounds-divided_slices-count-5 c).Start in search
+    rules
 
 pub slice_bounds-divided_slices-start-5 : goal.slice_bounds-divided_slices-start-5
-slice_bounds-divided_slices-start-5 c = let h = keys_h (goal.at.slice_bounds-divided_slices-start-5 c).Start in search rules
+slice_bounds-divided_slices-start-5 c = let h = keys_h (goal.at.slice_bounds-divided_slices-start-5 c).Start in search
+    rules
 
 pub offset_bounds-coefficients-fromh : goal.offset_bounds-coefficients-fromh
-offset_bounds-coefficients-fromh c = bytes_coefficients_h (goal.at.offset_bounds-coefficients-fromh c).After-shared_slice_known-3-1
+offset_bounds-coefficients-fromh c = bytes_coefficients_h
+    (goal.at.offset_bounds-coefficients-fromh c).After-shared_slice_known-3-1
 
 pub slice_bounds-divided_slices-count-6 : goal.slice_bounds-divided_slices-count-6
-slice_bounds-divided_slices-count-6 c = let h = coefficients_h (goal.at.slice_bounds-divided_slices-count-6 c).Start in search rules
+slice_bounds-divided_slices-count-6 c = let h = coefficients_h (goal.at.slice_bounds-divided_slices-count-6 c).Start
+    in search rules
 
 pub slice_bounds-divided_slices-start-6 : goal.slice_bounds-divided_slices-start-6
-slice_bounds-divided_slices-start-6 c = let h = coefficients_h (goal.at.slice_bounds-divided_slices-start-6 c).Start in search rules
+slice_bounds-divided_slices-start-6 c = let h = coefficients_h (goal.at.slice_bounds-divided_slices-start-6 c).Start
+    in search rules
 
 pub offset_bounds-keys-fromw : goal.offset_bounds-keys-fromw
 offset_bounds-keys-fromw c = bytes_keys_w (goal.at.offset_bounds-keys-fromw c).After-shared_slice_known-3-1
 
 pub slice_bounds-divided_slices-count-7 : goal.slice_bounds-divided_slices-count-7
-slice_bounds-divided_slices-count-7 c = let h = keys_w (goal.at.slice_bounds-divided_slices-count-7 c).Start in search rules
+slice_bounds-divided_slices-count-7 c = let h = keys_w (goal.at.slice_bounds-divided_slices-count-7 c).Start in search
+    rules
 
 pub slice_bounds-divided_slices-start-7 : goal.slice_bounds-divided_slices-start-7
-slice_bounds-divided_slices-start-7 c = let h = keys_w (goal.at.slice_bounds-divided_slices-start-7 c).Start in search rules
+slice_bounds-divided_slices-start-7 c = let h = keys_w (goal.at.slice_bounds-divided_slices-start-7 c).Start in search
+    rules
 
 pub offset_bounds-coefficients-fromw : goal.offset_bounds-coefficients-fromw
-offset_bounds-coefficients-fromw c = bytes_coefficients_w (goal.at.offset_bounds-coefficients-fromw c).After-shared_slice_known-3-1
+offset_bounds-coefficients-fromw c = bytes_coefficients_w
+    (goal.at.offset_bounds-coefficients-fromw c).After-shared_slice_known-3-1
 
 pub slice_bounds-divided_slices-count-8 : goal.slice_bounds-divided_slices-count-8
-slice_bounds-divided_slices-count-8 c = let h = coefficients_w (goal.at.slice_bounds-divided_slices-count-8 c).Start in search rules
+slice_bounds-divided_slices-count-8 c = let h = coefficients_w (goal.at.slice_bounds-divided_slices-count-8 c).Start
+    in search rules
 
 pub slice_bounds-divided_slices-start-8 : goal.slice_bounds-divided_slices-start-8
-slice_bounds-divided_slices-start-8 c = let h = coefficients_w (goal.at.slice_bounds-divided_slices-start-8 c).Start in search rules
+slice_bounds-divided_slices-start-8 c = let h = coefficients_w (goal.at.slice_bounds-divided_slices-start-8 c).Start
+    in search rules
 
 pub divided_slices-requires : goal.divided_slices-requires
 unfolding most_terms handed
 divided_slices-requires c =
     let p = c.requires.proposed in record {
-      proposal = parts_proposal p (dividend (goal.at.divided_slices-requires c).Start) (ap view (result_part c.args.n (stand (goal.at.divided_slices-requires c).Start) c.args.a));
+      proposal = parts_proposal p (dividend (goal.at.divided_slices-requires c).Start)
+          (ap view (result_part c.args.n (stand (goal.at.divided_slices-requires c).Start) c.args.a));
       countf_in_bounds = part_holds c.args.a p.first;
       countg_in_bounds = part_holds c.args.b p.second;
       counth_in_bounds = part_holds c.args.v p.third;
@@ -237,5 +256,6 @@ divided_slices-requires c =
 pub returns : goal.returns
 unfolding most_terms handed
 returns c =
-    parts_quotient c.requires.proposed (dividend (goal.at.returns c).Start) (ap view (result_part c.args.n (stand (goal.at.returns c).Start) c.args.a))
+    parts_quotient c.requires.proposed (dividend (goal.at.returns c).Start)
+        (ap view (result_part c.args.n (stand (goal.at.returns c).Start) c.args.a))
     c.divided_slices.ensures

@@ -38,16 +38,19 @@ unfolding held_step most_models
 quotient-q-requires c =
     let a = c.args in
     let e = c.requires.s_value in record {
-      proposed = iteration_proposed c.requires.iteration e c.magnitude.result (value_place (goal.at.quotient-q-requires c).After-magnitude);
+      proposed = iteration_proposed c.requires.iteration e c.magnitude.result
+          (value_place (goal.at.quotient-q-requires c).After-magnitude);
       scratch_room = subst (λ j. ScratchRoom (quotient_products (get_or a.counts.now (16 + a.s.b) 0)
           (get_or a.counts.now (16 + a.s.v) 0) (get_or a.counts.now (16 + j) 0))
-          a.slots.now a.places.now a.sums.now) (sym (value_place (goal.at.quotient-q-requires c).After-magnitude)) (c.requires.served.quotient e);
+          a.slots.now a.places.now a.sums.now) (sym (value_place (goal.at.quotient-q-requires c).After-magnitude))
+              (c.requires.served.quotient e);
     }
 
 pub all_carried-c-requires : goal.all_carried-c-requires
 unfolding held_step most_models
 all_carried-c-requires c =
-    quotient_within c.requires.iteration c.requires.s_value c.magnitude.result (value_place (goal.at.all_carried-c-requires c).After-magnitude) c.quotient-q.ensures
+    quotient_within c.requires.iteration c.requires.s_value c.magnitude.result
+        (value_place (goal.at.all_carried-c-requires c).After-magnitude) c.quotient-q.ensures
 
 pub settled-requires : goal.settled-requires
 settled-requires c =

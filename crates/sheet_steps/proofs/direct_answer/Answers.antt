@@ -106,4 +106,5 @@ is_difference m =
 pub returns-in_default : goal.returns-in_default
 unfolding codes
 returns-in_default c = λ d m.
-    answers (goal.at.returns-in_default c).Start d m subtract_code _ c.subtracted.ensures (is_difference (goal.at.returns-in_default c).In_default) refl
+    answers (goal.at.returns-in_default c).Start d m subtract_code _ c.subtracted.ensures
+        (is_difference (goal.at.returns-in_default c).In_default) refl

@@ -43,7 +43,8 @@ pub returns-then-place-count : goal.returns-then-place-count
 unfolding refusal
 returns-then-place-count c =
     let p = c.requires in
-    sym (verdict_stopped _ bad_model _ (model_fault _ _ p.t p.trailer_length_value _ c.walk_models-w.ensures c.if-place-count.true))
+    sym (verdict_stopped _ bad_model _ (model_fault _ _ p.t p.trailer_length_value _ c.walk_models-w.ensures
+        c.if-place-count.true))
 
 pub returns-then-w-offset : goal.returns-then-w-offset
 unfolding refusal

@@ -57,7 +57,8 @@ record_at-taken-requires c =
 
 pub overflow_add-at : goal.overflow_add-at
 overflow_add-at c =
-    omega (arith, (next (goal.at.overflow_add-at c).After-record_at-taken c.if-taken-eq0.false).within, short (goal.at.overflow_add-at c).After-record_at-taken)
+    omega (arith, (next (goal.at.overflow_add-at c).After-record_at-taken c.if-taken-eq0.false).within,
+        short (goal.at.overflow_add-at c).After-record_at-taken)
 
 pub models-preserved : goal.models-preserved
 models-preserved c =
@@ -65,7 +66,8 @@ models-preserved c =
       before = _;
       so_far = next (goal.at.models-preserved c).After-record_at-taken c.if-taken-eq0.false;
       keys_long = c.record_at-taken.auto.keys ∙ (so_far (goal.at.models-preserved c).After-record_at-taken).keys_long;
-      coefficients_long = c.record_at-taken.auto.coefficients ∙ (so_far (goal.at.models-preserved c).After-record_at-taken).coefficients_long;
+      coefficients_long = c.record_at-taken.auto.coefficients
+          ∙ (so_far (goal.at.models-preserved c).After-record_at-taken).coefficients_long;
     }
 
 pub returns-after-models : goal.returns-after-models

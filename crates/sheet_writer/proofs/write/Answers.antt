@@ -40,22 +40,27 @@ models_size-offset-requires c = passes c
 
 -- the places of the steps and of the trailer
 module _ (c : After-struct_known-1) where
-  offset_is : c.models_size-offset.result ≡ length (models_bytes (held_book (held (goal.at.overflow_mul-end c).In-Accepted)))
+  offset_is : c.models_size-offset.result ≡ length
+      (models_bytes (held_book (held (goal.at.overflow_mul-end c).In-Accepted)))
   offset_is = c.models_size-offset.ensures
 
   small : ((held (goal.at.overflow_mul-end c).In-Accepted).step_count ≤ 64) × (c.models_size-offset.result ≤ 8272)
   small = (
-    (book_limits (held (goal.at.overflow_mul-end c).In-Accepted) (passes (goal.at.overflow_mul-end c).In-Accepted)).steps_high,
-    omega (arith, offset_is, models_short (held_book (held (goal.at.overflow_mul-end c).In-Accepted)) (passes (goal.at.overflow_mul-end c).In-Accepted)),
+    (book_limits (held (goal.at.overflow_mul-end c).In-Accepted)
+        (passes (goal.at.overflow_mul-end c).In-Accepted)).steps_high,
+    omega (arith, offset_is, models_short (held_book (held (goal.at.overflow_mul-end c).In-Accepted))
+        (passes (goal.at.overflow_mul-end c).In-Accepted)),
   )
 
-  size_is : c.models_size-offset.result + step_length * (held (goal.at.overflow_mul-end c).In-Accepted).step_count + trailer_length
+  size_is : c.models_size-offset.result + step_length * (held (goal.at.overflow_mul-end c).In-Accepted).step_count
+      + trailer_length
       ≡ length (sheet_bytes (held_book (held (goal.at.overflow_mul-end c).In-Accepted)))
   size_is = omega (
     arith,
     offset_is,
     count_steps (held (goal.at.overflow_mul-end c).In-Accepted),
-    sheet_length (held_book (held (goal.at.overflow_mul-end c).In-Accepted)) (passes (goal.at.overflow_mul-end c).In-Accepted),
+    sheet_length (held_book (held (goal.at.overflow_mul-end c).In-Accepted))
+        (passes (goal.at.overflow_mul-end c).In-Accepted),
   )
 
 pub overflow_mul-end : goal.overflow_mul-end
@@ -72,7 +77,8 @@ pub returns-then-buffer-size : goal.returns-then-buffer-size
 returns-then-buffer-size c =
     let a = c.args in
     let o =
-    too_short (held_book a.book) a.buffer.now (passes (goal.at.returns-then-buffer-size c).In-Accepted) (omega (arith, size_is (goal.at.returns-then-buffer-size c).After-struct_known-1, c.if-buffer-size.true)) in
+    too_short (held_book a.book) a.buffer.now (passes (goal.at.returns-then-buffer-size c).In-Accepted)
+        (omega (arith, size_is (goal.at.returns-then-buffer-size c).After-struct_known-1, c.if-buffer-size.true)) in
     record {
       answers = o.answers;
       leaves = o.leaves;
@@ -91,14 +97,16 @@ pub put_models-requires : goal.put_models-requires
 put_models-requires c =
     record {
       held_passes = passes (goal.at.put_models-requires c).In-Accepted;
-      b_in_bounds = omega (arith, offset_is (goal.at.put_models-requires c).After-struct_known-1, room (goal.at.put_models-requires c).Else-buffer-size);
+      b_in_bounds = omega (arith, offset_is (goal.at.put_models-requires c).After-struct_known-1,
+          room (goal.at.put_models-requires c).Else-buffer-size);
     }
 
 pub put_steps-requires : goal.put_steps-requires
 put_steps-requires c =
     record {
       held_passes = passes (goal.at.put_steps-requires c).In-Accepted;
-      step_count_in_bounds = omega (arith, room (goal.at.put_steps-requires c).Else-buffer-size, c.put_models.auto.buffer);
+      step_count_in_bounds = omega (arith, room (goal.at.put_steps-requires c).Else-buffer-size,
+          c.put_models.auto.buffer);
     }
 
 pub put_trailer-requires : goal.put_trailer-requires
@@ -106,14 +114,17 @@ put_trailer-requires c =
     record {
       held_passes = passes (goal.at.put_trailer-requires c).In-Accepted;
       offset_value = offset_is (goal.at.put_trailer-requires c).After-struct_known-1;
-      trailer_length_in_bounds = omega (arith, room (goal.at.put_trailer-requires c).Else-buffer-size, c.put_models.auto.buffer, c.put_steps.auto.buffer);
+      trailer_length_in_bounds = omega (arith, room (goal.at.put_trailer-requires c).Else-buffer-size,
+          c.put_models.auto.buffer, c.put_steps.auto.buffer);
     }
 
 pub returns : goal.returns
 returns c =
     let a = c.args in
-    let o = long_enough (held_book a.book) a.buffer.now (passes (goal.at.returns c).In-Accepted) _ _ _ _ _ (offset_is (goal.at.returns c).After-struct_known-1)
-    (ap (λ k. c.models_size-offset.result + step_length * k) (sym (count_steps a.book))) (room (goal.at.returns c).Else-buffer-size)
+    let o = long_enough (held_book a.book) a.buffer.now (passes (goal.at.returns c).In-Accepted) _ _ _ _ _
+            (offset_is (goal.at.returns c).After-struct_known-1)
+    (ap (λ k. c.models_size-offset.result + step_length * k) (sym (count_steps a.book)))
+        (room (goal.at.returns c).Else-buffer-size)
     c.put_models.ensures c.put_steps.ensures c.put_trailer.ensures in
     record {
       answers = o.answers;
