@@ -33,7 +33,7 @@ four_sum h = h / 4096 + three_sum h
 unfoldable pub half_rank : ℕ → ℕ
 half_rank h =
     (get_or up_to (four_sum h % 16) 0 + get_or less_by_three (three_sum h % 16) 0 + get_or less_by_two (two_sum h % 16)
-        0
+    0
     + h / 16 % 16) % 65536
 
 -- the rank of a key

@@ -149,8 +149,11 @@ module _ (b : Book) (p : Passes b) (I : Inputs) (hI : AllWithin b I) (ready : Re
       (variable_inside n v (and_right (ltb a i && ltb c i) _ t))
       (λ hy. (operand e a).near _ (box_replace ℚO (index_of v) _ hy hx)))
   step_follows i (sweep a c) t r e =
-      holds (record { vars = (operand e a).vars; near = λ x hx. sweep_near (nat_abs c) _ _ hx
-          ((operand e a).near x hx) })
+      holds (record {
+        vars = (operand e a).vars;
+        near = λ x hx. sweep_near (nat_abs c) _ _ hx
+            ((operand e a).near x hx);
+      })
   step_follows i (quotient a c h w) t r e = follows (same_vars e h (quotient_vars b.order _ _ _ _))
       (λ x hx. quotient_near b.order _ _ _ _ _ _ hx ((operand e a).near x hx) ((operand e c).near x hx))
   step_follows i (antiderivative a v) t r e = holds (record {

@@ -127,7 +127,7 @@ pub exact_values :
     }))
     -- the three of them inexact: 1 + 0.5 / U, -2.5 / U and 0.5 / U, whose term is left out; the radius 0.5 / U
     × (call_doubles (double_of_bits (plus 1023 (2 ^ 31)) (minus 1004 (2 ^ 50)) (plus 1002 0) (plus 1002 0)) ≡ done
-        (record {
+    (record {
       vars = 1;
       radius = 4;
       terms = term (pos 1048576) (0 ∷ []) ∷ term (neg_ℤ (pos 2)) (1 ∷ []) ∷ [];
@@ -226,7 +226,7 @@ pub spans :
     × (call_doubles (constant (plus 1032 (2 ^ 52 - 2 ^ 22))) ≡ over)
     -- 512 - 256 x + (256 - 1 / U) x² with 1 / U, and with 2 / U
     × (call_doubles (double_of_bits (plus 1032 0) (minus 1031 0) (plus 1030 (2 ^ 52 - 2 ^ 25)) (plus 1003 0)) ≡ done
-        (record {
+    (record {
       vars = 1;
       radius = 1;
       terms =

@@ -176,7 +176,7 @@ module _ {i : ℕ} {f : Model} (s : InVariable i f) (w : f.count ≤ length (lis
 
       pub taken_in : (h : j < f.count) → key_exponent i (key_at j h) ≡ k
           → {t : Term} → t.key ≡ key_without i (key_at j h)
-              → t.coefficient ≡ (get_or (listed f) j zero_term).coefficient
+          → t.coefficient ≡ (get_or (listed f) j zero_term).coefficient
           → Taken i f k (set out count t) (count + 1) (j + 1)
       taken_in h e {t = t} a b = record {
         within = omega arith;

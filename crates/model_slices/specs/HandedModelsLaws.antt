@@ -19,7 +19,7 @@ use Rattle.model_slices.specs.HandedModels.{terms_of, handed, over, answer_numbe
 -- ---- terms of two slices
 pub terms_more : (i : ℕ) (ks : List ℕ) (cs : List ℤ) → i < length ks → i < length cs
     → terms_of (suc i) ks cs ≡ terms_of i ks cs ++
-        (record { key = get_or ks i 0; coefficient = get_or cs i (pos 0) } ∷ [])
+    (record { key = get_or ks i 0; coefficient = get_or cs i (pos 0) } ∷ [])
 unfolding terms_of
 terms_more i [] cs h l = absurd (omega arith)
 terms_more i (k ∷ ks) [] h l = absurd (omega arith)

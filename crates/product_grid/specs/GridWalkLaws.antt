@@ -46,7 +46,7 @@ unfolding rising_from
 rising_on end k _ _ e (none l g) = tt
 rising_on end k _ _ e (more l x z p g r) =
     both (less (k ∷ []) (x ∷ [])) _ (rw (less_key k x) (lt→ltb k x (omega (arith, e))))
-        (rising_on end x (x + 1) p refl r)
+    (rising_on end x (x + 1) p refl r)
 
 rising_after : (end k : ℕ) (p : Terms) → Rises end (k + 1) p → T (rising_from (k ∷ []) p)
 rising_after end k p r = rising_on end k (k + 1) p refl r

@@ -93,7 +93,7 @@ module _ (s : Sides) (before : List ℤ) (q : Terms) (sums : List ℤ) (degrees 
 
   added_more : (k : ℕ) → Gridded s k
       → get_or new_sums (place s k) (pos 0) ≡ get_or before (place s k) (pos 0) +ℤ coefficient_at (q ++ (t ∷ []))
-          (k ∷ [])
+      (k ∷ [])
   added_more k x = elim (ℕ_discrete (place s k) p) [
     | yes c ↦
         let w : k ≡ key = place_apart s k key x g (c ∙ at) in

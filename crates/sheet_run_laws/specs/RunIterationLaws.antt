@@ -130,7 +130,7 @@ module _ {n d i : ℕ} {s : HeldStep} {m : Results} {flat : List ℕ} (t : Itera
         sym (length_view (held_result n m (most_models + s.b)))
         ∙ ap (λ (c : C.Model). length c.terms)
         (sym (is_second ∙ ap (λ c. cond (names_second c) (view (held_result n m (most_models + s.b))) (zero_model n))
-            e))
+        e))
         ∙ length_view g
 
     -- so that the scratch memory serves it
@@ -158,9 +158,9 @@ module _ {n d i : ℕ} {s : HeldStep} {m : Results} {flat : List ℕ} (t : Itera
 
     pub product_iterated : {r : Accounted} {v : Verdict} {m' : Results} {flat' : List ℕ}
         → r ≡ accounted (multiply d (view (held_result n m (most_models + s.a)))
-            (view (held_result n m (most_models + s.b))))
+        (view (held_result n m (most_models + s.b))))
         (λ k. product_shares d (view (held_result n m (most_models + s.a)))
-            (view (held_result n m (most_models + s.b))))
+        (view (held_result n m (most_models + s.b))))
         → v ≡ r.answer.verdict → m' ≡ settled_results r (most_models + i) m → flat' ≡ settled_rows r i flat
         → Iterated t.held i v m' flat'
     product_iterated {r = r} q = step_iterated t.passes t.at t.so_far
@@ -168,13 +168,13 @@ module _ {n d i : ℕ} {s : HeldStep} {m : Results} {flat : List ℕ} (t : Itera
         (out_of (λ n d. r ≡ accounted (multiply d (view (held_result n m (most_models + s.a))) (view (held_result n m
         (most_models + s.b))))
         (λ k. product_shares d (view (held_result n m (most_models + s.a)))
-            (view (held_result n m (most_models + s.b))))) q))
+        (view (held_result n m (most_models + s.b))))) q))
 
   -- ---- a quotient
   module _ (f g k w : Model) (e : s.code ≡ quotient_code)
       (is_first : view f ≡ view (held_result n m (most_models + s.a)))
       (is_second : view g ≡ view (held_result n m (most_models + s.b)))
-          (is_third : view k ≡ view (held_result n m (most_models +
+      (is_third : view k ≡ view (held_result n m (most_models +
       s.v)))
       (is_fourth : view w ≡ view (held_result n m (most_models + nat_abs s.value))) where
     pub iteration_proposal : Proposal d f g k w
@@ -306,7 +306,7 @@ factors_part n {d} m a b f = both (sym (result_part n m a)) (sym (result_part n 
 pub part_holds : {m : Results} (j : ℕ) → Roomy (j + 1) m
     → (get_or m.counts j 0 ≤ length (take (length m.keys - most_terms * j) (drop (most_terms * j) m.keys)))
     × (get_or m.counts j 0 ≤ length (take (length m.coefficients - most_terms * j)
-        (drop (most_terms * j) m.coefficients)))
+    (drop (most_terms * j) m.coefficients)))
 unfolding most_terms
 part_holds {m} j r = (
   omega (
@@ -347,7 +347,7 @@ module _ {n d a b v w : ℕ} {m : Results} (p : Proposed n d a b v w m) (f : Mod
       subst (λ x. Proposal d (held_result n m a) x (part_of n (radius_at v) m v) (part_of n (radius_at w) m w))
       (sym (result_part n m b))
       (subst (λ x. Proposal d (held_result n m a) (held_result n m b) x (part_of n (radius_at w) m w))
-          (sym (result_part n m v))
+      (sym (result_part n m v))
       (subst (λ x. Proposal d (held_result n m a) (held_result n m b) (held_result n m v) x) (sym (result_part n m w))
       p.proposal))
 

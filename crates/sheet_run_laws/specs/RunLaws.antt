@@ -471,7 +471,7 @@ module _ {h : HeldBook} (p : HeldPasses h) where
       module _ (f g k w : Model) (e : s.code ≡ quotient_code)
           (is_first : view f ≡ view (held_result h.n m (most_models + s.a)))
           (is_second : view g ≡ view (held_result h.n m (most_models + s.b)))
-              (is_third : view k ≡ view (held_result h.n m
+          (is_third : view k ≡ view (held_result h.n m
           (most_models + s.v)))
           (is_fourth : view w ≡ view (held_result h.n m (most_models + nat_abs s.value))) where
         dividend : view f ≡ so_far s.a

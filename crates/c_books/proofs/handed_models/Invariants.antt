@@ -15,7 +15,7 @@ use Rattle.c_books.proofs.handed_models.Given as goal
 abbrev pub invariant-loop-k : goal.invariant-loop-k
 invariant-loop-k l =
     (l.k ≤ l.places) × (l.out ≡ padded no_model most_models
-        (table (model_at l.ns l.counts l.radii l.keys l.coefficients) l.k))
+    (table (model_at l.ns l.counts l.radii l.keys l.coefficients) l.k))
     × ModelsBorrowed l.places (length l.ns) (length l.counts) (length l.radii) (length l.keys) (length l.coefficients)
 
 abbrev pub decreases-loop-k : goal.decreases-loop-k

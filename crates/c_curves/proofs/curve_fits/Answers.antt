@@ -15,8 +15,11 @@ returns-then-code-gt-MULTIPLY c = rw (le-leb 3 _ c.if-code-lt-NEGATE.false, lt-l
 pub returns-then-coefficients1-lt-CURVE_PLACES : goal.returns-then-coefficients1-lt-CURVE_PLACES
 unfolding curve_fits places
 returns-then-coefficients1-lt-CURVE_PLACES c =
-    rw (le-leb 3 _ c.if-code-lt-NEGATE.false, le-leb _ 6 c.if-code-gt-MULTIPLY.false,
-        lt-leb 16 _ c.if-coefficients1-lt-CURVE_PLACES.true)
+    rw (
+      le-leb 3 _ c.if-code-lt-NEGATE.false,
+      le-leb _ 6 c.if-code-gt-MULTIPLY.false,
+      lt-leb 16 _ c.if-coefficients1-lt-CURVE_PLACES.true,
+    )
 
 pub returns-then-coefficients2-lt-CURVE_PLACES : goal.returns-then-coefficients2-lt-CURVE_PLACES
 unfolding curve_fits places

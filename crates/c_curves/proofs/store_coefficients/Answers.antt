@@ -53,5 +53,8 @@ loop-i-preserved c =
 
 pub returns : goal.returns
 returns c =
-    rw (c.loop-i.invariant.2, take_all c.loop-i.i c.args.c.coefficients
-        (omega (arith, whole (goal.at.returns c).Start)))
+    rw (
+      c.loop-i.invariant.2,
+      take_all c.loop-i.i c.args.c.coefficients
+          (omega (arith, whole (goal.at.returns c).Start)),
+    )

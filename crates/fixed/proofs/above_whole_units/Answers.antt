@@ -42,8 +42,10 @@ overflow_sub-result c = rw (left c) (fits_size (omega (arith, remainder_lt c.arg
 
 pub overflow_cast-result-2 : goal.overflow_cast-result-2
 unfolding U
-overflow_cast-result-2 c = rw (to_z-of_z (overflow_sub-result c) ∙ left c) (tt,
-    omega (arith, remainder_lt c.args.z U U_pos))
+overflow_cast-result-2 c = rw (to_z-of_z (overflow_sub-result c) ∙ left c) (
+  tt,
+  omega (arith, remainder_lt c.args.z U U_pos),
+)
 
 pub returns : goal.returns
 unfolding U

@@ -56,7 +56,7 @@ module _ (z : ℤ) where
 floored : (c : After-whole_units-below) → to_z w64 (of_z w64 c.whole_units-below.result) ≡ floor c.before.args.z U
 floored c =
     answered c.whole_units-below.type_inv (c.whole_units-below.ensures
-        ∙ ap (λ z. floor z U) (to_z-of_z c.before.ranges.z))
+    ∙ ap (λ z. floor z U) (to_z-of_z c.before.ranges.z))
 
 rest : (c : After-above_whole_units-rest) → c.above_whole_units-rest.result ≡ remainder c.before.before.args.z U
 rest c = c.above_whole_units-rest.ensures ∙ ap (λ z. remainder z U) (to_z-of_z c.before.before.ranges.z)

@@ -23,8 +23,11 @@ integrated-requires c =
 pub returns-in-Accepted : goal.returns-in-Accepted
 unfolding answer
 returns-in-Accepted c =
-    rw (c.integrated.ensures, antiderivative_is _ _ _
-        ∙ goes_on _ _ (passed (goal.at.returns-in-Accepted c).In-Accepted))
+    rw (
+      c.integrated.ensures,
+      antiderivative_is _ _ _
+          ∙ goes_on _ _ (passed (goal.at.returns-in-Accepted c).In-Accepted),
+    )
 
 pub returns-in-Refused : goal.returns-in-Refused
 returns-in-Refused c =

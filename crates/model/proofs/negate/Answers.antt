@@ -19,8 +19,11 @@ negated-requires c = single_passed _ (passed c)
 
 pub returns-in-Accepted : goal.returns-in-Accepted
 unfolding answer
-returns-in-Accepted c = rw (c.negated.ensures, negate_is (view c.args.m)
-    ∙ goes_on _ _ (passed (goal.at.returns-in-Accepted c).In-Accepted))
+returns-in-Accepted c = rw (
+  c.negated.ensures,
+  negate_is (view c.args.m)
+      ∙ goes_on _ _ (passed (goal.at.returns-in-Accepted c).In-Accepted),
+)
 
 pub returns-in-Refused : goal.returns-in-Refused
 returns-in-Refused c =

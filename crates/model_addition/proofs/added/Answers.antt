@@ -36,16 +36,18 @@ unfolding cause
 returns-then-count-gt-MOST_TERMS c =
     c.refuse.ensures
     ∙ sym ((c.merged-count.ensures.terms (borrowed_sum c.requires
-        (first_room (goal.at.returns-then-count-gt-MOST_TERMS c).Start)
-        (second_room (goal.at.returns-then-count-gt-MOST_TERMS c).Start))).many
+    (first_room (goal.at.returns-then-count-gt-MOST_TERMS c).Start)
+    (second_room (goal.at.returns-then-count-gt-MOST_TERMS c).Start))).many
     (omega (arith, c.if-count-gt-MOST_TERMS.true)))
     ∙ borrowed_answer c.requires (first_room (goal.at.returns-then-count-gt-MOST_TERMS c).Start)
-        (second_room (goal.at.returns-then-count-gt-MOST_TERMS c).Start)
+    (second_room (goal.at.returns-then-count-gt-MOST_TERMS c).Start)
 
 pub overflow_add-radius : goal.overflow_add-radius
 overflow_add-radius c =
-    record { fits = borrowed_radius c.requires (first_room (goal.at.overflow_add-radius c).Start)
-        (second_room (goal.at.overflow_add-radius c).Start) }
+    record {
+      fits = borrowed_radius c.requires (first_room (goal.at.overflow_add-radius c).Start)
+          (second_room (goal.at.overflow_add-radius c).Start);
+    }
 
 pub limited-requires : goal.limited-requires
 unfolding padded most_terms terms_of held
@@ -54,7 +56,7 @@ limited-requires c =
     subst Packed
     (sym (clear_struct _ _ (c.merged-count.ensures.clear few (record { keys_are = refl; coefficients_are = refl }))))
     ((c.merged-count.ensures.terms (borrowed_sum c.requires (first_room (goal.at.limited-requires c).Start)
-        (second_room (goal.at.limited-requires c).Start))).packed few)
+    (second_room (goal.at.limited-requires c).Start))).packed few)
 
 pub returns : goal.returns
 unfolding padded most_terms terms_of held
@@ -64,5 +66,5 @@ returns c =
     ∙ ap (λ v. answer (at_place 0 (limited (view v))))
     (clear_struct _ _ (c.merged-count.ensures.clear few (record { keys_are = refl; coefficients_are = refl })))
     ∙ (c.merged-count.ensures.terms (borrowed_sum c.requires (first_room (goal.at.returns c).Start)
-        (second_room (goal.at.returns c).Start))).sum few
+    (second_room (goal.at.returns c).Start))).sum few
     ∙ borrowed_answer c.requires (first_room (goal.at.returns c).Start) (second_room (goal.at.returns c).Start)

@@ -43,12 +43,20 @@ pub loop-i-init : goal.loop-i-init
 loop-i-init c = (c.requires.room, λ w. merge_first w _ _, λ z. z)
 
 pub overflow_add-i : goal.overflow_add-i
-overflow_add-i c = omega (arith, left c, right c, few_first (goal.at.overflow_add-i c).Start,
-    few_second (goal.at.overflow_add-i c).Start)
+overflow_add-i c = omega (
+  arith,
+  left c,
+  right c,
+  few_first (goal.at.overflow_add-i c).Start,
+  few_second (goal.at.overflow_add-i c).Start,
+)
 
 pub overflow_add-c : goal.overflow_add-c
-overflow_add-c c = omega (arith, few_first (goal.at.overflow_add-c c).Start,
-    few_second (goal.at.overflow_add-c c).Start)
+overflow_add-c c = omega (
+  arith,
+  few_first (goal.at.overflow_add-c c).Start,
+  few_second (goal.at.overflow_add-c c).Start,
+)
 
 pub term_at-x-requires : goal.term_at-x-requires
 term_at-x-requires c = c.requires.sum_from.first_places

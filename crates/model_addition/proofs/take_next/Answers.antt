@@ -37,7 +37,7 @@ sum_back c =
     to_z-of_z {w = w64} (record { sfits = c.sum.type_inv })
     ∙ c.sum.ensures
     ∙ ap₂ ◌+ℤ◌ (first_back (goal.at.overflow_add-result-2 c).After-struct_told-2-1)
-        (second_back (goal.at.overflow_add-result-2 c).After-struct_told-2-1)
+    (second_back (goal.at.overflow_add-result-2 c).After-struct_told-2-1)
 
 pub sum-requires : goal.sum-requires
 sum-requires c = rw (first_back c, second_back c) (c.requires.fits (omega arith) (omega arith))

@@ -35,7 +35,7 @@ pub returns-then-not-stays : goal.returns-then-not-stays
 unfolding key_growth key_rounding if_so
 returns-then-not-stays c =
     c.divided_up.ensures ∙ ap₂ divided_up (size_is (goal.at.returns-then-not-stays c).After-stays)
-        (divisor_is (goal.at.returns-then-not-stays c).After-stays)
+    (divisor_is (goal.at.returns-then-not-stays c).After-stays)
     ∙ sym (rw (sym c.stays.ensures ∙ c.if-not-stays.true) (omega arith))
 
 pub nonzero_rem-size : goal.nonzero_rem-size

@@ -25,4 +25,4 @@ pub returns : goal.returns
 returns c =
     left_done _ _ _ _ _ (c.integrated_arrays-l.ensures (own_in c.args.f c.requires (room (goal.at.returns c).Start)))
     ∙ ap (λ m. pack (antiderivative c.args.d c.args.i m))
-        (own_same c.args.f c.requires (room (goal.at.returns c).Start))
+    (own_same c.args.f c.requires (room (goal.at.returns c).Start))

@@ -157,7 +157,7 @@ raised-requires c =
     subst (λ (x : Term). Raisable c.args.i x.key) (here (goal.at.raised-requires c).After-c-1 w)
     (raisable w.integrand (in_long w) c.loop-j.j (inside (goal.at.raised-requires c).After-c-1)
     (nonzero_stays _ _ _ _ (subst (λ z. T (is_nonzero z)) (new_in (goal.at.raised-requires c).After-divided-new w)
-        (nonzero c))))
+    (nonzero c))))
 
 pub offset_bounds-stored-count : goal.offset_bounds-stored-count
 offset_bounds-stored-count c = omega (arith, room (goal.at.offset_bounds-stored-count c).After-growth-radius)
@@ -192,21 +192,24 @@ loop-j-preserved-then-new-ne0 c =
             coefficient = key_coefficient c.args.d c.args.i
                 (get_or (listed (model (goal.at.loop-j-preserved-then-new-ne0 c).After-c-1 w)) c.loop-j.j zero_term).key
                 (get_or (listed (model (goal.at.loop-j-preserved-then-new-ne0 c).After-c-1 w)) c.loop-j.j
-                    zero_term).coefficient;
+                zero_term).coefficient;
           })
           (c.raised.ensures ∙ ap (λ (x : Term). key_raised c.args.i x.key)
-              (sym (here (goal.at.loop-j-preserved-then-new-ne0 c).After-c-1 w)))
+          (sym (here (goal.at.loop-j-preserved-then-new-ne0 c).After-c-1 w)))
           (answered c.divided-new.type_inv (new_in (goal.at.loop-j-preserved-then-new-ne0 c).After-divided-new w)) in
           subst (λ l. Gathered c.args.d c.args.i (model (goal.at.loop-j-preserved-then-new-ne0 c).After-c-1 w) l
-              (c.loop-j.count + 1)
+          (c.loop-j.count + 1)
           (c.loop-j.radius + c.growth-radius.result) (c.loop-j.j + 1)) (sym put.1)
           (gathered_keep w.integrand (in_long w) (c.loop-j.invariant.1 w)
-              (inside (goal.at.loop-j-preserved-then-new-ne0 c).After-c-1)
-              (radius_is (goal.at.loop-j-preserved-then-new-ne0 c).After-growth-radius w)
+          (inside (goal.at.loop-j-preserved-then-new-ne0 c).After-c-1)
+          (radius_is (goal.at.loop-j-preserved-then-new-ne0 c).After-growth-radius w)
           (subst (λ z. T (is_nonzero z)) (new_in (goal.at.loop-j-preserved-then-new-ne0 c).After-divided-new w)
-              (nonzero (goal.at.loop-j-preserved-then-new-ne0 c).Then-new-ne0))
-          (omega (arith, few (goal.at.loop-j-preserved-then-new-ne0 c).Start,
-              inside (goal.at.loop-j-preserved-then-new-ne0 c).After-c-1)) refl refl),
+          (nonzero (goal.at.loop-j-preserved-then-new-ne0 c).Then-new-ne0))
+          (omega (
+            arith,
+            few (goal.at.loop-j-preserved-then-new-ne0 c).Start,
+            inside (goal.at.loop-j-preserved-then-new-ne0 c).After-c-1,
+          )) refl refl),
     )
 
 pub loop-j-smaller : goal.loop-j-smaller

@@ -103,7 +103,7 @@ loop-j-smaller c = omega arith
 pub loop-j-preserved : goal.loop-j-preserved
 loop-j-preserved c =
     rounded_iteration c.requires (long (goal.at.loop-j-preserved c).Start) c.loop-j.invariant
-        (inside (goal.at.loop-j-preserved c).After-c-1) (next c)
+    (inside (goal.at.loop-j-preserved c).After-c-1) (next c)
 
 pub returns : goal.returns
 returns c =

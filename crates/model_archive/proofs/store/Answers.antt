@@ -63,7 +63,7 @@ pub returns-then-buffer-size : goal.returns-then-buffer-size
 returns-then-buffer-size c =
     let a = c.args in
     let o = too_short (view a.m) a.buffer.now (in_four (goal.at.returns-then-buffer-size c).Else-not-sound)
-            (passed (goal.at.returns-then-buffer-size c).Else-not-sound)
+    (passed (goal.at.returns-then-buffer-size c).Else-not-sound)
     (omega (arith, c.if-buffer-size.true, length_view a.m)) in
     record {
       answers = o.answers;
@@ -82,7 +82,7 @@ pub returns : goal.returns
 returns c =
     let a = c.args in
     let o = long_enough (view a.m) a.buffer.now (in_four (goal.at.returns c).Else-not-sound)
-            (passed (goal.at.returns c).Else-not-sound)
+    (passed (goal.at.returns c).Else-not-sound)
     (omega (arith, c.if-buffer-size.false, length_view a.m)) _
     c.put_model.ensures in
     record {

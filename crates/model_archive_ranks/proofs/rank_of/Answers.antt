@@ -48,16 +48,19 @@ pub overflow_add-result-2 : goal.overflow_add-result-2
 unfolding up_to less_by_three less_by_two two_sum three_sum four_sum
 overflow_add-result-2 c =
     Fits-under w64 _ 262144 (sum_of_three _ _ _ (most (goal.at.overflow_add-result-2 c).Start)
-        (first (goal.at.overflow_add-result-2 c).Start) (second (goal.at.overflow_add-result-2 c).Start)) tt
+    (first (goal.at.overflow_add-result-2 c).Start) (second (goal.at.overflow_add-result-2 c).Start)) tt
 
 pub overflow_add-result-3 : goal.overflow_add-result-3
 unfolding up_to less_by_three less_by_two two_sum three_sum four_sum
 overflow_add-result-3 c =
     Fits-under w64 _ 262144 (sum_of_four _ _ _ (half (goal.at.overflow_add-result-3 c).Start)
-        (most (goal.at.overflow_add-result-3 c).Start) (first (goal.at.overflow_add-result-3 c).Start)
-        (second (goal.at.overflow_add-result-3 c).Start)) tt
+    (most (goal.at.overflow_add-result-3 c).Start) (first (goal.at.overflow_add-result-3 c).Start)
+    (second (goal.at.overflow_add-result-3 c).Start)) tt
 
 pub returns : goal.returns
 unfolding up_to less_by_three less_by_two two_sum three_sum four_sum half_rank rank_by_sums
-returns c = sums_rank (record { below = word_key _ (omega arith); short = c.requires.key_value;
-    low = c.requires.key_bound })
+returns c = sums_rank (record {
+  below = word_key _ (omega arith);
+  short = c.requires.key_value;
+  low = c.requires.key_bound;
+})

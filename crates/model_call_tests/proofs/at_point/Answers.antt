@@ -52,8 +52,11 @@ unused_zero-requires c = width c
 
 pub returns-then-not-unused_zero : goal.returns-then-not-unused_zero
 unfolding require_at at_point refusal verdict
-returns-then-not-unused_zero c = rw (holds (goal.at.returns-then-not-unused_zero c).Else-not-sound, vars_view c.args.m,
-    unused_fail c)
+returns-then-not-unused_zero c = rw (
+  holds (goal.at.returns-then-not-unused_zero c).Else-not-sound,
+  vars_view c.args.m,
+  unused_fail c,
+)
 
 pub used_within-requires : goal.used_within-requires
 used_within-requires c = width (goal.at.used_within-requires c).Else-not-sound
@@ -61,11 +64,19 @@ used_within-requires c = width (goal.at.used_within-requires c).Else-not-sound
 pub returns-then-not-used_within : goal.returns-then-not-used_within
 unfolding require_at at_point refusal verdict
 returns-then-not-used_within c =
-    rw (holds (goal.at.returns-then-not-used_within c).Else-not-sound, vars_view c.args.m,
-        unused_hold (goal.at.returns-then-not-used_within c).Else-not-unused_zero, used_fail c)
+    rw (
+      holds (goal.at.returns-then-not-used_within c).Else-not-sound,
+      vars_view c.args.m,
+      unused_hold (goal.at.returns-then-not-used_within c).Else-not-unused_zero,
+      used_fail c,
+    )
 
 pub returns : goal.returns
 unfolding require_at at_point verdict
 returns c =
-    rw (holds (goal.at.returns c).Else-not-sound, vars_view c.args.m,
-        unused_hold (goal.at.returns c).Else-not-unused_zero, used_hold c)
+    rw (
+      holds (goal.at.returns c).Else-not-sound,
+      vars_view c.args.m,
+      unused_hold (goal.at.returns c).Else-not-unused_zero,
+      used_hold c,
+    )

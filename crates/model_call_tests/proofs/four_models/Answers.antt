@@ -49,15 +49,21 @@ returns-then-not-sound-2 c = rw (first_holds (goal.at.returns-then-not-sound-2 c
 pub returns-then-not-sound-3 : goal.returns-then-not-sound-3
 unfolding require_at require_four four_models refusal verdict
 returns-then-not-sound-3 c =
-    rw (first_holds (goal.at.returns-then-not-sound-3 c).Else-not-sound,
-        second_holds (goal.at.returns-then-not-sound-3 c).Else-not-sound-2, third_fails c)
+    rw (
+      first_holds (goal.at.returns-then-not-sound-3 c).Else-not-sound,
+      second_holds (goal.at.returns-then-not-sound-3 c).Else-not-sound-2,
+      third_fails c,
+    )
 
 pub returns-then-not-sound-4 : goal.returns-then-not-sound-4
 unfolding require_at require_four four_models refusal verdict
 returns-then-not-sound-4 c =
-    rw (first_holds (goal.at.returns-then-not-sound-4 c).Else-not-sound,
-        second_holds (goal.at.returns-then-not-sound-4 c).Else-not-sound-2,
-        third_holds (goal.at.returns-then-not-sound-4 c).Else-not-sound-3, fourth_fails c)
+    rw (
+      first_holds (goal.at.returns-then-not-sound-4 c).Else-not-sound,
+      second_holds (goal.at.returns-then-not-sound-4 c).Else-not-sound-2,
+      third_holds (goal.at.returns-then-not-sound-4 c).Else-not-sound-3,
+      fourth_fails c,
+    )
 
 -- all are sound: their variables decide
 module _ (c : Else-not-sound-4) where
@@ -70,8 +76,12 @@ module _ (c : Else-not-sound-4) where
       (done tt)
   unfolding require_at require_four four_models
   decided =
-      rw (first_holds c.before.before.before.before.before.before, second_holds c.before.before.before.before,
-          third_holds c.before.before, fourth_holds c)
+      rw (
+        first_holds c.before.before.before.before.before.before,
+        second_holds c.before.before.before.before,
+        third_holds c.before.before,
+        fourth_holds c,
+      )
 
 pub returns-then-f-g : goal.returns-then-f-g
 unfolding require_at refusal verdict
@@ -83,8 +93,11 @@ pub returns-then-f-h : goal.returns-then-f-h
 unfolding require_at refusal verdict
 returns-then-f-h c =
     let a = c.args in
-    rw (decided (goal.at.returns-then-f-h c).Else-not-sound-4, same_vars a.f a.g c.if-f-g.false,
-        other_vars a.f a.h c.if-f-h.true)
+    rw (
+      decided (goal.at.returns-then-f-h c).Else-not-sound-4,
+      same_vars a.f a.g c.if-f-g.false,
+      other_vars a.f a.h c.if-f-h.true,
+    )
 
 -- the first three agree: the last decides
 module _ (c : Else-f-h) where
@@ -95,7 +108,7 @@ module _ (c : Else-f-h) where
       let a = c.args in
       decided c.before.before.before.before.before.before
       ∙ ap₂ (λ b k. require_at 0 (b && k && same c.before.before.before.before.before.before a.w) variables_differ
-          (done tt))
+      (done tt))
       (same_vars a.f a.g c.if-f-g.false) (same_vars a.f a.h c.if-f-h.false)
 
 pub returns-then-f-w : goal.returns-then-f-w

@@ -33,8 +33,10 @@ returns-then-not-order_sound c = rw (ordered (goal.at.returns-then-not-order_sou
 pub returns-then-not-sound : goal.returns-then-not-sound
 unfolding require_at integrating refusal verdict
 returns-then-not-sound c =
-    rw (ordered (goal.at.returns-then-not-sound c).After-order_sound true (c.if-not-order_sound.false),
-        modelled (goal.at.returns-then-not-sound c).After-sound false (c.if-not-sound.true))
+    rw (
+      ordered (goal.at.returns-then-not-sound c).After-order_sound true (c.if-not-order_sound.false),
+      modelled (goal.at.returns-then-not-sound c).After-sound false (c.if-not-sound.true),
+    )
 
 pub returns-then-not-from_one : goal.returns-then-not-from_one
 unfolding require_at integrating refusal verdict

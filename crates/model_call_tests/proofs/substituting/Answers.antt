@@ -31,11 +31,16 @@ tested c b h = sym c.from_one.ensures ∙ h
 pub returns-then-not-from_one : goal.returns-then-not-from_one
 unfolding require_at refusal verdict
 returns-then-not-from_one c =
-    rw (decided (goal.at.returns-then-not-from_one c).In-Accepted,
-        tested (goal.at.returns-then-not-from_one c).After-from_one false (c.if-not-from_one.true))
+    rw (
+      decided (goal.at.returns-then-not-from_one c).In-Accepted,
+      tested (goal.at.returns-then-not-from_one c).After-from_one false (c.if-not-from_one.true),
+    )
 
 pub returns : goal.returns
 unfolding require_at verdict
 returns c =
-    rw (decided (goal.at.returns c).In-Accepted, tested (goal.at.returns c).After-from_one true
-        (c.if-not-from_one.false))
+    rw (
+      decided (goal.at.returns c).In-Accepted,
+      tested (goal.at.returns c).After-from_one true
+          (c.if-not-from_one.false),
+    )

@@ -31,12 +31,16 @@ returns-then-not-sound c = rw (fails c)
 
 pub returns-then-not-threshold_within_limits : goal.returns-then-not-threshold_within_limits
 unfolding require_at sweeping refusal verdict
-returns-then-not-threshold_within_limits c = rw (holds
-    (goal.at.returns-then-not-threshold_within_limits c).Else-not-sound,
-    sym (within (goal.at.returns-then-not-threshold_within_limits c).After-threshold_within_limits)
-    ∙ c.if-not-threshold_within_limits.true)
+returns-then-not-threshold_within_limits c = rw (
+  holds
+      (goal.at.returns-then-not-threshold_within_limits c).Else-not-sound,
+  sym (within (goal.at.returns-then-not-threshold_within_limits c).After-threshold_within_limits)
+      ∙ c.if-not-threshold_within_limits.true,
+)
 
 pub returns : goal.returns
 unfolding require_at sweeping verdict
-returns c = rw (holds (goal.at.returns c).Else-not-sound,
-    sym (within (goal.at.returns c).After-threshold_within_limits) ∙ c.if-not-threshold_within_limits.false)
+returns c = rw (
+  holds (goal.at.returns c).Else-not-sound,
+  sym (within (goal.at.returns c).After-threshold_within_limits) ∙ c.if-not-threshold_within_limits.false,
+)

@@ -26,7 +26,7 @@ pub returns-then-x-ne0 : goal.returns-then-x-ne0
 returns-then-x-ne0 c =
     sym (c.loop-i.invariant.1
     ∙ zero_fails c.args.xs c.loop-i.i (omega (arith, long (goal.at.returns-then-x-ne0 c).Start))
-        (nonzero_bits _ c.if-x-ne0.true))
+    (nonzero_bits _ c.if-x-ne0.true))
 
 pub loop-i-smaller : goal.loop-i-smaller
 unfolding key_width

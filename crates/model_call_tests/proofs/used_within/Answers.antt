@@ -49,7 +49,7 @@ pub returns-then-not-within_unit : goal.returns-then-not-within_unit
 returns-then-not-within_unit c =
     sym (c.loop-i.invariant.1
     ∙ unit_fails c.args.xs c.args.n c.loop-i.i (omega (arith, long (goal.at.returns-then-not-within_unit c).Start))
-        (omega arith)
+    (omega arith)
     (sym (tested (goal.at.returns-then-not-within_unit c).After-within_unit) ∙ c.if-not-within_unit.true))
 
 pub overflow_add-i : goal.overflow_add-i

@@ -31,8 +31,11 @@ pub returns-then-unit-mu : goal.returns-then-unit-mu
 unfolding cause
 returns-then-unit-mu c =
     c.refuse.ensures
-    ∙ certified_not _ _ _ (omega (arith, unit_is (goal.at.returns-then-unit-mu c).After-magnitude-unit,
-        c.if-unit-mu.true))
+    ∙ certified_not _ _ _ (omega (
+      arith,
+      unit_is (goal.at.returns-then-unit-mu c).After-magnitude-unit,
+      c.if-unit-mu.true,
+    ))
 
 pub overflow_mul-product : goal.overflow_mul-product
 overflow_mul-product c = rw (unit_is (goal.at.overflow_mul-product c).After-magnitude-unit) (record {
@@ -57,7 +60,7 @@ copied-requires c =
 pub limited-requires : goal.limited-requires
 limited-requires c =
     subst Packed (sym (c.copied.ensures ∙ widened (goal.at.limited-requires c).Start _))
-        (radius_packed _ _ c.requires.t)
+    (radius_packed _ _ c.requires.t)
 
 pub returns : goal.returns
 returns c =

@@ -38,10 +38,18 @@ high_size c w = c.magnitude-high.ensures ∙ ap nat_abs
 
 pub returns-then-low-high : goal.returns-then-low-high
 unfolding largest_value largest_end
-returns-then-low-high c w = omega (arith, low_size (goal.at.returns-then-low-high c).After-magnitude-low w,
-    high_size (goal.at.returns-then-low-high c).After-magnitude-high w, c.if-low-high.true)
+returns-then-low-high c w = omega (
+  arith,
+  low_size (goal.at.returns-then-low-high c).After-magnitude-low w,
+  high_size (goal.at.returns-then-low-high c).After-magnitude-high w,
+  c.if-low-high.true,
+)
 
 pub returns-else-low-high : goal.returns-else-low-high
 unfolding largest_value largest_end
-returns-else-low-high c w = omega (arith, low_size (goal.at.returns-else-low-high c).After-magnitude-low w,
-    high_size (goal.at.returns-else-low-high c).After-magnitude-high w, c.if-low-high.false)
+returns-else-low-high c w = omega (
+  arith,
+  low_size (goal.at.returns-else-low-high c).After-magnitude-low w,
+  high_size (goal.at.returns-else-low-high c).After-magnitude-high w,
+  c.if-low-high.false,
+)

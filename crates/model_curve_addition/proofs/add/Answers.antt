@@ -26,7 +26,7 @@ unfolding cause
 returns-then-not-curve_sound-2 c =
     c.refuse_curve-then-not-curve_sound-2.ensures
     ∙ second_unsound _ _ (first_sound (goal.at.returns-then-not-curve_sound-2 c).Else-not-curve_sound)
-        (sym c.curve_sound-2.ensures ∙ c.if-not-curve_sound-2.true)
+    (sym c.curve_sound-2.ensures ∙ c.if-not-curve_sound-2.true)
 
 second_sound : (c : Else-not-curve_sound-2) → sound (view_curve c.args.g) ≡ true
 second_sound c = sym c.curve_sound-2.ensures ∙ c.if-not-curve_sound-2.false
@@ -43,4 +43,4 @@ returns c =
     c.limited_curve.ensures
     ∙ ap (λ h. curve_answer (at_place 0 (limited_curve (view_curve h)))) c.added_curves.ensures
     ∙ both_sound _ _ (first_sound (goal.at.returns c).Else-not-curve_sound)
-        (second_sound (goal.at.returns c).Else-not-curve_sound-2)
+    (second_sound (goal.at.returns c).Else-not-curve_sound-2)

@@ -80,7 +80,7 @@ pub loop-i-preserved : goal.loop-i-preserved
 loop-i-preserved c =
     copied_iteration _ (summed (goal.at.loop-i-preserved c).Start) _ _ _ c.loop-i.invariant c.loop-i-test.true
     (answered c.sum-z.type_inv c.sum-z.ensures ∙ ap₂ ◌+ℤ◌ (first_back (goal.at.loop-i-preserved c).After-sum-arg-1)
-        (second_back (goal.at.loop-i-preserved c).After-sum-arg-in-loop-i-1)
+    (second_back (goal.at.loop-i-preserved c).After-sum-arg-in-loop-i-1)
     ∙ added_at c.args.f.coefficients c.args.g.coefficients c.loop-i.i (same (goal.at.loop-i-preserved c).Start))
 
 pub overflow_add-result : goal.overflow_add-result

@@ -54,4 +54,4 @@ returns c =
     ∙ ap (λ h. curve_answer (at_place 0 (limited_curve
     (added (view_curve c.args.f) (view_curve h))))) c.turned_curve.ensures
     ∙ subtracted _ _ (first_sound (goal.at.returns c).Else-not-curve_sound)
-        (second_sound (goal.at.returns c).Else-not-curve_sound-2)
+    (second_sound (goal.at.returns c).Else-not-curve_sound-2)

@@ -58,7 +58,7 @@ pub loop-i-preserved : goal.loop-i-preserved
 loop-i-preserved c =
     copied_iteration _ (turned (goal.at.loop-i-preserved c).Start) _ _ _ c.loop-i.invariant c.loop-i-test.true
     (answered c.negated-z.type_inv c.negated-z.ensures
-        ∙ ap neg_ℤ (read_back (goal.at.loop-i-preserved c).After-negated-arg-1)
+    ∙ ap neg_ℤ (read_back (goal.at.loop-i-preserved c).After-negated-arg-1)
     ∙ negated_at c.args.c.coefficients c.loop-i.i)
 
 pub returns : goal.returns

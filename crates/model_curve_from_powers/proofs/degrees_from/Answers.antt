@@ -66,7 +66,7 @@ loop-i-smaller c = omega (arith, c.loop-i-test.true)
 pub loop-i-preserved : goal.loop-i-preserved
 loop-i-preserved c =
     filled_iteration _ (long (goal.at.loop-i-preserved c).After-combine_rows) _ _ _ c.loop-i.invariant
-        c.loop-i-test.true
+    c.loop-i-test.true
     (to_z-of_z {w = w64} (record { sfits = c.z-1.given }))
 
 pub returns : goal.returns

@@ -35,7 +35,7 @@ pub returns-then-not-sound : goal.returns-then-not-sound
 unfolding cause
 returns-then-not-sound c =
     c.refuse_curve.ensures ∙ model_unsound _ (sym (tested (goal.at.returns-then-not-sound c).After-sound)
-        ∙ c.if-not-sound.true)
+    ∙ c.if-not-sound.true)
 
 is_sound : (c : Else-not-sound) → M.sound most_degree (view c.args.m) ≡ true
 is_sound c = sym (tested c.before) ∙ c.if-not-sound.false

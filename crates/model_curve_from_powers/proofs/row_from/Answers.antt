@@ -94,9 +94,11 @@ there_is c = to_z-of_z {w = w64} (record { sfits = c.sum-arg-1.given })
 
 pub sum-x-requires : goal.sum-x-requires
 sum-x-requires c =
-    rw (read_back (goal.at.sum-x-requires c).After-c-1,
-        there_is c) (rowed_room _ c.requires (long (goal.at.sum-x-requires c).Start) _ _ c.loop-i.invariant
-        (more (goal.at.sum-x-requires c).After-c-1) _)
+    rw (
+      read_back (goal.at.sum-x-requires c).After-c-1,
+      there_is c,
+    ) (rowed_room _ c.requires (long (goal.at.sum-x-requires c).Start) _ _ c.loop-i.invariant
+    (more (goal.at.sum-x-requires c).After-c-1) _)
 
 pub offset_bounds-out-k-in-loop-i : goal.offset_bounds-out-k-in-loop-i
 offset_bounds-out-k-in-loop-i c = omega (arith, c.first_exponent-k.ensures.below)
@@ -110,10 +112,10 @@ loop-i-smaller c = omega (arith, more (goal.at.loop-i-smaller c).After-c-1)
 pub loop-i-preserved : goal.loop-i-preserved
 loop-i-preserved c =
     rowed_iteration _ c.requires (long (goal.at.loop-i-preserved c).Start) _ _ c.loop-i.invariant
-        (more (goal.at.loop-i-preserved c).After-c-1) _ (power_is (goal.at.loop-i-preserved c).After-c-1)
+    (more (goal.at.loop-i-preserved c).After-c-1) _ (power_is (goal.at.loop-i-preserved c).After-c-1)
     c.first_exponent-k.ensures.below _
     (answered c.sum-x.type_inv (c.sum-x.ensures ∙ ap₂ ◌+ℤ◌ (read_back (goal.at.loop-i-preserved c).After-c-1)
-        (there_is (goal.at.loop-i-preserved c).After-sum-arg-1)))
+    (there_is (goal.at.loop-i-preserved c).After-sum-arg-1)))
 
 pub returns : goal.returns
 returns c =

@@ -72,7 +72,7 @@ pub product-v-requires : goal.product-v-requires
 product-v-requires c =
     rw (second_is c)
     (product_room _ _ _ _ (low (goal.at.product-v-requires c).Start) (whole (goal.at.product-v-requires c).Start)
-        (small (goal.at.product-v-requires c).Start) _ _ c.loop-j.invariant c.loop-j-test.true)
+    (small (goal.at.product-v-requires c).Start) _ _ c.loop-j.invariant c.loop-j-test.true)
 
 module _ (c : After-product-v) where
   abbrev v : ℤ
@@ -83,13 +83,16 @@ module _ (c : After-product-v) where
       (c.product-v.ensures ∙ ap (λ z. A c.before.before.before.before *ℤ z) (second_is c.before))
 
 pub overflow_add-far : goal.overflow_add-far
-overflow_add-far c = omega (arith, low (goal.at.overflow_add-far c).Start,
-    within (goal.at.overflow_add-far c).In-loop-j)
+overflow_add-far c = omega (
+  arith,
+  low (goal.at.overflow_add-far c).Start,
+  within (goal.at.overflow_add-far c).In-loop-j,
+)
 
 near_in : (c : After-apart-near) → c.apart-near.result < 31
 near_in c =
     near_inside _ _ _ _ (low c.before.before.before.before.before) (whole c.before.before.before.before.before)
-        (small c.before.before.before.before.before) _ _ c.loop-j.invariant c.loop-j-test.true _
+    (small c.before.before.before.before.before) _ _ c.loop-j.invariant c.loop-j-test.true _
     c.apart-near.ensures
 
 pub offset_bounds-z-near : goal.offset_bounds-z-near
@@ -106,7 +109,7 @@ pub sum-x-requires : goal.sum-x-requires
 sum-x-requires c =
     rw (v_is (goal.at.sum-x-requires c).After-product-v, near_is c)
     (near_room _ _ _ _ (low (goal.at.sum-x-requires c).Start) (whole (goal.at.sum-x-requires c).Start)
-        (small (goal.at.sum-x-requires c).Start) _ _ c.loop-j.invariant c.loop-j-test.true _
+    (small (goal.at.sum-x-requires c).Start) _ _ c.loop-j.invariant c.loop-j-test.true _
     c.apart-near.ensures)
 
 x_is : (c : After-sum-x)
@@ -140,7 +143,7 @@ pub sum-y-requires : goal.sum-y-requires
 sum-y-requires c =
     rw (v_is (goal.at.sum-y-requires c).After-product-v, far_is c)
     (far_room _ _ _ _ (low (goal.at.sum-y-requires c).Start) (whole (goal.at.sum-y-requires c).Start)
-        (small (goal.at.sum-y-requires c).Start) _ _ c.loop-j.invariant c.loop-j-test.true _
+    (small (goal.at.sum-y-requires c).Start) _ _ c.loop-j.invariant c.loop-j-test.true _
     c.apart-near.ensures _ (x_is (goal.at.sum-y-requires c).After-sum-x))
 
 pub offset_bounds-z-far-in-loop-j : goal.offset_bounds-z-far-in-loop-j
@@ -155,14 +158,14 @@ loop-j-smaller c = omega (arith, c.loop-j-test.true)
 pub loop-j-preserved : goal.loop-j-preserved
 loop-j-preserved c =
     adding_iteration _ _ _ _ (low (goal.at.loop-j-preserved c).Start) (whole (goal.at.loop-j-preserved c).Start)
-        (small (goal.at.loop-j-preserved c).Start) _ _ c.loop-j.invariant c.loop-j-test.true _
+    (small (goal.at.loop-j-preserved c).Start) _ _ c.loop-j.invariant c.loop-j-test.true _
     c.apart-near.ensures _ (x_is (goal.at.loop-j-preserved c).After-sum-x) _
     (answered c.sum-y.type_inv (c.sum-y.ensures ∙ ap₂ ◌+ℤ◌ (v_is (goal.at.loop-j-preserved c).After-product-v)
-        (far_is (goal.at.loop-j-preserved c).After-sum-arg-in-loop-j-1)))
+    (far_is (goal.at.loop-j-preserved c).After-sum-arg-in-loop-j-1)))
 
 pub returns : goal.returns
 returns c =
     adding_end _ _ _ _ (low (goal.at.returns c).Start) (whole (goal.at.returns c).Start)
-        (small (goal.at.returns c).Start) _ _ c.loop-j.invariant c.loop-j-test.false
+    (small (goal.at.returns c).Start) _ _ c.loop-j.invariant c.loop-j-test.false
     ∙ ap (λ a. products_of c.args.i a 0 (G (goal.at.returns c).Start) (Z (goal.at.returns c).Start))
-        (A_is (goal.at.returns c).Start)
+    (A_is (goal.at.returns c).Start)

@@ -74,15 +74,15 @@ loop-i-smaller c = omega (arith, c.loop-i-test.true)
 pub loop-i-preserved : goal.loop-i-preserved
 loop-i-preserved c =
     collecting_iteration _ _ (first_whole (goal.at.loop-i-preserved c).Start)
-        (second_whole (goal.at.loop-i-preserved c).Start) (small (goal.at.loop-i-preserved c).Start) _ _
-        c.loop-i.invariant
+    (second_whole (goal.at.loop-i-preserved c).Start) (small (goal.at.loop-i-preserved c).Start) _ _
+    c.loop-i.invariant
     c.loop-i-test.true _
     (c.add_products.ensures
     ∙ ap (λ z. products_of (c.loop-i.i - 1) z 0 (G (goal.at.loop-i-preserved c).Start) c.loop-i.z)
-        (first_is (goal.at.loop-i-preserved c).After-a-1))
+    (first_is (goal.at.loop-i-preserved c).After-a-1))
 
 pub returns : goal.returns
 unfolding products
 returns c =
     collecting_end _ _ (first_whole (goal.at.returns c).Start) (second_whole (goal.at.returns c).Start)
-        (small (goal.at.returns c).Start) _ _ c.loop-i.invariant c.loop-i-test.false
+    (small (goal.at.returns c).Start) _ _ c.loop-i.invariant c.loop-i-test.false

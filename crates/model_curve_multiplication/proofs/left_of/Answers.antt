@@ -25,8 +25,10 @@ d_is c = answered c.signed.type_inv c.signed.ensures
 
 pub product-back-requires : goal.product-back-requires
 product-back-requires c =
-    rw (q_is (goal.at.product-back-requires c).Start,
-        d_is c) (omega (arith, back_product c.args.c c.args.d c.requires.d_nonzero, c.requires.c_bound))
+    rw (
+      q_is (goal.at.product-back-requires c).Start,
+      d_is c,
+    ) (omega (arith, back_product c.args.c c.args.d c.requires.d_nonzero, c.requires.c_bound))
 
 back_is : (c : After-product-back)
     → to_z w64 (of_z w64 c.product-back.result) ≡ nearest c.args.c c.args.d *ℤ pos c.args.d
@@ -34,8 +36,10 @@ back_is c = answered c.product-back.type_inv (c.product-back.ensures ∙ ap₂ �
 
 pub difference-requires : goal.difference-requires
 difference-requires c =
-    rw (c_is (goal.at.difference-requires c).Start,
-        back_is c) (omega (arith, back_room c.args.c c.args.d c.requires.d_nonzero, c.requires.c_bound))
+    rw (
+      c_is (goal.at.difference-requires c).Start,
+      back_is c,
+    ) (omega (arith, back_room c.args.c c.args.d c.requires.d_nonzero, c.requires.c_bound))
 
 pub returns : goal.returns
 returns c =

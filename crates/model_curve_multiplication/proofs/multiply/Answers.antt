@@ -31,7 +31,7 @@ unfolding cause
 returns-then-not-curve_sound-2 c =
     c.refuse_curve-then-not-curve_sound-2.ensures
     ∙ other_unsound _ _ (first_sound (goal.at.returns-then-not-curve_sound-2 c).Else-not-curve_sound)
-        (sym c.curve_sound-2.ensures ∙ c.if-not-curve_sound-2.true)
+    (sym c.curve_sound-2.ensures ∙ c.if-not-curve_sound-2.true)
 
 second_sound : (c : Else-not-curve_sound-2) → sound (view_curve c.args.g) ≡ true
 second_sound c = sym c.curve_sound-2.ensures ∙ c.if-not-curve_sound-2.false
@@ -80,4 +80,4 @@ returns c =
     ∙ ap₂ (λ n z. curve_answer (at_place 0 (limited_curve (rounded (2 * U) n z)))) c.crossed-e.ensures
     c.collected-z.ensures
     ∙ factors_sound f g (first_sound (goal.at.returns c).Else-not-curve_sound)
-        (second_sound (goal.at.returns c).Else-not-curve_sound-2)
+    (second_sound (goal.at.returns c).Else-not-curve_sound-2)

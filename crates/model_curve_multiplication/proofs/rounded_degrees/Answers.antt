@@ -87,13 +87,17 @@ iterated : (c : After-left_of-total)
     (c.loop-i.i + 1)
 iterated c =
     rounding_iteration _ (whole c.before.before.before.before.before.before) _ _ c.requires.d_nonzero _ _ _
-        c.loop-i.invariant (inside c.before.before) _ _ (q_is c.before)
+    c.loop-i.invariant (inside c.before.before) _ _ (q_is c.before)
     (left_is c)
 
 pub overflow_add-total-in-loop-i : goal.overflow_add-total-in-loop-i
 overflow_add-total-in-loop-i c =
-    omega (arith, rounding_small _ (whole (goal.at.overflow_add-total-in-loop-i c).Start) _ _ c.requires.d_nonzero _ _ _
-        (iterated c), c.requires.places_bound)
+    omega (
+      arith,
+      rounding_small _ (whole (goal.at.overflow_add-total-in-loop-i c).Start) _ _ c.requires.d_nonzero _ _ _
+          (iterated c),
+      c.requires.places_bound,
+    )
 
 pub offset_bounds-out-i : goal.offset_bounds-out-i
 offset_bounds-out-i c = omega (arith, inside (goal.at.offset_bounds-out-i c).After-c-1)
@@ -117,4 +121,4 @@ pub returns : goal.returns
 returns c =
     ap (λ n. record { coefficients = c.loop-i.out; radius = n }) c.divided_up.ensures
     ∙ ap pack_curve (rounding_end _ (whole (goal.at.returns c).Start) _ _ c.requires.d_nonzero _ _ _ c.loop-i.invariant
-        c.loop-i-test.false)
+    c.loop-i-test.false)

@@ -58,13 +58,17 @@ around_is c = answered c.signed-around.type_inv (c.signed-around.ensures ∙ ap 
 
 -- src/lib.rt:38:14
 pub difference-requires : goal.difference-requires
-difference-requires c = rw (middle_is (goal.at.difference-requires c).After-variation_of,
-    around_is c) (omega (arith, room (goal.at.difference-requires c).After-variation_of))
+difference-requires c = rw (
+  middle_is (goal.at.difference-requires c).After-variation_of,
+  around_is c,
+) (omega (arith, room (goal.at.difference-requires c).After-variation_of))
 
 -- src/lib.rt:39:15
 pub sum-requires : goal.sum-requires
-sum-requires c = rw (middle_is (goal.at.sum-requires c).After-variation_of,
-    around_is (goal.at.sum-requires c).After-signed-around)
+sum-requires c = rw (
+  middle_is (goal.at.sum-requires c).After-variation_of,
+  around_is (goal.at.sum-requires c).After-signed-around,
+)
     (omega (arith, room (goal.at.sum-requires c).After-variation_of))
 
 -- src/lib.rt:29:1

@@ -54,7 +54,7 @@ loop-i-smaller c = omega (arith, c.loop-i.invariant.above)
 pub loop-i-preserved : goal.loop-i-preserved
 loop-i-preserved c =
     gathered_iteration _ (whole (goal.at.loop-i-preserved c).Start) _ _ _ c.loop-i.invariant c.loop-i-test.true
-        (size_is c)
+    (size_is c)
 
 total_is : (c : After-loop-i)
     → c.loop-i.total + c.args.c.radius

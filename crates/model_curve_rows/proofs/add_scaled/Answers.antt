@@ -66,7 +66,7 @@ pub product-part-requires : goal.product-part-requires
 product-part-requires c =
     rw (second_is c)
     (part_room _ _ _ (long (goal.at.product-part-requires c).Start) (whole (goal.at.product-part-requires c).Start)
-        (small (goal.at.product-part-requires c).Start) _ _ c.loop-j.invariant c.loop-j-test.true)
+    (small (goal.at.product-part-requires c).Start) _ _ c.loop-j.invariant c.loop-j-test.true)
 
 module _ (c : After-product-part) where
   part_is : to_z w64 (of_z w64 c.product-part.result) ≡ C c.before.before.before.before *ℤ B c.before.before
@@ -87,7 +87,7 @@ pub sum-x-requires : goal.sum-x-requires
 sum-x-requires c =
     rw (part_is (goal.at.sum-x-requires c).After-product-part, there_is c)
     (sum_room _ _ _ (long (goal.at.sum-x-requires c).Start) (whole (goal.at.sum-x-requires c).Start)
-        (small (goal.at.sum-x-requires c).Start) _ _ c.loop-j.invariant c.loop-j-test.true)
+    (small (goal.at.sum-x-requires c).Start) _ _ c.loop-j.invariant c.loop-j-test.true)
 
 pub offset_bounds-total-j-in-loop-j : goal.offset_bounds-total-j-in-loop-j
 offset_bounds-total-j-in-loop-j c = omega (arith, within (goal.at.offset_bounds-total-j-in-loop-j c).In-loop-j)
@@ -101,13 +101,13 @@ loop-j-smaller c = omega (arith, c.loop-j-test.true)
 pub loop-j-preserved : goal.loop-j-preserved
 loop-j-preserved c =
     scaling_iteration _ _ _ (long (goal.at.loop-j-preserved c).Start) (whole (goal.at.loop-j-preserved c).Start)
-        (small (goal.at.loop-j-preserved c).Start) _ _ c.loop-j.invariant c.loop-j-test.true _
+    (small (goal.at.loop-j-preserved c).Start) _ _ c.loop-j.invariant c.loop-j-test.true _
     (answered c.sum-x.type_inv (c.sum-x.ensures ∙ ap₂ ◌+ℤ◌ (part_is (goal.at.loop-j-preserved c).After-product-part)
-        (there_is (goal.at.loop-j-preserved c).After-sum-arg-1)))
+    (there_is (goal.at.loop-j-preserved c).After-sum-arg-1)))
 
 pub returns : goal.returns
 returns c =
     scaling_end _ _ _ (long (goal.at.returns c).Start) (whole (goal.at.returns c).Start)
-        (small (goal.at.returns c).Start) _ _ c.loop-j.invariant c.loop-j-test.false
+    (small (goal.at.returns c).Start) _ _ c.loop-j.invariant c.loop-j-test.false
     ∙ ap (λ z. sum (scale z (R (goal.at.returns c).Start)) (Z (goal.at.returns c).Start))
-        (C_is (goal.at.returns c).Start)
+    (C_is (goal.at.returns c).Start)

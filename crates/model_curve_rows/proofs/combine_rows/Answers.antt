@@ -71,12 +71,12 @@ loop-k-smaller c = omega (arith, c.loop-k-test.true)
 pub loop-k-preserved : goal.loop-k-preserved
 loop-k-preserved c =
     combining_iteration _ _ (whole (goal.at.loop-k-preserved c).Start) (small (goal.at.loop-k-preserved c).Start)
-        (fit (goal.at.loop-k-preserved c).Start) _ _ c.loop-k.invariant c.loop-k-test.true _
+    (fit (goal.at.loop-k-preserved c).Start) _ _ c.loop-k.invariant c.loop-k-test.true _
     (c.add_scaled.ensures
     ∙ ap (λ z. sum (scale z (get_or c.args.rows.now (c.loop-k.k - 1) [])) c.loop-k.total)
-        (c_is (goal.at.loop-k-preserved c).After-c-1))
+    (c_is (goal.at.loop-k-preserved c).After-c-1))
 
 pub returns : goal.returns
 returns c =
     combining_end _ _ (whole (goal.at.returns c).Start) (small (goal.at.returns c).Start)
-        (fit (goal.at.returns c).Start) _ _ c.loop-k.invariant c.loop-k-test.false
+    (fit (goal.at.returns c).Start) _ _ c.loop-k.invariant c.loop-k-test.false

@@ -101,27 +101,43 @@ loop-i-preserved-then-size-eq0 c = (
 
 pub overflow_add-span : goal.overflow_add-span
 overflow_add-span c =
-    omega (arith, c.loop-i.invariant.1.small, inside (goal.at.overflow_add-span c).After-magnitude-size,
-        size_small (goal.at.overflow_add-span c).After-magnitude-size)
+    omega (
+      arith,
+      c.loop-i.invariant.1.small,
+      inside (goal.at.overflow_add-span c).After-magnitude-size,
+      size_small (goal.at.overflow_add-span c).After-magnitude-size,
+    )
 
 pub offset_bounds-keys-count : goal.offset_bounds-keys-count
-offset_bounds-keys-count c = omega (arith, c.loop-i.invariant.1.few,
-    inside (goal.at.offset_bounds-keys-count c).After-magnitude-size)
+offset_bounds-keys-count c = omega (
+  arith,
+  c.loop-i.invariant.1.few,
+  inside (goal.at.offset_bounds-keys-count c).After-magnitude-size,
+)
 
 pub bounds-keys-count : goal.bounds-keys-count
 bounds-keys-count c = omega (arith, c.loop-i.invariant.1.few, inside (goal.at.bounds-keys-count c).After-magnitude-size)
 
 pub offset_bounds-coefficients-count : goal.offset_bounds-coefficients-count
-offset_bounds-coefficients-count c = omega (arith, c.loop-i.invariant.1.few,
-    inside (goal.at.offset_bounds-coefficients-count c).After-magnitude-size)
+offset_bounds-coefficients-count c = omega (
+  arith,
+  c.loop-i.invariant.1.few,
+  inside (goal.at.offset_bounds-coefficients-count c).After-magnitude-size,
+)
 
 pub bounds-coefficients-count : goal.bounds-coefficients-count
-bounds-coefficients-count c = omega (arith, c.loop-i.invariant.1.few,
-    inside (goal.at.bounds-coefficients-count c).After-magnitude-size)
+bounds-coefficients-count c = omega (
+  arith,
+  c.loop-i.invariant.1.few,
+  inside (goal.at.bounds-coefficients-count c).After-magnitude-size,
+)
 
 pub overflow_add-count : goal.overflow_add-count
-overflow_add-count c = omega (arith, c.loop-i.invariant.1.few,
-    inside (goal.at.overflow_add-count c).After-magnitude-size)
+overflow_add-count c = omega (
+  arith,
+  c.loop-i.invariant.1.few,
+  inside (goal.at.overflow_add-count c).After-magnitude-size,
+)
 
 pub loop-i-smaller : goal.loop-i-smaller
 loop-i-smaller c = omega (arith, inside (goal.at.loop-i-smaller c).After-magnitude-size)
@@ -129,17 +145,20 @@ loop-i-smaller c = omega (arith, inside (goal.at.loop-i-smaller c).After-magnitu
 pub loop-i-preserved : goal.loop-i-preserved
 loop-i-preserved c =
     let put = listed_put c.loop-i.invariant.0 c.loop-i.count
-    (record { key = key key_width (c.loop-i.i ∷ []); coefficient = at
-        (goal.at.loop-i-preserved c).After-magnitude-size })
+    (record {
+      key = key key_width (c.loop-i.i ∷ []);
+      coefficient = at
+          (goal.at.loop-i-preserved c).After-magnitude-size;
+    })
     c.power_key-key.ensures (at_is (goal.at.loop-i-preserved c).After-magnitude-size) in (
       put.0,
       subst (λ l. Converted (row (goal.at.loop-i-preserved c).After-in_rows-row) c.args.c.radius l (c.loop-i.count + 1)
           (c.loop-i.span + c.magnitude-size.result) (c.loop-i.i + 1)) (sym put.1)
           (converted_keep _ _ (whole (goal.at.loop-i-preserved c).After-in_rows-row)
-              (radius_small (goal.at.loop-i-preserved c).After-in_rows-row) _ _ _ _ c.loop-i.invariant.1
-              (inside (goal.at.loop-i-preserved c).After-magnitude-size) _ _ _ refl
+          (radius_small (goal.at.loop-i-preserved c).After-in_rows-row) _ _ _ _ c.loop-i.invariant.1
+          (inside (goal.at.loop-i-preserved c).After-magnitude-size) _ _ _ refl
           (size_is (goal.at.loop-i-preserved c).After-magnitude-size) (omega (arith, c.if-size-eq0.false))
-              (size_small (goal.at.loop-i-preserved c).After-magnitude-size) refl),
+          (size_small (goal.at.loop-i-preserved c).After-magnitude-size) refl),
     )
 
 -- the terms in powers of the curve itself
@@ -155,7 +174,7 @@ returns-then-within_span c =
     ap (λ (m : Model). record { model = m; verdict = Accepted })
     (listed_struct c.loop-i.invariant.0 _ _ _)
     ∙ powers_within _ (radius_small (goal.at.returns-then-within_span c).After-in_rows-row) _ _ _ _
-        (made (goal.at.returns-then-within_span c).At-loop-i) c.loop-i-test.false
+    (made (goal.at.returns-then-within_span c).At-loop-i) c.loop-i-test.false
     (sym c.within_span.ensures ∙ c.if-within_span.true)
 
 pub returns : goal.returns
@@ -163,5 +182,5 @@ unfolding cause
 returns c =
     c.refuse.ensures
     ∙ powers_over _ (radius_small (goal.at.returns c).After-in_rows-row) _ _ _ _ (made (goal.at.returns c).At-loop-i)
-        c.loop-i-test.false
+    c.loop-i-test.false
     (sym c.within_span.ensures ∙ c.if-within_span.false)

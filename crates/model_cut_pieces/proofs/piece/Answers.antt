@@ -38,8 +38,14 @@ signed-width-requires c =
 
 pub raised-key-requires : goal.raised-key-requires
 raised-key-requires c =
-    zero_raisable c.args.i (record { first = c.requires.le_i.0; last = omega (arith, c.requires.le_i.1,
-        c.requires.le_i.2) })
+    zero_raisable c.args.i (record {
+      first = c.requires.le_i.0;
+      last = omega (
+        arith,
+        c.requires.le_i.1,
+        c.requires.le_i.2,
+      );
+    })
 
 pub returns-then-middle-eq0 : goal.returns-then-middle-eq0
 unfolding padded most_terms

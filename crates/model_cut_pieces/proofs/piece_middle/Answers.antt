@@ -62,4 +62,4 @@ unfolding piece_middle
 returns c =
     answered c.sum.type_inv c.sum.ensures
     ∙ ap₂ ◌+ℤ◌ (left_is (goal.at.returns c).After-negated-left) (answered c.signed-right.type_inv c.signed-right.ensures
-        ∙ ap pos (right_is (goal.at.returns c).After-negated-left))
+    ∙ ap pos (right_is (goal.at.returns c).After-negated-left))

@@ -14,8 +14,11 @@ use Rattle.model_cut_pieces.proofs.piece_range.Goals as goal
 pub piece-g-requires : goal.piece-g-requires
 piece-g-requires c =
     record {
-      le_i = (c.requires.cutting.first, c.requires.cutting.last,
-          (limits c.args.d c.args.f c.requires.cutting.model).width);
+      le_i = (
+        c.requires.cutting.first,
+        c.requires.cutting.last,
+        (limits c.args.d c.args.f c.requires.cutting.model).width,
+      );
       k_le_most_depth = c.requires.cutting.depth;
       j_bound = c.requires.j_bound;
     }

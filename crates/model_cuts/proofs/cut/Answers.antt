@@ -120,24 +120,30 @@ shape_of-sums-in_default-w c =
 pub returns-in_default-w : goal.returns-in_default-w
 returns-in_default-w c =
     iteration_refused c.args.d c.args.i c.args.k (view c.args.f) c.loop-j.invariant.0
-        (inside (goal.at.returns-in_default-w c).After-piece_range-next)
+    (inside (goal.at.returns-in_default-w c).After-piece_range-next)
     c.piece_range-next.ensures c.in_default-w.is
 
 pub overflow_add-j : goal.overflow_add-j
 overflow_add-j c =
-    omega (arith, inside (goal.at.overflow_add-j c).After-piece_range-next,
-        few_pieces c.args.k c.requires.cutting.depth)
+    omega (
+      arith,
+      inside (goal.at.overflow_add-j c).After-piece_range-next,
+      few_pieces c.args.k c.requires.cutting.depth,
+    )
 
 pub loop-j-smaller : goal.loop-j-smaller
 loop-j-smaller c =
-    omega (arith, inside (goal.at.loop-j-smaller c).After-piece_range-next,
-        count_is (goal.at.loop-j-smaller c).At-loop-j)
+    omega (
+      arith,
+      inside (goal.at.loop-j-smaller c).After-piece_range-next,
+      count_is (goal.at.loop-j-smaller c).At-loop-j,
+    )
 
 pub loop-j-preserved : goal.loop-j-preserved
 loop-j-preserved c =
     let told = c.in-Accepted-w.is in
     let h = iteration_accepted c.args.d c.args.i c.args.k (view c.args.f) c.loop-j.invariant.0
-            (inside (goal.at.loop-j-preserved c).After-piece_range-next)
+    (inside (goal.at.loop-j-preserved c).After-piece_range-next)
     c.piece_range-next.ensures told in
     let low = c.smaller-low in
     let high = c.larger-high in

@@ -24,7 +24,7 @@ abbrev pub invariant-loop-j : goal.invariant-loop-j
 invariant-loop-j l =
     Covered l.d l.i l.k (view l.f) l.j l.low l.high
     × (length l.slots ≡ length l.initial.slots) × (length l.keys ≡ length l.initial.keys)
-        × (length l.sums ≡ length l.initial.sums)
+    × (length l.sums ≡ length l.initial.sums)
 
 abbrev pub decreases-loop-j : goal.decreases-loop-j
 decreases-loop-j l = l.pieces - l.j

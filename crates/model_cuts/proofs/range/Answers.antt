@@ -23,7 +23,7 @@ returns-then-k-gt-MOST_DEPTH c =
     let deep : 6 < c.args.k = omega (arith, c.if-k-gt-MOST_DEPTH.true) in
     c.refuse_bounds.ensures
     ∙ ap bounds (sym (call_is _ _ _ _ ∙ goes_on _ _ (passed (goal.at.returns-then-k-gt-MOST_DEPTH c).In-Accepted)
-        ∙ too_deep _ _ _ _ deep))
+    ∙ too_deep _ _ _ _ deep))
 
 pub cut-requires : goal.cut-requires
 cut-requires c =
@@ -38,7 +38,7 @@ returns-else-k-gt-MOST_DEPTH c =
     let depth : c.args.k ≤ 6 = omega (arith, c.if-k-gt-MOST_DEPTH.false) in
     c.cut.ensures
     ∙ ap bounds (sym (call_is _ _ _ _ ∙ goes_on _ _ (passed (goal.at.returns-else-k-gt-MOST_DEPTH c).In-Accepted)
-        ∙ not_too_deep _ _ _ _ depth))
+    ∙ not_too_deep _ _ _ _ depth))
 
 pub returns-in-Refused : goal.returns-in-Refused
 returns-in-Refused c =

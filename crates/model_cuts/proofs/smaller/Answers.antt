@@ -16,9 +16,9 @@ module _ (s : Start) where
 pub returns-then-a-b : goal.returns-then-a-b
 returns-then-a-b c =
     to_z-of_z c.ranges.a ∙ sym (smaller_yes c.args.a c.args.b (sym (compared (goal.at.returns-then-a-b c).Start)
-        ∙ c.if-a-b.true))
+    ∙ c.if-a-b.true))
 
 pub returns-else-a-b : goal.returns-else-a-b
 returns-else-a-b c =
     to_z-of_z c.ranges.b ∙ sym (smaller_no c.args.a c.args.b (sym (compared (goal.at.returns-else-a-b c).Start)
-        ∙ c.if-a-b.false))
+    ∙ c.if-a-b.false))

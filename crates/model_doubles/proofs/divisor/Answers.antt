@@ -11,4 +11,4 @@ returns-then-shift-ge-MOST_SHIFT c = divisor_largest c.args.places (omega (arith
 pub returns : goal.returns
 returns c =
     shifted _ (omega (arith, c.if-shift-ge-MOST_SHIFT.false))
-        ∙ divisor_shift c.args.places (omega (arith, c.if-shift-ge-MOST_SHIFT.false))
+    ∙ divisor_shift c.args.places (omega (arith, c.if-shift-ge-MOST_SHIFT.false))

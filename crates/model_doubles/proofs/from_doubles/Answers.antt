@@ -29,7 +29,7 @@ returns-then-not-deliverable c =
     c.refuse.ensures
     ∙ not_delivered _ _ _ _ _ c.taken_apart-a.ensures c.taken_apart-b.ensures c.taken_apart-c.ensures
     c.taken_apart-e.ensures (sym (delivered_is (goal.at.returns-then-not-deliverable c).After-deliverable)
-        ∙ c.if-not-deliverable.true)
+    ∙ c.if-not-deliverable.true)
 
 pub returns-then-not-moderate : goal.returns-then-not-moderate
 unfolding cause
@@ -37,7 +37,7 @@ returns-then-not-moderate c =
     c.refuse-then-not-moderate.ensures
     ∙ one_huge _ _ _ _ _ c.taken_apart-a.ensures c.taken_apart-b.ensures c.taken_apart-c.ensures
     c.taken_apart-e.ensures (sym (delivered_is (goal.at.returns-then-not-moderate c).After-deliverable)
-        ∙ c.if-not-deliverable.false)
+    ∙ c.if-not-deliverable.false)
     (sym c.moderate.ensures ∙ c.if-not-moderate.true)
 
 -- none is too large
@@ -63,4 +63,4 @@ returns c =
     ∙ answered_by _ _ _ _ _ c.taken_apart-a.ensures c.taken_apart-b.ensures
     c.taken_apart-c.ensures c.taken_apart-e.ensures
     (sym (delivered_is (goal.at.returns c).After-deliverable) ∙ c.if-not-deliverable.false)
-        (is_moderate (goal.at.returns c).Else-not-moderate)
+    (is_moderate (goal.at.returns c).Else-not-moderate)

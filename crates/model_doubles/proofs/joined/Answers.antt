@@ -50,14 +50,24 @@ third_one c = subst (λ i. i ≤ 1) (sym (ap (λ r. r.inexact) c.to_units-z.ensu
 
 pub overflow_add-radius : goal.overflow_add-radius
 overflow_add-radius c =
-    record { fits = omega (arith, radius_few (goal.at.overflow_add-radius c).After-rounded_up,
-        first_one (goal.at.overflow_add-radius c).After-to_units-x) }
+    record {
+      fits = omega (
+        arith,
+        radius_few (goal.at.overflow_add-radius c).After-rounded_up,
+        first_one (goal.at.overflow_add-radius c).After-to_units-x,
+      );
+    }
 
 pub overflow_add-radius-2 : goal.overflow_add-radius-2
 overflow_add-radius-2 c =
-    record { fits = omega (arith, radius_few (goal.at.overflow_add-radius-2 c).After-rounded_up,
+    record {
+      fits = omega (
+        arith,
+        radius_few (goal.at.overflow_add-radius-2 c).After-rounded_up,
         first_one (goal.at.overflow_add-radius-2 c).After-to_units-x,
-        second_one (goal.at.overflow_add-radius-2 c).After-to_units-y) }
+        second_one (goal.at.overflow_add-radius-2 c).After-to_units-y,
+      );
+    }
 
 pub overflow_add-radius-3 : goal.overflow_add-radius-3
 overflow_add-radius-3 c =
@@ -89,7 +99,7 @@ pub returns : goal.returns
 returns c =
     c.model_of.ensures
     ∙ ap pack (λ i. model_of (first_back (goal.at.returns c).After-struct_told-3-1 i)
-        (second_back (goal.at.returns c).After-struct_told-3-1 i)
-        (third_back (goal.at.returns c).After-struct_told-3-1 i)
+    (second_back (goal.at.returns c).After-struct_told-3-1 i)
+    (third_back (goal.at.returns c).After-struct_told-3-1 i)
     (c.rounded_up.ensures i + (c.to_units-x.ensures i).inexact + (c.to_units-y.ensures i).inexact
     + (c.to_units-z.ensures i).inexact))

@@ -23,7 +23,7 @@ pub returns-in-Accepted : goal.returns-in-Accepted
 unfolding view
 returns-in-Accepted c =
     c.evaluated.ensures ∙ ap bounds (sym (evaluate_is _ _
-        ∙ goes_on _ _ (passed (goal.at.returns-in-Accepted c).In-Accepted)))
+    ∙ goes_on _ _ (passed (goal.at.returns-in-Accepted c).In-Accepted)))
 
 pub returns-in-Refused : goal.returns-in-Refused
 returns-in-Refused c =

@@ -53,9 +53,13 @@ abbrev zeros_room : Room (replicate 64 0) (replicate 64 (pos 0))
 zeros_room = record { keys = refl; coefficients = refl }
 
 pub loop-i-init : goal.loop-i-init
-loop-i-init c =
-    (remaining_start _ _ _ _ _ (evaluation (goal.at.loop-i-init c).Start) (long (goal.at.loop-i-init c).Start),
-        first_room (goal.at.loop-i-init c).Start, zeros_room, zeros_room, zeros_room)
+loop-i-init c = (
+  remaining_start _ _ _ _ _ (evaluation (goal.at.loop-i-init c).Start) (long (goal.at.loop-i-init c).Start),
+  first_room (goal.at.loop-i-init c).Start,
+  zeros_room,
+  zeros_room,
+  zeros_room,
+)
 
 small : (c : In-loop-i) → c.loop-i.i ≤ 8
 unfolding key_width
@@ -95,7 +99,7 @@ put_constant-a-requires c =
     record {
       put_of = subst (λ z. PutOf c.loop-i.i z c.loop-i.count c.loop-i.radius c.loop-i.keys c.loop-i.coefficients)
           (sym (read_back (goal.at.put_constant-a-requires c).After-x-1))
-              (given (goal.at.put_constant-a-requires c).After-x-1);
+          (given (goal.at.put_constant-a-requires c).After-x-1);
       room = c.loop-i.invariant.2;
       room_2 = c.loop-i.invariant.3;
       room_3 = c.loop-i.invariant.4;
@@ -129,24 +133,39 @@ module _ (c : After-put_constant-a) where
     coefficients = let a = c.loop-i.invariant.4.coefficients in search rules;
   }
 
-  put_is : LeftIn (given (record { before = c.before.before.before.before.before.before.before.before.before;
-      type_inv = record { keys = c.x-1.array_long } })).vars c.put_constant-a.result left_keys lefts (answer (at_place 0
+  put_is : LeftIn (given (record {
+    before = c.before.before.before.before.before.before.before.before.before;
+    type_inv = record { keys = c.x-1.array_long };
+  })).vars c.put_constant-a.result left_keys lefts (answer (at_place 0
       (substitute most_degree c.loop-i.i (view (held
-          (given (record { before = c.before.before.before.before.before.before.before.before.before; type_inv = record
-          { keys = c.x-1.array_long } })).vars c.loop-i.count
+      (given (record {
+        before = c.before.before.before.before.before.before.before.before.before;
+        type_inv = record
+            { keys = c.x-1.array_long };
+      })).vars c.loop-i.count
       c.loop-i.radius c.loop-i.keys c.loop-i.coefficients))
-      (constant (given (record { before = c.before.before.before.before.before.before.before.before.before;
-          type_inv = record { keys = c.x-1.array_long } })).vars
-          (X (record { before = c.before.before.before.before.before.before.before.before.before; type_inv = record
-          { keys = c.x-1.array_long } }))))))
+      (constant (given (record {
+        before = c.before.before.before.before.before.before.before.before.before;
+        type_inv = record { keys = c.x-1.array_long };
+      })).vars
+      (X (record {
+        before = c.before.before.before.before.before.before.before.before.before;
+        type_inv = record
+            { keys = c.x-1.array_long };
+      }))))))
   put_is = subst (λ z. PutIn c.loop-i.i z c.loop-i.count c.loop-i.radius
       c.loop-i.keys
       c.loop-i.coefficients c.put_constant-a.result left_keys lefts)
-          (read_back (record { before = c.before.before.before.before.before.before.before.before.before;
-          type_inv = record { keys = c.x-1.array_long } }))
-      c.put_constant-a.ensures (given (record { before =
-          c.before.before.before.before.before.before.before.before.before; type_inv = record
-          { keys = c.x-1.array_long } }))
+      (read_back (record {
+        before = c.before.before.before.before.before.before.before.before.before;
+        type_inv = record { keys = c.x-1.array_long };
+      }))
+      c.put_constant-a.ensures (given (record {
+        before =
+            c.before.before.before.before.before.before.before.before.before;
+        type_inv = record
+            { keys = c.x-1.array_long };
+      }))
 
   goes_on : c.put_constant-a.result.verdict ≡ Accepted
       → Remaining (held c.args.m.n c.args.m.count
@@ -157,26 +176,30 @@ module _ (c : After-put_constant-a) where
   goes_on v = iteration_accepted _ _ _ _ _ (evaluation
       c.before.before.before.before.before.before.before.before.before.before.before.before.before.before)
       (long c.before.before.before.before.before.before.before.before.before.before.before.before.before.before) _ _ _ _
-      c.loop-i.invariant.0 (inside (record { before = c.before.before.before.before.before.before.before.before.before;
-          type_inv = record { keys = c.x-1.array_long } })) _ _ put_is v
+      c.loop-i.invariant.0 (inside (record {
+        before = c.before.before.before.before.before.before.before.before.before;
+        type_inv = record { keys = c.x-1.array_long };
+      })) _ _ put_is v
 
 pub returns-in_default : goal.returns-in_default
 returns-in_default c =
     held_end c.args.m (first_room (goal.at.returns-in_default c).Start) (few (goal.at.returns-in_default c).Start)
-        c.args.xs
+    c.args.xs
     (iteration_refused _ _ _ _ _ (evaluation (goal.at.returns-in_default c).Start)
-        (long (goal.at.returns-in_default c).Start) _ _ _ _ c.loop-i.invariant.0
-        (inside (goal.at.returns-in_default c).After-x-1) _ _
-        (put_is (goal.at.returns-in_default c).After-put_constant-a)
+    (long (goal.at.returns-in_default c).Start) _ _ _ _ c.loop-i.invariant.0
+    (inside (goal.at.returns-in_default c).After-x-1) _ _
+    (put_is (goal.at.returns-in_default c).After-put_constant-a)
     c.in_default.is)
 
 pub copied-requires : goal.copied-requires
 copied-requires c =
     record {
-      count_le_model_places = (left_few _ _ _ _ _ (evaluation (goal.at.copied-requires c).Start)
-          (long (goal.at.copied-requires c).Start) _ _ _ _
-          (goes_on (goal.at.copied-requires c).After-put_constant-a c.in-Accepted.is),
-          left_room (goal.at.copied-requires c).After-put_constant-a);
+      count_le_model_places = (
+        left_few _ _ _ _ _ (evaluation (goal.at.copied-requires c).Start)
+            (long (goal.at.copied-requires c).Start) _ _ _ _
+            (goes_on (goal.at.copied-requires c).After-put_constant-a c.in-Accepted.is),
+        left_room (goal.at.copied-requires c).After-put_constant-a,
+      );
       room = c.loop-i.invariant.1;
     }
 
@@ -202,7 +225,7 @@ loop-i-preserved c =
     let m = c.args.m in (
       subst (Remaining (held m.n m.count m.radius m.keys m.coefficients) c.args.xs
           (c.loop-i.i + 1)) (sym (c.copied.ensures _ _))
-              (goes_on (goal.at.loop-i-preserved c).After-put_constant-a c.in-Accepted.is),
+          (goes_on (goal.at.loop-i-preserved c).After-put_constant-a c.in-Accepted.is),
       copied_room (goal.at.loop-i-preserved c).After-copied,
       left_room (goal.at.loop-i-preserved c).After-put_constant-a,
       others_room (goal.at.loop-i-preserved c).After-put_constant-a,
@@ -212,11 +235,11 @@ loop-i-preserved c =
 pub range_of-requires : goal.range_of-requires
 range_of-requires c =
     end_sound _ _ _ _ _ (evaluation (goal.at.range_of-requires c).Start) (long (goal.at.range_of-requires c).Start) _ _
-        _ _ c.loop-i.invariant.0 c.loop-i.invariant.1
+    _ _ c.loop-i.invariant.0 c.loop-i.invariant.1
 
 pub returns : goal.returns
 returns c =
     held_end c.args.m (first_room (goal.at.returns c).Start) (few (goal.at.returns c).Start) c.args.xs
     (range_end _ _ _ _ _ (evaluation (goal.at.returns c).Start) (long (goal.at.returns c).Start) _ _ _ _
-        c.loop-i.invariant.0 c.loop-i.invariant.1
+    c.loop-i.invariant.0 c.loop-i.invariant.1
     (omega (arith, c.loop-i-test.false)) c.range_of.ensures)

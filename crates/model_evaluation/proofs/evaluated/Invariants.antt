@@ -29,7 +29,7 @@ use Rattle.model_evaluation.proofs.evaluated.Given as goal
 abbrev pub invariant-loop-i : goal.invariant-loop-i
 invariant-loop-i l =
     Remaining (held l.n l.initial.count l.initial.radius l.initial.keys l.initial.coefficients) l.xs l.i
-        (held l.n l.count l.radius l.keys l.coefficients)
+    (held l.n l.count l.radius l.keys l.coefficients)
     × Room l.keys l.coefficients × Room l.stored l.out × Room l.others l.added × Room l.spare l.products
 
 abbrev pub decreases-loop-i : goal.decreases-loop-i

@@ -103,19 +103,37 @@ module _ (c : After-part-d) where
   some : 0 < c.loop-k.k
   some = omega (arith, c.loop-k-test.true)
 
-  module _ (w : Given (start (record { before = c.before.before.before.before.before; type_inv = record
-      { keys = c.shared_slice_known-1.given } }))) where
+  module _ (w : Given (start (record {
+    before = c.before.before.before.before.before;
+    type_inv = record
+        { keys = c.shared_slice_known-1.given };
+  }))) where
     next_is : held w.vars c.part-d.result 0 next_keys nexts
-        ≡ pack (part (start (record { before = c.before.before.before.before.before; type_inv = record
-            { keys = c.shared_slice_known-1.given } })).args.i (c.loop-k.k - 1)
-            (view (held w.vars (start (record { before = c.before.before.before.before.before; type_inv = record
-            { keys = c.shared_slice_known-1.given } })).args.count
-        (start (record { before = c.before.before.before.before.before; type_inv = record
-            { keys = c.shared_slice_known-1.given } })).args.radius
-            (start (record { before = c.before.before.before.before.before; type_inv = record
-            { keys = c.shared_slice_known-1.given } })).args.keys.now
-            (start (record { before = c.before.before.before.before.before; type_inv = record
-            { keys = c.shared_slice_known-1.given } })).args.coefficients.now)))
+        ≡ pack (part (start (record {
+          before = c.before.before.before.before.before;
+          type_inv = record
+              { keys = c.shared_slice_known-1.given };
+        })).args.i (c.loop-k.k - 1)
+        (view (held w.vars (start (record {
+          before = c.before.before.before.before.before;
+          type_inv = record
+              { keys = c.shared_slice_known-1.given };
+        })).args.count
+        (start (record {
+          before = c.before.before.before.before.before;
+          type_inv = record
+              { keys = c.shared_slice_known-1.given };
+        })).args.radius
+        (start (record {
+          before = c.before.before.before.before.before;
+          type_inv = record
+              { keys = c.shared_slice_known-1.given };
+        })).args.keys.now
+        (start (record {
+          before = c.before.before.before.before.before;
+          type_inv = record
+              { keys = c.shared_slice_known-1.given };
+        })).args.coefficients.now)))
     next_is = c.part-d.ensures (put_part w)
 
 pub put_iteration-iteration-requires : goal.put_iteration-iteration-requires
@@ -184,12 +202,12 @@ returns-in_default c =
     let s = start (goal.at.returns-in_default c).At-loop-k in
     subst (λ z. PutIn s.args.i z s.args.count s.args.radius s.args.keys.now
     s.args.coefficients.now c.put_iteration-iteration.result
-        (left_keys (goal.at.returns-in_default c).After-put_iteration-iteration)
-        (lefts (goal.at.returns-in_default c).After-put_iteration-iteration))
+    (left_keys (goal.at.returns-in_default c).After-put_iteration-iteration)
+    (lefts (goal.at.returns-in_default c).After-put_iteration-iteration))
     (back s) (λ w. put_stops w _ _ _ _ (c.loop-k.invariant.3 w) _ _ _
-        (next_is (goal.at.returns-in_default c).After-part-d w) (some (goal.at.returns-in_default c).After-part-d) _ _
+    (next_is (goal.at.returns-in_default c).After-part-d w) (some (goal.at.returns-in_default c).After-part-d) _ _
     (c.put_iteration-iteration.ensures (put_iterating w _ _ _ _ (c.loop-k.invariant.3 w) _ _ _
-        (next_is (goal.at.returns-in_default c).After-part-d w) c.loop-k.invariant.0
+    (next_is (goal.at.returns-in_default c).After-part-d w) c.loop-k.invariant.0
     (next_room (goal.at.returns-in_default c).After-part-d))) c.in_default.is)
 
 pub loop-k-smaller : goal.loop-k-smaller
@@ -204,7 +222,7 @@ loop-k-preserved c = (
   λ w. put_goes_on w _ _ _ _ (c.loop-k.invariant.3 w) _ _ _ (next_is (goal.at.loop-k-preserved c).After-part-d w)
       (some (goal.at.loop-k-preserved c).After-part-d) _ _
       (c.put_iteration-iteration.ensures (put_iterating w _ _ _ _ (c.loop-k.invariant.3 w) _ _ _
-          (next_is (goal.at.loop-k-preserved c).After-part-d w) c.loop-k.invariant.0
+      (next_is (goal.at.loop-k-preserved c).After-part-d w) c.loop-k.invariant.0
       (next_room (goal.at.loop-k-preserved c).After-part-d))) c.in-Accepted.is,
   omega (arith, c.loop-k.invariant.4),
 )

@@ -60,7 +60,7 @@ module _ (c : After-round_up) where
   few = product_few (iteration_of c.before.before.before.before.before.before.before.before.before.before.before) _ _
       spare products
       (c.scaled-p.ensures (iteration_scale (iteration_of
-          c.before.before.before.before.before.before.before.before.before.before.before))) c.round_up.ensures
+      c.before.before.before.before.before.before.before.before.before.before.before))) c.round_up.ensures
 
 pub limited_slices-product-requires : goal.limited_slices-product-requires
 limited_slices-product-requires c = (few c, (room c).coefficients)
@@ -68,22 +68,34 @@ limited_slices-product-requires c = (few c, (room c).coefficients)
 -- what is left of it, for any two models that the slices hold
 product_is : (c : After-limited_slices-product)
     → (w : IterationOf (X c.before.before.before.before.before.before.before.before.before.before.before.before)
-        c.args.c c.args.radius c.args.keys.now c.args.coefficients.now
+    c.args.c c.args.radius c.args.keys.now c.args.coefficients.now
     c.args.d c.args.others.now c.args.added.now)
     → LeftIn w.vars c.limited_slices-product.result
-        (spare (record { before = c.before.before; type_inv = record
-        { spare = c.slice_known-3-1.given; others = c.shared_slice_known-1.given } }))
-        (products (record { before = c.before.before; type_inv = record
-        { spare = c.slice_known-3-1.given; others = c.shared_slice_known-1.given } })) (answer (at_place 0 (product w)))
+    (spare (record {
+      before = c.before.before;
+      type_inv = record
+          { spare = c.slice_known-3-1.given; others = c.shared_slice_known-1.given };
+    }))
+    (products (record {
+      before = c.before.before;
+      type_inv = record
+          { spare = c.slice_known-3-1.given; others = c.shared_slice_known-1.given };
+    })) (answer (at_place 0 (product w)))
 product_is c w =
     let e = c.scaled-p.ensures (iteration_scale w) in
     product_left w _ _ _ _ e c.round_up.ensures
     (c.limited_slices-product.ensures w.vars (spare
-        (record { before = c.before.before; type_inv = record
-        { spare = c.slice_known-3-1.given; others = c.shared_slice_known-1.given } }))
-        (room (record { before = c.before.before; type_inv = record
-        { spare = c.slice_known-3-1.given; others = c.shared_slice_known-1.given } }))
-        (product_packed w _ _ _ _ e c.round_up.ensures))
+    (record {
+      before = c.before.before;
+      type_inv = record
+          { spare = c.slice_known-3-1.given; others = c.shared_slice_known-1.given };
+    }))
+    (room (record {
+      before = c.before.before;
+      type_inv = record
+          { spare = c.slice_known-3-1.given; others = c.shared_slice_known-1.given };
+    }))
+    (product_packed w _ _ _ _ e c.round_up.ensures))
 
 pub returns-in_default : goal.returns-in_default
 returns-in_default c =
@@ -91,7 +103,7 @@ returns-in_default c =
     c.args.d c.args.others.now c.args.added.now c.limited_slices-product.result c.args.keys.now
     c.args.coefficients.now)
     (back (goal.at.returns-in_default c).Start) (λ w. iteration_stops w _ _
-        (product_is (goal.at.returns-in_default c).After-limited_slices-product w) c.in_default.is _ _)
+    (product_is (goal.at.returns-in_default c).After-limited_slices-product w) c.in_default.is _ _)
 
 pub merged-total-requires : goal.merged-total-requires
 merged-total-requires c =
@@ -123,17 +135,29 @@ module _ (c : After-merged-total) where
       c.args.c c.args.radius c.args.keys.now
       c.args.coefficients.now c.args.d c.args.others.now c.args.added.now) where
     sum_is : SumIn (held w.vars c.limited_slices-product.result.count c.limited_slices-product.result.radius
-        (spare (record { before = c.before.before.before.before.before.before; type_inv = record
-            { spare = c.slice_known-3-1.given; others = c.shared_slice_known-1.given } }))
-        (products (record { before = c.before.before.before.before.before.before; type_inv = record
-            { spare = c.slice_known-3-1.given; others = c.shared_slice_known-1.given } })))
-            (held w.vars c.args.d 0 c.args.others.now c.args.added.now)
+        (spare (record {
+          before = c.before.before.before.before.before.before;
+          type_inv = record
+              { spare = c.slice_known-3-1.given; others = c.shared_slice_known-1.given };
+        }))
+        (products (record {
+          before = c.before.before.before.before.before.before;
+          type_inv = record
+              { spare = c.slice_known-3-1.given; others = c.shared_slice_known-1.given };
+        })))
+        (held w.vars c.args.d 0 c.args.others.now c.args.added.now)
         w.vars c.merged-total.result sum_keys sums
     sum_is = c.merged-total.ensures.terms (iteration_sum w _ _
-        (product_is (record { before = c.before.before.before.before.before; type_inv = record
-        { spare = c.slice_known-3-1.given; others = c.shared_slice_known-1.given } }) w) c.in-Accepted.is
-        (room (record { before = c.before.before.before.before.before.before; type_inv = record
-        { spare = c.slice_known-3-1.given; others = c.shared_slice_known-1.given } })))
+        (product_is (record {
+          before = c.before.before.before.before.before;
+          type_inv = record
+              { spare = c.slice_known-3-1.given; others = c.shared_slice_known-1.given };
+        }) w) c.in-Accepted.is
+        (room (record {
+          before = c.before.before.before.before.before.before;
+          type_inv = record
+              { spare = c.slice_known-3-1.given; others = c.shared_slice_known-1.given };
+        })))
 
 pub returns-then-total-gt-MOST_TERMS : goal.returns-then-total-gt-MOST_TERMS
 returns-then-total-gt-MOST_TERMS c =
@@ -141,26 +165,27 @@ returns-then-total-gt-MOST_TERMS c =
     c.args.d c.args.others.now c.args.added.now
     (record { count = 0; radius = 0; verdict = Refused TooManyTerms 0 })
     (sum_keys (goal.at.returns-then-total-gt-MOST_TERMS c).After-merged-total)
-        (sums (goal.at.returns-then-total-gt-MOST_TERMS c).After-merged-total))
+    (sums (goal.at.returns-then-total-gt-MOST_TERMS c).After-merged-total))
     (back (goal.at.returns-then-total-gt-MOST_TERMS c).Start)
-        (λ w. iteration_many w _ _ (product_is (goal.at.returns-then-total-gt-MOST_TERMS c).After-limited_slices-product
-        w) c.in-Accepted.is _ _ (sum_is (goal.at.returns-then-total-gt-MOST_TERMS c).After-merged-total w)
+    (λ w. iteration_many w _ _ (product_is (goal.at.returns-then-total-gt-MOST_TERMS c).After-limited_slices-product
+    w) c.in-Accepted.is _ _ (sum_is (goal.at.returns-then-total-gt-MOST_TERMS c).After-merged-total w)
     (omega (arith, c.if-total-gt-MOST_TERMS.true)) refl)
 
 pub limited_slices-requires : goal.limited_slices-requires
-limited_slices-requires c =
-    (omega (arith, c.if-total-gt-MOST_TERMS.false),
-        (sum_room (goal.at.limited_slices-requires c).After-merged-total).coefficients)
+limited_slices-requires c = (
+  omega (arith, c.if-total-gt-MOST_TERMS.false),
+  (sum_room (goal.at.limited_slices-requires c).After-merged-total).coefficients,
+)
 
 pub returns : goal.returns
 returns c =
     subst (λ z. IteratedIn z c.args.c c.args.radius c.args.keys.now c.args.coefficients.now
     c.args.d c.args.others.now c.args.added.now c.limited_slices.result
-        (sum_keys (goal.at.returns c).After-merged-total) (sums (goal.at.returns c).After-merged-total))
+    (sum_keys (goal.at.returns c).After-merged-total) (sums (goal.at.returns c).After-merged-total))
     (back (goal.at.returns c).Start) (λ w.
     let t = c.in-Accepted.is in
     iteration_end w _ _ (product_is (goal.at.returns c).After-limited_slices-product w) t _ _
-        (sum_is (goal.at.returns c).After-merged-total w) (omega (arith, c.if-total-gt-MOST_TERMS.false))
+    (sum_is (goal.at.returns c).After-merged-total w) (omega (arith, c.if-total-gt-MOST_TERMS.false))
     (c.limited_slices.ensures w.vars _ (sum_room (goal.at.returns c).After-merged-total)
     (iteration_packed w _ _ (product_is (goal.at.returns c).After-limited_slices-product w) t _ _
-        (sum_is (goal.at.returns c).After-merged-total w) (omega (arith, c.if-total-gt-MOST_TERMS.false)))))
+    (sum_is (goal.at.returns c).After-merged-total w) (omega (arith, c.if-total-gt-MOST_TERMS.false)))))

@@ -89,8 +89,12 @@ module _ (c : After-c-1) where
   fits = scale_fits (scale c.before.before.before.before.before.before.before.before) _ _ gathered inside
 
   room : c.loop-j.count < 64
-  room = omega (arith, few c.before.before.before.before.before.before.before.before, inside,
-      scale_room (scale c.before.before.before.before.before.before.before.before) _ _ gathered)
+  room = omega (
+    arith,
+    few c.before.before.before.before.before.before.before.before,
+    inside,
+    scale_room (scale c.before.before.before.before.before.before.before.before) _ _ gathered,
+  )
 
 pub scaled_coefficient-new-requires : goal.scaled_coefficient-new-requires
 scaled_coefficient-new-requires c = rw (read_back c) (fits c)
@@ -98,8 +102,8 @@ scaled_coefficient-new-requires c = rw (read_back c) (fits c)
 -- its new coefficient
 new_is : (c : After-scaled_coefficient-new)
     → c.scaled_coefficient-new.result ≡ scaled_coefficient
-        (X c.before.before.before.before.before.before.before.before.before)
-        (at (goal.at.scaled_residual-error-requires c).After-c-1)
+    (X c.before.before.before.before.before.before.before.before.before)
+    (at (goal.at.scaled_residual-error-requires c).After-c-1)
 new_is c = c.scaled_coefficient-new.ensures ∙ ap (scaled_coefficient
     (X c.before.before.before.before.before.before.before.before.before))
     (read_back (goal.at.scaled_residual-error-requires c).After-c-1)
@@ -112,18 +116,22 @@ scaled_residual-error-requires c = rw (read_back (goal.at.scaled_residual-error-
 error_is : (c : After-scaled_residual-error)
     → c.loop-j.error + c.scaled_residual-error.result
     ≡ c.loop-j.error + scaled_residual (X c.before.before.before.before.before.before.before.before.before.before)
-        (at (goal.at.overflow_add-error c).After-c-1)
+    (at (goal.at.overflow_add-error c).After-c-1)
 error_is c =
     ap (λ g. c.loop-j.error + g)
     (c.scaled_residual-error.ensures ∙ ap (scaled_residual
-        (X c.before.before.before.before.before.before.before.before.before.before))
-        (read_back (goal.at.overflow_add-error c).After-c-1))
+    (X c.before.before.before.before.before.before.before.before.before.before))
+    (read_back (goal.at.overflow_add-error c).After-c-1))
 
 pub overflow_add-error : goal.overflow_add-error
 overflow_add-error c =
     record {
-      fits = omega (arith, error_is c, scale_within (scale (goal.at.overflow_add-error c).Start) _ _
-          (gathered (goal.at.overflow_add-error c).After-c-1) (inside (goal.at.overflow_add-error c).After-c-1));
+      fits = omega (
+        arith,
+        error_is c,
+        scale_within (scale (goal.at.overflow_add-error c).Start) _ _
+            (gathered (goal.at.overflow_add-error c).After-c-1) (inside (goal.at.overflow_add-error c).After-c-1),
+      );
     }
 
 pub overflow_add-j : goal.overflow_add-j
@@ -155,9 +163,9 @@ loop-j-preserved-then-new-ne0 c = (
   λ w. scale_keep w _ _ (c.loop-j.invariant.1 w) (inside (goal.at.loop-j-preserved-then-new-ne0 c).After-c-1)
       (error_is (goal.at.loop-j-preserved-then-new-ne0 c).After-scaled_residual-error) c.loop-j.invariant.0
       (subst T (sym (ap is_nonzero (sym (new_is (goal.at.loop-j-preserved-then-new-ne0 c).After-scaled_coefficient-new))
-          ∙ nonzero_bits _ c.if-new-ne0.true)) tt)
+      ∙ nonzero_bits _ c.if-new-ne0.true)) tt)
       (answered c.scaled_coefficient-new.type_inv (new_is
-          (goal.at.loop-j-preserved-then-new-ne0 c).After-scaled_coefficient-new)),
+      (goal.at.loop-j-preserved-then-new-ne0 c).After-scaled_coefficient-new)),
 )
 
 pub loop-j-smaller : goal.loop-j-smaller
@@ -169,7 +177,7 @@ loop-j-preserved c = (
   λ w. scale_drop w _ _ (c.loop-j.invariant.1 w) (inside (goal.at.loop-j-preserved c).After-c-1)
       (error_is (goal.at.loop-j-preserved c).After-scaled_residual-error)
       (subst (λ b. T (not b)) (sym (ap is_nonzero (sym
-          (new_is (goal.at.loop-j-preserved c).After-scaled_coefficient-new))
+      (new_is (goal.at.loop-j-preserved c).After-scaled_coefficient-new))
       ∙ zero_bits (record { sfits = c.scaled_coefficient-new.type_inv }) c.if-new-ne0.false)) tt),
 )
 

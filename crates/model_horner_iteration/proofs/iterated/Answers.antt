@@ -75,49 +75,60 @@ module _ (c : After-merged-total) where
 
   sum_is : SumIn (held begin.args.n c.product-k.result.count c.product-k.result.radius
       (spare
-          (record
-          { before =
-          c.before.before.before.before.before.before.before.before.before.before.before.before.before.before;
-          type_inv = record { others = c.shared_slice_known-2-1.given; keys2 = c.shared_slice_known-1.given } }))
-          (products
-          (record
-          { before =
-          c.before.before.before.before.before.before.before.before.before.before.before.before.before.before;
-          type_inv = record { others = c.shared_slice_known-2-1.given; keys2 = c.shared_slice_known-1.given } })))
+      (record {
+        before =
+            c.before.before.before.before.before.before.before.before.before.before.before.before.before.before;
+        type_inv = record { others = c.shared_slice_known-2-1.given; keys2 = c.shared_slice_known-1.given };
+      }))
+      (products
+      (record {
+        before =
+            c.before.before.before.before.before.before.before.before.before.before.before.before.before.before;
+        type_inv = record { others = c.shared_slice_known-2-1.given; keys2 = c.shared_slice_known-1.given };
+      })))
       (held begin.args.n begin.args.t 0 begin.args.others.now begin.args.added.now)
       begin.args.n c.merged-total.result sum_keys sums
   sum_is = c.merged-total.ensures.terms
       (iteration_sum begin.requires.iteration_of _ _ c.product-k.ensures
-          (taken (record { before = c.before.before.before.before.before; type_inv = record
-          { spare = c.slice_known-7-1.given; keys = c.slice_known-6-1.given; slots = c.slice_known-5-1.given;
-          others = c.shared_slice_known-2-1.given; keys2 = c.shared_slice_known-1.given } }))
-          (room
-          (record
-          { before =
-          c.before.before.before.before.before.before.before.before.before.before.before.before.before.before;
-          type_inv = record { others = c.shared_slice_known-2-1.given; keys2 = c.shared_slice_known-1.given } })))
+      (taken (record {
+        before = c.before.before.before.before.before;
+        type_inv = record {
+          spare = c.slice_known-7-1.given;
+          keys = c.slice_known-6-1.given;
+          slots = c.slice_known-5-1.given;
+          others = c.shared_slice_known-2-1.given;
+          keys2 = c.shared_slice_known-1.given;
+        };
+      }))
+      (room
+      (record {
+        before =
+            c.before.before.before.before.before.before.before.before.before.before.before.before.before.before;
+        type_inv = record { others = c.shared_slice_known-2-1.given; keys2 = c.shared_slice_known-1.given };
+      })))
 
 pub returns-then-total-gt-MOST_TERMS : goal.returns-then-total-gt-MOST_TERMS
 unfolding unless_refused stored_shares no_shares
 returns-then-total-gt-MOST_TERMS c =
     iteration_many (begin (goal.at.returns-then-total-gt-MOST_TERMS c).After-merged-total).requires.iteration_of _ _
-        c.product-k.ensures (taken (goal.at.returns-then-total-gt-MOST_TERMS c).In-Accepted) _ _
-        (sum_is (goal.at.returns-then-total-gt-MOST_TERMS c).After-merged-total)
+    c.product-k.ensures (taken (goal.at.returns-then-total-gt-MOST_TERMS c).In-Accepted) _ _
+    (sum_is (goal.at.returns-then-total-gt-MOST_TERMS c).After-merged-total)
     (omega (arith, c.if-total-gt-MOST_TERMS.true)) refl refl
 
 pub limited_slices-left-requires : goal.limited_slices-left-requires
-limited_slices-left-requires c =
-    (omega (arith, c.if-total-gt-MOST_TERMS.false),
-        (sum_room (goal.at.limited_slices-left-requires c).After-merged-total).coefficients)
+limited_slices-left-requires c = (
+  omega (arith, c.if-total-gt-MOST_TERMS.false),
+  (sum_room (goal.at.limited_slices-left-requires c).After-merged-total).coefficients,
+)
 
 pub returns : goal.returns
 returns c =
     let p = c.product-k.ensures in
     let few : c.merged-total.result ≤ 64 = omega (arith, c.if-total-gt-MOST_TERMS.false) in
     iteration_end (begin (goal.at.returns c).After-merged-total).requires.iteration_of _ _ p
-        (taken (goal.at.returns c).In-Accepted) _ _ (sum_is (goal.at.returns c).After-merged-total) few
+    (taken (goal.at.returns c).In-Accepted) _ _ (sum_is (goal.at.returns c).After-merged-total) few
     (c.limited_slices-left.ensures (begin (goal.at.returns c).After-merged-total).args.n _
-        (sum_room (goal.at.returns c).After-merged-total)
+    (sum_room (goal.at.returns c).After-merged-total)
     (iteration_packed (begin (goal.at.returns c).After-merged-total).requires.iteration_of _ _ p
-        (taken (goal.at.returns c).In-Accepted) _ _ (sum_is (goal.at.returns c).After-merged-total) few))
-        c.unless_refused-shares.ensures
+    (taken (goal.at.returns c).In-Accepted) _ _ (sum_is (goal.at.returns c).After-merged-total) few))
+    c.unless_refused-shares.ensures

@@ -39,13 +39,15 @@ store_first-requires c =
     let r = c.multiplied_slices-k.ensures.ready.ready (taken (goal.at.store_first-requires c).In-Accepted) in
     record {
       pack_ready = r;
-      count_in_bounds = (omega (arith, r.few, c.requires.room.keys),
-          omega (arith, r.few, c.requires.room.coefficients));
+      count_in_bounds = (
+        omega (arith, r.few, c.requires.room.keys),
+        omega (arith, r.few, c.requires.room.coefficients),
+      );
     }
 
 pub returns : goal.returns
 returns c =
     product_stored c.args.n c.multiplied_slices-k.ensures.ready
     (handed_product c.requires.factors_of c.multiplied_slices-k.ensures.exact) (taken (goal.at.returns c).In-Accepted) _
-        _
+    _
     c.store_first.ensures.0 c.store_first.ensures.1

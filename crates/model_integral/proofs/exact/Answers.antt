@@ -67,7 +67,7 @@ quotient : (c : After-floor_divided-quotient) → to_z w64 (of_z w64 c.floor_div
 unfolding common_denominator
 quotient c = answered c.floor_divided-quotient.type_inv
     (c.floor_divided-quotient.ensures ∙ ap (λ z. floor z common_denominator)
-        (total (goal.at.rest-remainder-requires c).After-integral_parts-total))
+    (total (goal.at.rest-remainder-requires c).After-integral_parts-total))
 
 above : (c : After-rest-remainder) → c.rest-remainder.result
     ≡ remainder (integral_parts (seen c.before.before.before.before.before)) common_denominator
@@ -96,7 +96,7 @@ sum : (c : After-sum) → to_z w64 (of_z w64 c.sum.result)
 sum c =
     answered c.sum.type_inv
     (c.sum.ensures ∙ ap₂ ◌+ℤ◌ (quotient (goal.at.sum-high-requires c).After-floor_divided-quotient)
-        (around (goal.at.sum-high-requires c).After-signed-around))
+    (around (goal.at.sum-high-requires c).After-signed-around))
 
 pub integral_parts-total-requires : goal.integral_parts-total-requires
 integral_parts-total-requires c = record {
@@ -125,14 +125,18 @@ signed-above-requires c =
 
 pub difference-low-requires : goal.difference-low-requires
 difference-low-requires c =
-    rw (quotient (goal.at.difference-low-requires c).After-floor_divided-quotient,
-        around (goal.at.difference-low-requires c).After-signed-around)
+    rw (
+      quotient (goal.at.difference-low-requires c).After-floor_divided-quotient,
+      around (goal.at.difference-low-requires c).After-signed-around,
+    )
     (omega (arith, room (goal.at.difference-low-requires c).Start))
 
 pub sum-requires : goal.sum-requires
 sum-requires c =
-    rw (quotient (goal.at.sum-requires c).After-floor_divided-quotient,
-        around (goal.at.sum-requires c).After-signed-around)
+    rw (
+      quotient (goal.at.sum-requires c).After-floor_divided-quotient,
+      around (goal.at.sum-requires c).After-signed-around,
+    )
     (omega (arith, room (goal.at.sum-requires c).Start))
 
 pub sum-high-requires : goal.sum-high-requires
@@ -151,11 +155,11 @@ returns c =
     rw (
       answered c.difference-low.type_inv
           (c.difference-low.ensures ∙ ap₂ ◌-ℤ◌ (quotient (goal.at.returns c).After-floor_divided-quotient)
-              (around (goal.at.returns c).After-signed-around)),
+          (around (goal.at.returns c).After-signed-around)),
       answered c.sum-high.type_inv
           (c.sum-high.ensures
           ∙ ap₂ ◌+ℤ◌ (sum (goal.at.returns c).After-sum) (one (goal.at.returns c).After-signed-above
-              ∙ ap (λ c. pos (one_if_any c)) (above (goal.at.returns c).After-rest-remainder))),
+          ∙ ap (λ c. pos (one_if_any c)) (above (goal.at.returns c).After-rest-remainder))),
       quotient (goal.at.returns c).After-floor_divided-quotient,
       above (goal.at.returns c).After-rest-remainder,
     )

@@ -82,7 +82,7 @@ module _ (c : After-parts) where
       c.args.coefficients.now)
       → to_z w64 (of_z w64 c.parts.result)
       ≡ term_parts c.args.n (powers w c.loop-i.i (inside (goal.at.sum-total-requires c).After-c-1))
-          (coefficient (goal.at.sum-total-requires c).After-c-1)
+      (coefficient (goal.at.sum-total-requires c).After-c-1)
   shared w =
       answered c.parts.type_inv
       (c.parts.ensures
@@ -108,10 +108,10 @@ loop-i-smaller-then-all_even c = omega arith
 pub loop-i-preserved-then-all_even : goal.loop-i-preserved-then-all_even
 loop-i-preserved-then-all_even c w =
     even_more w _ (c.loop-i.invariant w) (inside (goal.at.loop-i-preserved-then-all_even c).After-c-1)
-        (sym c.all_even.ensures ∙ c.if-all_even.true)
+    (sym c.all_even.ensures ∙ c.if-all_even.true)
     (answered c.sum-total.type_inv (c.sum-total.ensures
-        ∙ ap (λ z. to_z w64 c.loop-i.total-bits +ℤ z)
-        (shared (goal.at.loop-i-preserved-then-all_even c).After-parts w)))
+    ∙ ap (λ z. to_z w64 c.loop-i.total-bits +ℤ z)
+    (shared (goal.at.loop-i-preserved-then-all_even c).After-parts w)))
 
 pub loop-i-smaller : goal.loop-i-smaller
 loop-i-smaller c = omega arith
@@ -119,7 +119,7 @@ loop-i-smaller c = omega arith
 pub loop-i-preserved : goal.loop-i-preserved
 loop-i-preserved c w =
     even_same w _ (c.loop-i.invariant w) (inside (goal.at.loop-i-preserved c).After-c-1) (sym c.all_even.ensures
-        ∙ c.if-all_even.false)
+    ∙ c.if-all_even.false)
 
 pub returns : goal.returns
 unfolding integral_parts view held

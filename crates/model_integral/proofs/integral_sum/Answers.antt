@@ -83,7 +83,7 @@ module _ (c : After-share) where
       answered c.share.type_inv
       (c.share.ensures
       ∙ ap₂ (rule c.args.up) (ap₂ ◌*ℤ◌ (read_back (goal.at.sum-total-requires c).After-c-1)
-          (scaled (goal.at.sum-total-requires c).After-c-1))
+      (scaled (goal.at.sum-total-requires c).After-c-1))
       (sym (divisor_at w c.loop-i.i (inside (goal.at.sum-total-requires c).After-c-1))))
 
 pub sum-total-requires : goal.sum-total-requires
@@ -103,10 +103,10 @@ loop-i-smaller-then-all_even c = omega arith
 pub loop-i-preserved-then-all_even : goal.loop-i-preserved-then-all_even
 loop-i-preserved-then-all_even c w =
     even_more w _ (c.loop-i.invariant w) (inside (goal.at.loop-i-preserved-then-all_even c).After-c-1)
-        (sym c.all_even.ensures ∙ c.if-all_even.true)
+    (sym c.all_even.ensures ∙ c.if-all_even.true)
     (answered c.sum-total.type_inv (c.sum-total.ensures
-        ∙ ap (λ z. to_z w64 c.loop-i.total-bits +ℤ z)
-        (shared (goal.at.loop-i-preserved-then-all_even c).After-share w)))
+    ∙ ap (λ z. to_z w64 c.loop-i.total-bits +ℤ z)
+    (shared (goal.at.loop-i-preserved-then-all_even c).After-share w)))
 
 pub loop-i-smaller : goal.loop-i-smaller
 loop-i-smaller c = omega arith
@@ -114,7 +114,7 @@ loop-i-smaller c = omega arith
 pub loop-i-preserved : goal.loop-i-preserved
 loop-i-preserved c w =
     even_same w _ (c.loop-i.invariant w) (inside (goal.at.loop-i-preserved c).After-c-1) (sym c.all_even.ensures
-        ∙ c.if-all_even.false)
+    ∙ c.if-all_even.false)
 
 pub returns : goal.returns
 unfolding integral_sum view held

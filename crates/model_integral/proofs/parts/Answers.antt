@@ -49,8 +49,12 @@ module _ (c : After-signed) where
 pub product-requires : goal.product-requires
 product-requires c =
     rw (read_back c, scaled c)
-    (omega (arith, c.requires.1, NatL.mul-le-mul_left (nat_abs c.args.coefficient)
-        (at_most (goal.at.product-requires c).After-divisor-share)))
+    (omega (
+      arith,
+      c.requires.1,
+      NatL.mul-le-mul_left (nat_abs c.args.coefficient)
+          (at_most (goal.at.product-requires c).After-divisor-share),
+    ))
 
 pub returns : goal.returns
 returns c =

@@ -47,11 +47,11 @@ loop-j-preserved c =
     span_iteration n _ _ ks _ r (few (goal.at.loop-j-preserved c).Start) _ _ _ (c.loop-j.invariant n ks r)
     (omega (arith, c.loop-j-test.true)) (c.capped_sum-span.ensures
     ∙ ap (λ x. capped (c.loop-j.span + x)) (c.magnitude.ensures
-        ∙ ap nat_abs (read_back (goal.at.loop-j-preserved c).After-c-1)))
+    ∙ ap nat_abs (read_back (goal.at.loop-j-preserved c).After-c-1)))
 
 pub returns : goal.returns
 returns c =
     λ n ks r.
     c.within_span.ensures
     ∙ span_end n _ _ ks _ r (few (goal.at.returns c).Start) _ _ (c.loop-j.invariant n ks r)
-        (omega (arith, c.loop-j-test.false))
+    (omega (arith, c.loop-j-test.false))

@@ -30,4 +30,4 @@ multiplied_slices_accounted-requires c =
 pub returns : goal.returns
 returns c =
     own_product c.requires.factors (first_whole (goal.at.returns c).Start) (second_whole (goal.at.returns c).Start) _
-        c.multiplied_slices_accounted.ensures
+    c.multiplied_slices_accounted.ensures

@@ -35,4 +35,4 @@ returns c =
     accounted_answer _ _
     (c.packed_kept-product.ensures
     ∙ own_product c.requires (first_whole (goal.at.returns c).Start) (second_whole (goal.at.returns c).Start) _
-        c.multiplied_slices_alone-k.ensures.exact)
+    c.multiplied_slices_alone-k.ensures.exact)

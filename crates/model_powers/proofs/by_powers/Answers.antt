@@ -43,8 +43,12 @@ offset_bounds-keys-j c = omega (arith, inside c)
 
 pub bounds-keys-j : goal.bounds-keys-j
 bounds-keys-j c =
-    omega (arith, some (goal.at.bounds-keys-j c).In-loop-j, inside (goal.at.bounds-keys-j c).In-loop-j,
-        c.requires.room.keys)
+    omega (
+      arith,
+      some (goal.at.bounds-keys-j c).In-loop-j,
+      inside (goal.at.bounds-keys-j c).In-loop-j,
+      c.requires.room.keys,
+    )
 
 pub exponent_of-exponent-requires : goal.exponent_of-exponent-requires
 exponent_of-exponent-requires c = keys_slot c.requires
@@ -88,9 +92,13 @@ loop-j-preserved c = (
   λ w. largest_iteration w (c.loop-j.invariant.1 w) (some (goal.at.loop-j-preserved c).In-loop-j)
       (omega (arith, some (goal.at.loop-j-preserved c).In-loop-j, c.loop-j.invariant.0.within))
       (c.larger-largest.ensures ∙ ap (max c.loop-j.largest)
-          (is_exponent (goal.at.loop-j-preserved c).After-exponent_of-exponent)),
-  omega (arith, c.larger-largest.ensures, low (goal.at.loop-j-preserved c).After-exponent_of-exponent,
-      c.loop-j.invariant.2),
+      (is_exponent (goal.at.loop-j-preserved c).After-exponent_of-exponent)),
+  omega (
+    arith,
+    c.larger-largest.ensures,
+    low (goal.at.loop-j-preserved c).After-exponent_of-exponent,
+    c.loop-j.invariant.2,
+  ),
 )
 
 pub returns : goal.returns

@@ -94,8 +94,11 @@ bounds-p-j c = omega (arith, inside (goal.at.bounds-p-j c).After-c-1, few (goal.
 
 pub overflow_cast-j-in-loop-j : goal.overflow_cast-j-in-loop-j
 overflow_cast-j-in-loop-j c =
-    omega (arith, (next (goal.at.overflow_cast-j-in-loop-j c).After-c-1).within,
-        few (goal.at.overflow_cast-j-in-loop-j c).Start)
+    omega (
+      arith,
+      (next (goal.at.overflow_cast-j-in-loop-j c).After-c-1).within,
+      few (goal.at.overflow_cast-j-in-loop-j c).Start,
+    )
 
 pub loop-j-smaller : goal.loop-j-smaller
 loop-j-smaller c =
@@ -106,7 +109,7 @@ loop-j-preserved c = (
   room_still _ _ _ c.loop-j.invariant.0,
   λ w. walked w c.args.k _ _ _
       (part_in w _ _ (c.loop-j.invariant.1 w) (inside (goal.at.loop-j-preserved c).After-c-1) c.loop-j.invariant.0
-          (of_power (goal.at.loop-j-preserved c).After-c-1) c.without.ensures
+      (of_power (goal.at.loop-j-preserved c).After-c-1) c.without.ensures
       (to_z-of_z {w = w64} (record { sfits = c.c-1.given })))
       (next (goal.at.loop-j-preserved c).After-c-1),
   (next (goal.at.loop-j-preserved c).After-c-1).within,

@@ -23,7 +23,7 @@ abbrev pub invariant-loop-j : goal.invariant-loop-j
 invariant-loop-j l =
     Room l.stored l.out × ((w : PartOf l.i l.total l.keys l.coefficients)
     → Taken l.i (held w.vars l.total w.radius l.keys l.coefficients) l.k (pad (terms_of l.count l.stored l.out)) l.count
-        l.j)
+    l.j)
     × (l.j ≤ l.total) × (l.j < l.total → key_exponent l.i (get_or l.keys l.j 0) ≡ l.k)
 
 abbrev pub decreases-loop-j : goal.decreases-loop-j

@@ -56,7 +56,7 @@ module _ (c : After-product-k) where
 pub returns-in_default : goal.returns-in_default
 returns-in_default c =
     deviation_stops c.requires.factors (vars (goal.at.returns-in_default c).Start)
-        (bared (goal.at.returns-in_default c).Start) c.product-k.ensures c.in_default.is _ _
+    (bared (goal.at.returns-in_default c).Start) c.product-k.ensures c.in_default.is _ _
 
 -- it is accepted
 module _ (c : In-Accepted) where
@@ -80,5 +80,5 @@ difference-requires c =
 pub returns : goal.returns
 returns c =
     deviation_left c.requires.factors (vars (goal.at.returns c).Start) (bared (goal.at.returns c).Start)
-        c.product-k.ensures (taken (goal.at.returns c).In-Accepted) refl (one_term (goal.at.returns c).After-unit)
+    c.product-k.ensures (taken (goal.at.returns c).In-Accepted) refl (one_term (goal.at.returns c).After-unit)
     c.difference.ensures

@@ -90,8 +90,8 @@ returns-in_default c =
     defect_stops c.requires.proposal (fourth_bare (goal.at.returns-in_default c).Start)
     (gap_stops c.args.n c.args.nf c.args.ef c.args.kf.now c.args.cf.now
     c.requires.nf_in_bounds (gap_asked c.requires.proposal) (third_bare (goal.at.returns-in_default c).Start)
-        c.product-k.ensures v (kept (goal.at.returns-in_default c).After-product-k)
-        (rounded (goal.at.returns-in_default c).After-product-k)) v _ _
+    c.product-k.ensures v (kept (goal.at.returns-in_default c).After-product-k)
+    (rounded (goal.at.returns-in_default c).After-product-k)) v _ _
 
 -- it is accepted
 module _ (c : In-Accepted) where
@@ -103,8 +103,8 @@ difference-l-requires c =
     record {
       addends = gap_addends c.args.n c.args.nf c.args.ef c.args.kf.now c.args.cf.now
           c.requires.nf_in_bounds (gap_asked c.requires.proposal) (third_bare (goal.at.difference-l-requires c).Start)
-              c.product-k.ensures (taken (goal.at.difference-l-requires c).In-Accepted)
-              (room (goal.at.difference-l-requires c).After-product-k);
+          c.product-k.ensures (taken (goal.at.difference-l-requires c).In-Accepted)
+          (room (goal.at.difference-l-requires c).After-product-k);
       room = record { keys = refl; coefficients = refl };
     }
 
@@ -132,10 +132,17 @@ module _ (c : After-difference-l) where
       let s = begin in
       gap_left s.args.n s.args.nf s.args.ef s.args.kf.now s.args.cf.now
       s.requires.nf_in_bounds (gap_asked s.requires.proposal) (third_bare s) c.product-k.ensures
-          (taken (record { before = c.before.before.before.before; type_inv = record
-          { keys = c.slice_known-5-1.given; slots = c.slice_known-4-1.given; kw = c.shared_slice_known-4-1.given;
-          kh = c.shared_slice_known-3-1.given; kg = c.shared_slice_known-2-1.given;
-          kf = c.shared_slice_known-1.given } }))
+      (taken (record {
+        before = c.before.before.before.before;
+        type_inv = record {
+          keys = c.slice_known-5-1.given;
+          slots = c.slice_known-4-1.given;
+          kw = c.shared_slice_known-4-1.given;
+          kh = c.shared_slice_known-3-1.given;
+          kg = c.shared_slice_known-2-1.given;
+          kf = c.shared_slice_known-1.given;
+        };
+      }))
       c.difference-l.ensures
 
 pub shape_of-slots-in_default-u : goal.shape_of-slots-in_default-u
@@ -158,14 +165,14 @@ pub returns-in_default-u : goal.returns-in_default-u
 returns-in_default-u c =
     let s = begin (goal.at.returns-in_default-u c).After-difference-l in
     defect_stops s.requires.proposal (fourth_bare s) (less (goal.at.returns-in_default-u c).After-difference-l)
-        c.in_default-u.is _ _
+    c.in_default-u.is _ _
 
 pub product-requires : goal.product-requires
 product-requires c =
     let v = c.in-Accepted-u.is in
     let s = begin (goal.at.product-requires c).After-difference-l in
     let free = free_room s.requires.scratch_room c.product-k.auto.slots c.product-k.auto.keys c.product-k.auto.sums
-            in record {
+    in record {
       factors = defect_asked s.requires.proposal (fourth_bare s) (less (goal.at.product-requires c).After-difference-l)
           v (rest_room (goal.at.product-requires c).After-difference-l);
       counta_in_bounds = s.requires.nw_in_bounds;
@@ -175,7 +182,7 @@ product-requires c =
       scratch_room = fewer_room free
           (form_products s.args.ng s.args.nh s.args.nw c.difference-l.result.count
           (defect_few s.requires.proposal (fourth_bare s) (less (goal.at.product-requires c).After-difference-l) v
-              (rest_room (goal.at.product-requires c).After-difference-l)));
+          (rest_room (goal.at.product-requires c).After-difference-l)));
       room = room (goal.at.product-requires c).After-product-k;
     }
 
@@ -198,5 +205,5 @@ pub returns : goal.returns
 returns c =
     let s = begin (goal.at.returns c).After-difference-l in
     defect_left s.requires.proposal (fourth_bare s) (less (goal.at.returns c).After-difference-l) c.in-Accepted-u.is
-        (rest_room (goal.at.returns c).After-difference-l)
+    (rest_room (goal.at.returns c).After-difference-l)
     c.product.ensures

@@ -61,5 +61,5 @@ divided_slices-requires c =
 pub returns : goal.returns
 returns c =
     lent_quotient c.requires.proposal (first_whole (goal.at.returns c).Start) (second_whole (goal.at.returns c).Start)
-        (third_whole (goal.at.returns c).Start) (fourth_whole (goal.at.returns c).Start)
+    (third_whole (goal.at.returns c).Start) (fourth_whole (goal.at.returns c).Start)
     c.divided_slices.ensures

@@ -67,13 +67,13 @@ module _ (c : In-Accepted) where
 pub deviation-second-requires : goal.deviation-second-requires
 deviation-second-requires c =
     let free = free_room c.requires.scratch_room c.defect-first.auto.slots c.defect-first.auto.keys
-            c.defect-first.auto.sums in record {
+    c.defect-first.auto.sums in record {
       factors = second_factors c.requires.proposal;
       na_in_bounds = c.requires.countw_in_bounds;
       nb_in_bounds = c.requires.countg_in_bounds;
       scratch_room = fewer_room free
           (form_products c.args.countg c.args.counth c.args.countw c.args.countg
-              (few_second (goal.at.deviation-second-requires c).Start));
+          (few_second (goal.at.deviation-second-requires c).Start));
       room = record { keys = refl; coefficients = refl };
     }
 
@@ -100,7 +100,7 @@ returns-in_default-u c =
     let u = c.in_default-u.is in
     c.refused-in_default-u.ensures.refuses _ _ u
     ∙ second_refused c.requires.proposal c.defect-first.ensures (taken (goal.at.returns-in_default-u c).In-Accepted)
-        c.deviation-second.ensures _ _ u
+    c.deviation-second.ensures _ _ u
 
 pub judged-requires : goal.judged-requires
 judged-requires c =
@@ -131,6 +131,6 @@ returns c =
     let e = c.deviation-second.ensures in
     quotient_answer s d (taken (goal.at.returns c).In-Accepted) e u
     (c.judged.ensures (first_lies s d (taken (goal.at.returns c).In-Accepted)
-        (first_room (goal.at.returns c).After-defect-first))
-        (second_lies s d (taken (goal.at.returns c).In-Accepted) e u
-        (second_room (goal.at.returns c).After-deviation-second)))
+    (first_room (goal.at.returns c).After-defect-first))
+    (second_lies s d (taken (goal.at.returns c).In-Accepted) e u
+    (second_room (goal.at.returns c).After-deviation-second)))

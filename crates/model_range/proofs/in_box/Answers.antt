@@ -52,5 +52,7 @@ returns-then-negated-ends c =
 
 pub returns-else-negated-ends : goal.returns-else-negated-ends
 unfolding range_in_box
-returns-else-negated-ends c = rw (first (goal.at.returns-else-negated-ends c).After-struct_told-1,
-    sym (first (goal.at.returns-else-negated-ends c).After-struct_told-1) ∙ c.if-negated-ends.false)
+returns-else-negated-ends c = rw (
+  first (goal.at.returns-else-negated-ends c).After-struct_told-1,
+  sym (first (goal.at.returns-else-negated-ends c).After-struct_told-1) ∙ c.if-negated-ends.false,
+)

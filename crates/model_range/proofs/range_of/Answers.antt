@@ -20,4 +20,4 @@ pub returns : goal.returns
 returns c =
     c.range_arrays.ensures (own_lies c.args.m (room (goal.at.returns c).Start) c.requires)
     ∙ ap (λ m. bounds (done (range m))) (own_view c.args.m (room (goal.at.returns c).Start)
-        (few _ (room (goal.at.returns c).Start) c.requires))
+    (few _ (room (goal.at.returns c).Start) c.requires))

@@ -78,17 +78,25 @@ rise_is c = c.rise-above.ensures ∙ ap (key_rise _) (read_back (goal.at.overflo
 pub sum-middle-requires : goal.sum-middle-requires
 sum-middle-requires c =
     rw (steady_is c) (steady_room c.requires (sums (goal.at.sum-middle-requires c).After-c-1)
-        (inside (goal.at.sum-middle-requires c).After-c-1))
+    (inside (goal.at.sum-middle-requires c).After-c-1))
 
 pub overflow_add-below : goal.overflow_add-below
 overflow_add-below c =
-    omega (arith, fall_is c, fall_room c.requires (sums (goal.at.overflow_add-below c).After-c-1)
-        (inside (goal.at.overflow_add-below c).After-c-1))
+    omega (
+      arith,
+      fall_is c,
+      fall_room c.requires (sums (goal.at.overflow_add-below c).After-c-1)
+          (inside (goal.at.overflow_add-below c).After-c-1),
+    )
 
 pub overflow_add-above : goal.overflow_add-above
 overflow_add-above c =
-    omega (arith, rise_is c, rise_room c.requires (sums (goal.at.overflow_add-above c).After-c-1)
-        (inside (goal.at.overflow_add-above c).After-c-1))
+    omega (
+      arith,
+      rise_is c,
+      rise_room c.requires (sums (goal.at.overflow_add-above c).After-c-1)
+          (inside (goal.at.overflow_add-above c).After-c-1),
+    )
 
 pub loop-i-smaller : goal.loop-i-smaller
 loop-i-smaller c = omega arith
@@ -98,7 +106,7 @@ loop-i-preserved c w =
     pass_iteration w (c.loop-i.invariant w) (inside (goal.at.loop-i-preserved c).After-c-1)
     (answered c.sum-middle.type_inv
     (c.sum-middle.ensures ∙ ap (λ z. to_z w64 c.loop-i.middle-bits +ℤ z)
-        (steady_is (goal.at.loop-i-preserved c).After-steady)))
+    (steady_is (goal.at.loop-i-preserved c).After-steady)))
     (ap (λ x. c.loop-i.below + x) (fall_is (goal.at.loop-i-preserved c).After-fall-below))
     (ap (λ x. c.loop-i.above + x) (rise_is c))
 
@@ -140,23 +148,33 @@ pub signed-down-requires : goal.signed-down-requires
 signed-down-requires c = let w = c.requires in omega (arith, below_is c w, below_fits w)
 
 pub overflow_add-above-2 : goal.overflow_add-above-2
-overflow_add-above-2 c = let w = c.requires in omega (arith, above_is (goal.at.overflow_add-above-2 c).After-loop-i w,
-    above_fits w)
+overflow_add-above-2 c = let w = c.requires in omega (
+  arith,
+  above_is (goal.at.overflow_add-above-2 c).After-loop-i w,
+  above_fits w,
+)
 
 pub signed-up-requires : goal.signed-up-requires
-signed-up-requires c = let w = c.requires in omega (arith, above_is (goal.at.signed-up-requires c).After-loop-i w,
-    above_fits w)
+signed-up-requires c = let w = c.requires in omega (
+  arith,
+  above_is (goal.at.signed-up-requires c).After-loop-i w,
+  above_fits w,
+)
 
 pub difference-requires : goal.difference-requires
 difference-requires c =
     let w = c.requires in
-    rw (middle_is (goal.at.difference-requires c).After-loop-i w,
-        down_is (goal.at.difference-requires c).After-signed-down w) (below_fits w)
+    rw (
+      middle_is (goal.at.difference-requires c).After-loop-i w,
+      down_is (goal.at.difference-requires c).After-signed-down w,
+    ) (below_fits w)
 
 pub sum-requires : goal.sum-requires
 sum-requires c =
-    let w = c.requires in rw (middle_is (goal.at.sum-requires c).After-loop-i w,
-            up_is (goal.at.sum-requires c).After-signed-up w) (above_fits w)
+    let w = c.requires in rw (
+      middle_is (goal.at.sum-requires c).After-loop-i w,
+      up_is (goal.at.sum-requires c).After-signed-up w,
+    ) (above_fits w)
 
 pub returns : goal.returns
 unfolding range bounds

@@ -37,20 +37,20 @@ module _ (c : After-struct_told-in-Accepted-3-1) where
 pub returns-then-high-from : goal.returns-then-high-from
 returns-then-high-from c e h =
     c.contradicted_at.ensures ∙ above_band _ _ e _ h
-        (accepted (goal.at.returns-then-high-from c).After-struct_told-in-Accepted-3-1)
+    (accepted (goal.at.returns-then-high-from c).After-struct_told-in-Accepted-3-1)
     (sym (first_test (goal.at.returns-then-high-from c).After-struct_told-in-Accepted-3-1) ∙ c.if-high-from.true)
 
 pub returns-then-to-low : goal.returns-then-to-low
 returns-then-to-low c e h =
     c.contradicted_at-then-to-low.ensures ∙ below_band _ _ e _ h
-        (accepted (goal.at.returns-then-to-low c).After-struct_told-in-Accepted-3-1)
-        (sym (first_test (goal.at.returns-then-to-low c).After-struct_told-in-Accepted-3-1) ∙ c.if-high-from.false)
+    (accepted (goal.at.returns-then-to-low c).After-struct_told-in-Accepted-3-1)
+    (sym (first_test (goal.at.returns-then-to-low c).After-struct_told-in-Accepted-3-1) ∙ c.if-high-from.false)
     (sym (second_test (goal.at.returns-then-to-low c).After-struct_told-in-Accepted-3-1) ∙ c.if-to-low.true)
 
 pub returns-else-to-low : goal.returns-else-to-low
 returns-else-to-low c e h =
     c.nothing.ensures ∙ in_common _ _ e _ h (accepted (goal.at.returns-else-to-low c).After-struct_told-in-Accepted-3-1)
-        (sym (first_test (goal.at.returns-else-to-low c).After-struct_told-in-Accepted-3-1) ∙ c.if-high-from.false)
+    (sym (first_test (goal.at.returns-else-to-low c).After-struct_told-in-Accepted-3-1) ∙ c.if-high-from.false)
     (sym (second_test (goal.at.returns-else-to-low c).After-struct_told-in-Accepted-3-1) ∙ c.if-to-low.false)
 
 pub returns-in-Refused : goal.returns-in-Refused

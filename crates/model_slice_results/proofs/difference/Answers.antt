@@ -57,8 +57,8 @@ pub returns-then-count-gt-MOST_TERMS : goal.returns-then-count-gt-MOST_TERMS
 unfolding most_terms
 returns-then-count-gt-MOST_TERMS c =
     difference_many c.requires.addends c.turn.ensures
-        (sum_is (goal.at.returns-then-count-gt-MOST_TERMS c).After-merged_slices-count)
-        (omega (arith, c.if-count-gt-MOST_TERMS.true)) refl
+    (sum_is (goal.at.returns-then-count-gt-MOST_TERMS c).After-merged_slices-count)
+    (omega (arith, c.if-count-gt-MOST_TERMS.true)) refl
 
 pub overflow_add-radius : goal.overflow_add-radius
 overflow_add-radius c = record { fits = radii_fit c.requires.addends }

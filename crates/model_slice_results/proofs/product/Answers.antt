@@ -46,5 +46,5 @@ pub returns : goal.returns
 returns c =
     kept_left _ _
     (product_stored c.args.n c.multiplied_slices-k.ensures.ready c.multiplied_slices-k.ensures.exact
-        (taken (goal.at.returns c).In-Accepted)
+    (taken (goal.at.returns c).In-Accepted)
     _ _ c.store_first.ensures.0 c.store_first.ensures.1)

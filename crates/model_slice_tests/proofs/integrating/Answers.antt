@@ -38,8 +38,10 @@ returns-then-not-order_sound c = rw (ordered (goal.at.returns-then-not-order_sou
 pub returns-then-not-sound_slices : goal.returns-then-not-sound_slices
 unfolding require_at integrating refusal verdict
 returns-then-not-sound_slices c =
-    rw (ordered (goal.at.returns-then-not-sound_slices c).After-order_sound true (c.if-not-order_sound.false),
-        modelled (goal.at.returns-then-not-sound_slices c).After-sound_slices false (c.if-not-sound_slices.true))
+    rw (
+      ordered (goal.at.returns-then-not-sound_slices c).After-order_sound true (c.if-not-order_sound.false),
+      modelled (goal.at.returns-then-not-sound_slices c).After-sound_slices false (c.if-not-sound_slices.true),
+    )
 
 pub returns-then-not-from_one : goal.returns-then-not-from_one
 unfolding require_at integrating refusal verdict

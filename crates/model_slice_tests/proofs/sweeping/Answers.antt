@@ -39,12 +39,17 @@ tested c b h =
 pub returns-then-not-threshold_within_limits : goal.returns-then-not-threshold_within_limits
 unfolding require_at refusal verdict
 returns-then-not-threshold_within_limits c =
-    rw (decided (goal.at.returns-then-not-threshold_within_limits c).In-Accepted,
-        tested (goal.at.returns-then-not-threshold_within_limits c).After-threshold_within_limits false
-        (c.if-not-threshold_within_limits.true))
+    rw (
+      decided (goal.at.returns-then-not-threshold_within_limits c).In-Accepted,
+      tested (goal.at.returns-then-not-threshold_within_limits c).After-threshold_within_limits false
+          (c.if-not-threshold_within_limits.true),
+    )
 
 pub returns : goal.returns
 unfolding require_at verdict
 returns c =
-    rw (decided (goal.at.returns c).In-Accepted, tested (goal.at.returns c).After-threshold_within_limits true
-        (c.if-not-threshold_within_limits.false))
+    rw (
+      decided (goal.at.returns c).In-Accepted,
+      tested (goal.at.returns c).After-threshold_within_limits true
+          (c.if-not-threshold_within_limits.false),
+    )

@@ -10,8 +10,10 @@ returns-then-keys-lt-MOST_TERMS c = rw (lt-leb _ _ c.if-keys-lt-MOST_TERMS.true)
 
 pub returns-then-coefficients-lt-MOST_TERMS : goal.returns-then-coefficients-lt-MOST_TERMS
 unfolding model_room most_terms
-returns-then-coefficients-lt-MOST_TERMS c = rw (le-leb _ _ c.if-keys-lt-MOST_TERMS.false,
-    lt-leb _ _ c.if-coefficients-lt-MOST_TERMS.true)
+returns-then-coefficients-lt-MOST_TERMS c = rw (
+  le-leb _ _ c.if-keys-lt-MOST_TERMS.false,
+  lt-leb _ _ c.if-coefficients-lt-MOST_TERMS.true,
+)
 
 pub returns : goal.returns
 unfolding model_room most_terms

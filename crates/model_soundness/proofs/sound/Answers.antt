@@ -20,7 +20,7 @@ module _ (c : Start) where
 pub sound_arrays-requires : goal.sound_arrays-requires
 sound_arrays-requires c =
     borrowed_own _ _ _ (keys_whole (goal.at.sound_arrays-requires c).Start)
-        (coefficients_whole (goal.at.sound_arrays-requires c).Start)
+    (coefficients_whole (goal.at.sound_arrays-requires c).Start)
 
 pub returns : goal.returns
 returns c =

@@ -61,14 +61,23 @@ module _ (c : After-c-1) where
 
 tested : (c : After-term_sound)
     → term_sound c.args.n c.args.d
-    c.loop-i.least (key_at (record { before = c.before.before; type_inv = record
-        { keys = c.shared_slice_known-in-loop-i-1.given } }))
-        (coefficient_at (record { before = c.before.before; type_inv = record
-        { keys = c.shared_slice_known-in-loop-i-1.given } }))
+    c.loop-i.least (key_at (record {
+      before = c.before.before;
+      type_inv = record
+          { keys = c.shared_slice_known-in-loop-i-1.given };
+    }))
+    (coefficient_at (record {
+      before = c.before.before;
+      type_inv = record
+          { keys = c.shared_slice_known-in-loop-i-1.given };
+    }))
     ≡ c.term_sound.result
 tested c = sym (c.term_sound.ensures ∙ ap (term_sound _ _ _ _)
-    (read_back (record { before = c.before.before; type_inv = record
-    { keys = c.shared_slice_known-in-loop-i-1.given } })))
+    (read_back (record {
+      before = c.before.before;
+      type_inv = record
+          { keys = c.shared_slice_known-in-loop-i-1.given };
+    })))
 
 pub returns-then-not-vars_sound : goal.returns-then-not-vars_sound
 returns-then-not-vars_sound c = sym (slices_vars_not _ _ _ _ _ _ (sym c.vars_sound.ensures ∙ c.if-not-vars_sound.true))
@@ -87,8 +96,11 @@ pub bounds-keys-i : goal.bounds-keys-i
 bounds-keys-i c = omega (arith, (long (goal.at.bounds-keys-i c).Else-count-gt-MOST_TERMS).0)
 
 pub offset_bounds-coefficients-i : goal.offset_bounds-coefficients-i
-offset_bounds-coefficients-i c = omega (arith, few_places
-    (goal.at.offset_bounds-coefficients-i c).Else-count-gt-MOST_TERMS)
+offset_bounds-coefficients-i c = omega (
+  arith,
+  few_places
+      (goal.at.offset_bounds-coefficients-i c).Else-count-gt-MOST_TERMS,
+)
 
 pub bounds-coefficients-i : goal.bounds-coefficients-i
 bounds-coefficients-i c = omega (arith, (long (goal.at.bounds-coefficients-i c).Else-count-gt-MOST_TERMS).1)
@@ -100,12 +112,12 @@ pub returns-then-not-term_sound : goal.returns-then-not-term_sound
 returns-then-not-term_sound c =
     sym
     (slices_not _ _ _ _ _ _ (vars_hold (goal.at.returns-then-not-term_sound c).Else-count-gt-MOST_TERMS)
-        (few (goal.at.returns-then-not-term_sound c).Else-count-gt-MOST_TERMS) _ _ _ c.loop-i.invariant
-        c.loop-i-test.true
+    (few (goal.at.returns-then-not-term_sound c).Else-count-gt-MOST_TERMS) _ _ _ c.loop-i.invariant
+    c.loop-i-test.true
     (long (goal.at.returns-then-not-term_sound c).Else-count-gt-MOST_TERMS).0
-        (long (goal.at.returns-then-not-term_sound c).Else-count-gt-MOST_TERMS).1
-        (key_small (goal.at.returns-then-not-term_sound c).After-c-1)
-        (tested (goal.at.returns-then-not-term_sound c).After-term_sound ∙ c.if-not-term_sound.true))
+    (long (goal.at.returns-then-not-term_sound c).Else-count-gt-MOST_TERMS).1
+    (key_small (goal.at.returns-then-not-term_sound c).After-c-1)
+    (tested (goal.at.returns-then-not-term_sound c).After-term_sound ∙ c.if-not-term_sound.true))
 
 -- a key fits twice the bits, and so does the number after it
 key_fits : (z : ℕ) → Fits w32 z → Fits w64 z
@@ -129,19 +141,19 @@ loop-i-smaller c = omega arith
 pub loop-i-preserved : goal.loop-i-preserved
 loop-i-preserved c =
     slices_iteration _ _ _ _ _ _ (vars_hold (goal.at.loop-i-preserved c).Else-count-gt-MOST_TERMS)
-        (few (goal.at.loop-i-preserved c).Else-count-gt-MOST_TERMS) _ _ _ c.loop-i.invariant
+    (few (goal.at.loop-i-preserved c).Else-count-gt-MOST_TERMS) _ _ _ c.loop-i.invariant
     c.loop-i-test.true
     (long (goal.at.loop-i-preserved c).Else-count-gt-MOST_TERMS).0
-        (long (goal.at.loop-i-preserved c).Else-count-gt-MOST_TERMS).1
-        (key_small (goal.at.loop-i-preserved c).After-c-1) (tested (goal.at.loop-i-preserved c).After-term_sound
-        ∙ c.if-not-term_sound.false)
+    (long (goal.at.loop-i-preserved c).Else-count-gt-MOST_TERMS).1
+    (key_small (goal.at.loop-i-preserved c).After-c-1) (tested (goal.at.loop-i-preserved c).After-term_sound
+    ∙ c.if-not-term_sound.false)
     c.capped_sum-span.result
     (c.capped_sum-span.ensures
     ∙ ap (λ x. capped (c.loop-i.span + x)) (c.magnitude.ensures
-        ∙ ap nat_abs (read_back (goal.at.loop-i-preserved c).After-c-1)))
+    ∙ ap nat_abs (read_back (goal.at.loop-i-preserved c).After-c-1)))
 
 pub returns : goal.returns
 returns c =
     c.within_span.ensures
     ∙ slices_end _ _ _ _ _ _ (vars_hold (goal.at.returns c).Else-count-gt-MOST_TERMS)
-        (few (goal.at.returns c).Else-count-gt-MOST_TERMS) _ _ _ c.loop-i.invariant c.loop-i-test.false
+    (few (goal.at.returns c).Else-count-gt-MOST_TERMS) _ _ _ c.loop-i.invariant c.loop-i-test.false

@@ -49,7 +49,7 @@ module _ (c : After-put_in-k) where
   left : KeptIn c.args.f.n c.put_in-k.result c.put_in-k.new.remaining
       c.put_in-k.new.rest
       (answers c.requires.substitution (outer_room
-          c.before.before.before.before.before.before.before.before.before.before.before.before.before.before.before.before.before.before.before.before.before.before) (inner_room c.before.before.before.before.before.before.before.before.before.before.before.before.before.before.before.before.before.before.before.before.before.before))
+      c.before.before.before.before.before.before.before.before.before.before.before.before.before.before.before.before.before.before.before.before.before.before) (inner_room c.before.before.before.before.before.before.before.before.before.before.before.before.before.before.before.before.before.before.before.before.before.before))
   left = own_answer c.requires.substitution (outer_room
       c.before.before.before.before.before.before.before.before.before.before.before.before.before.before.before.before.before.before.before.before.before.before) (inner_room c.before.before.before.before.before.before.before.before.before.before.before.before.before.before.before.before.before.before.before.before.before.before) c.put_in-k.ensures
 

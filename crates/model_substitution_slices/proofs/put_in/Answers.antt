@@ -88,24 +88,47 @@ module _ (c : After-part-t) where
   some : 0 < c.loop-k.k
   some = omega (arith, c.loop-k-test.true)
 
-  next_is : held (start (record { before = c.before.before.before.before.before; type_inv = record
-      { keys2 = c.shared_slice_known-2-1.given; keys = c.shared_slice_known-1.given } })).args.n c.part-t.result 0
+  next_is : held (start (record {
+    before = c.before.before.before.before.before;
+    type_inv = record
+        { keys2 = c.shared_slice_known-2-1.given; keys = c.shared_slice_known-1.given };
+  })).args.n c.part-t.result 0
       next_keys nexts
-      ≡ pack (part (start (record { before = c.before.before.before.before.before; type_inv = record
-          { keys2 = c.shared_slice_known-2-1.given; keys = c.shared_slice_known-1.given } })).args.i (c.loop-k.k - 1)
-          (view (held (start (record { before = c.before.before.before.before.before; type_inv = record
-          { keys2 = c.shared_slice_known-2-1.given; keys = c.shared_slice_known-1.given } })).args.n
-          (start (record { before = c.before.before.before.before.before; type_inv = record
-          { keys2 = c.shared_slice_known-2-1.given; keys = c.shared_slice_known-1.given } })).args.count
-      (start (record { before = c.before.before.before.before.before; type_inv = record
-          { keys2 = c.shared_slice_known-2-1.given; keys = c.shared_slice_known-1.given } })).args.radius
-          (start (record { before = c.before.before.before.before.before; type_inv = record
-          { keys2 = c.shared_slice_known-2-1.given; keys = c.shared_slice_known-1.given } })).args.keys.now
-          (start (record { before = c.before.before.before.before.before; type_inv = record
-          { keys2 = c.shared_slice_known-2-1.given; keys = c.shared_slice_known-1.given } })).args.coefficients.now)))
-  next_is = c.part-t.ensures (put_part (start (record
-      { before = c.before.before.before.before.before; type_inv = record
-      { keys2 = c.shared_slice_known-2-1.given; keys = c.shared_slice_known-1.given } })).requires.substitution_of)
+      ≡ pack (part (start (record {
+        before = c.before.before.before.before.before;
+        type_inv = record
+            { keys2 = c.shared_slice_known-2-1.given; keys = c.shared_slice_known-1.given };
+      })).args.i (c.loop-k.k - 1)
+      (view (held (start (record {
+        before = c.before.before.before.before.before;
+        type_inv = record
+            { keys2 = c.shared_slice_known-2-1.given; keys = c.shared_slice_known-1.given };
+      })).args.n
+      (start (record {
+        before = c.before.before.before.before.before;
+        type_inv = record
+            { keys2 = c.shared_slice_known-2-1.given; keys = c.shared_slice_known-1.given };
+      })).args.count
+      (start (record {
+        before = c.before.before.before.before.before;
+        type_inv = record
+            { keys2 = c.shared_slice_known-2-1.given; keys = c.shared_slice_known-1.given };
+      })).args.radius
+      (start (record {
+        before = c.before.before.before.before.before;
+        type_inv = record
+            { keys2 = c.shared_slice_known-2-1.given; keys = c.shared_slice_known-1.given };
+      })).args.keys.now
+      (start (record {
+        before = c.before.before.before.before.before;
+        type_inv = record
+            { keys2 = c.shared_slice_known-2-1.given; keys = c.shared_slice_known-1.given };
+      })).args.coefficients.now)))
+  next_is = c.part-t.ensures (put_part (start (record {
+    before = c.before.before.before.before.before;
+    type_inv = record
+        { keys2 = c.shared_slice_known-2-1.given; keys = c.shared_slice_known-1.given };
+  })).requires.substitution_of)
 
 pub iterated-r-requires : goal.iterated-r-requires
 iterated-r-requires c =
@@ -138,26 +161,32 @@ module _ (c : After-iterated-r) where
   -- the table keeps its lengths
   slots_long : length c.iterated-r.new.slots
       ≡ length
-          (start
-          (record
-          { before =
-          c.before.before.before.before.before.before.before.before.before.before.before.before.before.before.before.before; type_inv = record { keys2 = c.shared_slice_known-2-1.given; keys = c.shared_slice_known-1.given } })).args.slots.now
+      (start
+      (record {
+        before =
+            c.before.before.before.before.before.before.before.before.before.before.before.before.before.before.before.before;
+        type_inv = record { keys2 = c.shared_slice_known-2-1.given; keys = c.shared_slice_known-1.given };
+      })).args.slots.now
   slots_long = c.iterated-r.auto.slots ∙ c.loop-k.invariant.3
 
   table_long : length c.iterated-r.new.keys
       ≡ length
-          (start
-          (record
-          { before =
-          c.before.before.before.before.before.before.before.before.before.before.before.before.before.before.before.before; type_inv = record { keys2 = c.shared_slice_known-2-1.given; keys = c.shared_slice_known-1.given } })).args.table.now
+      (start
+      (record {
+        before =
+            c.before.before.before.before.before.before.before.before.before.before.before.before.before.before.before.before;
+        type_inv = record { keys2 = c.shared_slice_known-2-1.given; keys = c.shared_slice_known-1.given };
+      })).args.table.now
   table_long = c.iterated-r.auto.keys ∙ c.loop-k.invariant.4
 
   sums_long : length c.iterated-r.new.sums
       ≡ length
-          (start
-          (record
-          { before =
-          c.before.before.before.before.before.before.before.before.before.before.before.before.before.before.before.before; type_inv = record { keys2 = c.shared_slice_known-2-1.given; keys = c.shared_slice_known-1.given } })).args.sums.now
+      (start
+      (record {
+        before =
+            c.before.before.before.before.before.before.before.before.before.before.before.before.before.before.before.before;
+        type_inv = record { keys2 = c.shared_slice_known-2-1.given; keys = c.shared_slice_known-1.given };
+      })).args.sums.now
   sums_long = c.iterated-r.auto.sums ∙ c.loop-k.invariant.5
 
 pub shape_of-slots-in_default : goal.shape_of-slots-in_default
@@ -202,8 +231,8 @@ shape_of-products-in_default c =
 pub returns-in_default : goal.returns-in_default
 returns-in_default c =
     put_stops (start (goal.at.returns-in_default c).At-loop-k).requires.substitution_of _ _ _ _ c.loop-k.invariant.6 _ _
-        _ (next_is (goal.at.returns-in_default c).After-part-t) (some (goal.at.returns-in_default c).After-part-t) _ _
-        c.iterated-r.ensures
+    _ (next_is (goal.at.returns-in_default c).After-part-t) (some (goal.at.returns-in_default c).After-part-t) _ _
+    c.iterated-r.ensures
     c.in_default.is
 
 pub loop-k-smaller : goal.loop-k-smaller

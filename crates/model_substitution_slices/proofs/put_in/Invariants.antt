@@ -27,7 +27,7 @@ invariant-loop-k l =
     × (length l.table ≡ length l.initial.table)
     × (length l.sums ≡ length l.initial.sums)
     × Left l.d l.i (held l.n l.count l.radius l.keys l.coefficients)
-        (held l.n l.count2 l.radius2 l.keys2 l.coefficients2) l.k
+    (held l.n l.count2 l.radius2 l.keys2 l.coefficients2) l.k
     (held l.n l.c l.e l.remaining l.rest) l.last
     × (l.k < exponents)
 

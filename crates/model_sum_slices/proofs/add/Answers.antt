@@ -32,7 +32,7 @@ store_sum-requires c =
 pub returns-in-Accepted : goal.returns-in-Accepted
 returns-in-Accepted c =
     stored_same (add_passed _ _ _ _ _ _ _ _ _ _ c.requires.coefficients1_value c.requires.coefficients2_value
-        (passed (goal.at.returns-in-Accepted c).In-Accepted)) c.store_sum.ensures
+    (passed (goal.at.returns-in-Accepted c).In-Accepted)) c.store_sum.ensures
 
 pub returns-in-Refused : goal.returns-in-Refused
 unfolding most_degree

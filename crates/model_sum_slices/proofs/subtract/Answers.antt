@@ -32,7 +32,7 @@ store_difference-requires c =
 pub returns-in-Accepted : goal.returns-in-Accepted
 returns-in-Accepted c =
     stored_same (subtract_passed _ _ _ _ _ _ _ _ _ _ c.requires.coefficients1_value c.requires.coefficients2_value
-        (passed (goal.at.returns-in-Accepted c).In-Accepted))
+    (passed (goal.at.returns-in-Accepted c).In-Accepted))
     c.store_difference.ensures
 
 pub returns-in-Refused : goal.returns-in-Refused

@@ -53,11 +53,11 @@ returns-then-within c n w =
     let h : c.merged_slices-count.result ≤ 64 = omega arith in
     left_within w (c.merged_slices-count.ensures.terms (sum_from w)) h
     (sym (c.within.ensures n (sum_keys (goal.at.returns-then-within c).After-merged_slices-count)
-        (room (goal.at.returns-then-within c).After-merged_slices-count)) ∙ c.if-within.true)
-        (clear (goal.at.returns-then-within c).After-merged_slices-count h)
+    (room (goal.at.returns-then-within c).After-merged_slices-count)) ∙ c.if-within.true)
+    (clear (goal.at.returns-then-within c).After-merged_slices-count h)
 
 pub returns : goal.returns
 returns c n w =
     left_over w (c.merged_slices-count.ensures.terms (sum_from w)) (omega arith)
     (sym (c.within.ensures n (sum_keys (goal.at.returns c).After-merged_slices-count)
-        (room (goal.at.returns c).After-merged_slices-count)) ∙ c.if-within.false) _ refl
+    (room (goal.at.returns c).After-merged_slices-count)) ∙ c.if-within.false) _ refl

@@ -29,7 +29,7 @@ store_integrated-requires c =
 pub returns-in-Accepted : goal.returns-in-Accepted
 returns-in-Accepted c =
     stored_same (antiderivative_passed _ _ _ _ _ c.requires.coefficients_value _ _
-        (passed (goal.at.returns-in-Accepted c).In-Accepted)) c.store_integrated.ensures
+    (passed (goal.at.returns-in-Accepted c).In-Accepted)) c.store_integrated.ensures
 
 pub returns-in-Refused : goal.returns-in-Refused
 returns-in-Refused c =

@@ -26,7 +26,7 @@ integral_slices-requires c =
 pub returns-in-Accepted : goal.returns-in-Accepted
 returns-in-Accepted c =
     c.integral_slices.ensures ∙ integral_passed _ _ _ _ _ c.requires
-        (passed (goal.at.returns-in-Accepted c).In-Accepted)
+    (passed (goal.at.returns-in-Accepted c).In-Accepted)
 
 pub returns-in-Refused : goal.returns-in-Refused
 returns-in-Refused c =

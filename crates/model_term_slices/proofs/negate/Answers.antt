@@ -28,7 +28,7 @@ store_negated-requires c =
 pub returns-in-Accepted : goal.returns-in-Accepted
 returns-in-Accepted c =
     stored_same (negate_passed _ _ _ _ _ c.requires.coefficients_value
-        (passed (goal.at.returns-in-Accepted c).In-Accepted)) c.store_negated.ensures
+    (passed (goal.at.returns-in-Accepted c).In-Accepted)) c.store_negated.ensures
 
 pub returns-in-Refused : goal.returns-in-Refused
 returns-in-Refused c =

@@ -27,7 +27,7 @@ range_slices-requires c = lying c
 pub returns-in-Accepted : goal.returns-in-Accepted
 returns-in-Accepted c =
     c.range_slices.ensures (lying (goal.at.returns-in-Accepted c).In-Accepted)
-        ∙ range_passed _ _ _ _ _ c.requires (passed (goal.at.returns-in-Accepted c).In-Accepted)
+    ∙ range_passed _ _ _ _ _ c.requires (passed (goal.at.returns-in-Accepted c).In-Accepted)
 
 pub returns-in-Refused : goal.returns-in-Refused
 returns-in-Refused c =

@@ -26,7 +26,7 @@ module _ (c : In-Accepted) where
   passed =
       sym (c.sweeping-v.ensures
       ∙ ap (λ t. verdict (sweeping t (handed-model c.before.before.before.before.before.before)))
-          (to_z-of_z c.ranges.t))
+      (to_z-of_z c.ranges.t))
       ∙ c.in-Accepted.is
 
 pub store_swept-requires : goal.store_swept-requires
@@ -44,11 +44,11 @@ returns-in-Accepted c =
     c.args.coefficients.now)))))
     (c.magnitude.ensures ∙ ap nat_abs (to_z-of_z c.ranges.t))
     ∙ sweep_passed _ _ _ _ _ c.requires.coefficients_value _ (passed (goal.at.returns-in-Accepted c).In-Accepted))
-        c.store_swept.ensures
+    c.store_swept.ensures
 
 pub returns-in-Refused : goal.returns-in-Refused
 returns-in-Refused c =
     let e = sym (c.sweeping-v.ensures ∙ ap (λ t. verdict
-            (sweeping t (handed-model (goal.at.returns-in-Refused c).Start))) (to_z-of_z c.ranges.t))
+    (sweeping t (handed-model (goal.at.returns-in-Refused c).Start))) (to_z-of_z c.ranges.t))
     ∙ c.in-Refused.is in
     stored_same (sweep_refused _ _ _ _ _ _ _ _ e) c.store_refused.ensures

@@ -25,4 +25,4 @@ pub returns : goal.returns
 returns c =
     left_done _ _ _ _ _ (c.negated_arrays-l.ensures (own_lies _ (room (goal.at.returns c).Start) c.requires))
     ∙ ap (λ m. pack (negate m)) (own_view _ (room (goal.at.returns c).Start)
-        (few _ (room (goal.at.returns c).Start) c.requires))
+    (few _ (room (goal.at.returns c).Start) c.requires))

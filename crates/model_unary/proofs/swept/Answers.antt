@@ -25,4 +25,4 @@ pub returns : goal.returns
 returns c =
     left_done _ _ _ _ _ (c.swept_arrays-l.ensures (own_lies c.args.m (room (goal.at.returns c).Start) c.requires))
     ∙ ap (λ m. pack (sweep c.args.threshold m)) (own_view c.args.m (room (goal.at.returns c).Start)
-        (few _ (room (goal.at.returns c).Start) c.requires))
+    (few _ (room (goal.at.returns c).Start) c.requires))

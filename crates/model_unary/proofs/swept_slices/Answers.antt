@@ -82,8 +82,12 @@ module _ (c : After-c-1) where
   unfolding held
   room =
       let w = c.requires.lies in
-      omega (arith, few c.before.before.before.before.before.before.before, inside,
-          swept_room _ _ (lies_long w) _ _ _ _ (c.loop-i.invariant.1 w))
+      omega (
+        arith,
+        few c.before.before.before.before.before.before.before,
+        inside,
+        swept_room _ _ (lies_long w) _ _ _ _ (c.loop-i.invariant.1 w),
+      )
 
   within : c.loop-i.radius + nat_abs at.coefficient ≤ 2 ^ 32 * span_limit
   unfolding held
@@ -104,29 +108,45 @@ size_is c = c.magnitude-size.ensures ∙ ap nat_abs (read_back (goal.at.overflow
 module _ (c : After-is_small) where
   tested : (w : Lies c.args.total c.args.start c.args.keys.now
       c.args.coefficients.now)
-      → not (eqb (get_or (listed (model (record { before = c.before.before.before; type_inv = record
-          { keys = c.shared_slice_known-in-loop-i-1.given } }) w)) c.loop-i.i zero_term).key 0)
+      → not (eqb (get_or (listed (model (record {
+        before = c.before.before.before;
+        type_inv = record
+            { keys = c.shared_slice_known-in-loop-i-1.given };
+      }) w)) c.loop-i.i zero_term).key 0)
       && leb (nat_abs (get_or (listed (model (record
-          { before = c.before.before.before; type_inv = record { keys = c.shared_slice_known-in-loop-i-1.given } }) w))
-          c.loop-i.i zero_term).coefficient)
+      { before = c.before.before.before; type_inv = record { keys = c.shared_slice_known-in-loop-i-1.given } }) w))
+      c.loop-i.i zero_term).coefficient)
       c.args.threshold
       ≡ c.is_small.result
   tested w =
       ap (λ (t : Term). not (eqb t.key 0) && leb (nat_abs t.coefficient) c.args.threshold)
-      (here (record { before = c.before.before.before; type_inv = record
-          { keys = c.shared_slice_known-in-loop-i-1.given } }) w)
+      (here (record {
+        before = c.before.before.before;
+        type_inv = record
+            { keys = c.shared_slice_known-in-loop-i-1.given };
+      }) w)
       ∙ sym (c.is_small.ensures
-      ∙ ap (λ z. not (eqb (at (record { before = c.before.before.before; type_inv = record
-          { keys = c.shared_slice_known-in-loop-i-1.given } })).key 0) && leb z c.args.threshold)
-          (size_is (record { before = c.before.before; type_inv = record
-          { keys = c.shared_slice_known-in-loop-i-1.given } })))
+      ∙ ap (λ z. not (eqb (at (record {
+        before = c.before.before.before;
+        type_inv = record
+            { keys = c.shared_slice_known-in-loop-i-1.given };
+      })).key 0) && leb z c.args.threshold)
+      (size_is (record {
+        before = c.before.before;
+        type_inv = record
+            { keys = c.shared_slice_known-in-loop-i-1.given };
+      })))
 
 pub overflow_add-i : goal.overflow_add-i
 overflow_add-i c = omega (arith, few (goal.at.overflow_add-i c).Start, inside (goal.at.overflow_add-i c).After-c-1)
 
 pub overflow_add-radius : goal.overflow_add-radius
-overflow_add-radius c = omega (arith, span_fits, size_is (goal.at.overflow_add-radius c).After-magnitude-size,
-    within (goal.at.overflow_add-radius c).After-c-1)
+overflow_add-radius c = omega (
+  arith,
+  span_fits,
+  size_is (goal.at.overflow_add-radius c).After-magnitude-size,
+  within (goal.at.overflow_add-radius c).After-c-1,
+)
 
 pub loop-i-smaller-then-is_small : goal.loop-i-smaller-then-is_small
 loop-i-smaller-then-is_small c = omega (arith, inside (goal.at.loop-i-smaller-then-is_small c).After-c-1)
@@ -137,14 +157,14 @@ loop-i-preserved-then-is_small c = (
   c.loop-i.invariant.0,
   λ w. subst
       (λ r. Swept c.args.threshold (model (goal.at.loop-i-preserved-then-is_small c).After-c-1 w)
-          (paired c.loop-i.stored c.loop-i.out)
+      (paired c.loop-i.stored c.loop-i.out)
       c.loop-i.count (c.loop-i.radius + r) (c.loop-i.i + 1))
       (ap (λ (c : Term). nat_abs c.coefficient) (here (goal.at.loop-i-preserved-then-is_small c).After-c-1 w)
-          ∙ sym (size_is (goal.at.loop-i-preserved-then-is_small c).After-magnitude-size))
+      ∙ sym (size_is (goal.at.loop-i-preserved-then-is_small c).After-magnitude-size))
       (swept_drop _ _ (lies_long w) _ _ _ _ (c.loop-i.invariant.1 w)
-          (inside (goal.at.loop-i-preserved-then-is_small c).After-c-1) (lies_limits w).width
+      (inside (goal.at.loop-i-preserved-then-is_small c).After-c-1) (lies_limits w).width
       (small_here (goal.at.loop-i-preserved-then-is_small c).After-c-1 w)
-          (tested (goal.at.loop-i-preserved-then-is_small c).After-is_small w ∙ c.if-is_small.true)),
+      (tested (goal.at.loop-i-preserved-then-is_small c).After-is_small w ∙ c.if-is_small.true)),
 )
 
 pub offset_bounds-stored-count : goal.offset_bounds-stored-count
@@ -177,13 +197,13 @@ loop-i-preserved c =
           (get_or (listed (model (goal.at.loop-i-preserved c).After-c-1 w)) c.loop-i.i zero_term)
           (sym (ap (λ (c : Term). c.key) (here (goal.at.loop-i-preserved c).After-c-1 w)))
           (read_back (goal.at.loop-i-preserved c).After-c-1
-              ∙ sym (ap (λ (c : Term). c.coefficient) (here (goal.at.loop-i-preserved c).After-c-1 w))) in
+          ∙ sym (ap (λ (c : Term). c.coefficient) (here (goal.at.loop-i-preserved c).After-c-1 w))) in
           subst (λ l. Swept c.args.threshold (model (goal.at.loop-i-preserved c).After-c-1 w) l (c.loop-i.count + 1)
-              c.loop-i.radius
+          c.loop-i.radius
           (c.loop-i.i + 1)) (sym put.1)
           (swept_keep _ _ (lies_long w) _ _ _ _ (c.loop-i.invariant.1 w) (inside (goal.at.loop-i-preserved c).After-c-1)
           (lies_limits w).width (small_here (goal.at.loop-i-preserved c).After-c-1 w)
-              (tested (goal.at.loop-i-preserved c).After-is_small w ∙ c.if-is_small.false)
+          (tested (goal.at.loop-i-preserved c).After-is_small w ∙ c.if-is_small.false)
           (omega (arith, few (goal.at.loop-i-preserved c).Start, inside (goal.at.loop-i-preserved c).After-c-1))),
     )
 

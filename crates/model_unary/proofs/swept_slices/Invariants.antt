@@ -32,7 +32,7 @@ abbrev pub invariant-loop-i : goal.invariant-loop-i
 invariant-loop-i l =
     Room l.stored l.out × ((w : Lies l.total l.start l.keys l.coefficients)
     → Swept l.threshold (held w.vars l.total l.start l.keys l.coefficients) (paired l.stored l.out) l.count l.radius
-        l.i)
+    l.i)
 
 abbrev pub decreases-loop-i : goal.decreases-loop-i
 decreases-loop-i l = l.total - l.i

@@ -36,8 +36,11 @@ loop-i-preserved c =
     let i = c.loop-i.i in (
       omega arith,
       length-set c.loop-i.out i _ ∙ h.1,
-      rw (h.2, answered c.negated.type_inv (c.negated.ensures
-          ∙ ap neg_ℤ (read_back (goal.at.loop-i-preserved c).After-old-1)))
+      rw (
+        h.2,
+        answered c.negated.type_inv (c.negated.ensures
+            ∙ ap neg_ℤ (read_back (goal.at.loop-i-preserved c).After-old-1)),
+      )
           (turned_more a.coefficients.now a.out.now i (omega arith) (omega arith)),
     )
 

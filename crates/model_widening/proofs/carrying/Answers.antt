@@ -17,8 +17,13 @@ times_unit-requires c = times_fits _ c.requires.e_le_span_limit
 -- the sum fits
 below : (c : After-times_unit) → c.args.s.carried + c.times_unit.result < 2 ^ 64
 below c =
-    omega (arith, c.times_unit.ensures, c.requires.carried_bound, NatL.mul-le-mul U_within c.requires.e_le_span_limit,
-        span_square_fits)
+    omega (
+      arith,
+      c.times_unit.ensures,
+      c.requires.carried_bound,
+      NatL.mul-le-mul U_within c.requires.e_le_span_limit,
+      span_square_fits,
+    )
 
 pub overflow_add-carried : goal.overflow_add-carried
 overflow_add-carried c = record { fits = below (goal.at.overflow_add-carried c).After-times_unit }

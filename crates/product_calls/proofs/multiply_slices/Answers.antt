@@ -22,7 +22,7 @@ module _ (c : In-Accepted) where
 pub multiplied_slices_alone-requires : goal.multiplied_slices_alone-requires
 multiplied_slices_alone-requires c =
     let l = slices_long _ _ _ _ _ _ _ _ _ _ _ (passed (goal.at.multiplied_slices_alone-requires c).In-Accepted)
-            c.requires.coefficients1_value c.requires.coefficients2_value in
+    c.requires.coefficients1_value c.requires.coefficients2_value in
     record {
       factors = slices_factors _ _ _ _ _ _ _ _ _ _ _ (passed (goal.at.multiplied_slices_alone-requires c).In-Accepted);
       count1_in_bounds = l.0;

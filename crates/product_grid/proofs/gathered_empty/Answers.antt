@@ -59,8 +59,11 @@ module _ (f : After-fill) where
       (terms f.args.nb f.args.kb.now f.args.cb.now))
       f.fill.new.sums f.fill.new.degrees
   unfolding fits all_fit
-  summed = f.fill.ensures (fits (record { before = f.before.before.before.before.before.before.before; type_inv = record
-      { kept = f.slice_known-1.given; kb = f.shared_slice_known-2-1.given; ka = f.shared_slice_known-1.given } }))
+  summed = f.fill.ensures (fits (record {
+    before = f.before.before.before.before.before.before.before;
+    type_inv = record
+        { kept = f.slice_known-1.given; kb = f.shared_slice_known-2-1.given; ka = f.shared_slice_known-1.given };
+  }))
 
   wide : length f.fill.new.degrees ≡ scratch_places
   wide = f.fill.auto.degrees ∙ length-replicate {A = ℕ} scratch_places 0
@@ -81,5 +84,5 @@ scan-requires c =
 pub returns : goal.returns
 returns c =
     scanned c.requires.grid_ready c.degree_of-a.ensures c.degree_of-b.ensures _ _
-        (summed (goal.at.returns c).After-fill) c.fill.auto.sums
+    (summed (goal.at.returns c).After-fill) c.fill.auto.sums
     (wide (goal.at.returns c).After-fill) c.args.d c.scan.ensures

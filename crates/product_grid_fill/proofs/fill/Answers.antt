@@ -56,7 +56,7 @@ row-requires c =
     let h = c.loop-i.invariant in
     rw (fits_y (goal.at.row-requires c).After-c-1)
     (row_fits c.requires c.loop-i.i (iteration (goal.at.row-requires c).After-c-1) c.loop-i.sums c.loop-i.degrees
-        (h.filled c.requires)
+    (h.filled c.requires)
     h.sums_long h.degrees_long)
 
 pub loop-i-preserved : goal.loop-i-preserved
@@ -73,10 +73,10 @@ loop-i-preserved c =
       filled = rw add-one (λ (w : Fits (goal.at.loop-i-preserved c).After-c-1).
           rw (products_more (terms a.na w.ka a.ca.now) (terms a.nb w.kb a.cb.now) i
           (at_key (get_or w.ka i 0) (y (goal.at.loop-i-preserved c).After-c-1))
-              (next_first w i (iteration (goal.at.loop-i-preserved c).After-c-1) c.loop-i.sums c.loop-i.degrees))
+          (next_first w i (iteration (goal.at.loop-i-preserved c).After-c-1) c.loop-i.sums c.loop-i.degrees))
           (filled_after _ _ _ _ _ _ _ _ (h.filled w)
           (added (row_fits w i (iteration (goal.at.loop-i-preserved c).After-c-1) c.loop-i.sums c.loop-i.degrees
-              (h.filled w) h.sums_long
+          (h.filled w) h.sums_long
           h.degrees_long))));
     }
 

@@ -142,16 +142,23 @@ overflow_add-word c = record { fits = omega (arith, word_fits (goal.at.overflow_
 
 pub product-z-requires : goal.product-z-requires
 product-z-requires e =
-    rw (fits_c (goal.at.product-z-requires e).After-y-1,
-        to_z-of_z (fits_y (goal.at.product-z-requires e).After-y-1))
-        (omega (arith, room (goal.at.product-z-requires e).After-y-1,
-        nat_abs_mul (c (goal.at.product-z-requires e).After-y-1) (y (goal.at.product-z-requires e).After-y-1)))
+    rw (
+      fits_c (goal.at.product-z-requires e).After-y-1,
+      to_z-of_z (fits_y (goal.at.product-z-requires e).After-y-1),
+    )
+    (omega (
+      arith,
+      room (goal.at.product-z-requires e).After-y-1,
+      nat_abs_mul (c (goal.at.product-z-requires e).After-y-1) (y (goal.at.product-z-requires e).After-y-1),
+    ))
 
 product_is : (e : After-product-z)
     → e.product-z.result ≡ c (goal.at.offset_bounds-sums-place e).After-y-1 *ℤ y
-        (goal.at.offset_bounds-sums-place e).After-y-1
-product_is e = rw (fits_c (goal.at.offset_bounds-sums-place e).After-y-1,
-    to_z-of_z (fits_y (goal.at.offset_bounds-sums-place e).After-y-1)) at e.product-z.ensures
+    (goal.at.offset_bounds-sums-place e).After-y-1
+product_is e = rw (
+  fits_c (goal.at.offset_bounds-sums-place e).After-y-1,
+  to_z-of_z (fits_y (goal.at.offset_bounds-sums-place e).After-y-1),
+) at e.product-z.ensures
 
 pub offset_bounds-sums-place : goal.offset_bounds-sums-place
 offset_bounds-sums-place e = let h = within_sums (goal.at.offset_bounds-sums-place e).After-y-1 in search rules
@@ -165,9 +172,11 @@ fits_old e = record { sfits = e.old-1.given }
 
 pub sum-sum-requires : goal.sum-sum-requires
 sum-sum-requires e =
-    rw (product_is (goal.at.sum-sum-requires e).After-product-z,
-        to_z-of_z (fits_z (goal.at.sum-sum-requires e).After-y-1),
-        to_z-of_z (fits_old e)) (room (goal.at.sum-sum-requires e).After-y-1)
+    rw (
+      product_is (goal.at.sum-sum-requires e).After-product-z,
+      to_z-of_z (fits_z (goal.at.sum-sum-requires e).After-y-1),
+      to_z-of_z (fits_old e),
+    ) (room (goal.at.sum-sum-requires e).After-y-1)
 
 pub offset_bounds-sums-place-in-loop-j : goal.offset_bounds-sums-place-in-loop-j
 offset_bounds-sums-place-in-loop-j e = let h = within_sums (goal.at.offset_bounds-sums-place-in-loop-j e).After-y-1
@@ -185,9 +194,11 @@ loop-j-preserved e =
     let z = c (goal.at.loop-j-preserved e).After-y-1 *ℤ y (goal.at.loop-j-preserved e).After-y-1 in
     let u : to_z w64 (of_z w64 e.sum-sum.result) ≡ z +ℤ old (goal.at.loop-j-preserved e).After-y-1 =
     ap (λ x. to_z w64 (of_z w64 x))
-    (rw (product_is (goal.at.loop-j-preserved e).After-product-z,
-        to_z-of_z (fits_z (goal.at.loop-j-preserved e).After-y-1),
-        to_z-of_z (fits_old (goal.at.loop-j-preserved e).After-old-1)) at e.sum-sum.ensures)
+    (rw (
+      product_is (goal.at.loop-j-preserved e).After-product-z,
+      to_z-of_z (fits_z (goal.at.loop-j-preserved e).After-y-1),
+      to_z-of_z (fits_old (goal.at.loop-j-preserved e).After-old-1),
+    ) at e.sum-sum.ensures)
     ∙ to_z-of_z (fits_sum (goal.at.loop-j-preserved e).After-y-1) in
     record {
       on = omega (arith, iteration (goal.at.loop-j-preserved e).After-y-1);
@@ -196,17 +207,17 @@ loop-j-preserved e =
           ∙ e.loop-j.invariant.degrees_long;
       filled = rw (fits_c (goal.at.loop-j-preserved e).After-y-1, add-one) (λ w.
           rw (times_more (at_key w.key (c (goal.at.loop-j-preserved e).After-y-1))
-              (bs (goal.at.loop-j-preserved e).After-y-1 w) (j (goal.at.loop-j-preserved e).After-y-1)
-              (at_key (k (goal.at.loop-j-preserved e).After-y-1 w) (y (goal.at.loop-j-preserved e).After-y-1))
-              (next (goal.at.loop-j-preserved e).After-y-1 w))
+          (bs (goal.at.loop-j-preserved e).After-y-1 w) (j (goal.at.loop-j-preserved e).After-y-1)
+          (at_key (k (goal.at.loop-j-preserved e).After-y-1 w) (y (goal.at.loop-j-preserved e).After-y-1))
+          (next (goal.at.loop-j-preserved e).After-y-1 w))
           (filled_more w.sides e.args.sums.now (before (goal.at.loop-j-preserved e).After-y-1 w) e.loop-j.sums
-              e.loop-j.degrees
+          e.loop-j.degrees
           (filled (goal.at.loop-j-preserved e).After-y-1 w) (omega (arith, w.sums_room, e.loop-j.invariant.sums_long))
           (omega (arith, w.degrees_room, e.loop-j.invariant.degrees_long))
-              (w.key + k (goal.at.loop-j-preserved e).After-y-1 w) z _
+          (w.key + k (goal.at.loop-j-preserved e).After-y-1 w) z _
           (w.gridded (j (goal.at.loop-j-preserved e).After-y-1) (iteration (goal.at.loop-j-preserved e).After-y-1))
-              (p (goal.at.loop-j-preserved e).After-y-1) (there (goal.at.loop-j-preserved e).After-y-1 w) u _
-              (degree_there (goal.at.loop-j-preserved e).After-y-1 w)));
+          (p (goal.at.loop-j-preserved e).After-y-1) (there (goal.at.loop-j-preserved e).After-y-1 w) u _
+          (degree_there (goal.at.loop-j-preserved e).After-y-1 w)));
     }
 
 pub shape_of-sums : goal.shape_of-sums

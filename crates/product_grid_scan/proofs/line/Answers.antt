@@ -45,8 +45,11 @@ row-p-requires c =
 
 -- once a row is done
 module _ (p : After-row-p) where
-  done : Part p.args.d (part (record { before = p.before.before.before.before; type_inv = record
-      { degrees = p.shared_slice_known-1.given } }) p.loop-i.i) p.loop-i.count p.loop-i.kept p.loop-i.coefficients
+  done : Part p.args.d (part (record {
+    before = p.before.before.before.before;
+    type_inv = record
+        { degrees = p.shared_slice_known-1.given };
+  }) p.loop-i.i) p.loop-i.count p.loop-i.kept p.loop-i.coefficients
       p.row-p.new.kept p.row-p.new.coefficients p.row-p.result
   done = rw p.steps-m.ensures at p.row-p.ensures
 
@@ -79,7 +82,7 @@ overflow_add-swept c =
 pub loop-i-preserved : goal.loop-i-preserved
 loop-i-preserved c =
     held_more (part (goal.at.loop-i-preserved c).After-steps-m) _ _ _ _ _ _ _ _ _ _ _ c.loop-i.invariant
-        (iteration (goal.at.loop-i-preserved c).After-steps-m) _ _ _ (done (goal.at.loop-i-preserved c).After-row-p)
+    (iteration (goal.at.loop-i-preserved c).After-steps-m) _ _ _ (done (goal.at.loop-i-preserved c).After-row-p)
     c.row-p.auto.kept c.row-p.auto.coefficients
 
 pub returns : goal.returns

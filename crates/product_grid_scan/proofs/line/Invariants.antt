@@ -18,7 +18,7 @@ use Rattle.product_grid_scan.proofs.line.Given as goal
 abbrev pub invariant-loop-i : goal.invariant-loop-i
 invariant-loop-i l =
     Held (λ j. row_terms l.sums l.degrees ((l.at + j) * l.fourth) (steps_within l.fourth (l.left - j))
-        (l.key + third_step * j)) l.n l.d
+    (l.key + third_step * j)) l.n l.d
     l.from l.initial.kept l.initial.coefficients l.kept l.coefficients l.count l.rounding l.swept l.i
 
 abbrev pub decreases-loop-i : goal.decreases-loop-i

@@ -47,8 +47,11 @@ line-p-requires c =
 
 -- once a line is done
 module _ (p : After-line-p) where
-  done : Part p.args.d (part (record { before = p.before.before.before.before; type_inv = record
-      { degrees = p.shared_slice_known-1.given } }) p.loop-i.i) p.loop-i.count p.loop-i.kept p.loop-i.coefficients
+  done : Part p.args.d (part (record {
+    before = p.before.before.before.before;
+    type_inv = record
+        { degrees = p.shared_slice_known-1.given };
+  }) p.loop-i.i) p.loop-i.count p.loop-i.kept p.loop-i.coefficients
       p.line-p.new.kept p.line-p.new.coefficients p.line-p.result
   done = rw p.steps-m.ensures at p.line-p.ensures
 
@@ -81,7 +84,7 @@ overflow_add-swept c =
 pub loop-i-preserved : goal.loop-i-preserved
 loop-i-preserved c =
     held_more (part (goal.at.loop-i-preserved c).After-steps-m) _ _ _ _ _ _ _ _ _ _ _ c.loop-i.invariant
-        (iteration (goal.at.loop-i-preserved c).After-steps-m) _ _ _ (done (goal.at.loop-i-preserved c).After-line-p)
+    (iteration (goal.at.loop-i-preserved c).After-steps-m) _ _ _ (done (goal.at.loop-i-preserved c).After-line-p)
     c.line-p.auto.kept c.line-p.auto.coefficients
 
 pub returns : goal.returns

@@ -19,9 +19,9 @@ abbrev pub invariant-loop-i : goal.invariant-loop-i
 invariant-loop-i l =
     Held (λ j.
     line_terms l.sums l.degrees l.fourth ((l.at + j) * l.third) (steps_within l.third (l.left - j))
-        (l.key + second_step * j)
+    (l.key + second_step * j)
     (l.left - j)) l.n l.d l.from l.initial.kept l.initial.coefficients l.kept l.coefficients l.count l.rounding l.swept
-        l.i
+    l.i
 
 abbrev pub decreases-loop-i : goal.decreases-loop-i
 decreases-loop-i l =

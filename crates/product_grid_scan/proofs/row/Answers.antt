@@ -43,9 +43,11 @@ overflow_cast-degree c = record { fits = byte_fits _ (byte c _) }
 
 pub overflow_add-bare-in-loop-i : goal.overflow_add-bare-in-loop-i
 overflow_add-bare-in-loop-i c =
-    record { fits = own_key _ _ (bare (goal.at.overflow_add-bare-in-loop-i c).After-shared_slice_known-in-loop-i-1)
-        (short (goal.at.overflow_add-bare-in-loop-i c).After-shared_slice_known-in-loop-i-1)
-        (byte (goal.at.overflow_add-bare-in-loop-i c).After-shared_slice_known-in-loop-i-1 _) }
+    record {
+      fits = own_key _ _ (bare (goal.at.overflow_add-bare-in-loop-i c).After-shared_slice_known-in-loop-i-1)
+          (short (goal.at.overflow_add-bare-in-loop-i c).After-shared_slice_known-in-loop-i-1)
+          (byte (goal.at.overflow_add-bare-in-loop-i c).After-shared_slice_known-in-loop-i-1 _);
+    }
 
 pub push-p-requires : goal.push-p-requires
 push-p-requires c =
@@ -99,8 +101,8 @@ overflow_add-swept c =
 pub loop-i-preserved : goal.loop-i-preserved
 loop-i-preserved c =
     held_more (part (goal.at.loop-i-preserved c).After-push-p) _ _ _ _ _ _ _ _ _ _ _ c.loop-i.invariant
-        (iteration (goal.at.loop-i-preserved c).After-push-p) _ _ _ (pushed (goal.at.loop-i-preserved c).After-push-p)
-        c.push-p.auto.keys
+    (iteration (goal.at.loop-i-preserved c).After-push-p) _ _ _ (pushed (goal.at.loop-i-preserved c).After-push-p)
+    c.push-p.auto.keys
     c.push-p.auto.coefficients
 
 pub returns : goal.returns

@@ -22,7 +22,7 @@ use Rattle.product_grid_scan.proofs.row.Given as goal
 abbrev pub invariant-loop-i : goal.invariant-loop-i
 invariant-loop-i l =
     Held (λ j. at_key (l.key + fourth_step * j + get_or l.degrees (l.at + j) 0) (get_or l.sums (l.at + j) (pos 0)) ∷ [])
-        l.n l.d l.from
+    l.n l.d l.from
     l.initial.kept l.initial.coefficients l.kept l.coefficients l.count l.rounding l.swept l.i
 
 abbrev pub decreases-loop-i : goal.decreases-loop-i

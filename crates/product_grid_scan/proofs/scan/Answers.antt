@@ -65,19 +65,35 @@ module _ (p : After-plane-p) where
   iteration : p.loop-i.i < p.steps-n.result
   iteration = p.loop-i-test.true
 
-  done : Part p.args.d (part (record { before = p.before.before.before.before.before.before; type_inv = record
-      { degrees = p.shared_slice_known-1.given } }) p.loop-i.i) p.loop-i.count p.loop-i.kept p.loop-i.coefficients
+  done : Part p.args.d (part (record {
+    before = p.before.before.before.before.before.before;
+    type_inv = record
+        { degrees = p.shared_slice_known-1.given };
+  }) p.loop-i.i) p.loop-i.count p.loop-i.kept p.loop-i.coefficients
       p.plane-p.new.kept p.plane-p.new.coefficients
       p.plane-p.result
   done = rw p.steps-m.ensures at p.plane-p.ensures
 
-  small : size (in_turn (part (record { before = p.before.before.before.before.before.before; type_inv = record
-      { degrees = p.shared_slice_known-1.given } })) p.steps-n.result) < 2 ^ 63
-  small = omega (arith, ap (λ n. size (in_turn (part
-      (record { before = p.before.before.before.before.before.before; type_inv = record
-      { degrees = p.shared_slice_known-1.given } })) n))
-      (number (record { before = p.before.before.before.before.before.before; type_inv = record
-      { degrees = p.shared_slice_known-1.given } })), p.requires.scan_ready.small)
+  small : size (in_turn (part (record {
+    before = p.before.before.before.before.before.before;
+    type_inv = record
+        { degrees = p.shared_slice_known-1.given };
+  })) p.steps-n.result) < 2 ^ 63
+  small = omega (
+    arith,
+    ap (λ n. size (in_turn (part
+        (record {
+          before = p.before.before.before.before.before.before;
+          type_inv = record
+              { degrees = p.shared_slice_known-1.given };
+        })) n))
+        (number (record {
+          before = p.before.before.before.before.before.before;
+          type_inv = record
+              { degrees = p.shared_slice_known-1.given };
+        })),
+    p.requires.scan_ready.small,
+  )
 
 pub overflow_add-rounding : goal.overflow_add-rounding
 overflow_add-rounding c =
@@ -108,7 +124,7 @@ overflow_add-swept c =
 pub loop-i-preserved : goal.loop-i-preserved
 loop-i-preserved c =
     held_more (part (goal.at.loop-i-preserved c).At-loop-i) _ _ _ _ _ _ _ _ _ _ _ c.loop-i.invariant
-        (iteration (goal.at.loop-i-preserved c).After-plane-p) _ _ _ (done (goal.at.loop-i-preserved c).After-plane-p)
+    (iteration (goal.at.loop-i-preserved c).After-plane-p) _ _ _ (done (goal.at.loop-i-preserved c).After-plane-p)
     c.plane-p.auto.kept c.plane-p.auto.coefficients
 
 -- once all are done
@@ -120,15 +136,20 @@ all : (e : After-loop-i)
 all e =
     let h = e.loop-i.invariant in
     let n : e.loop-i.i ≡ steps_within e.args.first e.args.most =
-    omega (arith, e.loop-i-test.false, h.on, number
-        (record { before = e.before.before; type_inv = record { degrees = e.shared_slice_known-1.given } })) in
+    omega (
+      arith,
+      e.loop-i-test.false,
+      h.on,
+      number
+          (record { before = e.before.before; type_inv = record { degrees = e.shared_slice_known-1.given } }),
+    ) in
     rw n at h.done
 
 pub returns-then-count-gt-MOST_TERMS : goal.returns-then-count-gt-MOST_TERMS
 unfolding most_terms
 returns-then-count-gt-MOST_TERMS c =
     scanned_many _ _ _ _ _ _ _ (all (goal.at.returns-then-count-gt-MOST_TERMS c).After-loop-i)
-        c.if-count-gt-MOST_TERMS.true
+    c.if-count-gt-MOST_TERMS.true
 
 pub returns : goal.returns
 unfolding most_terms

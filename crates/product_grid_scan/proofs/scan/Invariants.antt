@@ -22,7 +22,7 @@ abbrev pub invariant-loop-i : goal.invariant-loop-i
 invariant-loop-i l =
     Held (λ j.
     plane_terms l.sums l.degrees l.third l.fourth (j * l.second) (steps_within l.second (l.most - j)) (first_step * j)
-        (l.most - j))
+    (l.most - j))
     l.n l.d 0 l.initial.kept l.initial.coefficients l.kept l.coefficients l.count l.rounding l.swept l.i
 
 abbrev pub decreases-loop-i : goal.decreases-loop-i

@@ -12,7 +12,7 @@ use Rattle.product_hash_slots.proofs.clear.Given as goal
 abbrev pub invariant-loop-i : goal.invariant-loop-i
 invariant-loop-i l =
     (l.i ≤ length l.initial.slots) × (length l.slots ≡ length l.initial.slots)
-        × ((s : ℕ) → s < l.i → get_or l.slots s 0 ≡ 0)
+    × ((s : ℕ) → s < l.i → get_or l.slots s 0 ≡ 0)
 
 abbrev pub decreases-loop-i : goal.decreases-loop-i
 decreases-loop-i l = length l.initial.slots - l.i

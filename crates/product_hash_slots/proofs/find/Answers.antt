@@ -35,7 +35,7 @@ pub returns-then-keys-x : goal.returns-then-keys-x
 returns-then-keys-x c =
     rw c.home_slot-h.ensures.0
     (walking_found _ _ _ _ c.requires (walking_first _ _ _ _)
-        (rw (entered (goal.at.returns-then-keys-x c).After-entry_number-x) at c.if-keys-x.true))
+    (rw (entered (goal.at.returns-then-keys-x c).After-entry_number-x) at c.if-keys-x.true))
 
 pub find_below-requires : goal.find_below-requires
 find_below-requires c =

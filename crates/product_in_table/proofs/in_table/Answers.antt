@@ -15,7 +15,7 @@ collect-n-requires c =
 pub gather-requires : goal.gather-requires
 gather-requires c =
     gather_ready c.requires.held_factors c.collect-n.ensures c.requires.kept_room.kept_room
-        c.requires.kept_room.coefficients_room
+    c.requires.kept_room.coefficients_room
 
 pub returns : goal.returns
 returns c =

@@ -69,13 +69,20 @@ product-z-requires e = rw (fits_c (goal.at.product-z-requires e).At-loop-i, fits
 
 product_is : (p : After-product-z)
     → p.product-z.result ≡ c (goal.at.overflow_add-sum p).At-loop-i *ℤ y (goal.at.overflow_add-sum p).After-y-1
-product_is p = rw (fits_c (goal.at.overflow_add-sum p).At-loop-i,
-    fits_y (goal.at.overflow_add-sum p).After-y-1) at p.product-z.ensures
+product_is p = rw (
+  fits_c (goal.at.overflow_add-sum p).At-loop-i,
+  fits_y (goal.at.overflow_add-sum p).After-y-1,
+) at p.product-z.ensures
 
 pub overflow_add-sum : goal.overflow_add-sum
 overflow_add-sum p =
-    record { fits = omega (arith, (ready (goal.at.overflow_add-sum p).At-loop-i).keys_fit p.loop-i.i
-        (iteration (goal.at.overflow_add-sum p).After-y-1)) }
+    record {
+      fits = omega (
+        arith,
+        (ready (goal.at.overflow_add-sum p).At-loop-i).keys_fit p.loop-i.i
+            (iteration (goal.at.overflow_add-sum p).After-y-1),
+      );
+    }
 
 pub push-pushed-requires : goal.push-pushed-requires
 push-pushed-requires q =
@@ -87,14 +94,24 @@ push-pushed-requires q =
 
 -- once it is pushed
 module _ (p : After-push-pushed) where
-  pushed : Part p.args.d (part (record { before = p.before.before.before.before.before.before.before.before.before;
-      type_inv = record { ka = p.shared_slice_known-3-1.given; kb = p.shared_slice_known-2-1.given } }) p.loop-i.i)
+  pushed : Part p.args.d (part (record {
+    before = p.before.before.before.before.before.before.before.before.before;
+    type_inv = record { ka = p.shared_slice_known-3-1.given; kb = p.shared_slice_known-2-1.given };
+  }) p.loop-i.i)
       p.loop-i.count p.loop-i.kept p.loop-i.coefficients
       p.push-pushed.new.keys p.push-pushed.new.coefficients p.push-pushed.result
-  pushed = rw (product_is (record { before = p.before.before.before.before.before; type_inv = record
-      { kb = p.shared_slice_known-in-loop-i-1.given; ka = p.shared_slice_known-3-1.given } }),
-      to_z-of_z (fits_z (record { before = p.before.before.before.before.before.before; type_inv = record
-      { kb = p.shared_slice_known-in-loop-i-1.given; ka = p.shared_slice_known-3-1.given } }))) at p.push-pushed.ensures
+  pushed = rw (
+    product_is (record {
+      before = p.before.before.before.before.before;
+      type_inv = record
+          { kb = p.shared_slice_known-in-loop-i-1.given; ka = p.shared_slice_known-3-1.given };
+    }),
+    to_z-of_z (fits_z (record {
+      before = p.before.before.before.before.before.before;
+      type_inv = record
+          { kb = p.shared_slice_known-in-loop-i-1.given; ka = p.shared_slice_known-3-1.given };
+    })),
+  ) at p.push-pushed.ensures
 
 pub overflow_add-rounding : goal.overflow_add-rounding
 overflow_add-rounding c =
@@ -127,12 +144,12 @@ pub loop-i-preserved : goal.loop-i-preserved
 loop-i-preserved c =
     rw (fits_c (goal.at.loop-i-preserved c).At-loop-i)
     (held_more (part (goal.at.loop-i-preserved c).At-loop-i) _ _ _ _ _ _ _ _ _ _ _
-        (held (goal.at.loop-i-preserved c).At-loop-i) (iteration (goal.at.loop-i-preserved c).After-y-1) _ _ _
-        (pushed (goal.at.loop-i-preserved c).After-push-pushed) c.push-pushed.auto.keys
+    (held (goal.at.loop-i-preserved c).At-loop-i) (iteration (goal.at.loop-i-preserved c).After-y-1) _ _ _
+    (pushed (goal.at.loop-i-preserved c).After-push-pushed) c.push-pushed.auto.keys
     c.push-pushed.auto.coefficients)
 
 pub returns : goal.returns
 returns c =
     one_gathered (ready (goal.at.returns c).At-loop-i)
-        (held_end (part (goal.at.returns c).At-loop-i) _ _ _ _ _ _ _ _ _ _ _ (held (goal.at.returns c).At-loop-i)
-        c.loop-i-test.false)
+    (held_end (part (goal.at.returns c).At-loop-i) _ _ _ _ _ _ _ _ _ _ _ (held (goal.at.returns c).At-loop-i)
+    c.loop-i-test.false)

@@ -25,7 +25,7 @@ use Rattle.product_rising.proofs.one_times.Given as goal
 abbrev pub invariant-loop-i : goal.invariant-loop-i
 invariant-loop-i l =
     Held (one_part l.key l.c l.kb l.cb) l.nb l.d 0 l.initial.kept l.initial.coefficients l.kept l.coefficients l.count
-        l.rounding l.swept l.i
+    l.rounding l.swept l.i
 
 abbrev pub decreases-loop-i : goal.decreases-loop-i
 decreases-loop-i l = l.nb - l.i

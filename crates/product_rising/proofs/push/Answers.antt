@@ -58,25 +58,25 @@ returns-then-c-eq0 c =
     let a = c.args in
     let zero : round a.z ≡ pos 0 =
     sym (coefficient_is (goal.at.returns-then-c-eq0 c).After-round-rounded)
-        ∙ sym (to_z-of_z (fits_c (goal.at.returns-then-c-eq0 c).After-struct_told-1)) ∙ ap (to_z w64) c.if-c-eq0.true in
+    ∙ sym (to_z-of_z (fits_c (goal.at.returns-then-c-eq0 c).After-struct_told-1)) ∙ ap (to_z w64) c.if-c-eq0.true in
     part_nothing a.d _ a.n _ _ c.requires.room _ _ (residual_is (goal.at.returns-then-c-eq0 c).After-round-rounded
-        ∙ low_rounding a.d (k (goal.at.returns-then-c-eq0 c).After-round-rounded) a.z
-        (low (goal.at.returns-then-c-eq0 c).After-round-rounded))
+    ∙ low_rounding a.d (k (goal.at.returns-then-c-eq0 c).After-round-rounded) a.z
+    (low (goal.at.returns-then-c-eq0 c).After-round-rounded))
     (low_swept a.d (k (goal.at.returns-then-c-eq0 c).After-round-rounded) a.z
-        (low (goal.at.returns-then-c-eq0 c).After-round-rounded))
-        (low_zero a.d (k (goal.at.returns-then-c-eq0 c).After-round-rounded) a.z
-        (low (goal.at.returns-then-c-eq0 c).After-round-rounded) zero)
+    (low (goal.at.returns-then-c-eq0 c).After-round-rounded))
+    (low_zero a.d (k (goal.at.returns-then-c-eq0 c).After-round-rounded) a.z
+    (low (goal.at.returns-then-c-eq0 c).After-round-rounded) zero)
 
 pub returns-then-n-gt-MOST_TERMS : goal.returns-then-n-gt-MOST_TERMS
 unfolding most_terms
 returns-then-n-gt-MOST_TERMS c =
     let a = c.args in
     part_late a.d _ a.n _ _ c.requires.room _ _ (residual_is
-        (goal.at.returns-then-n-gt-MOST_TERMS c).After-round-rounded
-        ∙ low_rounding a.d (k (goal.at.returns-then-n-gt-MOST_TERMS c).After-round-rounded) a.z
-        (low (goal.at.returns-then-n-gt-MOST_TERMS c).After-round-rounded))
+    (goal.at.returns-then-n-gt-MOST_TERMS c).After-round-rounded
+    ∙ low_rounding a.d (k (goal.at.returns-then-n-gt-MOST_TERMS c).After-round-rounded) a.z
+    (low (goal.at.returns-then-n-gt-MOST_TERMS c).After-round-rounded))
     (low_swept a.d (k (goal.at.returns-then-n-gt-MOST_TERMS c).After-round-rounded) a.z
-        (low (goal.at.returns-then-n-gt-MOST_TERMS c).After-round-rounded)) c.if-n-gt-MOST_TERMS.true
+    (low (goal.at.returns-then-n-gt-MOST_TERMS c).After-round-rounded)) c.if-n-gt-MOST_TERMS.true
 
 pub bounds-keys-n : goal.bounds-keys-n
 unfolding most_terms
@@ -93,13 +93,13 @@ unfolding most_terms
 returns c =
     let a = c.args in
     let stays : round a.z ≡ pos 0 → ⊥ = λ e. c.if-c-eq0.false
-            (ap (of_z w64) (coefficient_is (goal.at.returns c).After-round-rounded ∙ e)) in
+    (ap (of_z w64) (coefficient_is (goal.at.returns c).After-round-rounded ∙ e)) in
     rw (to_z-of_z (fits_c (goal.at.returns c).After-struct_told-1))
     (part_put a.d _ a.n _ _ c.requires.room _ _ (residual_is (goal.at.returns c).After-round-rounded
-        ∙ low_rounding a.d (k (goal.at.returns c).After-round-rounded) a.z
-        (low (goal.at.returns c).After-round-rounded))
+    ∙ low_rounding a.d (k (goal.at.returns c).After-round-rounded) a.z
+    (low (goal.at.returns c).After-round-rounded))
     (low_swept a.d (k (goal.at.returns c).After-round-rounded) a.z (low (goal.at.returns c).After-round-rounded)) _ _
-        (omega (arith, c.if-n-gt-MOST_TERMS.false))
+    (omega (arith, c.if-n-gt-MOST_TERMS.false))
     (low_nonzero a.d (k (goal.at.returns c).After-round-rounded) a.z (low (goal.at.returns c).After-round-rounded) stays
     ∙ ap (λ x. at_key (k (goal.at.returns c).After-round-rounded) x ∷ [])
-        (sym (coefficient_is (goal.at.returns c).After-round-rounded))))
+    (sym (coefficient_is (goal.at.returns c).After-round-rounded))))

@@ -84,11 +84,11 @@ pub kept_answer-requires : goal.kept_answer-requires
 unfolding most_terms
 kept_answer-requires c =
     slice_ready _ _ _ _ _ _ _ _ _ _ c.requires.factors (first (goal.at.kept_answer-requires c).After-unpack-b)
-        (second (goal.at.kept_answer-requires c).After-unpack-b)
-        (first_long (goal.at.kept_answer-requires c).After-unpack-b) c.requires.count1_in_bounds.1
+    (second (goal.at.kept_answer-requires c).After-unpack-b)
+    (first_long (goal.at.kept_answer-requires c).After-unpack-b) c.requires.count1_in_bounds.1
     (second_long (goal.at.kept_answer-requires c).After-unpack-b) c.requires.count2_in_bounds.1
-        c.kept_in_scratch-r.ensures (kept_long (goal.at.kept_answer-requires c).After-kept_in_scratch-r)
-        (coefficients_long (goal.at.kept_answer-requires c).After-kept_in_scratch-r)
+    c.kept_in_scratch-r.ensures (kept_long (goal.at.kept_answer-requires c).After-kept_in_scratch-r)
+    (coefficients_long (goal.at.kept_answer-requires c).After-kept_in_scratch-r)
 
 pub returns : goal.returns
 unfolding most_terms
@@ -98,8 +98,8 @@ returns c =
           (second (goal.at.returns c).After-unpack-b) (first_long (goal.at.returns c).After-unpack-b)
           c.requires.count1_in_bounds.1
           (second_long (goal.at.returns c).After-unpack-b) c.requires.count2_in_bounds.1 c.kept_in_scratch-r.ensures
-              (kept_long (goal.at.returns c).After-kept_in_scratch-r)
-              (coefficients_long (goal.at.returns c).After-kept_in_scratch-r)
+          (kept_long (goal.at.returns c).After-kept_in_scratch-r)
+          (coefficients_long (goal.at.returns c).After-kept_in_scratch-r)
           c.kept_answer.ensures.exact;
       ready = c.kept_answer.ensures.ready;
     }

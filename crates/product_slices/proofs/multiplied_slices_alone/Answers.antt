@@ -81,11 +81,11 @@ pub kept_answer-requires : goal.kept_answer-requires
 unfolding most_terms
 kept_answer-requires c =
     slice_ready _ _ _ _ _ _ _ _ _ _ c.requires.factors (first (goal.at.kept_answer-requires c).After-unpack-b)
-        (second (goal.at.kept_answer-requires c).After-unpack-b)
-        (first_long (goal.at.kept_answer-requires c).After-unpack-b) c.requires.count1_in_bounds.1
+    (second (goal.at.kept_answer-requires c).After-unpack-b)
+    (first_long (goal.at.kept_answer-requires c).After-unpack-b) c.requires.count1_in_bounds.1
     (second_long (goal.at.kept_answer-requires c).After-unpack-b) c.requires.count2_in_bounds.1 c.kept_alone-r.ensures
-        (kept_long (goal.at.kept_answer-requires c).After-kept_alone-r)
-        (coefficients_long (goal.at.kept_answer-requires c).After-kept_alone-r)
+    (kept_long (goal.at.kept_answer-requires c).After-kept_alone-r)
+    (coefficients_long (goal.at.kept_answer-requires c).After-kept_alone-r)
 
 pub returns : goal.returns
 unfolding most_terms
@@ -95,8 +95,8 @@ returns c =
           (second (goal.at.returns c).After-unpack-b) (first_long (goal.at.returns c).After-unpack-b)
           c.requires.count1_in_bounds.1
           (second_long (goal.at.returns c).After-unpack-b) c.requires.count2_in_bounds.1 c.kept_alone-r.ensures
-              (kept_long (goal.at.returns c).After-kept_alone-r)
-              (coefficients_long (goal.at.returns c).After-kept_alone-r)
+          (kept_long (goal.at.returns c).After-kept_alone-r)
+          (coefficients_long (goal.at.returns c).After-kept_alone-r)
           c.kept_answer.ensures.exact;
       ready = c.kept_answer.ensures.ready;
     }

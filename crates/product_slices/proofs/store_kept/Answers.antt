@@ -21,8 +21,10 @@ store_first-requires c =
     let f = (ready (goal.at.store_first-requires c).After-kept_count-count).few in
     record {
       pack_ready = ready (goal.at.store_first-requires c).After-kept_count-count;
-      count_in_bounds = (omega (arith, f, c.requires.most_terms_in_bounds.0),
-          omega (arith, f, c.requires.most_terms_in_bounds.1));
+      count_in_bounds = (
+        omega (arith, f, c.requires.most_terms_in_bounds.0),
+        omega (arith, f, c.requires.most_terms_in_bounds.1),
+      );
     }
 
 pub store_zeros-requires : goal.store_zeros-requires

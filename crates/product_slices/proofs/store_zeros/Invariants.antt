@@ -13,9 +13,9 @@ use Rattle.product_slices.proofs.store_zeros.Given as goal
 abbrev pub invariant-loop-i : goal.invariant-loop-i
 invariant-loop-i l =
     (l.from ≤ l.i) × (l.i ≤ 64) × (length l.keys ≡ length l.initial.keys)
-        × (length l.coefficients ≡ length l.initial.coefficients)
+    × (length l.coefficients ≡ length l.initial.coefficients)
     × (l.keys ≡ zeroed 0 l.from l.i l.initial.keys)
-        × (l.coefficients ≡ zeroed (pos 0) l.from l.i l.initial.coefficients)
+    × (l.coefficients ≡ zeroed (pos 0) l.from l.i l.initial.coefficients)
 
 abbrev pub decreases-loop-i : goal.decreases-loop-i
 decreases-loop-i l = 64 - l.i

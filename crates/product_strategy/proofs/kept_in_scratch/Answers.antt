@@ -35,7 +35,7 @@ one_times-requires-then-nb-eq1 c =
 pub returns-then-nb-eq1 : goal.returns-then-nb-eq1
 returns-then-nb-eq1 c =
     rw c.if-nb-eq1.true (turned_gathered (second_one c.requires.held_factors c.if-nb-eq1.true)
-        c.one_times-then-nb-eq1.ensures)
+    c.one_times-then-nb-eq1.ensures)
 
 pub in_grid-requires : goal.in_grid-requires
 in_grid-requires c =

@@ -30,4 +30,4 @@ one_times-requires-then-nb-eq1 c =
 pub returns-then-nb-eq1 : goal.returns-then-nb-eq1
 returns-then-nb-eq1 c =
     rw c.if-nb-eq1.true (turned_gathered (second_one c.requires.held_factors c.if-nb-eq1.true)
-        c.one_times-then-nb-eq1.ensures)
+    c.one_times-then-nb-eq1.ensures)

@@ -33,9 +33,12 @@ returns-then-not-order_sound c =
 
 pub returns-then-models-gt-MOST_MODELS : goal.returns-then-models-gt-MOST_MODELS
 returns-then-models-gt-MOST_MODELS c =
-    rw (limits_by_numbers, n_sound (goal.at.returns-then-models-gt-MOST_MODELS c).Else-not-vars_sound,
-        d_sound (goal.at.returns-then-models-gt-MOST_MODELS c).Else-not-order_sound,
-        lt-leb _ 16 c.if-models-gt-MOST_MODELS.true)
+    rw (
+      limits_by_numbers,
+      n_sound (goal.at.returns-then-models-gt-MOST_MODELS c).Else-not-vars_sound,
+      d_sound (goal.at.returns-then-models-gt-MOST_MODELS c).Else-not-order_sound,
+      lt-leb _ 16 c.if-models-gt-MOST_MODELS.true,
+    )
 
 pub returns-then-steps-lt1 : goal.returns-then-steps-lt1
 returns-then-steps-lt1 c = rw (

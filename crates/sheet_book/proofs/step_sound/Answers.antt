@@ -64,19 +64,29 @@ returns-then-limit_a-s c = rw (code_in (goal.at.returns-then-limit_a-s c).Else-c
 pub returns-then-limit_b-s : goal.returns-then-limit_b-s
 unfolding fields_sound held_step
 returns-then-limit_b-s c =
-    rw (code_in (goal.at.returns-then-limit_b-s c).Else-code-gt-LAST_CODE,
-        a_in (goal.at.returns-then-limit_b-s c).Else-limit_a-s, b_out c)
+    rw (
+      code_in (goal.at.returns-then-limit_b-s c).Else-code-gt-LAST_CODE,
+      a_in (goal.at.returns-then-limit_b-s c).Else-limit_a-s,
+      b_out c,
+    )
 
 pub returns-then-not-v_sound : goal.returns-then-not-v_sound
 unfolding fields_sound held_step
 returns-then-not-v_sound c =
-    rw (code_in (goal.at.returns-then-not-v_sound c).Else-code-gt-LAST_CODE,
-        a_in (goal.at.returns-then-not-v_sound c).Else-limit_a-s,
-        b_in (goal.at.returns-then-not-v_sound c).Else-limit_b-s, v_out c)
+    rw (
+      code_in (goal.at.returns-then-not-v_sound c).Else-code-gt-LAST_CODE,
+      a_in (goal.at.returns-then-not-v_sound c).Else-limit_a-s,
+      b_in (goal.at.returns-then-not-v_sound c).Else-limit_b-s,
+      v_out c,
+    )
 
 pub returns : goal.returns
 unfolding fields_sound held_step
 returns c =
-    rw (code_in (goal.at.returns c).Else-code-gt-LAST_CODE, a_in (goal.at.returns c).Else-limit_a-s,
-        b_in (goal.at.returns c).Else-limit_b-s, v_in (goal.at.returns c).Else-not-v_sound)
+    rw (
+      code_in (goal.at.returns c).Else-code-gt-LAST_CODE,
+      a_in (goal.at.returns c).Else-limit_a-s,
+      b_in (goal.at.returns c).Else-limit_b-s,
+      v_in (goal.at.returns c).Else-not-v_sound,
+    )
     (c.value_sound.ensures ∙ ap (value_sound _ _) (read_back (goal.at.returns c).After-struct_told-1))

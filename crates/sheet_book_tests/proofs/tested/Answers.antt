@@ -45,7 +45,7 @@ returns-then-model-models c =
     ap (Refused BadModel) e
     ∙ model_verdict _ (within (goal.at.returns-then-model-models c).Else-not-limits_sound)
     (subst (λ i. i < (book (goal.at.returns-then-model-models c).Else-not-limits_sound).model_count) e
-        c.if-model-models.true)
+    c.if-model-models.true)
 
 pub first_unsound_step-step-requires : goal.first_unsound_step-step-requires
 unfolding most_steps
@@ -57,13 +57,13 @@ returns-then-step-steps c =
     let e = c.first_unsound_step-step.ensures in
     ap (Refused BadStep) e
     ∙ step_verdict _ (within (goal.at.returns-then-step-steps c).Else-not-limits_sound)
-        (models_pass (goal.at.returns-then-step-steps c).Else-model-models)
+    (models_pass (goal.at.returns-then-step-steps c).Else-model-models)
     (subst (λ i. i < (book (goal.at.returns-then-step-steps c).Else-not-limits_sound).step_count) e
-        c.if-step-steps.true)
+    c.if-step-steps.true)
 
 pub returns : goal.returns
 returns c =
     accepted_verdict _ (within (goal.at.returns c).Else-not-limits_sound)
-        (models_pass (goal.at.returns c).Else-model-models)
+    (models_pass (goal.at.returns c).Else-model-models)
     (subst (λ i. (book (goal.at.returns c).Else-not-limits_sound).step_count ≤ i) c.first_unsound_step-step.ensures
     c.if-step-steps.false)

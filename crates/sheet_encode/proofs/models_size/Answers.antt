@@ -35,8 +35,11 @@ bounds-b-k c = omega (arith, few (goal.at.bounds-b-k c).Start)
 pub model_size-size-requires : goal.model_size-size-requires
 model_size-size-requires c =
     model_at_fits c.args.b c.requires _ _ c.loop-k-test.true
-        (omega (arith, whole (goal.at.model_size-size-requires c).Start,
-        few (goal.at.model_size-size-requires c).Start))
+    (omega (
+      arith,
+      whole (goal.at.model_size-size-requires c).Start,
+      few (goal.at.model_size-size-requires c).Start,
+    ))
 
 module _ (c : After-model_size-size) where
   more : c.loop-k.size + c.model_size-size.result

@@ -91,8 +91,11 @@ module _ (c : After-c-1) where
   inside = c.loop-i-test.true
 
   whole_count : held.count ≤ length (listed held)
-  whole_count = omega (arith, whole c.before.before.before.before.before.before.before.before.before.before,
-      few c.before.before.before.before.before.before.before.before.before.before)
+  whole_count = omega (
+    arith,
+    whole c.before.before.before.before.before.before.before.before.before.before,
+    few c.before.before.before.before.before.before.before.before.before.before,
+  )
 
   key_is : get_or held.keys c.loop-i.i 0 ≡ term.key
   key_is = sym (key_at _ _ c.loop-i.i (even c.before.before.before.before.before.before.before.before.before.before))
@@ -100,7 +103,7 @@ module _ (c : After-c-1) where
   read_back : to_z w64 (of_z w64 (get_or held.coefficients c.loop-i.i (pos 0))) ≡ term.coefficient
   read_back = to_z-of_z {w = w64} (record { sfits = c.c-1.given })
       ∙ sym (P.coefficient_at _ _ c.loop-i.i (even
-          c.before.before.before.before.before.before.before.before.before.before))
+      c.before.before.before.before.before.before.before.before.before.before))
 
   here : get_or (held_model held).terms c.loop-i.i (held_term zero_term) ≡ held_term term
   here = term_at held c.loop-i.i zero_term inside whole_count
@@ -139,9 +142,13 @@ put_term-requires c =
 
 pub overflow_add-place-in-loop-i : goal.overflow_add-place-in-loop-i
 overflow_add-place-in-loop-i c =
-    omega (arith, fits (goal.at.overflow_add-place-in-loop-i c).After-c-1,
-        sized (goal.at.overflow_add-place-in-loop-i c).After-c-1,
-        long (goal.at.overflow_add-place-in-loop-i c).At-loop-i, c.ranges)
+    omega (
+      arith,
+      fits (goal.at.overflow_add-place-in-loop-i c).After-c-1,
+      sized (goal.at.overflow_add-place-in-loop-i c).After-c-1,
+      long (goal.at.overflow_add-place-in-loop-i c).At-loop-i,
+      c.ranges,
+    )
 
 pub overflow_add-i : goal.overflow_add-i
 overflow_add-i c = omega (arith, few (goal.at.overflow_add-i c).Start)
@@ -150,19 +157,19 @@ pub loop-i-preserved : goal.loop-i-preserved
 unfolding held_term
 loop-i-preserved c =
     put_iteration (term_bytes (held (goal.at.loop-i-preserved c).After-c-1).n) _ _ _ c.loop-i.invariant
-        (held_term zero_term) (held_term (term (goal.at.loop-i-preserved c).After-c-1))
-        (below (goal.at.loop-i-preserved c).After-c-1)
+    (held_term zero_term) (held_term (term (goal.at.loop-i-preserved c).After-c-1))
+    (below (goal.at.loop-i-preserved c).After-c-1)
     (here (goal.at.loop-i-preserved c).After-c-1) _ _
     (c.put_term.ensures
     ∙ ap₂ (λ k z. sets c.loop-i.buffer c.loop-i.place
-        (term_bytes (held (goal.at.loop-i-preserved c).After-c-1).n (record {
+    (term_bytes (held (goal.at.loop-i-preserved c).After-c-1).n (record {
       key = k;
       coefficient = z;
     })))
     (key_is (goal.at.loop-i-preserved c).After-c-1) (read_back (goal.at.loop-i-preserved c).After-c-1))
     (ap (λ s. c.loop-i.place + s) (sized (goal.at.loop-i-preserved c).After-c-1
-        ∙ sym (length_term (held (goal.at.loop-i-preserved c).After-c-1).n
-        (held_term (term (goal.at.loop-i-preserved c).After-c-1)))))
+    ∙ sym (length_term (held (goal.at.loop-i-preserved c).After-c-1).n
+    (held_term (term (goal.at.loop-i-preserved c).After-c-1)))))
 
 -- ---- after the loop
 pub shape_of-buffer : goal.shape_of-buffer

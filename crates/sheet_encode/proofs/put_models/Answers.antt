@@ -89,8 +89,8 @@ overflow_add-k c = omega (arith, few (goal.at.overflow_add-k c).Start)
 pub loop-k-preserved : goal.loop-k-preserved
 loop-k-preserved c =
     put_iteration model_bytes _ _ _ c.loop-k.invariant (held_model blank)
-        (held_model (model (goal.at.loop-k-preserved c).After-m-1)) (below (goal.at.loop-k-preserved c).After-m-1)
-        (here (goal.at.loop-k-preserved c).After-m-1) _ _
+    (held_model (model (goal.at.loop-k-preserved c).After-m-1)) (below (goal.at.loop-k-preserved c).After-m-1)
+    (here (goal.at.loop-k-preserved c).After-m-1) _ _
     c.put_model.ensures
     (ap (λ n. c.loop-k.place + n) c.model_size-place.ensures)
 

@@ -38,4 +38,4 @@ unfolding held_step
 returns c =
     let a = c.args in
     c.put_i32.ensures ∙ rw (read_back (goal.at.returns c).After-struct_told-1)
-        (step_stores a.buffer.now a.at (held_step a.s))
+    (step_stores a.buffer.now a.at (held_step a.s))

@@ -83,8 +83,8 @@ overflow_add-k c = omega (arith, few (goal.at.overflow_add-k c).Start)
 pub loop-k-preserved : goal.loop-k-preserved
 loop-k-preserved c =
     put_iteration step_bytes _ _ _ c.loop-k.invariant (held_step no_step)
-        (held_step (step (goal.at.loop-k-preserved c).After-s-1)) (below (goal.at.loop-k-preserved c).After-s-1)
-        (here (goal.at.loop-k-preserved c).After-s-1) _ _
+    (held_step (step (goal.at.loop-k-preserved c).After-s-1)) (below (goal.at.loop-k-preserved c).After-s-1)
+    (here (goal.at.loop-k-preserved c).After-s-1) _ _
     c.put_step.ensures
     (ap (λ n. c.loop-k.place + n) (sym (length_step (held_step (step (goal.at.loop-k-preserved c).After-s-1)))))
 

@@ -93,10 +93,18 @@ record_at-taken-requires c =
     let i = 64 * c.models.k in record {
       at_in_bounds = (so_far (goal.at.record_at-taken-requires c).In-models).so_far.within;
       most_terms_in_bounds = (
-        omega (arith, keys_room (goal.at.record_at-taken-requires c).In-models, length-take (length k - i) (drop i k),
-            length-drop i k),
-        omega (arith, coefficients_room (goal.at.record_at-taken-requires c).In-models,
-            length-take (length z - i) (drop i z), length-drop i z),
+        omega (
+          arith,
+          keys_room (goal.at.record_at-taken-requires c).In-models,
+          length-take (length k - i) (drop i k),
+          length-drop i k,
+        ),
+        omega (
+          arith,
+          coefficients_room (goal.at.record_at-taken-requires c).In-models,
+          length-take (length z - i) (drop i z),
+          length-drop i z,
+        ),
       );
     }
 
@@ -135,7 +143,7 @@ pub models-preserved : goal.models-preserved
 unfolding most_terms
 models-preserved c =
     load_iteration (so_far (goal.at.models-preserved c).In-models) c.requires
-        (inside (goal.at.models-preserved c).In-models) c.record_at-taken.ensures c.if-taken-eq0.false _ _
+    (inside (goal.at.models-preserved c).In-models) c.record_at-taken.ensures c.if-taken-eq0.false _ _
     c.byte_at-total.ensures c.u32_at-radius.ensures
 
 pub shape_of-keys-after-models : goal.shape_of-keys-after-models
@@ -175,4 +183,4 @@ returns-then-taken-eq0 c =
     let h = so_far (goal.at.returns-then-taken-eq0 c).In-models in
     load_fault h c.requires
     (models_fault _ _ _ _ _ _ _ h.so_far _ c.record_at-taken.ensures.taken_is c.if-taken-eq0.true)
-        (inside (goal.at.returns-then-taken-eq0 c).In-models) _
+    (inside (goal.at.returns-then-taken-eq0 c).In-models) _

@@ -47,5 +47,5 @@ read_steps-v-requires c =
 pub returns : goal.returns
 returns c =
     records_loaded (sheet (goal.at.returns c).Start) (trailer (goal.at.returns c).Start) c.requires.t
-        c.requires.trailer_length_value c.load_models-w.ensures
+    c.requires.trailer_length_value c.load_models-w.ensures
     c.read_steps-v.ensures c.fault_of-verdict.ensures

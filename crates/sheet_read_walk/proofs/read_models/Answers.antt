@@ -54,12 +54,18 @@ record_at-taken-requires c = record {
 
 pub overflow_add-at : goal.overflow_add-at
 overflow_add-at c =
-    omega (arith, head (goal.at.overflow_add-at c).After-record_at-taken c.if-taken-eq0.false,
-        short (goal.at.overflow_add-at c).After-record_at-taken)
+    omega (
+      arith,
+      head (goal.at.overflow_add-at c).After-record_at-taken c.if-taken-eq0.false,
+      short (goal.at.overflow_add-at c).After-record_at-taken,
+    )
 
 pub byte_at-total-requires : goal.byte_at-total-requires
-byte_at-total-requires c = omega (arith, head (goal.at.byte_at-total-requires c).After-record_at-taken
-    c.if-taken-eq0.false)
+byte_at-total-requires c = omega (
+  arith,
+  head (goal.at.byte_at-total-requires c).After-record_at-taken
+      c.if-taken-eq0.false,
+)
 
 pub u32_at-radius-requires : goal.u32_at-radius-requires
 u32_at-radius-requires c =
@@ -75,14 +81,17 @@ bounds-models-k c = search rules
 
 pub overflow_add-at-in-models : goal.overflow_add-at-in-models
 overflow_add-at-in-models c =
-    omega (arith, (next (goal.at.overflow_add-at-in-models c).After-record_at-taken c.if-taken-eq0.false).within,
-        short (goal.at.overflow_add-at-in-models c).After-record_at-taken)
+    omega (
+      arith,
+      (next (goal.at.overflow_add-at-in-models c).After-record_at-taken c.if-taken-eq0.false).within,
+      short (goal.at.overflow_add-at-in-models c).After-record_at-taken,
+    )
 
 pub models-preserved : goal.models-preserved
 unfolding most_terms
 models-preserved c =
     models_more _ _ _ _ _ _ _ (so_far (goal.at.models-preserved c).After-record_at-taken) c.models-test.true
-        c.requires.2 _
+    c.requires.2 _
     (next (goal.at.models-preserved c).After-record_at-taken c.if-taken-eq0.false) _
     (struct_read _ _ c.models.at c.args.s.now c.record_at-taken.ensures c.if-taken-eq0.false refl refl _ _
     c.byte_at-total.ensures

@@ -56,7 +56,7 @@ returns-then-w-offset c =
     c.refuse-then-w-offset.ensures
     ∙ ap read_answer
     (sym (bytes_left _ _ p.t p.trailer_length_value _ (models_far _ _ _ _ _ c.read_models-w.ensures)
-        c.if-place-count.false
+    c.if-place-count.false
     c.if-w-offset.true))
 
 pub read_steps-v-requires : goal.read_steps-v-requires
@@ -71,7 +71,7 @@ returns-then-fault-total c =
     c.refuse-then-fault-total.ensures
     ∙ ap read_answer
     (sym (step_fault _ _ p.t p.trailer_length_value _ (models_far _ _ _ _ _ c.read_models-w.ensures)
-        c.if-place-count.false
+    c.if-place-count.false
     c.if-w-offset.false _ (steps_far _ _ _ _ _ c.read_steps-v.ensures) c.if-fault-total.true))
 
 pub returns : goal.returns

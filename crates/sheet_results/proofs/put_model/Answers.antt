@@ -63,10 +63,18 @@ store_named-requires c =
     let k = c.args.keys.now in
     let z = c.args.coefficients.now in
     let i = c.args.i in (
-      omega (arith, keys_there (goal.at.store_named-requires c).Start,
-          length-take (length k - 64 * i) (drop (64 * i) k), length-drop (64 * i) k),
-      omega (arith, coefficients_there (goal.at.store_named-requires c).Start,
-          length-take (length z - 64 * i) (drop (64 * i) z), length-drop (64 * i) z),
+      omega (
+        arith,
+        keys_there (goal.at.store_named-requires c).Start,
+        length-take (length k - 64 * i) (drop (64 * i) k),
+        length-drop (64 * i) k,
+      ),
+      omega (
+        arith,
+        coefficients_there (goal.at.store_named-requires c).Start,
+        length-take (length z - 64 * i) (drop (64 * i) z),
+        length-drop (64 * i) z,
+      ),
     )
 
 pub offset_bounds-counts-i : goal.offset_bounds-counts-i

@@ -97,9 +97,17 @@ returns c =
     )
     (ap view (listed_struct (filled_listed (get_or a.counts.now a.j 0) (drop (64 * a.j) a.keys.now)
     (drop (64 * a.j) a.coefficients.now)
-    (omega (arith, few (goal.at.returns c).Start, keys_there (goal.at.returns c).Start,
-        length-drop (64 * a.j) a.keys.now))
-    (omega (arith, few (goal.at.returns c).Start, coefficients_there (goal.at.returns c).Start,
-        length-drop (64 * a.j) a.coefficients.now)))
+    (omega (
+      arith,
+      few (goal.at.returns c).Start,
+      keys_there (goal.at.returns c).Start,
+      length-drop (64 * a.j) a.keys.now,
+    ))
+    (omega (
+      arith,
+      few (goal.at.returns c).Start,
+      coefficients_there (goal.at.returns c).Start,
+      length-drop (64 * a.j) a.coefficients.now,
+    )))
     _ _ _)
     ∙ taken_end c.requires (omega arith) a.n _ refl)

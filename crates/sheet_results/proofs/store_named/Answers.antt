@@ -28,7 +28,7 @@ returns c =
     let m = c.args.m in (
       c.copy_keys.ensures
           ∙ ap (λ l. over l c.args.keys.now) (take_least m.count _ m.keys n.ensures
-              (keys_whole (goal.at.returns c).Start)),
+          (keys_whole (goal.at.returns c).Start)),
       c.copy_coefficients.ensures
           ∙ ap (λ l. over l c.args.coefficients.now)
           (take_least m.count _ m.coefficients n.ensures (coefficients_whole (goal.at.returns c).Start)),

@@ -101,7 +101,7 @@ shape_of-sums-then-not-served c = c.loop-i.invariant.9
 pub returns-then-not-served : goal.returns-then-not-served
 returns-then-not-served c = λ t.
     stopped_short (begun (goal.at.returns-then-not-served c).In-loop-i t)
-        (λ h. true_false (c.fits-served.ensures.1 h) (c.if-not-served.true))
+    (λ h. true_false (c.fits-served.ensures.1 h) (c.if-not-served.true))
 
 -- ---- a step
 pub step-v-requires : goal.step-v-requires

@@ -21,13 +21,13 @@ use Rattle.sheet_run_loop.proofs.steps.Given as goal
 abbrev pub invariant-loop-i : goal.invariant-loop-i
 invariant-loop-i l =
     ((t : Part l.l l.from (results l.initial.keys l.initial.coefficients l.initial.counts l.initial.radii)
-        l.initial.rows)
+    l.initial.rows)
     → Begun t.held l.l l.i (results l.keys l.coefficients l.counts l.radii) l.rows)
-        × ScratchRoom l.room l.slots l.places l.sums
+    × ScratchRoom l.room l.slots l.places l.sums
     × (length l.keys ≡ length l.initial.keys) × (length l.coefficients ≡ length l.initial.coefficients)
-        × (length l.counts ≡ length l.initial.counts)
+    × (length l.counts ≡ length l.initial.counts)
     × (length l.radii ≡ length l.initial.radii) × (length l.rows ≡ length l.initial.rows)
-        × (length l.slots ≡ length l.initial.slots)
+    × (length l.slots ≡ length l.initial.slots)
     × (length l.places ≡ length l.initial.places) × (length l.sums ≡ length l.initial.sums)
 
 abbrev pub decreases-loop-i : goal.decreases-loop-i

@@ -94,11 +94,11 @@ loop-k-preserved c =
       omega (arith, inside (goal.at.loop-k-preserved c).In-loop-k),
       subst (Roomy (most_models + (book (goal.at.loop-k-preserved c).In-loop-k).step_count)) (sym p.ensures.radii_after)
           (load_room c.requires.held_passes l.1 (place (goal.at.loop-k-preserved c).In-loop-k) x u v
-              (held (goal.at.loop-k-preserved c).In-loop-k) (is_model (goal.at.loop-k-preserved c).In-loop-k)),
+          (held (goal.at.loop-k-preserved c).In-loop-k) (is_model (goal.at.loop-k-preserved c).In-loop-k)),
       subst (LoadedFirst (held_book (book (goal.at.loop-k-preserved c).In-loop-k)) (c.loop-k.k + 1))
           (sym p.ensures.radii_after)
           (load_more c.requires.held_passes l.1 (place (goal.at.loop-k-preserved c).In-loop-k) x u v
-              (held (goal.at.loop-k-preserved c).In-loop-k) (is_model (goal.at.loop-k-preserved c).In-loop-k) l.2),
+          (held (goal.at.loop-k-preserved c).In-loop-k) (is_model (goal.at.loop-k-preserved c).In-loop-k) l.2),
       p.auto.keys ∙ l.3,
       p.auto.coefficients ∙ l.4,
       p.auto.counts ∙ l.5,

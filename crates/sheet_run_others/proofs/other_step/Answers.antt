@@ -80,5 +80,5 @@ returns c = λ t.
     let p = c.requires.fact in
     let w = c.settled.ensures in
     other_iterated t (first (goal.at.returns c).After-operand-g) (second (goal.at.returns c).After-operand-g)
-        (is_first (goal.at.returns c).After-operand-g) (is_second (goal.at.returns c).After-operand-g) p.0 p.1 p.2
+    (is_first (goal.at.returns c).After-operand-g) (is_second (goal.at.returns c).After-operand-g) p.0 p.1 p.2
     c.step_answer-c.ensures w.0 w.1 w.2

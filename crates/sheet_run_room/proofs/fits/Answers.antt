@@ -93,14 +93,14 @@ offset_bounds-counts-b-then-code-eq-SUBSTITUTE c = let h = inner_there
 pub bounds-counts-b-then-code-eq-SUBSTITUTE : goal.bounds-counts-b-then-code-eq-SUBSTITUTE
 bounds-counts-b-then-code-eq-SUBSTITUTE c =
     let h = inner_there (goal.at.bounds-counts-b-then-code-eq-SUBSTITUTE c).Start
-            (is_substitution (goal.at.bounds-counts-b-then-code-eq-SUBSTITUTE
-            c).After-struct_known-then-code-eq-SUBSTITUTE-1) in
+    (is_substitution (goal.at.bounds-counts-b-then-code-eq-SUBSTITUTE
+    c).After-struct_known-then-code-eq-SUBSTITUTE-1) in
     search rules
 
 pub overflow_mul-most : goal.overflow_mul-most
 overflow_mul-most c =
     let p = inner_few (goal.at.overflow_mul-most c).Start
-            (is_substitution (goal.at.overflow_mul-most c).After-struct_known-then-code-eq-SUBSTITUTE-1) in
+    (is_substitution (goal.at.overflow_mul-most c).After-struct_known-then-code-eq-SUBSTITUTE-1) in
     search rules
 
 pub returns-then-code-eq-SUBSTITUTE : goal.returns-then-code-eq-SUBSTITUTE
@@ -113,8 +113,11 @@ returns-then-code-eq-SUBSTITUTE c =
         substitution = λ q. leb-true (64 * g) c.args.room t;
         quotient = λ q. absurd (omega (arith, q, e));
       },
-      λ h. le-leb (64 * g) c.args.room (omega (arith, h,
-          inner_few (goal.at.returns-then-code-eq-SUBSTITUTE c).Start e)),
+      λ h. le-leb (64 * g) c.args.room (omega (
+        arith,
+        h,
+        inner_few (goal.at.returns-then-code-eq-SUBSTITUTE c).Start e,
+      )),
     )
 
 -- ---- a quotient
@@ -144,8 +147,12 @@ module _ (c : After-magnitude) where
       read_back = to_z-of_z {w = w64} (record { sfits = c.struct_told-1.given.1.1.1.1.0.1 })
 
   last_there : 16 + c.magnitude.result < length c.args.counts.now
-  last_there = omega (arith, value_place, inverse_there c.before.before.before.before.before.before.before.before.before
-      is_quotient)
+  last_there = omega (
+    arith,
+    value_place,
+    inverse_there c.before.before.before.before.before.before.before.before.before
+        is_quotient,
+  )
 
 pub overflow_add-last : goal.overflow_add-last
 overflow_add-last c = let h = last_there c in search rules
@@ -190,7 +197,7 @@ returns-then-code-eq-QUOTIENT c =
         substitution = λ q. absurd (omega (arith, q, e));
         quotient = λ q. subst (λ j. quotient_products g h (get_or c.args.counts.now (16 + j) 0) ≤ c.args.room)
             (value_place (goal.at.returns-then-code-eq-QUOTIENT c).After-magnitude)
-                (leb-true (quotient_products g h w) c.args.room (sym c.quotient_fits.ensures ∙ t));
+            (leb-true (quotient_products g h w) c.args.room (sym c.quotient_fits.ensures ∙ t));
       },
       λ k. c.quotient_fits.ensures
           ∙ le-leb (quotient_products g h w) c.args.room

@@ -145,4 +145,4 @@ returns c =
     ∙ ap₂ (λ x y. accounted (multiply c.args.d (view x) (view y)) (λ k. product_shares c.args.d (view x)
     (view y)))
     (result_part c.args.n (memory (goal.at.returns c).Start) c.args.a)
-        (result_part c.args.n (memory (goal.at.returns c).Start) c.args.b)
+    (result_part c.args.n (memory (goal.at.returns c).Start) c.args.b)

@@ -257,5 +257,5 @@ pub returns : goal.returns
 unfolding most_terms handed
 returns c =
     parts_quotient c.requires.proposed (dividend (goal.at.returns c).Start)
-        (ap view (result_part c.args.n (stand (goal.at.returns c).Start) c.args.a))
+    (ap view (result_part c.args.n (stand (goal.at.returns c).Start) c.args.a))
     c.divided_slices.ensures

@@ -43,14 +43,14 @@ quotient-q-requires c =
       scratch_room = subst (λ j. ScratchRoom (quotient_products (get_or a.counts.now (16 + a.s.b) 0)
           (get_or a.counts.now (16 + a.s.v) 0) (get_or a.counts.now (16 + j) 0))
           a.slots.now a.places.now a.sums.now) (sym (value_place (goal.at.quotient-q-requires c).After-magnitude))
-              (c.requires.served.quotient e);
+          (c.requires.served.quotient e);
     }
 
 pub all_carried-c-requires : goal.all_carried-c-requires
 unfolding held_step most_models
 all_carried-c-requires c =
     quotient_within c.requires.iteration c.requires.s_value c.magnitude.result
-        (value_place (goal.at.all_carried-c-requires c).After-magnitude) c.quotient-q.ensures
+    (value_place (goal.at.all_carried-c-requires c).After-magnitude) c.quotient-q.ensures
 
 pub settled-requires : goal.settled-requires
 settled-requires c =

@@ -27,15 +27,20 @@ module _ (c : Start) where
   few = (limits _ _ c.requires).few
 
 pub copy_keys-requires : goal.copy_keys-requires
-copy_keys-requires c =
-    (omega (arith, few (goal.at.copy_keys-requires c).Start, keys_whole (goal.at.copy_keys-requires c).Start),
-        few (goal.at.copy_keys-requires c).Start)
+copy_keys-requires c = (
+  omega (arith, few (goal.at.copy_keys-requires c).Start, keys_whole (goal.at.copy_keys-requires c).Start),
+  few (goal.at.copy_keys-requires c).Start,
+)
 
 pub copy_coefficients-requires : goal.copy_coefficients-requires
-copy_coefficients-requires c =
-    (omega (arith, few (goal.at.copy_coefficients-requires c).Start,
-        coefficients_whole (goal.at.copy_coefficients-requires c).Start),
-        few (goal.at.copy_coefficients-requires c).Start)
+copy_coefficients-requires c = (
+  omega (
+    arith,
+    few (goal.at.copy_coefficients-requires c).Start,
+    coefficients_whole (goal.at.copy_coefficients-requires c).Start,
+  ),
+  few (goal.at.copy_coefficients-requires c).Start,
+)
 
 pub returns : goal.returns
 unfolding most_terms
@@ -45,9 +50,15 @@ returns c =
     let z = c.copy_coefficients.ensures in
     rw (k, z)
     (listed_struct (listed_same
-    (filled_listed m.count m.keys m.coefficients (omega (arith, few (goal.at.returns c).Start,
-        keys_whole (goal.at.returns c).Start))
+    (filled_listed m.count m.keys m.coefficients (omega (
+      arith,
+      few (goal.at.returns c).Start,
+      keys_whole (goal.at.returns c).Start,
+    ))
     (omega (arith, few (goal.at.returns c).Start, coefficients_whole (goal.at.returns c).Start)))
     (ap pad (terms_paired m.count m.keys m.coefficients))) _ _ _)
-    ∙ sym (pack_view _ m (omega arith) c.requires (omega (arith, few (goal.at.returns c).Start,
-        whole (goal.at.returns c).Start)))
+    ∙ sym (pack_view _ m (omega arith) c.requires (omega (
+      arith,
+      few (goal.at.returns c).Start,
+      whole (goal.at.returns c).Start,
+    )))

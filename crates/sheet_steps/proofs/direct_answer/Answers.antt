@@ -107,4 +107,4 @@ pub returns-in_default : goal.returns-in_default
 unfolding codes
 returns-in_default c = λ d m.
     answers (goal.at.returns-in_default c).Start d m subtract_code _ c.subtracted.ensures
-        (is_difference (goal.at.returns-in_default c).In_default) refl
+    (is_difference (goal.at.returns-in_default c).In_default) refl

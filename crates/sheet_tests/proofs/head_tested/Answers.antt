@@ -58,34 +58,43 @@ unfolding refusal
 returns-then-not-marked c =
     sym (verdict_stopped _ bad_mark 0
     (mark_fault _ _ c.trailer_at-t.ensures (test_1 (goal.at.returns-then-not-marked c).Else-not-length_sound)
-        (c.if-not-marked.true)))
+    (c.if-not-marked.true)))
 
 pub returns-then-not-within : goal.returns-then-not-within
 unfolding refusal
 returns-then-not-within c =
     sym (verdict_stopped _ bad_limits 0
     (limits_fault _ _ c.trailer_at-t.ensures (test_1 (goal.at.returns-then-not-within c).Else-not-length_sound)
-        (c.if-not-marked.false)
+    (c.if-not-marked.false)
     (sym c.trailer_sound-within.ensures ∙ c.if-not-within.true)))
 
 pub overflow_mul-end : goal.overflow_mul-end
-overflow_mul-end c = omega (arith, steps_small (goal.at.overflow_mul-end c).After-trailer_sound-within,
-    offset_small (goal.at.overflow_mul-end c).After-trailer_sound-within)
+overflow_mul-end c = omega (
+  arith,
+  steps_small (goal.at.overflow_mul-end c).After-trailer_sound-within,
+  offset_small (goal.at.overflow_mul-end c).After-trailer_sound-within,
+)
 
 pub overflow_add-end : goal.overflow_add-end
-overflow_add-end c = omega (arith, steps_small (goal.at.overflow_add-end c).After-trailer_sound-within,
-    offset_small (goal.at.overflow_add-end c).After-trailer_sound-within)
+overflow_add-end c = omega (
+  arith,
+  steps_small (goal.at.overflow_add-end c).After-trailer_sound-within,
+  offset_small (goal.at.overflow_add-end c).After-trailer_sound-within,
+)
 
 pub overflow_add-end-2 : goal.overflow_add-end-2
-overflow_add-end-2 c = omega (arith, steps_small (goal.at.overflow_add-end-2 c).After-trailer_sound-within,
-    offset_small (goal.at.overflow_add-end-2 c).After-trailer_sound-within)
+overflow_add-end-2 c = omega (
+  arith,
+  steps_small (goal.at.overflow_add-end-2 c).After-trailer_sound-within,
+  offset_small (goal.at.overflow_add-end-2 c).After-trailer_sound-within,
+)
 
 pub returns-then-end-length : goal.returns-then-end-length
 unfolding refusal
 returns-then-end-length c =
     sym (verdict_stopped _ bad_offset 0
     (offset_fault _ _ c.trailer_at-t.ensures (test_1 (goal.at.returns-then-end-length c).Else-not-length_sound)
-        (c.if-not-marked.false)
+    (c.if-not-marked.false)
     (sym c.trailer_sound-within.ensures ∙ c.if-not-within.false) c.if-end-length.true))
 
 pub returns : goal.returns

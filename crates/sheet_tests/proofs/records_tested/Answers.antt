@@ -44,7 +44,7 @@ unfolding refusal
 returns-then-place-count c =
     let p = c.requires in
     sym (verdict_stopped _ bad_model _ (model_fault _ _ p.t p.trailer_length_value _ c.walk_models-w.ensures
-        c.if-place-count.true))
+    c.if-place-count.true))
 
 pub returns-then-w-offset : goal.returns-then-w-offset
 unfolding refusal

@@ -75,43 +75,56 @@ overflow_add-taken c = omega (arith, product c)
 pub returns-then-left-taken : goal.returns-then-left-taken
 returns-then-left-taken c =
     no_terms _ _ c.args.at (sheet (goal.at.returns-then-left-taken c).After-term_bytes) _ _ _ _ _
-        (counted (goal.at.returns-then-left-taken c).After-term_bytes)
+    (counted (goal.at.returns-then-left-taken c).After-term_bytes)
     (subst (λ k. length (sheet (goal.at.returns-then-left-taken c).After-term_bytes) - c.args.at < 5 + k * total
-        (goal.at.returns-then-left-taken c).After-term_bytes)
-        (sized (goal.at.returns-then-left-taken c).After-term_bytes) c.if-left-taken.true)
+    (goal.at.returns-then-left-taken c).After-term_bytes)
+    (sized (goal.at.returns-then-left-taken c).After-term_bytes) c.if-left-taken.true)
 
 pub returns-then-total-gt-MOST_TERMS : goal.returns-then-total-gt-MOST_TERMS
 unfolding most_terms
 returns-then-total-gt-MOST_TERMS c =
     too_many _ _ c.args.at (sheet (goal.at.returns-then-total-gt-MOST_TERMS c).After-term_bytes) _ _ _ _ _
-        (counted (goal.at.returns-then-total-gt-MOST_TERMS c).After-term_bytes) c.if-total-gt-MOST_TERMS.true
+    (counted (goal.at.returns-then-total-gt-MOST_TERMS c).After-term_bytes) c.if-total-gt-MOST_TERMS.true
 
 pub u32_at-radius-requires : goal.u32_at-radius-requires
 u32_at-radius-requires c = omega (arith, room c, c.requires.at_in_bounds)
 
 pub overflow_add-at-2 : goal.overflow_add-at-2
-overflow_add-at-2 c = omega (arith, room (goal.at.overflow_add-at-2 c).Else-total-gt-MOST_TERMS,
-    c.requires.at_in_bounds, short (goal.at.overflow_add-at-2 c).After-term_bytes)
+overflow_add-at-2 c = omega (
+  arith,
+  room (goal.at.overflow_add-at-2 c).Else-total-gt-MOST_TERMS,
+  c.requires.at_in_bounds,
+  short (goal.at.overflow_add-at-2 c).After-term_bytes,
+)
 
 pub terms_at-requires : goal.terms_at-requires
 terms_at-requires c =
     let p = c.requires in
     record {
       count_in_bounds = omega (arith, room (goal.at.terms_at-requires c).Else-total-gt-MOST_TERMS, p.at_in_bounds);
-      count_in_bounds_2 = (omega (arith, few (goal.at.terms_at-requires c).Else-total-gt-MOST_TERMS,
-          p.most_terms_in_bounds.0), omega (arith, few (goal.at.terms_at-requires c).Else-total-gt-MOST_TERMS,
-          p.most_terms_in_bounds.1));
+      count_in_bounds_2 = (
+        omega (
+          arith,
+          few (goal.at.terms_at-requires c).Else-total-gt-MOST_TERMS,
+          p.most_terms_in_bounds.0,
+        ),
+        omega (
+          arith,
+          few (goal.at.terms_at-requires c).Else-total-gt-MOST_TERMS,
+          p.most_terms_in_bounds.1,
+        ),
+      );
     }
 
 pub sound_slices-requires : goal.sound_slices-requires
 sound_slices-requires c =
     borrowed_long _ _ _ (keys_room (goal.at.sound_slices-requires c).After-terms_at)
-        (coefficients_room (goal.at.sound_slices-requires c).After-terms_at)
+    (coefficients_room (goal.at.sound_slices-requires c).After-terms_at)
 
 pub returns-then-not-sound_slices : goal.returns-then-not-sound_slices
 returns-then-not-sound_slices c =
     unsound _ _ c.args.at (sheet (goal.at.returns-then-not-sound_slices c).After-term_bytes) _ _ _ _ _
-        (counted (goal.at.returns-then-not-sound_slices c).After-term_bytes) _ c.u32_at-radius.ensures
+    (counted (goal.at.returns-then-not-sound_slices c).After-term_bytes) _ c.u32_at-radius.ensures
     (few (goal.at.returns-then-not-sound_slices c).Else-total-gt-MOST_TERMS) c.terms_at.ensures.0 c.terms_at.ensures.1
     (sym c.sound_slices.ensures ∙ c.if-not-sound_slices.true)
 
@@ -119,7 +132,7 @@ pub returns : goal.returns
 returns c =
     rw (sized (goal.at.returns c).After-term_bytes)
     (passes _ _ c.args.at (sheet (goal.at.returns c).After-term_bytes) _ _ _ _ _
-        (counted (goal.at.returns c).After-term_bytes) _ c.u32_at-radius.ensures
+    (counted (goal.at.returns c).After-term_bytes) _ c.u32_at-radius.ensures
     (few (goal.at.returns c).Else-total-gt-MOST_TERMS) c.terms_at.ensures.0 c.terms_at.ensures.1
-        (room (goal.at.returns c).Else-total-gt-MOST_TERMS)
+    (room (goal.at.returns c).Else-total-gt-MOST_TERMS)
     (sym c.sound_slices.ensures ∙ c.if-not-sound_slices.false))

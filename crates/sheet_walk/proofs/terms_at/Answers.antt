@@ -40,12 +40,20 @@ module _ (c : After-struct_told-1) where
   read_back = to_z-of_z {w = w64} (record { sfits = c.struct_told-1.given.1.0.1 })
 
   key_room : c.loop-i.i < length c.loop-i.keys
-  key_room = omega (arith, counts (goal.at.offset_bounds-keys-i c).In-loop-i, c.requires.count_in_bounds_2.0,
-      c.loop-i.invariant.keys_long)
+  key_room = omega (
+    arith,
+    counts (goal.at.offset_bounds-keys-i c).In-loop-i,
+    c.requires.count_in_bounds_2.0,
+    c.loop-i.invariant.keys_long,
+  )
 
   coefficient_room : c.loop-i.i < length c.loop-i.coefficients
-  coefficient_room = omega (arith, counts (goal.at.offset_bounds-keys-i c).In-loop-i, c.requires.count_in_bounds_2.1,
-      c.loop-i.invariant.coefficients_long)
+  coefficient_room = omega (
+    arith,
+    counts (goal.at.offset_bounds-keys-i c).In-loop-i,
+    c.requires.count_in_bounds_2.1,
+    c.loop-i.invariant.coefficients_long,
+  )
 
 pub loop-i-init : goal.loop-i-init
 loop-i-init c = terms_first _ _ _ _ _ _
@@ -60,8 +68,12 @@ pub bounds-coefficients-i : goal.bounds-coefficients-i
 bounds-coefficients-i c = coefficient_room c
 
 pub overflow_add-place : goal.overflow_add-place
-overflow_add-place c = omega (arith, term_room (goal.at.overflow_add-place c).In-loop-i,
-    sized (goal.at.overflow_add-place c).At-loop-i, short (goal.at.overflow_add-place c).At-loop-i)
+overflow_add-place c = omega (
+  arith,
+  term_room (goal.at.overflow_add-place c).In-loop-i,
+  sized (goal.at.overflow_add-place c).At-loop-i,
+  short (goal.at.overflow_add-place c).At-loop-i,
+)
 
 pub loop-i-smaller : goal.loop-i-smaller
 loop-i-smaller c = omega (arith, counts (goal.at.loop-i-smaller c).In-loop-i)
@@ -69,7 +81,7 @@ loop-i-smaller c = omega (arith, counts (goal.at.loop-i-smaller c).In-loop-i)
 pub loop-i-preserved : goal.loop-i-preserved
 loop-i-preserved c =
     terms_iteration _ _ _ _ _ _ c.loop-i.invariant (counts (goal.at.loop-i-preserved c).In-loop-i) _ c.term_at-t.ensures
-        c.requires.count_in_bounds_2.0
+    c.requires.count_in_bounds_2.0
     c.requires.count_in_bounds_2.1 _ (read_back c) _ (sized (goal.at.loop-i-preserved c).At-loop-i)
 
 pub returns : goal.returns

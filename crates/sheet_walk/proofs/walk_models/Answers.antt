@@ -57,8 +57,11 @@ record_at-taken-requires c =
 
 pub overflow_add-at : goal.overflow_add-at
 overflow_add-at c =
-    omega (arith, (next (goal.at.overflow_add-at c).After-record_at-taken c.if-taken-eq0.false).within,
-        short (goal.at.overflow_add-at c).After-record_at-taken)
+    omega (
+      arith,
+      (next (goal.at.overflow_add-at c).After-record_at-taken c.if-taken-eq0.false).within,
+      short (goal.at.overflow_add-at c).After-record_at-taken,
+    )
 
 pub models-preserved : goal.models-preserved
 models-preserved c =

@@ -48,8 +48,12 @@ module _ (c : After-struct_known-1) where
   small = (
     (book_limits (held (goal.at.overflow_mul-end c).In-Accepted)
         (passes (goal.at.overflow_mul-end c).In-Accepted)).steps_high,
-    omega (arith, offset_is, models_short (held_book (held (goal.at.overflow_mul-end c).In-Accepted))
-        (passes (goal.at.overflow_mul-end c).In-Accepted)),
+    omega (
+      arith,
+      offset_is,
+      models_short (held_book (held (goal.at.overflow_mul-end c).In-Accepted))
+          (passes (goal.at.overflow_mul-end c).In-Accepted),
+    ),
   )
 
   size_is : c.models_size-offset.result + step_length * (held (goal.at.overflow_mul-end c).In-Accepted).step_count
@@ -78,7 +82,7 @@ returns-then-buffer-size c =
     let a = c.args in
     let o =
     too_short (held_book a.book) a.buffer.now (passes (goal.at.returns-then-buffer-size c).In-Accepted)
-        (omega (arith, size_is (goal.at.returns-then-buffer-size c).After-struct_known-1, c.if-buffer-size.true)) in
+    (omega (arith, size_is (goal.at.returns-then-buffer-size c).After-struct_known-1, c.if-buffer-size.true)) in
     record {
       answers = o.answers;
       leaves = o.leaves;
@@ -97,16 +101,22 @@ pub put_models-requires : goal.put_models-requires
 put_models-requires c =
     record {
       held_passes = passes (goal.at.put_models-requires c).In-Accepted;
-      b_in_bounds = omega (arith, offset_is (goal.at.put_models-requires c).After-struct_known-1,
-          room (goal.at.put_models-requires c).Else-buffer-size);
+      b_in_bounds = omega (
+        arith,
+        offset_is (goal.at.put_models-requires c).After-struct_known-1,
+        room (goal.at.put_models-requires c).Else-buffer-size,
+      );
     }
 
 pub put_steps-requires : goal.put_steps-requires
 put_steps-requires c =
     record {
       held_passes = passes (goal.at.put_steps-requires c).In-Accepted;
-      step_count_in_bounds = omega (arith, room (goal.at.put_steps-requires c).Else-buffer-size,
-          c.put_models.auto.buffer);
+      step_count_in_bounds = omega (
+        arith,
+        room (goal.at.put_steps-requires c).Else-buffer-size,
+        c.put_models.auto.buffer,
+      );
     }
 
 pub put_trailer-requires : goal.put_trailer-requires
@@ -114,17 +124,21 @@ put_trailer-requires c =
     record {
       held_passes = passes (goal.at.put_trailer-requires c).In-Accepted;
       offset_value = offset_is (goal.at.put_trailer-requires c).After-struct_known-1;
-      trailer_length_in_bounds = omega (arith, room (goal.at.put_trailer-requires c).Else-buffer-size,
-          c.put_models.auto.buffer, c.put_steps.auto.buffer);
+      trailer_length_in_bounds = omega (
+        arith,
+        room (goal.at.put_trailer-requires c).Else-buffer-size,
+        c.put_models.auto.buffer,
+        c.put_steps.auto.buffer,
+      );
     }
 
 pub returns : goal.returns
 returns c =
     let a = c.args in
     let o = long_enough (held_book a.book) a.buffer.now (passes (goal.at.returns c).In-Accepted) _ _ _ _ _
-            (offset_is (goal.at.returns c).After-struct_known-1)
+    (offset_is (goal.at.returns c).After-struct_known-1)
     (ap (λ k. c.models_size-offset.result + step_length * k) (sym (count_steps a.book)))
-        (room (goal.at.returns c).Else-buffer-size)
+    (room (goal.at.returns c).Else-buffer-size)
     c.put_models.ensures c.put_steps.ensures c.put_trailer.ensures in
     record {
       answers = o.answers;

@@ -14,8 +14,12 @@ loop-i-init c = (omega arith, put_nothing)
 -- the place counts the bytes put so far
 pub put_byte-next-requires : goal.put_byte-next-requires
 put_byte-next-requires c =
-    omega (arith, c.loop-i.invariant.1.counted, length-take-le c.loop-i.i c.args.bytes.now c.loop-i.invariant.0,
-        c.requires)
+    omega (
+      arith,
+      c.loop-i.invariant.1.counted,
+      length-take-le c.loop-i.i c.args.bytes.now c.loop-i.invariant.0,
+      c.requires,
+    )
 
 pub loop-i-preserved : goal.loop-i-preserved
 loop-i-preserved c =

@@ -22,13 +22,16 @@ with_sign : (c : Then-z-lt0)
 with_sign c =
     integer_negative c.args.z (negative c.ranges.z c.if-z-lt0.true)
     ∙ ap (λ x. text " -" ++ decimal x) (sym (size_is
-        (record { before = c.before.before; type_inv = record { out = c.slice_known-1.given } })))
+    (record { before = c.before.before; type_inv = record { out = c.slice_known-1.given } })))
 
 without_sign : (c : Else-z-lt0) → integer c.args.z ≡ natural c.magnitude-size.result
 without_sign c =
     integer_natural c.args.z (not_negative c.ranges.z c.if-z-lt0.false)
-        ∙ ap natural (sym (size_is (record { before = c.before.before; type_inv = record
-        { out = c.slice_known-1.given } })))
+    ∙ ap natural (sym (size_is (record {
+      before = c.before.before;
+      type_inv = record
+          { out = c.slice_known-1.given };
+    })))
 
 pub put_bytes-next-requires : goal.put_bytes-next-requires
 unfolding text
@@ -39,13 +42,13 @@ pub put_decimal-requires : goal.put_decimal-requires
 unfolding text
 put_decimal-requires c =
     room_after (32 ∷ 45 ∷ []) _ (rw (with_sign (goal.at.put_decimal-requires c).Then-z-lt0) at c.requires)
-        c.put_bytes-next.ensures
+    c.put_bytes-next.ensures
 
 pub returns-then-z-lt0 : goal.returns-then-z-lt0
 unfolding text
 returns-then-z-lt0 c =
     put_as (sym (with_sign (goal.at.returns-then-z-lt0 c).Then-z-lt0))
-        (c.put_bytes-next.ensures then_put c.put_decimal.ensures)
+    (c.put_bytes-next.ensures then_put c.put_decimal.ensures)
 
 pub put_natural-requires : goal.put_natural-requires
 put_natural-requires c =

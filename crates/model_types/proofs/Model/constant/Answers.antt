@@ -31,8 +31,11 @@ pub returns-then-not-constant_within_limits : goal.returns-then-not-constant_wit
 unfolding require_at call_constant cause
 returns-then-not-constant_within_limits c =
     let t = c.before in
-    rw (c.refuse-then-not-constant_within_limits.ensures, vars_hold t.before.before,
-        sym (within t.before) ∙ t.if-not-constant_within_limits.true)
+    rw (
+      c.refuse-then-not-constant_within_limits.ensures,
+      vars_hold t.before.before,
+      sym (within t.before) ∙ t.if-not-constant_within_limits.true,
+    )
 
 pub constant_of-requires : goal.constant_of-requires
 constant_of-requires c = (vars_range _ (vars_hold c.before.before)).1
