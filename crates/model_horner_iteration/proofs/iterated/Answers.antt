@@ -59,7 +59,8 @@ merged-total-requires c =
 module _ (c : After-merged-total) where
   abbrev begin : Start
   begin =
-      c.before.before.before.before.before.before.before.before.before.before.before.before.before.before.before.before.before.before.before.before.before.before.before.before.before.before
+      let a = c.before.before.before.before.before.before.before.before.before.before.before.before.before in
+      a.before.before.before.before.before.before.before.before.before.before.before.before.before
 
   abbrev sum_keys : List ℕ
   sum_keys = c.merged-total.new.stored

@@ -112,7 +112,8 @@ difference-l-requires c =
 module _ (c : After-difference-l) where
   abbrev begin : Start
   begin =
-      c.before.before.before.before.before.before.before.before.before.before.before.before.before.before.before.before.before.before.before.before.before.before.before.before.before.before
+      let a = c.before.before.before.before.before.before.before.before.before.before.before.before.before in
+      a.before.before.before.before.before.before.before.before.before.before.before.before.before
 
   abbrev rest : List ℕ
   rest = c.difference-l.new.stored

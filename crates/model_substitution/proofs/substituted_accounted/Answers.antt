@@ -46,12 +46,14 @@ put_in-k-requires c =
 
 -- what is left
 module _ (c : After-put_in-k) where
-  left : KeptIn c.args.f.n c.put_in-k.result c.put_in-k.new.remaining
-      c.put_in-k.new.rest
-      (answers c.requires.substitution (outer_room
-      c.before.before.before.before.before.before.before.before.before.before.before.before.before.before.before.before.before.before.before.before.before.before) (inner_room c.before.before.before.before.before.before.before.before.before.before.before.before.before.before.before.before.before.before.before.before.before.before))
-  left = own_answer c.requires.substitution (outer_room
-      c.before.before.before.before.before.before.before.before.before.before.before.before.before.before.before.before.before.before.before.before.before.before) (inner_room c.before.before.before.before.before.before.before.before.before.before.before.before.before.before.before.before.before.before.before.before.before.before) c.put_in-k.ensures
+  abbrev begin : Start
+  begin =
+      let a = c.before.before.before.before.before.before.before.before.before.before.before in
+      a.before.before.before.before.before.before.before.before.before.before.before
+
+  left : KeptIn c.args.f.n c.put_in-k.result c.put_in-k.new.remaining c.put_in-k.new.rest
+      (answers c.requires.substitution (outer_room begin) (inner_room begin))
+  left = own_answer c.requires.substitution (outer_room begin) (inner_room begin) c.put_in-k.ensures
 
 pub packed_answer-answer-requires : goal.packed_answer-answer-requires
 packed_answer-answer-requires c = (

@@ -164,7 +164,8 @@ module _ (c : After-iterated-r) where
       (start
       (record {
         before =
-            c.before.before.before.before.before.before.before.before.before.before.before.before.before.before.before.before;
+            let a = c.before.before.before.before.before.before.before.before in
+            a.before.before.before.before.before.before.before.before;
         type_inv = record { keys2 = c.shared_slice_known-2-1.given; keys = c.shared_slice_known-1.given };
       })).args.slots.now
   slots_long = c.iterated-r.auto.slots ∙ c.loop-k.invariant.3
@@ -174,7 +175,8 @@ module _ (c : After-iterated-r) where
       (start
       (record {
         before =
-            c.before.before.before.before.before.before.before.before.before.before.before.before.before.before.before.before;
+            let a = c.before.before.before.before.before.before.before.before in
+            a.before.before.before.before.before.before.before.before;
         type_inv = record { keys2 = c.shared_slice_known-2-1.given; keys = c.shared_slice_known-1.given };
       })).args.table.now
   table_long = c.iterated-r.auto.keys ∙ c.loop-k.invariant.4
@@ -184,7 +186,8 @@ module _ (c : After-iterated-r) where
       (start
       (record {
         before =
-            c.before.before.before.before.before.before.before.before.before.before.before.before.before.before.before.before;
+            let a = c.before.before.before.before.before.before.before.before in
+            a.before.before.before.before.before.before.before.before;
         type_inv = record { keys2 = c.shared_slice_known-2-1.given; keys = c.shared_slice_known-1.given };
       })).args.sums.now
   sums_long = c.iterated-r.auto.sums ∙ c.loop-k.invariant.5
