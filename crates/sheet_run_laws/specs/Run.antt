@@ -45,7 +45,7 @@ pub record Loaded (h : HeldBook) (m : Results) : Type 0 where
   pub each : (a : ℕ) → a < length h.models → view (held_result h.n m a) ≡ model_of (view_book h) a
 
 -- a book that passes its tests has these steps, its models stand in the slices, and there is a place for each
--- held_result
+-- result
 pub record Prepared (l : StepList) (m : Results) : Type 0 where
   pub held : HeldBook
   pub passes : HeldPasses held
@@ -80,7 +80,7 @@ module _ (h : HeldBook) where
     pub rows_stored : RowsStored rows flat
     pub rows_rest : rows ++ run_shares (view_book h) models (drop i (view_book h).steps) ≡ rows_sound (view_book h)
 
-  -- the run leads to this held_result, and its rows are there
+  -- the run leads to this result, and its rows are there
   pub record Ended (r : R.Result C.Model) (flat : List ℕ) : Type 0 where
     pub is : r ≡ last_result (view_book h)
     pub rows : List S.Shares
@@ -137,7 +137,7 @@ few_products = 256
 abbrev pub some_products : ℕ
 some_products = 1024
 
--- how many terms the held_result of step j has
+-- how many terms the result of step j has
 abbrev pub terms_at : (counts : List ℕ) → (j : ℕ) → ℕ
 terms_at counts j = get_or counts (most_models + j) 0
 
@@ -146,7 +146,7 @@ abbrev pub products_at : (counts : List ℕ) → HeldStep → ℕ
 products_at counts s =
     quotient_products (terms_at counts s.b) (terms_at counts s.v) (terms_at counts (nat_abs s.value))
 
--- what a step asks of it: a substitution multiplies the held_result that b names by models of at most 64 terms
+-- what a step asks of it: a substitution multiplies the result that b names by models of at most 64 terms
 pub record Served (s : HeldStep) (counts : List ℕ) (slots keys : List ℕ) (sums : List ℤ) : Type 0 where
   pub product : s.code ≡ multiply_code
       → ScratchRoom (terms_at counts s.a * terms_at counts s.b) slots keys sums

@@ -63,7 +63,7 @@ module _ {n d i : ℕ} {s : HeldStep} {m : Results} {flat : List ℕ} (t : Itera
   pub iteration_small : i < most_steps
   iteration_small = here_small t.passes t.at
 
-  -- that of a step's held_result
+  -- that of a step's result
   result_room : (j : ℕ) → j < length t.held.steps → Roomy (most_models + j + 1) m
   result_room j h = roomy_less t.so_far.room (omega (arith, h))
 
@@ -123,7 +123,7 @@ module _ {n d i : ℕ} {s : HeldStep} {m : Results} {flat : List ℕ} (t : Itera
     other_ready = into (λ n d. StepReady n d s f g)
         (step_ready t.passes t.at t.so_far f g here_first here_second z w o)
 
-    -- what a substitution puts in has the count of the held_result that b names
+    -- what a substitution puts in has the count of the result that b names
     inner_count : s.code ≡ substitute_code → get_or m.counts (most_models + s.b) 0 ≡ g.count
     unfolding names_second held_result handed
     inner_count e =
@@ -274,12 +274,12 @@ pub products_few : (a b : ℕ) → a ≤ most_terms → b ≤ most_terms → a *
 unfolding most_terms
 products_few a b p q = mul-le-mul p q
 
--- ---- the parts of the slices that a held_result begins
+-- ---- the parts of the slices that a result begins
 -- all of them
 part_all : {A : Type 0} (a : ℕ) (xs : List A) → take (length xs - a) (drop a xs) ≡ drop a xs
 part_all a xs = take_all (length xs - a) (drop a xs) (omega (arith, length-drop a xs))
 
--- the model in them is the held_result
+-- the model in them is the result
 pub result_part : (n : ℕ) (m : Results) (j : ℕ)
     → handed n (get_or m.counts j 0) (get_or m.radii j 0)
     (take (length m.keys - most_terms * j) (drop (most_terms * j) m.keys))

@@ -325,7 +325,7 @@ module _ {h : HeldBook} (p : HeldPasses h) where
 
     -- ---- after the results so far
     module _ {m : Results} {flat : List ℕ} (l : Running h i m flat) where
-      -- a held_result as the book's steps see it
+      -- a result as the book's steps see it
       abbrev so_far : ℕ → C.Model
       so_far = result_of book l.models
 
@@ -521,7 +521,7 @@ module _ {h : HeldBook} (p : HeldPasses h) where
           → x ≡ accounted given row
       quotient_carried e q k = k given q ∙ ap (accounted given) (quotient_row book so_far s step_at stands e)
 
-      -- ---- the steps that are left, after its held_result
+      -- ---- the steps that are left, after its result
       abbrev after : C.Model → R.Result (List C.Model)
       after k = run_steps book (l.models ++ (k ∷ [])) (drop (i + 1) book.steps)
 
@@ -530,7 +530,7 @@ module _ {h : HeldBook} (p : HeldPasses h) where
       iteration = sym l.rest ∙ ap (run_steps book l.models) next
           ∙ ap (λ j. at_place j given followed_by after) l.count
 
-      -- the rows that are left, after its held_result
+      -- the rows that are left, after its result
       abbrev rows_after : C.Model → List S.Shares
       rows_after k = row k ∷ run_shares book (l.models ++ (k ∷ [])) (drop (i + 1) book.steps)
 
@@ -637,7 +637,7 @@ module _ {h : HeldBook} (p : HeldPasses h) where
   -- ---- after the last step
   module _ {m : Results} {flat : List ℕ} (l : Running h (length h.steps) m flat) (k : Model)
       (is_last : view k ≡ view (held_result h.n m (most_models + (length h.steps - 1)))) where
-    -- the last held_result
+    -- the last result
     abbrev final : C.Model
     final = last (zero_model h.n) l.models
 

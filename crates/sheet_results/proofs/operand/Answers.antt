@@ -1,4 +1,4 @@
--- `operand` takes the held_result that is named, or the zero model.
+-- `operand` takes the result that is named, or the zero model.
 use mathlib.Core.Path.{◌≡◌, refl, sym, ◌∙◌, ap}
 use mathlib.Core.Bool.{cond}
 use borrow.Author.Rules.{rules}
