@@ -27,10 +27,11 @@ use Rattle.sheet_records.specs.declared.Records.{Records}
 use Rattle.sheet_records.specs.contracts.Records as T
 use Rattle.sheet_records.proofs.Records.TheLaws as T'
 
--- the struct's type and laws
+-- the struct's type
 abbrev pub D : NamedLft → Declared
 D α = T.the_type α
 
+-- and its laws
 abbrev pub L : (α : NamedLft) → LL.Laws (D α)
 L α = T'.the_laws α
 
