@@ -1,0 +1,2 @@
+pub mod ArchiveCalls
+pub mod ArchiveCallsLaws

@@ -1,0 +1,4 @@
+pub mod CallCodes
+pub mod CallCodesLaws
+pub mod CallKinds
+pub mod CallKindsLaws

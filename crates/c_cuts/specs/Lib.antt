@@ -1,0 +1,2 @@
+pub mod CutCalls
+pub mod CutCallsLaws

@@ -1,0 +1,2 @@
+pub mod HandedQuotients
+pub mod HandedQuotientsLaws

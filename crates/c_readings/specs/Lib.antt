@@ -1,0 +1,2 @@
+pub mod HandedReadings
+pub mod HandedReadingsLaws

@@ -1,0 +1,2 @@
+pub mod WriteCalls
+pub mod WriteCallsLaws

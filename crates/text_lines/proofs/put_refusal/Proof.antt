@@ -1,0 +1,71 @@
+-- `put_refusal` puts the word, the number, the place and the line's end.
+use mathlib.Core.Path.{sym}
+use mathlib.Core.List.{◌++◌}
+use borrow.Author.Rules.{rules}
+use Rattle.format.specs.Lines.{text}
+use Rattle.text_decimal.specs.Put.{Room, natural}
+use Rattle.text_decimal.specs.PutLaws.{◌then_put◌, put_as, room_before, room_after}
+use Rattle.text_lines.specs.LineLaws.{line_end, refusal_pieces}
+use Rattle.text_lines.proofs.put_refusal.Statement.{statement}
+use Rattle.text_lines.proofs.put_refusal.Tie as tie
+
+-- room after the word, after the number, and after the place
+room₁ : (c : tie.After-put-bytes)
+    → Room c.put-bytes.result
+    (natural c.before.before.before.before.args.number
+    ++ (natural c.before.before.before.before.args.place ++ line_end))
+unfolding text
+room₁ c =
+    let s = c.before.before.before.before in
+    room_after (text "refused") _ (rw (refusal_pieces s.args.number s.args.place) at s.requires)
+    c.put-bytes.ensures
+
+room₂ : (c : tie.After-put-natural)
+    → Room c.put-natural.result
+    (natural c.before.before.before.before.before.before.before.before.args.place ++ line_end)
+room₂ c = room_after (natural _) _ (room₁ c.before.before.before.before) c.put-natural.ensures
+
+room₃ : (c : tie.After-put-natural2) → Room c.put-natural2.result line_end
+room₃ c = room_after (natural _) line_end (room₂ c.before.before.before.before) c.put-natural2.ensures
+
+slice-aggregate-put-bytes : tie.Need-slice-aggregate-put-bytes
+slice-aggregate-put-bytes c = search rules
+
+put-bytes-requires : tie.Need-put-bytes-requires
+put-bytes-requires c κs = search rules
+
+put-natural-requires : tie.Need-put-natural-requires
+put-natural-requires c κs = room_before (natural _) _ (room₁ c.before.before.before)
+
+put-natural-requires-2 : tie.Need-put-natural-requires-2
+put-natural-requires-2 c κs = room_before (natural _) line_end (room₂ c.before.before.before)
+
+put-byte-requires : tie.Need-put-byte-requires
+unfolding text
+put-byte-requires c κs = room₃ c.before.before.before
+
+same_length : tie.Need-same-length
+same_length c = search rules
+
+returns : tie.Need-returns
+unfolding text
+returns c =
+    let e = c.before.before in
+    let p = e.before.before.before.before in
+    let n = p.before.before.before.before in
+    let w = n.before.before.before.before in
+    put_as (sym (refusal_pieces _ _))
+    (w.put-bytes.ensures
+    then_put (n.put-natural.ensures then_put (p.put-natural2.ensures then_put e.put_byte.ensures)))
+
+pub put_refusal_spec : {M : Type 1} → statement M
+put_refusal_spec =
+    tie.close
+    (tie.spec
+    slice-aggregate-put-bytes
+    put-bytes-requires
+    put-natural-requires
+    put-natural-requires-2
+    put-byte-requires
+    same_length
+    returns)
