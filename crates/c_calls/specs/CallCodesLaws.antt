@@ -4,7 +4,6 @@ use Rattle.std.proofs.Common.{sym, subst, arith, leb→le}
 use Rattle.calculus.specs.Model as C
 use Rattle.calculus.specs.Model.{most_degree, most_terms, sound}
 use Rattle.calculus.specs.Refusal.{bad_model, Result, done, stopped, require_at, ◌followed_by◌}
-use Rattle.calculus.specs.Operations as Op
 use Rattle.calculus.specs.Operations.{Ends, zero_ends, zero_mixed, common_denominator, exact_part}
 use Rattle.model.specs.OperationLaws.{exact_remainder}
 use Rattle.calculus.specs.Operations.{whole_integral}
