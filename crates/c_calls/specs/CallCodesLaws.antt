@@ -1,5 +1,6 @@
 -- Which codes name a call, what a call that fits has room for, two ends alone as structs, and how large a remainder is.
-use Rattle.std.specs.Prelude.{◌≡◌, refl, Bool, true, false, ◌&&◌, cond, List, [], ◌∷◌, map, ℕ, ◌^◌, ◌≤◌, ◌<◌, T, eqb, leb, ℤ}
+use Rattle.std.specs.Prelude.{◌≡◌, refl, Bool, true, false, ◌&&◌, cond, List, [], ◌∷◌, map, ℕ, ◌^◌, ◌≤◌, ◌<◌, T}
+use Rattle.std.specs.Prelude.{eqb, leb, ℤ}
 use Rattle.std.proofs.Common.{sym, subst, arith, leb→le}
 use Rattle.calculus.specs.Model as C
 use Rattle.calculus.specs.Model.{most_degree, most_terms, sound}
