@@ -10,7 +10,7 @@ pub mod runs; // runs.rt: sheets and books run
 pub mod shares; // shares.rt: the same with where each radius came from
 pub mod sheets; // sheets.rt: sheets printed and taken apart
 pub mod curves; // curves.rt: calls on curves in Chebyshev polynomials, and their conversion
-pub mod cuts; // cuts.rt: the range of a cut box
-pub mod doubles; // doubles.rt: curves that are delivered in doubles
+pub mod cut_ranges; // cut_ranges.rt: the range of a cut box
+pub mod double_curves; // double_curves.rt: curves that are delivered in doubles
 pub mod reading_rows; // reading_rows.rt: rows of readings held against a model
-pub mod archive; // archive.rt: models in the archive
+pub mod archived_models; // archived_models.rt: models in the archive
