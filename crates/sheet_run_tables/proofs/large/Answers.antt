@@ -1,6 +1,5 @@
 -- `large` has the full table as scratch.
 use lib.Dec.{lit≤}
-use borrow.Author.Rules.{rules}
 use Rattle.sheet_run_tables.proofs.large.Goals as goal
 
 pub steps-requires : goal.steps-requires

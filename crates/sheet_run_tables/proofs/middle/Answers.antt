@@ -1,6 +1,5 @@
 -- `middle` has the table between as scratch.
 use lib.Dec.{lit≤}
-use borrow.Author.Rules.{rules}
 use Rattle.sheet_run_tables.proofs.middle.Goals as goal
 
 pub steps-requires : goal.steps-requires

@@ -1,6 +1,5 @@
 -- `small` has a small table as scratch.
 use lib.Dec.{lit≤}
-use borrow.Author.Rules.{rules}
 use Rattle.sheet_run_tables.proofs.small.Goals as goal
 
 pub steps-requires : goal.steps-requires
