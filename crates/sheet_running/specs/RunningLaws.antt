@@ -33,7 +33,7 @@ ended_ran e p q = ap₂ (λ a s. record { answer = a; shares = s }) (p ∙ ap an
 pub last_ran : {h : HeldBook} {l : StepList} {t : Stop} {m : Results} {flat : List ℕ}
     (s : Stopped h l most_entries t m flat) (e : t.verdict ≡ Accepted)
     (k : Model) (q : view k ≡ view (held_result l.n m (most_models + (l.count - 1)))) {a : Answer}
-        {shares : List Shares}
+    {shares : List Shares}
     → a ≡ accepted_answer (pack (view k)) → shares ≡ first_rows flat most_steps
     → ◌≡◌ {A = Ran} (record { answer = a; shares = shares }) (ran (view_book h))
 unfolding answer
