@@ -4,7 +4,7 @@ use Rattle.std.proofs.Math.Path.{sym, ap}
 use Rattle.std.proofs.Common.{◌∙◌, subst, arith}
 use Rattle.calculus.specs.Model.{most_terms}
 use Rattle.calculus.specs.Book.{most_models, most_steps}
-use Rattle.calculus.specs.Refusal.{Result, done, stopped, returned, ◌followed_by◌}
+use Rattle.calculus.specs.Refusal.{done, stopped, returned, ◌followed_by◌}
 use Rattle.calculus.specs.Shares.{no_shares, all_rows, reported}
 use Rattle.model_types.specs.declared.Answer.{Answer}
 use Rattle.model_types.specs.declared.Refusal.{Refusal}

@@ -1,0 +1,22 @@
+-- `run_sheet` makes tests 1 to 4, and goes on by the trailer that passed.
+use Rattle.std.proofs.Common.{sym, ◌∙◌, arith}
+use Rattle.sheet_loading.specs.sheet_tests.HeadedLaws.{head_long, head_passes}
+use Rattle.sheet_run_bytes.specs.RunBytesLaws.{head_ran}
+use Rattle.sheet_run_bytes.proofs.run_sheet.Goals as goal
+
+pub overflow_sub-sheet : goal.overflow_sub-sheet
+overflow_sub-sheet c = omega (arith, head_long c.args.sheet.now (sym c.head_tested-v.ensures ∙ c.in_default.is))
+
+pub trailer_at-t-requires : goal.trailer_at-t-requires
+trailer_at-t-requires c =
+    omega (arith, head_long c.args.sheet.now (sym c.head_tested-v.ensures ∙ c.in_default.is))
+
+pub run_short-requires-clause-head_passes : goal.run_short-requires-clause-head_passes
+run_short-requires-clause-head_passes c =
+    head_passes _ (sym c.head_tested-v.ensures ∙ c.in_default.is) _ c.trailer_at-t.ensures
+
+pub run_long-requires : goal.run_long-requires
+run_long-requires c = head_passes _ (sym c.head_tested-v.ensures ∙ c.in_default.is) _ c.trailer_at-t.ensures
+
+pub returns : goal.returns
+returns c = c.refused.ensures ∙ head_ran _ _ _ (sym c.head_tested-v.ensures ∙ c.in-Refused.is)
