@@ -40,7 +40,6 @@ use Rattle.format.specs.Format.{read, run_sheet}
 use Rattle.format.specs.Computing.{reads}
 use Rattle.format.specs.Samples.{hex, sheet_forms}
 use Rattle.format.specs.SheetClaim.{SheetClaim}
-use Rattle.sheet_book.specs.declared.Summary.{Summary}
 use Rattle.sheet_book.specs.SummaryStruct.{stored_ends, stored_exact, ends_of, exact_of, summary_of}
 use Rattle.sheet_book.specs.SummaryStruct.{refused_summary, run_answer}
 use Rattle.sheet_book.specs.SummaryStructLaws.{answer_number}

@@ -1,0 +1,2 @@
+pub mod RefutedLaws
+pub mod RenamedLaws
