@@ -26,8 +26,7 @@ pub fn handed_steps(fields: &[u8], values: &[i64]) -> [Step; sheet_book::MOST_ST
 {
     let places = step_places(fields.len(), values.len());
     let mut out = [Step::ZERO; sheet_book::MOST_STEPS];
-    let mut i = 0;
-    while i < places {
+    for i in 0..places {
         let at = FIELDS * i;
         let code = fields[at];
         let a = fields[at + 1];
@@ -41,7 +40,6 @@ pub fn handed_steps(fields: &[u8], values: &[i64]) -> [Step; sheet_book::MOST_ST
             v: v,
             value: x,
         };
-        i += 1;
     }
     out
 }
@@ -106,11 +104,9 @@ pub fn handed_models(
     );
     let none = model_types::without_terms(0);
     let mut out = [none; sheet_book::MOST_MODELS];
-    let mut k = 0;
-    while k < places {
+    for k in 0..places {
         let m = model_at(ns, counts, radii, keys, coefficients, k);
         out[k] = m;
-        k += 1;
     }
     out
 }

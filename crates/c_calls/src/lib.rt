@@ -53,23 +53,14 @@ const EVALUATE: u8 = 3;
 pub fn of_two(code: u8) -> bool
     ensures { result ≡ of_two code }
 {
-    if code < ADD {
-        return false;
-    }
-    code <= MULTIPLY
+    ADD <= code && code <= MULTIPLY
 }
 
 // Whether it names one of one model: negate, sweep, antiderivative.
 pub fn of_one(code: u8) -> bool
     ensures { result ≡ of_one code }
 {
-    if code == NEGATE {
-        return true;
-    }
-    if code == SWEEP {
-        return true;
-    }
-    code == ANTIDERIVATIVE
+    code == NEGATE || code == SWEEP || code == ANTIDERIVATIVE
 }
 
 // Any other call that answers with a model, substitute for any code that constant and variable do not have. The
@@ -79,13 +70,11 @@ pub fn other_call(code: u8, d: u8, i: u8, value: i64, n: u8, f: Model, g: Model)
     requires { n ≡ f.n }
     ensures { result ≡ answer (other_call code d i value (view f) (view g)) }
 {
-    if code == CONSTANT {
-        return Model::constant(n, value);
+    match code {
+        CONSTANT => Model::constant(n, value),
+        VARIABLE => Model::variable(n, i),
+        _ => model::substitute(d, i, f, g),
     }
-    if code == VARIABLE {
-        return Model::variable(n, i);
-    }
-    model::substitute(d, i, f, g)
 }
 
 // Two ends with a quotient and a remainder of 0.
@@ -159,13 +148,7 @@ pub fn store_answer(
 fn call_known(code: u8) -> bool
     ensures { result ≡ call_known code }
 {
-    if code == ANTIDERIVATIVE {
-        return true;
-    }
-    if code < CONSTANT {
-        return false;
-    }
-    code <= SWEEP
+    code == ANTIDERIVATIVE || (CONSTANT <= code && code <= SWEEP)
 }
 
 // Whether a call that answers with a model is one: its code is known and its slices are long enough.
@@ -181,26 +164,17 @@ pub fn call_fits(
 ) -> bool
     ensures { result ≡ call_fits code count1 keys1 coefficients1 count2 keys2 coefficients2 room }
 {
-    if !call_known(code) {
-        return false;
-    }
-    if !model_slices::borrowed(count1, keys1, coefficients1) {
-        return false;
-    }
-    if !model_slices::borrowed(count2, keys2, coefficients2) {
-        return false;
-    }
-    room
+    call_known(code)
+        && model_slices::borrowed(count1, keys1, coefficients1)
+        && model_slices::borrowed(count2, keys2, coefficients2)
+        && room
 }
 
 // Whether a point is long enough. Only evaluate looks at it.
 fn point_fits(code: u8, point: usize) -> bool
     ensures { result ≡ point_fits code point }
 {
-    if code == EVALUATE {
-        return COORDINATES <= point;
-    }
-    true
+    code != EVALUATE || COORDINATES <= point
 }
 
 // Whether a call that answers with two ends is one.
@@ -214,19 +188,11 @@ pub fn ends_call_fits(
 ) -> bool
     ensures { result ≡ ends_call_fits code count keys coefficients point ends }
 {
-    if code < RANGE {
-        return false;
-    }
-    if EVALUATE < code {
-        return false;
-    }
-    if !model_slices::borrowed(count, keys, coefficients) {
-        return false;
-    }
-    if !point_fits(code, point) {
-        return false;
-    }
-    ENDS <= ends
+    RANGE <= code
+        && code <= EVALUATE
+        && model_slices::borrowed(count, keys, coefficients)
+        && point_fits(code, point)
+        && ENDS <= ends
 }
 
 // Two ends, the quotient and the remainder go into a slice; the number of the refusal.

@@ -33,11 +33,10 @@ pub fn handed_curve(coefficients: &[i64], radius: u64) -> Curve
     ensures { view_curve result ≡ handed_curve coefficients.now radius }
 {
     let mut out = [0i64; model_types::CURVE_PLACES];
-    let mut i = 0;
-    while i < model_types::CURVE_PLACES {
+    // No copy_from_slice: it asks for memmove, which the library does not ask of a program.
+    for i in 0..model_types::CURVE_PLACES {
         let c = coefficients[i];
         out[i] = c;
-        i += 1;
     }
     Curve {
         coefficients: out,
@@ -49,16 +48,12 @@ pub fn handed_curve(coefficients: &[i64], radius: u64) -> Curve
 pub fn curve_call(code: u8, f: Curve, g: Curve) -> CurveAnswer
     ensures { result ≡ curve_answer (curve_call code (view_curve f) (view_curve g)) }
 {
-    if code == NEGATE {
-        return model_curves::negate(f);
+    match code {
+        NEGATE => model_curves::negate(f),
+        ADD => model_curves::add(f, g),
+        SUBTRACT => model_curves::subtract(f, g),
+        _ => model_curves::multiply(f, g),
     }
-    if code == ADD {
-        return model_curves::add(f, g);
-    }
-    if code == SUBTRACT {
-        return model_curves::subtract(f, g);
-    }
-    model_curves::multiply(f, g)
 }
 
 // All sixteen coefficients of a curve go into a slice.
@@ -66,11 +61,10 @@ fn store_coefficients(c: Curve, coefficients: &mut [i64])
     requires { places ≤ length coefficients.old }
     ensures { coefficients.new ≡ over c.coefficients coefficients.old }
 {
-    let mut i = 0;
-    while i < model_types::CURVE_PLACES {
+    // No copy_from_slice: it asks for memmove, which the library does not ask of a program.
+    for i in 0..model_types::CURVE_PLACES {
         let z = c.coefficients[i];
         coefficients[i] = z;
-        i += 1;
     }
 }
 
@@ -92,59 +86,39 @@ pub fn store_curve(a: CurveAnswer, coefficients: &mut [i64], numbers: &mut [u64]
 pub fn curve_room(coefficients: usize, numbers: usize) -> bool
     ensures { result ≡ curve_room coefficients numbers }
 {
-    if coefficients < model_types::CURVE_PLACES {
-        return false;
-    }
-    NUMBERS <= numbers
+    model_types::CURVE_PLACES <= coefficients && NUMBERS <= numbers
 }
 
 // Whether a call that answers with a curve is one: its code is known, and its slices are long enough.
 pub fn curve_fits(code: u8, coefficients1: usize, coefficients2: usize, room: bool) -> bool
     ensures { result ≡ curve_fits code coefficients1 coefficients2 room }
 {
-    if code < NEGATE {
-        return false;
-    }
-    if MULTIPLY < code {
-        return false;
-    }
-    if coefficients1 < model_types::CURVE_PLACES {
-        return false;
-    }
-    if coefficients2 < model_types::CURVE_PLACES {
-        return false;
-    }
-    room
+    NEGATE <= code
+        && code <= MULTIPLY
+        && model_types::CURVE_PLACES <= coefficients1
+        && model_types::CURVE_PLACES <= coefficients2
+        && room
 }
 
 // Whether a range is a call.
 pub fn range_fits(coefficients: usize, ends: usize) -> bool
     ensures { result ≡ range_fits coefficients ends }
 {
-    if coefficients < model_types::CURVE_PLACES {
-        return false;
-    }
-    ENDS <= ends
+    model_types::CURVE_PLACES <= coefficients && ENDS <= ends
 }
 
 // Whether a conversion to powers is a call.
 pub fn to_powers_fits(coefficients: usize, room: bool) -> bool
     ensures { result ≡ to_powers_fits coefficients room }
 {
-    if coefficients < model_types::CURVE_PLACES {
-        return false;
-    }
-    room
+    model_types::CURVE_PLACES <= coefficients && room
 }
 
 // Whether a conversion back is a call.
 pub fn from_powers_fits(count: usize, keys: usize, coefficients: usize, room: bool) -> bool
     ensures { result ≡ from_powers_fits count keys coefficients room }
 {
-    if !model_slices::borrowed(count, keys, coefficients) {
-        return false;
-    }
-    room
+    model_slices::borrowed(count, keys, coefficients) && room
 }
 
 // Two ends go into a slice; the number of the refusal.

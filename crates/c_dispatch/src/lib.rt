@@ -41,8 +41,8 @@ fn of_two(
         (view (handed n2 count2 radius2 keys2.now coefficients2.now))))
         keys.old coefficients.old numbers.old }
 {
-    if code == c_calls::ADD {
-        return model_slice_calls::add(
+    match code {
+        c_calls::ADD => model_slice_calls::add(
             n1,
             count1,
             radius1,
@@ -56,10 +56,8 @@ fn of_two(
             keys,
             coefficients,
             numbers,
-        );
-    }
-    if code == c_calls::SUBTRACT {
-        return model_slice_calls::subtract(
+        ),
+        c_calls::SUBTRACT => model_slice_calls::subtract(
             n1,
             count1,
             radius1,
@@ -73,24 +71,24 @@ fn of_two(
             keys,
             coefficients,
             numbers,
-        );
+        ),
+        _ => c_products::multiply(
+            d,
+            n1,
+            count1,
+            radius1,
+            keys1,
+            coefficients1,
+            n2,
+            count2,
+            radius2,
+            keys2,
+            coefficients2,
+            keys,
+            coefficients,
+            numbers,
+        ),
     }
-    c_products::multiply(
-        d,
-        n1,
-        count1,
-        radius1,
-        keys1,
-        coefficients1,
-        n2,
-        count2,
-        radius2,
-        keys2,
-        coefficients2,
-        keys,
-        coefficients,
-        numbers,
-    )
 }
 
 // A call of one model: negate, sweep, or antiderivative.
@@ -116,8 +114,8 @@ fn of_one(
         (view (handed n count radius inkeys.now incoefficients.now))))
         keys.old coefficients.old numbers.old }
 {
-    if code == c_calls::NEGATE {
-        return model_slice_calls::negate(
+    match code {
+        c_calls::NEGATE => model_slice_calls::negate(
             n,
             count,
             radius,
@@ -126,10 +124,8 @@ fn of_one(
             keys,
             coefficients,
             numbers,
-        );
-    }
-    if code == c_calls::SWEEP {
-        return model_slice_calls::sweep(
+        ),
+        c_calls::SWEEP => model_slice_calls::sweep(
             value,
             n,
             count,
@@ -139,20 +135,20 @@ fn of_one(
             keys,
             coefficients,
             numbers,
-        );
+        ),
+        _ => model_slice_calls::antiderivative(
+            d,
+            i,
+            n,
+            count,
+            radius,
+            inkeys,
+            incoefficients,
+            keys,
+            coefficients,
+            numbers,
+        ),
     }
-    model_slice_calls::antiderivative(
-        d,
-        i,
-        n,
-        count,
-        radius,
-        inkeys,
-        incoefficients,
-        keys,
-        coefficients,
-        numbers,
-    )
 }
 
 // Any other call that answers with a model: constant, variable, or substitute.
@@ -306,15 +302,21 @@ fn ends_call(
     ensures { result ≡ integral_answer (ends_call code (coordinates point.now)
         (view (handed n count radius keys.now coefficients.now))) }
 {
-    if code == c_calls::RANGE {
-        return c_calls::alone(model_slice_calls::range(n, count, radius, keys, coefficients));
+    match code {
+        c_calls::RANGE => c_calls::alone(model_slice_calls::range(
+            n,
+            count,
+            radius,
+            keys,
+            coefficients,
+        )),
+        c_calls::INTEGRAL => model_slice_calls::integral(n, count, radius, keys, coefficients),
+        _ => {
+            let f = model_slices::taken(n, count, radius, keys, coefficients);
+            let xs = c_calls::coordinates(point);
+            c_calls::evaluated(xs, f)
+        }
     }
-    if code == c_calls::INTEGRAL {
-        return model_slice_calls::integral(n, count, radius, keys, coefficients);
-    }
-    let f = model_slices::taken(n, count, radius, keys, coefficients);
-    let xs = c_calls::coordinates(point);
-    c_calls::evaluated(xs, f)
 }
 
 // A call that answers with two ends: the refusal's number, 0 without one, or MISUSED. The ends, the quotient and the

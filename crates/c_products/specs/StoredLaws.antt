@@ -2,7 +2,8 @@
 use Rattle.std.specs.Prelude.{◌≡◌, List, [], ◌∷◌, ℕ, ℤ}
 use Rattle.calculus.specs.Refusal.{number}
 use Rattle.model_types.specs.declared.Refusal.{Refusal}
-use Rattle.model_types.specs.declared.Verdict.TheVariants.{Accepted, Refused}
+use Rattle.std.specs.Prelude.{Ok, Err}
+use Rattle.model_types.specs.ModelStruct.{refused_at}
 use Rattle.model_types.specs.ModelStruct.{cause, verdict_number, verdict_place}
 use Rattle.model_slices.specs.HandedModels.{over, stored_keys, stored_coefficients, stored_numbers}
 use Rattle.c_calls.specs.CallCodes.{called_state, stored_answer}
@@ -14,7 +15,7 @@ use Rattle.model.specs.OperationLaws.{refused_radius}
 module _ (n : ℕ) (k : Kept) (kept : List ℕ) (sums : List ℤ) (ks ks' : List ℕ) (cs cs' : List ℤ) (ns ns' : List ℕ)
     (p : ks' ≡ stored_keys (kept_model n k kept sums) ks)
     (q : cs' ≡ stored_coefficients (kept_model n k kept sums) cs) where
-  pub stored_accepted : KeptReady k kept sums → k.verdict ≡ Accepted
+  pub stored_accepted : KeptReady k kept sums → k.verdict ≡ Ok tt
       → ns' ≡ over (0 ∷ n ∷ k.count ∷ k.radius ∷ []) ns
       → called_state 0 ks' cs' ns' ≡ stored_answer (kept_accounted n k kept sums).answer ks cs ns
   unfolding stored_answer stored_numbers kept_accounted verdict_number verdict_place
@@ -28,7 +29,7 @@ module _ (n : ℕ) (k : Kept) (kept : List ℕ) (sums : List ℤ) (ks ks' : List
     e,
   )
 
-  pub stored_refused : (r : Refusal) (i x : ℕ) → k.verdict ≡ Refused r i → x ≡ number (cause r)
+  pub stored_refused : (r : Refusal) (i x : ℕ) → k.verdict ≡ Err (refused_at r i) → x ≡ number (cause r)
       → ns' ≡ over (i ∷ 1 ∷ 0 ∷ 0 ∷ []) ns
       → called_state x ks' cs' ns' ≡ stored_answer (kept_accounted n k kept sums).answer ks cs ns
   unfolding stored_answer stored_numbers kept_accounted verdict_number verdict_place

@@ -11,7 +11,7 @@ ghost use Rattle.c_calls.specs.CallCodes.{called_state, stored_answer};
 
 use model_slice_calls::store_numbers;
 use model_slices::Kept;
-use model_types::{Key, Verdict};
+use model_types::{Key, Refused};
 
 // Handed on: crates above name these through this crate.
 pub use model_slice_calls;
@@ -41,11 +41,11 @@ fn store(
     let radius = k.radius;
     let v = k.verdict;
     match v {
-        Verdict::Accepted => {
+        Ok(()) => {
             store_numbers(0, n, count, radius, numbers);
             0
         }
-        Verdict::Refused(refusal, place) => {
+        Err(Refused(refusal, place)) => {
             store_numbers(place, 1, 0, 0, numbers);
             model_types::number(refusal)
         }

@@ -2,17 +2,17 @@
 // stored into a slice.
 #![tactic(auto)]
 
-ghost use Rattle.std.specs.Prelude.{map, ◌≡◌, ◌≤◌, ◌<◌, length};
+ghost use Rattle.std.specs.Prelude.{map, [], ◌∷◌, ◌≡◌, ◌≤◌, ◌<◌, length};
 ghost use Rattle.readings.specs.Readings.{call_readings};
 ghost use Rattle.model_types.specs.ModelStruct.{view};
 ghost use Rattle.model_readings.specs.ReadingStruct.{view_reading, finding};
-ghost use Rattle.model_slices.specs.HandedModels.{handed};
+ghost use Rattle.model_slices.specs.HandedModels.{handed, over};
 ghost use Rattle.c_readings.specs.HandedReadings.{reading_of, row_of, readings_fit};
-ghost use Rattle.c_readings.specs.HandedReadings.{numbers_end, any_contradicts, number_of};
+ghost use Rattle.c_readings.specs.HandedReadings.{numbers_end};
 ghost use Rattle.c_readings.specs.HandedReadings.{finding_numbers, readings_state, stored_finding};
 ghost use Rattle.c_readings.specs.HandedReadings.{called_readings};
 
-use model_types::{Contradiction, Finding, Key, Model, Reading};
+use model_types::{Finding, Key, Model, Reading, Refused};
 
 // The coordinates of a reading's point.
 const COORDINATES: usize = model_types::MOST_VARS as usize;
@@ -32,16 +32,10 @@ pub fn readings_fit(
 ) -> bool
     ensures { result ≡ readings_fit count keys coefficients points lows highs numbers }
 {
-    if !model_slices::borrowed(count, keys, coefficients) {
-        return false;
-    }
-    if points / COORDINATES < lows {
-        return false;
-    }
-    if highs < lows {
-        return false;
-    }
-    NUMBERS <= numbers
+    model_slices::borrowed(count, keys, coefficients)
+        && lows <= points / COORDINATES
+        && lows <= highs
+        && NUMBERS <= numbers
 }
 
 // Reading i. A row has at most 256, and of a longer one no more are looked at than can be numbered below 1,024.
@@ -78,6 +72,7 @@ fn row_held(m: Model, points: &[i64], lows: &[i64], highs: &[i64]) -> Finding
     let end = few * 4;
     let mut s = model_readings::begun(m, n);
     let mut k = 0;
+    // No range counts this loop: once something is found it leaves out the rest.
     while k < end {
         let i = k % n;
         let r = reading_of(points, lows, highs, i);
@@ -106,24 +101,14 @@ pub fn handed_readings(
     row_held(m, points, lows, highs)
 }
 
-// 1 where a reading contradicts, 0 where none does.
-fn any_contradicts(c: Contradiction) -> u64
-    ensures { result ≡ any_contradicts c }
+// Three numbers go into a slice: a refusal's place, whether a reading contradicts, as 1 or 0, and its number.
+fn store_three(place: usize, any: u64, number: usize, numbers: &mut [u64])
+    requires { finding_numbers ≤ length numbers.old }
+    ensures { numbers.new ≡ over (place ∷ any ∷ number ∷ []) numbers.old }
 {
-    match c {
-        Contradiction::None => 0,
-        Contradiction::At(place) => 1,
-    }
-}
-
-// Its number, 0 where none does.
-fn number_of(c: Contradiction) -> usize
-    ensures { result ≡ number_of c }
-{
-    match c {
-        Contradiction::None => 0,
-        Contradiction::At(place) => place,
-    }
+    numbers[0] = place as u64;
+    numbers[1] = any;
+    numbers[2] = number as u64;
 }
 
 // What is found goes into a slice; the number of the refusal.
@@ -131,15 +116,23 @@ pub fn store_finding(f: Finding, numbers: &mut [u64]) -> u8
     requires { finding_numbers ≤ length numbers.old }
     ensures { readings_state result numbers.new ≡ stored_finding f numbers.old }
 {
-    let c = f.contradiction;
-    let v = f.verdict;
-    let place = model_slices::verdict_place(v);
-    let any = any_contradicts(c);
-    let number = number_of(c);
-    numbers[0] = place as u64;
-    numbers[1] = any;
-    numbers[2] = number as u64;
-    model_slices::verdict_number(v)
+    // One match inside the other: with `Ok(None)` and `Ok(Some(i))` the proof did not close.
+    match f {
+        Ok(found) => match found {
+            None => {
+                store_three(0, 0, 0, numbers);
+                0
+            }
+            Some(i) => {
+                store_three(0, 1, i, numbers);
+                0
+            }
+        },
+        Err(Refused(refusal, place)) => {
+            store_three(place, 0, 0, numbers);
+            model_types::number(refusal)
+        }
+    }
 }
 
 // A row of readings held against a model: the refusal's number, 0 without one, or MISUSED. The row has as many readings

@@ -17,15 +17,13 @@ pub fn store_rows(r: Report, out: &mut [u64])
     requires { report_numbers ≤ length out.old }
     ensures { out.new ≡ stored_rows r out.old }
 {
-    let mut i = 0;
-    while i < sheet_book::MOST_STEPS {
+    for i in 0..sheet_book::MOST_STEPS {
         let s = r.shares[i];
         let at = 4 * i;
         out[at] = s.carried;
         out[at + 1] = s.rounding;
         out[at + 2] = s.swept;
         out[at + 3] = s.slack;
-        i += 1;
     }
 }
 
@@ -39,11 +37,5 @@ pub fn report_room(
 ) -> bool
     ensures { result ≡ report_room keys coefficients numbers ends shares }
 {
-    if !model_slices::model_room(keys, coefficients, numbers) {
-        return false;
-    }
-    if ends < ENDS {
-        return false;
-    }
-    ROW_NUMBERS <= shares
+    model_slices::model_room(keys, coefficients, numbers) && ENDS <= ends && ROW_NUMBERS <= shares
 }

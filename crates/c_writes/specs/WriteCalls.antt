@@ -1,8 +1,9 @@
 -- Books written as sheets: whether a call fits, and what the buffer and the numbers hold at the end.
 use Rattle.std.specs.Prelude.{Bool, true, false, ◌&&◌, List, [], ◌∷◌, ℕ, min, leb}
 use Rattle.calculus.specs.Book.{most_models, most_steps}
-use Rattle.model_types.specs.declared.Verdict.{Verdict}
-use Rattle.model_types.specs.declared.Verdict.TheVariants.{Accepted, Refused}
+use Rattle.model_types.specs.ModelStruct.{Verdict}
+use Rattle.std.specs.Prelude.{Ok, Err}
+use Rattle.model_types.specs.ModelStruct.{refused_at}
 use Rattle.model_types.specs.ModelStruct.{verdict_number, verdict_place}
 use Rattle.format.specs.HeldBook.{HeldBook}
 use Rattle.format.specs.Format.{write, written}
@@ -56,9 +57,9 @@ called_write false h b ns = write_state misused b ns
 
 -- what was read is written; a refused read answers the length 0, and the buffer stays
 unfoldable pub rewritten : Verdict → Book → (buffer numbers : List ℕ) → Write
-rewritten Accepted k b ns = write_book (held_book k) b ns
-rewritten (Refused r i) k b ns =
-    answered_write (stored_written (record { length = 0; verdict = Refused r i }) ns) b
+rewritten (Ok u) k b ns = write_book (held_book k) b ns
+rewritten (Err r) k b ns =
+    answered_write (stored_written (record { length = 0; verdict = Err r }) ns) b
 
 -- a call that fits is answered, any other returns 255 and changes nothing
 unfoldable pub called_rewrite : (fits : Bool) → Read → (buffer numbers : List ℕ) → Write

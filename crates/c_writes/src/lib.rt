@@ -9,7 +9,7 @@ ghost use Rattle.c_books.specs.HandedBooks.{handed_book};
 ghost use Rattle.c_writes.specs.WriteCalls.{book_fits, written_state, stored_written};
 ghost use Rattle.c_writes.specs.WriteCalls.{write_state, called_write, called_rewrite};
 
-use model_types::{Key, Verdict};
+use model_types::Key;
 use sheet_book::Written;
 
 // The numbers of a write's answer: the refusal's place and the length.
@@ -25,13 +25,9 @@ pub fn book_fits(
 ) -> bool
     ensures { result ≡ book_fits model_count models step_count steps numbers }
 {
-    if models < model_slices::least(model_count, sheet_book::MOST_MODELS) {
-        return false;
-    }
-    if steps < model_slices::least(step_count, sheet_book::MOST_STEPS) {
-        return false;
-    }
-    NUMBERS <= numbers
+    model_slices::least(model_count, sheet_book::MOST_MODELS) <= models
+        && model_slices::least(step_count, sheet_book::MOST_STEPS) <= steps
+        && NUMBERS <= numbers
 }
 
 // The place of a refused write and the length go into a slice; the refusal's number.
@@ -114,7 +110,7 @@ pub fn rewrite_sheet(sheet: &[u8], buffer: &mut [u8], numbers: &mut [u64]) -> u8
     }
     let answer = sheet::read(sheet);
     let v = answer.verdict;
-    let Verdict::Accepted = v else {
+    let Ok(()) = v else {
         let none = Written {
             length: 0,
             verdict: v,

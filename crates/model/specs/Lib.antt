@@ -1,4 +1,3 @@
 pub mod CallLaws
 pub mod OperationContracts
 pub mod OperationLaws
-pub mod TableSizes

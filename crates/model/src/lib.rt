@@ -4,8 +4,8 @@
 // stand with the type.
 #![tactic(auto)]
 
-ghost use Rattle.std.specs.Prelude.{◌≡◌, ◌≤◌};
-ghost use Rattle.calculus.specs.Model.{zero_model, one_model};
+ghost use Rattle.std.specs.Prelude.{◌≡◌, ◌*◌, ◌^◌, ◌<◌};
+ghost use Rattle.calculus.specs.Model.{most_terms, zero_model, one_model};
 ghost use Rattle.calculus.specs.Refusal.{at_place};
 ghost use Rattle.calculus.specs.Operations as Op;
 ghost use Rattle.calculus.specs.Calls.{call_negate, call_add, call_subtract, call_multiply, call_substitute};
@@ -13,10 +13,10 @@ ghost use Rattle.calculus.specs.Calls.{call_sweep, call_range, call_integral, ca
 ghost use Rattle.calculus.specs.Calls.{call_quotient, call_sound};
 ghost use Rattle.model_types.specs.ModelStruct.{view, pack, answer, bounds, integral_answer};
 ghost use Rattle.model_substitution.specs.Substitute.{Substitution};
-ghost use Rattle.model.specs.TableSizes.{few_terms, some_terms};
+ghost use Rattle.product_hash_table.specs.Table.{slots_each};
 
 use model_quotient_room::model_multiplication;
-pub use model_types::{Answer, Bounds, Integral, Model, Refusal, Verdict};
+pub use model_types::{Answer, Bounds, Integral, Model, Refusal, Refused, Verdict};
 
 // The number of a refusal in the documents' table: 1 to 17.
 pub use model_types::number;
@@ -64,50 +64,31 @@ const SOME_PRODUCTS: usize = model_types::MOST_TERMS * SOME_TERMS;
 // 7 × 7 × 7 × 7.
 const GRID_PLACES: usize = 2401;
 
-// g of few terms in the place of variable i of f, with order d.
-fn substituted_few(d: u8, i: u8, f: Model, g: Model) -> Answer
-    requires substitution { Substitution d i f g }
-    requires count_le_few_terms { g.count ≤ few_terms }
-    ensures { result ≡ answer (at_place 0 (Op.substitute d i (view f) (view g))) }
-{
-    let mut slots = [0u16; product_hash_table::SLOTS_EACH * FEW_PRODUCTS + 1];
-    let mut keys = [0u64; FEW_PRODUCTS + 1];
-    let mut sums = [0i64; FEW_PRODUCTS + 1];
-    model_substitution::substituted(d, i, f, g, &mut slots, &mut keys, &mut sums)
-}
+const FEW_SLOTS: usize = product_hash_table::SLOTS_EACH * FEW_PRODUCTS + 1;
 
-// g of some terms, where f has no more.
-fn substituted_some(d: u8, i: u8, f: Model, g: Model) -> Answer
-    requires substitution { Substitution d i f g }
-    requires count_le_some_terms { g.count ≤ some_terms }
-    ensures { result ≡ answer (at_place 0 (Op.substitute d i (view f) (view g))) }
-{
-    let mut slots = [0u16; product_hash_table::SLOTS_EACH * SOME_PRODUCTS + 1];
-    let mut keys = [0u64; SOME_PRODUCTS + 1];
-    let mut sums = [0i64; SOME_PRODUCTS + 1];
-    model_substitution::substituted(d, i, f, g, &mut slots, &mut keys, &mut sums)
-}
+const FEW_PLACES: usize = FEW_PRODUCTS + 1;
 
-// g of some terms, where f has more: its products may be faster in a grid.
-fn substituted_many(d: u8, i: u8, f: Model, g: Model) -> Answer
-    requires substitution { Substitution d i f g }
-    requires count_le_some_terms { g.count ≤ some_terms }
-    ensures { result ≡ answer (at_place 0 (Op.substitute d i (view f) (view g))) }
-{
-    let mut slots = [0u16; product_hash_table::SLOTS_EACH * SOME_PRODUCTS + 1];
-    let mut keys = [0u64; SOME_PRODUCTS + 1];
-    let mut sums = [0i64; GRID_PLACES];
-    model_substitution::substituted(d, i, f, g, &mut slots, &mut keys, &mut sums)
-}
+const SOME_SLOTS: usize = product_hash_table::SLOTS_EACH * SOME_PRODUCTS + 1;
 
-// g of any number of terms.
-fn substituted_any(d: u8, i: u8, f: Model, g: Model) -> Answer
-    requires { Substitution d i f g }
+const SOME_PLACES: usize = SOME_PRODUCTS + 1;
+
+// g in the place of variable i of f, with order d, in a table with so many slots, keys and sums: room for the products
+// of g with 64 terms. With more sums these may be faster in a grid.
+fn substituted_in<const SLOTS: usize, const KEYS: usize, const SUMS: usize>(
+    d: u8,
+    i: u8,
+    f: Model,
+    g: Model,
+) -> Answer
+    requires small { (SLOTS < 2 ^ 16) × (KEYS < 2 ^ 16) × (SUMS < 2 ^ 16) }
+    requires slots { slots_each * (most_terms * g.count) < SLOTS }
+    requires places { (most_terms * g.count < KEYS) × (most_terms * g.count < SUMS) }
+    requires substitution { Substitution d i f g }
     ensures { result ≡ answer (at_place 0 (Op.substitute d i (view f) (view g))) }
 {
-    let mut slots = [0u16; product_hash_table::SLOTS];
-    let mut keys = [0u64; product_hash_table::ENTRY_PLACES];
-    let mut sums = [0i64; product_sums::PLACES];
+    let mut slots = [0u16; SLOTS];
+    let mut keys = [0u64; KEYS];
+    let mut sums = [0i64; SUMS];
     model_substitution::substituted(d, i, f, g, &mut slots, &mut keys, &mut sums)
 }
 
@@ -118,11 +99,11 @@ pub fn negate(m: Model) -> Answer
 {
     let v = model_call_tests::single_model(m);
     match v {
-        Verdict::Accepted => Answer {
+        Ok(()) => Answer {
             model: model_unary::negated(m),
-            verdict: Verdict::Accepted,
+            verdict: Ok(()),
         },
-        Verdict::Refused(refusal, place) => model_types::refuse(refusal, place),
+        Err(Refused(refusal, place)) => model_types::refuse(refusal, place),
     }
 }
 
@@ -132,11 +113,11 @@ pub fn sweep(m: Model, t: i64) -> Answer
 {
     let v = model_call_tests::sweeping(m, t);
     match v {
-        Verdict::Accepted => Answer {
+        Ok(()) => Answer {
             model: model_unary::swept(m, fixed::magnitude(t)),
-            verdict: Verdict::Accepted,
+            verdict: Ok(()),
         },
-        Verdict::Refused(refusal, place) => model_types::refuse(refusal, place),
+        Err(Refused(refusal, place)) => model_types::refuse(refusal, place),
     }
 }
 
@@ -147,11 +128,11 @@ pub fn antiderivative(d: u8, i: u8, f: Model) -> Answer
 {
     let v = model_call_tests::integrating(d, i, f);
     match v {
-        Verdict::Accepted => Answer {
+        Ok(()) => Answer {
             model: model_antiderivative::integrated(d, i, f),
-            verdict: Verdict::Accepted,
+            verdict: Ok(()),
         },
-        Verdict::Refused(refusal, place) => model_types::refuse(refusal, place),
+        Err(Refused(refusal, place)) => model_types::refuse(refusal, place),
     }
 }
 
@@ -161,8 +142,8 @@ pub fn range(m: Model) -> Bounds
 {
     let v = model_call_tests::single_model(m);
     match v {
-        Verdict::Accepted => model_range::range_of(m),
-        Verdict::Refused(refusal, place) => model_types::refuse_bounds(refusal, place),
+        Ok(()) => model_range::range_of(m),
+        Err(Refused(refusal, place)) => model_types::refuse_bounds(refusal, place),
     }
 }
 
@@ -173,8 +154,8 @@ pub fn integral(m: Model) -> Integral
 {
     let v = model_call_tests::single_model(m);
     match v {
-        Verdict::Accepted => model_integral::integral_of(m),
-        Verdict::Refused(refusal, place) => model_types::refuse_integral(refusal, place),
+        Ok(()) => model_integral::integral_of(m),
+        Err(Refused(refusal, place)) => model_types::refuse_integral(refusal, place),
     }
 }
 
@@ -184,8 +165,8 @@ pub fn add(a: Model, b: Model) -> Answer
 {
     let v = model_call_tests::two_models(model_types::MOST_DEGREE, a, b);
     match v {
-        Verdict::Accepted => model_addition::added(a, b),
-        Verdict::Refused(refusal, place) => model_types::refuse(refusal, place),
+        Ok(()) => model_addition::added(a, b),
+        Err(Refused(refusal, place)) => model_types::refuse(refusal, place),
     }
 }
 
@@ -195,8 +176,8 @@ pub fn subtract(a: Model, b: Model) -> Answer
 {
     let v = model_call_tests::two_models(model_types::MOST_DEGREE, a, b);
     match v {
-        Verdict::Accepted => model_addition::subtracted(a, b),
-        Verdict::Refused(refusal, place) => model_types::refuse(refusal, place),
+        Ok(()) => model_addition::subtracted(a, b),
+        Err(Refused(refusal, place)) => model_types::refuse(refusal, place),
     }
 }
 
@@ -206,8 +187,8 @@ pub fn multiply(d: u8, a: Model, b: Model) -> Answer
 {
     let v = model_call_tests::ordered(d, a, b);
     match v {
-        Verdict::Accepted => model_multiplication::multiplied_alone(d, a, b),
-        Verdict::Refused(refusal, place) => model_types::refuse(refusal, place),
+        Ok(()) => model_multiplication::multiplied_alone(d, a, b),
+        Err(Refused(refusal, place)) => model_types::refuse(refusal, place),
     }
 }
 
@@ -218,19 +199,24 @@ pub fn substitute(d: u8, i: u8, f: Model, g: Model) -> Answer
 {
     let v = model_call_tests::substituting(d, i, f, g);
     match v {
-        Verdict::Accepted => {
+        Ok(()) => {
             if g.count <= FEW_TERMS {
-                return substituted_few(d, i, f, g);
+                return substituted_in::<FEW_SLOTS, FEW_PLACES, FEW_PLACES>(d, i, f, g);
             }
             if g.count <= SOME_TERMS {
                 if f.count <= SOME_TERMS {
-                    return substituted_some(d, i, f, g);
+                    return substituted_in::<SOME_SLOTS, SOME_PLACES, SOME_PLACES>(d, i, f, g);
                 }
-                return substituted_many(d, i, f, g);
+                // Its products may be faster in a grid.
+                return substituted_in::<SOME_SLOTS, SOME_PLACES, GRID_PLACES>(d, i, f, g);
             }
-            substituted_any(d, i, f, g)
+            substituted_in::<
+                { product_hash_table::SLOTS },
+                { product_hash_table::ENTRY_PLACES },
+                { product_sums::PLACES },
+            >(d, i, f, g)
         }
-        Verdict::Refused(refusal, place) => model_types::refuse(refusal, place),
+        Err(Refused(refusal, place)) => model_types::refuse(refusal, place),
     }
 }
 
@@ -246,26 +232,38 @@ pub fn quotient(d: u8, f: Model, g: Model, h: Model, w: Model) -> Answer
 {
     let v = model_call_tests::dividing(d, f, g, h, w);
     match v {
-        Verdict::Accepted => {
+        Ok(()) => {
             let products = model_quotient_room::most_products(g.count, h.count, w.count);
             if products <= model_quotient_room::FEW_PRODUCTS {
-                return model_quotient_room::divided_few(d, f, g, h, w);
+                return model_quotient_room::divided_in::<
+                    { model_quotient_room::FEW_PRODUCTS },
+                    { model_quotient_room::FEW_SLOTS },
+                    { model_quotient_room::FEW_PLACES },
+                    { model_quotient_room::FEW_PLACES },
+                >(d, f, g, h, w);
             }
             if products <= model_quotient_room::SOME_PRODUCTS {
-                return model_quotient_room::divided_some(d, f, g, h, w);
+                return model_quotient_room::divided_in::<
+                    { model_quotient_room::SOME_PRODUCTS },
+                    { model_quotient_room::SOME_SLOTS },
+                    { model_quotient_room::SOME_PLACES },
+                    { model_quotient_room::GRID_PLACES },
+                >(d, f, g, h, w);
             }
-            model_quotient_room::divided_any(d, f, g, h, w)
+            model_quotient_room::divided_in::<
+                { product_hash_table::ENTRIES },
+                { product_hash_table::SLOTS },
+                { product_hash_table::ENTRY_PLACES },
+                { product_sums::PLACES },
+            >(d, f, g, h, w)
         }
-        Verdict::Refused(refusal, place) => model_types::refuse(refusal, place),
+        Err(Refused(refusal, place)) => model_types::refuse(refusal, place),
     }
 }
 
 // ---- for the layer above: operands that are known to be sound, and a scratch table
 // Whether two slices hold a model by the rules, with degrees up to d.
 pub use model_soundness::sound_slices;
-
-// The same for two arrays that are borrowed together, such as those of one struct.
-pub use model_soundness::sound_arrays;
 
 // The exponent of variable i, 1 to 8, in a key.
 pub use model_keys::exponent_of;

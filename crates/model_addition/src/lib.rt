@@ -116,6 +116,7 @@ pub fn merged_slices(
     let mut count = 0;
     let mut i = 0;
     let mut j = 0;
+    // No range counts this loop: it takes a term of either model, or of both.
     while i + j < c + d {
         let x = term_at(i, c, keys1, coefficients1);
         let y = term_at(j, d, keys2, coefficients2);

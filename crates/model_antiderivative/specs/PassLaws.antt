@@ -16,7 +16,7 @@ use Rattle.calculus.specs.Monomial.{degree, index_of}
 use Rattle.calculus_laws.specs.MonomialLaws.{index_suc, degree_raise, raise_replace, exponent_degree}
 use Rattle.calculus_laws.specs.MonomialKeyLaws.{monomial_length, monomial_degree}
 use Rattle.calculus.specs.Key.{key_width, key, key_fits, key_degree}
-use Rattle.calculus.specs.Terms.{Terms, term, select, sum_over, sum_ℕ, size, is_nonzero, drop_zeros}
+use Rattle.calculus.specs.Terms.{Terms, select, sum_over, sum_ℕ, size, is_nonzero, drop_zeros}
 use Rattle.calculus_laws.specs.TermsLaws.{length_select}
 use Rattle.calculus_laws.specs.SumLaws.{ℕ_addition, if_so, if_ℕ, if_ℤ, sum_mono}
 use Rattle.calculus.specs.Model.{most_degree, most_terms, sound, span}

@@ -15,7 +15,7 @@ ghost use Rattle.model_antiderivative.specs.Antiderivatives.{key_rounding, Integ
 
 use model_keys::Key;
 use model_limits::Left;
-use model_types::{Accounted, Answer, Model, Verdict};
+use model_types::{Accounted, Answer, Model};
 
 // k, by which a term is divided: the exponent of variable i after it has risen.
 fn new_exponent(i: u8, key: Key) -> u64
@@ -52,12 +52,12 @@ fn growth(d: u8, i: u8, key: Key, coefficient: i64) -> u64
     let size = fixed::magnitude(coefficient);
     let k = new_exponent(i, key);
     if !stays(d, key) {
-        return fixed::divided_up(size, k);
+        fixed::divided_up(size, k)
+    } else if size % k != 0 {
+        1
+    } else {
+        0
     }
-    if size % k != 0 {
-        return 1;
-    }
-    0
 }
 
 // What a term adds by rounding alone: nothing where it is swept.
@@ -78,12 +78,10 @@ fn rounded(d: u8, i: u8, f: Model) -> u64
 {
     let total = f.count;
     let mut sum = 0;
-    let mut j = 0;
-    while j < total {
+    for j in 0..total {
         let key = f.keys[j];
         let c = f.coefficients[j];
         sum += growth_by_rounding(d, i, key, c);
-        j += 1;
     }
     sum
 }
@@ -109,13 +107,11 @@ pub fn integrated_slices(
 {
     let mut count = 0;
     let mut radius = start;
-    let mut j = 0;
-    while j < total {
+    for j in 0..total {
         let key = keys[j];
         let c = coefficients[j];
         let new = divided(d, i, key, c);
         radius += growth(d, i, key, c);
-        j += 1;
         if new != 0 {
             stored[count] = model_keys::raised(key, i);
             out[count] = new;
@@ -123,31 +119,10 @@ pub fn integrated_slices(
         }
     }
     Left {
-        count: count,
-        radius: radius,
-        verdict: Verdict::Accepted,
+        count,
+        radius,
+        verdict: Ok(()),
     }
-}
-
-// The same for two slices of one lifetime, at which a struct lends its arrays.
-fn integrated_arrays<'a>(
-    d: u8,
-    i: u8,
-    total: usize,
-    start: u64,
-    keys: &'a [Key],
-    coefficients: &'a [i64],
-    stored: &mut [Key],
-    out: &mut [i64],
-) -> Left
-    requires integrand_in { IntegrandIn d i total start keys.now coefficients.now }
-    requires zeros { Zeros stored.old out.old }
-    ensures { (w : IntegrandIn d i total start keys.now coefficients.now)
-        → left_answer w.vars result stored.new out.new
-        ≡ answer (done (antiderivative d i
-        (view (held w.vars total start keys.now coefficients.now)))) }
-{
-    integrated_slices(d, i, total, start, keys, coefficients, stored, out)
 }
 
 // The same of a struct.
@@ -157,7 +132,7 @@ pub fn integrated(d: u8, i: u8, f: Model) -> Model
 {
     let mut keys: [Key; model_types::MOST_TERMS] = [0; model_types::MOST_TERMS];
     let mut coefficients = [0i64; model_types::MOST_TERMS];
-    let l = integrated_arrays(
+    let l = integrated_slices(
         d,
         i,
         f.count,
@@ -171,8 +146,8 @@ pub fn integrated(d: u8, i: u8, f: Model) -> Model
         n: f.n,
         count: l.count,
         radius: l.radius,
-        keys: keys,
-        coefficients: coefficients,
+        keys,
+        coefficients,
     }
 }
 
@@ -188,11 +163,8 @@ pub fn integrated_accounted(d: u8, i: u8, f: Model) -> Accounted
     let swept = grown - rounding;
     let shares = model_types::grown(f.radius, rounding, swept);
     let answer = Answer {
-        model: model,
-        verdict: Verdict::Accepted,
+        model,
+        verdict: Ok(()),
     };
-    Accounted {
-        answer: answer,
-        shares: shares,
-    }
+    Accounted { answer, shares }
 }

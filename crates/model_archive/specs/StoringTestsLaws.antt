@@ -12,7 +12,8 @@ use Rattle.calculus.specs.Refusal.{◌followed_by◌}
 use Rattle.calculus_laws.specs.RefusalLaws.{require_at_passed}
 use Rattle.format.specs.WriteLoopLaws.{sets_front}
 use Rattle.model_types.specs.declared.Refusal.TheVariants.{BadLimits, BadModel, ShortBuffer}
-use Rattle.model_types.specs.declared.Verdict.TheVariants.{Accepted, Refused}
+use Rattle.std.specs.Prelude.{Ok, Err}
+use Rattle.model_types.specs.ModelStruct.{refused_at}
 use Rattle.model_types.specs.ModelStruct.{refusal}
 use Rattle.model_archive.specs.declared.Stored.{Stored}
 use Rattle.model_archive.specs.StoredStruct.{store_answer}
@@ -27,12 +28,12 @@ pub record Outcome (m : Model) (entry : List ℕ) (answer : Stored) (exit : List
 
 module _ (m : Model) (entry : List ℕ) where
   is_refused : (q : R.Refusal) → store m entry ≡ stopped q 0
-      → Outcome m entry (record { length = 0; verdict = Refused (refusal q) 0 }) entry
+      → Outcome m entry (record { length = 0; verdict = Err (refused_at (refusal q) 0) }) entry
   unfolding stored store_answer ◌followed_by◌ returned
   is_refused q e = record { answers = rw e; leaves = rw e }
 
   is_accepted : (s : List ℕ) → store m entry ≡ done s
-      → Outcome m entry (record { length = length s; verdict = Accepted }) (s ++ drop (length s) entry)
+      → Outcome m entry (record { length = length s; verdict = Ok tt }) (s ++ drop (length s) entry)
   unfolding stored store_answer ◌followed_by◌ returned
   is_accepted s e = record { answers = rw e; leaves = rw e }
 
@@ -41,12 +42,12 @@ module _ (m : Model) (entry : List ℕ) where
   same_vars = refl
 
   pub not_vars : between 1 4 m.vars ≡ false
-      → Outcome m entry (record { length = 0; verdict = Refused BadLimits 0 }) entry
+      → Outcome m entry (record { length = 0; verdict = Err (refused_at BadLimits 0) }) entry
   unfolding store refusal require_at
   not_vars e = is_refused bad_limits (rw (sym same_vars ∙ e))
 
   pub not_sound : between 1 4 m.vars ≡ true → sound most_degree m ≡ false
-      → Outcome m entry (record { length = 0; verdict = Refused BadModel 0 }) entry
+      → Outcome m entry (record { length = 0; verdict = Err (refused_at BadModel 0) }) entry
   unfolding store refusal require_at
   not_sound v e = is_refused bad_model (rw (sym same_vars ∙ v, e))
 
@@ -59,7 +60,7 @@ module _ (m : Model) (entry : List ℕ) where
         ∙ require_at_passed 0 (sound most_degree m) bad_model _ h
 
     pub too_short : length entry < 6 + 6 * length m.terms
-        → Outcome m entry (record { length = 0; verdict = Refused ShortBuffer 0 }) entry
+        → Outcome m entry (record { length = 0; verdict = Err (refused_at ShortBuffer 0) }) entry
     unfolding refusal
     too_short l = is_refused short_buffer (passes
         ∙ ap (λ t. require_at 0 t short_buffer (done (model_stored m)))
@@ -67,7 +68,7 @@ module _ (m : Model) (entry : List ℕ) where
         ∙ unfold require_at in refl)
 
     pub long_enough : 6 + 6 * length m.terms ≤ length entry → (exit : List ℕ) → exit ≡ sets entry 0 (model_stored m)
-        → Outcome m entry (record { length = 6 + 6 * length m.terms; verdict = Accepted }) exit
+        → Outcome m entry (record { length = 6 + 6 * length m.terms; verdict = Ok tt }) exit
     long_enough l exit e = rw (e, sets_front (model_stored m) entry room, ← length_stored m h)
         (is_accepted (model_stored m) (passes
         ∙ require_at_passed 0 (leb (length (model_stored m)) (length entry)) short_buffer _

@@ -2,12 +2,12 @@
 // The numbers in a call's comment are its refusals, in the order of the tests.
 #![tactic(auto)]
 
-ghost use Rattle.std.specs.Prelude.{◌≡◌, min};
+ghost use Rattle.std.specs.Prelude.{◌≡◌};
 ghost use Rattle.model_types.specs.ModelStruct.{view, answer};
 ghost use Rattle.archive.specs.Archive.{store, stored, restored};
 ghost use Rattle.model_archive.specs.StoredStruct.{store_answer};
 
-use model_types::{Answer, MOST_DEGREE, Model, Refusal, Verdict};
+use model_types::{Answer, MOST_DEGREE, Model, Refusal, Refused, Verdict};
 
 // The archive's n is at most 4.
 const MOST_VARS: u8 = 4;
@@ -33,34 +33,27 @@ pub fn store(m: Model, buffer: &mut [u8]) -> Stored
     if !model_types::from_one(MOST_VARS, m.n) {
         return Stored {
             length: 0,
-            verdict: Verdict::Refused(Refusal::BadLimits, 0),
+            verdict: Err(Refused(Refusal::BadLimits, 0)),
         };
     }
     if !model_soundness::sound(m, MOST_DEGREE) {
         return Stored {
             length: 0,
-            verdict: Verdict::Refused(Refusal::BadModel, 0),
+            verdict: Err(Refused(Refusal::BadModel, 0)),
         };
     }
     let size = HEAD + TERM * m.count;
     if buffer.len() < size {
         return Stored {
             length: 0,
-            verdict: Verdict::Refused(Refusal::ShortBuffer, 0),
+            verdict: Err(Refused(Refusal::ShortBuffer, 0)),
         };
     }
     model_archive_storing::put_model(buffer, m);
     Stored {
         length: size,
-        verdict: Verdict::Accepted,
+        verdict: Ok(()),
     }
-}
-
-// The smaller of two.
-fn fewer(a: usize, b: usize) -> usize
-    ensures { result ≡ min a b }
-{
-    if a < b { a } else { b }
 }
 
 // The model that the first `terms` terms make, or all if there are fewer. 1, 3, 17 at the term, 5.
@@ -78,10 +71,10 @@ pub fn restore(bytes: &[u8], terms: usize) -> Answer
     if !model_types::from_one(MOST_VARS, n) {
         return model_types::refuse(Refusal::BadLimits, 0);
     }
-    let few = fewer(terms, count);
+    let few = terms.min(count);
     let v = model_archive_restoring::ranks_tested(bytes, few);
     match v {
-        Verdict::Refused(refusal, place) => model_types::refuse(refusal, place),
-        Verdict::Accepted => model_archive_restoring::restored_model(bytes, n, count, few),
+        Err(Refused(refusal, place)) => model_types::refuse(refusal, place),
+        Ok(()) => model_archive_restoring::restored_model(bytes, n, count, few),
     }
 }

@@ -11,33 +11,37 @@ use Rattle.calculus_laws.specs.RefusalLaws.{passed_at, at_followed}
 use Rattle.calculus.specs.Tests.{order_sound, variable_sound, all_in_unit}
 use Rattle.calculus.specs.Calls.{require_two, require_four}
 use Rattle.model_types.specs.declared.Refusal.{Refusal}
-use Rattle.model_types.specs.declared.Verdict.TheVariants.{Accepted, Refused}
+use Rattle.std.specs.Prelude.{Ok, Err}
+use Rattle.model_types.specs.declared.Refused.{Refused}
+use Rattle.model_types.specs.ModelStruct.{refused_at}
 use Rattle.model_types.specs.ModelStruct.{refusal, cause, verdict}
 use Rattle.model_types.specs.ModelStructLaws.{refusal_cause, cause_refusal}
 use Rattle.model_call_tests.specs.Admission.{Tests, single_model, sweeping, at_point, integrating, two_models}
 use Rattle.model_call_tests.specs.Admission.{ordered, substituting, dividing}
 
 -- ---- a verdict's tests
-pub accepted_done : (t : Tests) → verdict t ≡ Accepted → t ≡ done tt
+pub accepted_done : (t : Tests) → verdict t ≡ Ok tt → t ≡ done tt
 unfolding verdict
 accepted_done (done u) e = refl
 accepted_done (stopped r i) e = let z : ◌≡◌ {A = ℕ} 0 1 = cc in absurd (omega arith)
 
-pub refused_stopped : (t : Tests) (x : Refusal) (y : ℕ) → verdict t ≡ Refused x y → t ≡ stopped (cause x) y
+pub refused_stopped : (t : Tests) (x : Refusal) (y : ℕ) → verdict t ≡ Err (refused_at x y) → t ≡ stopped (cause x) y
 unfolding verdict
 refused_stopped (done u) x y e = let z : ◌≡◌ {A = ℕ} 0 1 = cc in absurd (omega arith)
 refused_stopped (stopped r i) x y e =
-    let same : refusal r ≡ x = cc in
-    let place : i ≡ y = cc in
+    let both : refused_at (refusal r) i ≡ refused_at x y = cc in
+    let same : refusal r ≡ x = ap (λ (p : Refused). p.0) both in
+    let place : i ≡ y = ap (λ (p : Refused). p.1) both in
     ap (λ q. stopped q i) (sym (cause_refusal r) ∙ ap cause same) ∙ ap (stopped (cause x)) place
 
 -- ---- a call that makes them first: it goes on, or is refused with them
 module _ {A : Type 0} (t : Tests) (a : Result A) where
-  pub goes_on : verdict t ≡ Accepted → (t followed_by (λ u. a)) ≡ a
+  pub goes_on : verdict t ≡ Ok tt → (t followed_by (λ u. a)) ≡ a
   unfolding ◌followed_by◌
   goes_on e = ap (λ t. t followed_by (λ u. a)) (accepted_done t e)
 
-  pub is_refused : (x : Refusal) (y : ℕ) → verdict t ≡ Refused x y → (t followed_by (λ u. a)) ≡ stopped (cause x) y
+  pub is_refused : (x : Refusal) (y : ℕ) → verdict t ≡ Err (refused_at x y) → (t followed_by (λ u. a))
+      ≡ stopped (cause x) y
   unfolding ◌followed_by◌
   is_refused x y e = ap (λ t. t followed_by (λ u. a)) (refused_stopped t x y e)
 
@@ -58,11 +62,11 @@ four_followed d m n o p t f = at_followed 0 _ _ _ f ∙ ap (require_at 0 (sound 
     (at_followed 3 _ _ _ f ∙ ap (require_at 3 (sound d p) _) (at_followed 0 _ _ _ f))))
 
 -- ---- what has passed
-pub single_passed : (f : Model) → verdict (single_model f) ≡ Accepted → T (sound most_degree f)
+pub single_passed : (f : Model) → verdict (single_model f) ≡ Ok tt → T (sound most_degree f)
 unfolding single_model
 single_passed f e = (passed_at 0 _ _ _ tt (accepted_done (single_model f) e)).test
 
-pub sweeping_passed : (t : ℤ) (f : Model) → verdict (sweeping t f) ≡ Accepted → T (sound most_degree f)
+pub sweeping_passed : (t : ℤ) (f : Model) → verdict (sweeping t f) ≡ Ok tt → T (sound most_degree f)
 unfolding sweeping
 sweeping_passed t f e = (passed_at 0 _ _ _ tt (accepted_done (sweeping t f) e)).test
 
@@ -71,7 +75,7 @@ pub record AtPoint (Xs : List ℤ) (f : Model) : Type 0 where
   pub model : T (sound most_degree f)
   pub coordinates : T (all_in_unit (take f.vars Xs))
 
-pub point_passed : (Xs : List ℤ) (f : Model) → verdict (at_point Xs f) ≡ Accepted → AtPoint Xs f
+pub point_passed : (Xs : List ℤ) (f : Model) → verdict (at_point Xs f) ≡ Ok tt → AtPoint Xs f
 unfolding at_point
 point_passed Xs f e =
     let first = passed_at 0 _ _ _ tt (accepted_done (at_point Xs f) e) in
@@ -85,7 +89,7 @@ pub record Integrating (d i : ℕ) (f : Model) : Type 0 where
   pub least : 1 ≤ i
   pub most : i ≤ f.vars
 
-pub integrating_passed : (d i : ℕ) (f : Model) → verdict (integrating d i f) ≡ Accepted → Integrating d i f
+pub integrating_passed : (d i : ℕ) (f : Model) → verdict (integrating d i f) ≡ Ok tt → Integrating d i f
 unfolding integrating order_sound variable_sound
 integrating_passed d i f e =
     let limit = passed_at 0 _ _ _ tt (accepted_done (integrating d i f) e) in
@@ -119,7 +123,7 @@ two_done d f g t e =
       later = same.result;
     }
 
-pub two_passed : (d : ℕ) (f g : Model) → verdict (two_models d f g) ≡ Accepted → TwoModels d f g (done tt)
+pub two_passed : (d : ℕ) (f g : Model) → verdict (two_models d f g) ≡ Ok tt → TwoModels d f g (done tt)
 unfolding two_models
 two_passed d f g e = two_done d f g (done tt) (accepted_done (two_models d f g) e)
 
@@ -128,7 +132,7 @@ pub record Ordered (d : ℕ) (f g : Model) : Type 0 where
   pub order : d ≤ most_degree
   pub models : TwoModels d f g (done tt)
 
-pub ordered_passed : (d : ℕ) (f g : Model) → verdict (ordered d f g) ≡ Accepted → Ordered d f g
+pub ordered_passed : (d : ℕ) (f g : Model) → verdict (ordered d f g) ≡ Ok tt → Ordered d f g
 unfolding ordered order_sound
 ordered_passed d f g e =
     let limit = passed_at 0 _ _ _ tt (accepted_done (ordered d f g) e) in
@@ -143,7 +147,7 @@ pub record Substituting (d i : ℕ) (f g : Model) : Type 0 where
   pub least : 1 ≤ i
   pub most : i ≤ f.vars
 
-pub substituting_passed : (d i : ℕ) (f g : Model) → verdict (substituting d i f g) ≡ Accepted → Substituting d i f g
+pub substituting_passed : (d i : ℕ) (f g : Model) → verdict (substituting d i f g) ≡ Ok tt → Substituting d i f g
 unfolding substituting order_sound variable_sound
 substituting_passed d i f g e =
     let limit = passed_at 0 _ _ _ tt (accepted_done (substituting d i f g) e) in
@@ -169,7 +173,7 @@ pub record Dividing (d : ℕ) (f g h w : Model) : Type 0 where
   pub third_vars : f.vars ≡ h.vars
   pub fourth_vars : f.vars ≡ w.vars
 
-pub dividing_passed : (d : ℕ) (f g h w : Model) → verdict (dividing d f g h w) ≡ Accepted → Dividing d f g h w
+pub dividing_passed : (d : ℕ) (f g h w : Model) → verdict (dividing d f g h w) ≡ Ok tt → Dividing d f g h w
 unfolding dividing order_sound require_four
 dividing_passed d f g h w e =
     let limit = passed_at 0 _ _ _ tt (accepted_done (dividing d f g h w) e) in
@@ -199,12 +203,14 @@ unfolding substituting ordered ◌followed_by◌
 substituting_is d i f g = sym (at_followed 0 _ _ _ _ ∙ ap (require_at 0 (order_sound d) _) (two_followed d f g _ _))
 
 -- so they are refused with it, and else the variable decides
-pub substituting_refused : (d i : ℕ) (f g : Model) (x : Refusal) (y : ℕ) → verdict (ordered d f g) ≡ Refused x y
-    → verdict (substituting d i f g) ≡ Refused x y
+pub substituting_refused : (d i : ℕ) (f g : Model) (x : Refusal) (y : ℕ) → verdict (ordered d f g)
+    ≡ Err (refused_at x y)
+    → verdict (substituting d i f g) ≡ Err (refused_at x y)
 unfolding verdict
 substituting_refused d i f g x y e =
-    ap verdict (substituting_is d i f g ∙ is_refused (ordered d f g) _ x y e) ∙ ap (λ q. Refused q y) (refusal_cause x)
+    ap verdict (substituting_is d i f g ∙ is_refused (ordered d f g) _ x y e)
+    ∙ ap (λ q. Err (refused_at q y)) (refusal_cause x)
 
-pub by_variable : (d i : ℕ) (f g : Model) → verdict (ordered d f g) ≡ Accepted
+pub by_variable : (d i : ℕ) (f g : Model) → verdict (ordered d f g) ≡ Ok tt
     → substituting d i f g ≡ require_at 0 (variable_sound f.vars i) R.bad_step (done tt)
 by_variable d i f g e = substituting_is d i f g ∙ goes_on (ordered d f g) _ e

@@ -10,16 +10,16 @@ ghost use Rattle.model_call_tests.specs.Admission.{single_model, sweeping, at_po
 ghost use Rattle.model_call_tests.specs.Admission.{two_models, ordered, substituting};
 ghost use Rattle.model_call_tests.specs.Admission.{four_models, dividing};
 
-use model_types::{Model, Refusal, Verdict};
+use model_types::{Model, Refusal, Refused, Verdict};
 
 // The test of a call of one model. 5.
 pub fn single_model(m: Model) -> Verdict
     ensures { result ≡ verdict (single_model (view m)) }
 {
     if !model_soundness::sound(m, model_types::MOST_DEGREE) {
-        return Verdict::Refused(Refusal::BadModel, 0);
+        return Err(Refused(Refusal::BadModel, 0));
     }
-    Verdict::Accepted
+    Ok(())
 }
 
 // The tests of a sweep. 5, 6.
@@ -27,12 +27,12 @@ pub fn sweeping(m: Model, t: i64) -> Verdict
     ensures { result ≡ verdict (sweeping t (view m)) }
 {
     if !model_soundness::sound(m, model_types::MOST_DEGREE) {
-        return Verdict::Refused(Refusal::BadModel, 0);
+        return Err(Refused(Refusal::BadModel, 0));
     }
     if !fixed::threshold_within_limits(t) {
-        return Verdict::Refused(Refusal::BadStep, 0);
+        return Err(Refused(Refusal::BadStep, 0));
     }
-    Verdict::Accepted
+    Ok(())
 }
 
 // The tests of an antiderivative in variable i of m, with order d. 3, 5, 6.
@@ -40,15 +40,15 @@ pub fn integrating(d: u8, i: u8, m: Model) -> Verdict
     ensures { result ≡ verdict (integrating d i (view m)) }
 {
     if !model_types::order_sound(d) {
-        return Verdict::Refused(Refusal::BadLimits, 0);
+        return Err(Refused(Refusal::BadLimits, 0));
     }
     if !model_soundness::sound(m, d) {
-        return Verdict::Refused(Refusal::BadModel, 0);
+        return Err(Refused(Refusal::BadModel, 0));
     }
     if !model_types::from_one(m.n, i) {
-        return Verdict::Refused(Refusal::BadStep, 0);
+        return Err(Refused(Refusal::BadStep, 0));
     }
-    Verdict::Accepted
+    Ok(())
 }
 
 // The tests of two models with degrees up to d. 5 at place 0 or 1, 10.
@@ -56,15 +56,15 @@ pub fn two_models(d: u8, a: Model, b: Model) -> Verdict
     ensures { result ≡ verdict (two_models d (view a) (view b)) }
 {
     if !model_soundness::sound(a, d) {
-        return Verdict::Refused(Refusal::BadModel, 0);
+        return Err(Refused(Refusal::BadModel, 0));
     }
     if !model_soundness::sound(b, d) {
-        return Verdict::Refused(Refusal::BadModel, 1);
+        return Err(Refused(Refusal::BadModel, 1));
     }
     if a.n != b.n {
-        return Verdict::Refused(Refusal::VariablesDiffer, 0);
+        return Err(Refused(Refusal::VariablesDiffer, 0));
     }
-    Verdict::Accepted
+    Ok(())
 }
 
 // The tests of a product with order d. 3, 5 at place 0 or 1, 10.
@@ -72,7 +72,7 @@ pub fn ordered(d: u8, a: Model, b: Model) -> Verdict
     ensures { result ≡ verdict (ordered d (view a) (view b)) }
 {
     if !model_types::order_sound(d) {
-        return Verdict::Refused(Refusal::BadLimits, 0);
+        return Err(Refused(Refusal::BadLimits, 0));
     }
     two_models(d, a, b)
 }
@@ -82,13 +82,13 @@ pub fn substituting(d: u8, i: u8, f: Model, g: Model) -> Verdict
     ensures { result ≡ verdict (substituting d i (view f) (view g)) }
 {
     let v = ordered(d, f, g);
-    let Verdict::Accepted = v else {
+    let Ok(()) = v else {
         return v;
     };
     if !model_types::from_one(f.n, i) {
-        return Verdict::Refused(Refusal::BadStep, 0);
+        return Err(Refused(Refusal::BadStep, 0));
     }
-    Verdict::Accepted
+    Ok(())
 }
 
 // The tests of four models with degrees up to d. 5 at places 0 to 3, 10.
@@ -96,27 +96,27 @@ pub fn four_models(d: u8, f: Model, g: Model, h: Model, w: Model) -> Verdict
     ensures { result ≡ verdict (four_models d (view f) (view g) (view h) (view w)) }
 {
     if !model_soundness::sound(f, d) {
-        return Verdict::Refused(Refusal::BadModel, 0);
+        return Err(Refused(Refusal::BadModel, 0));
     }
     if !model_soundness::sound(g, d) {
-        return Verdict::Refused(Refusal::BadModel, 1);
+        return Err(Refused(Refusal::BadModel, 1));
     }
     if !model_soundness::sound(h, d) {
-        return Verdict::Refused(Refusal::BadModel, 2);
+        return Err(Refused(Refusal::BadModel, 2));
     }
     if !model_soundness::sound(w, d) {
-        return Verdict::Refused(Refusal::BadModel, 3);
+        return Err(Refused(Refusal::BadModel, 3));
     }
     if f.n != g.n {
-        return Verdict::Refused(Refusal::VariablesDiffer, 0);
+        return Err(Refused(Refusal::VariablesDiffer, 0));
     }
     if f.n != h.n {
-        return Verdict::Refused(Refusal::VariablesDiffer, 0);
+        return Err(Refused(Refusal::VariablesDiffer, 0));
     }
     if f.n != w.n {
-        return Verdict::Refused(Refusal::VariablesDiffer, 0);
+        return Err(Refused(Refusal::VariablesDiffer, 0));
     }
-    Verdict::Accepted
+    Ok(())
 }
 
 // The tests of a quotient with order d. 3, 5 at places 0 to 3, 10.
@@ -124,7 +124,7 @@ pub fn dividing(d: u8, f: Model, g: Model, h: Model, w: Model) -> Verdict
     ensures { result ≡ verdict (dividing d (view f) (view g) (view h) (view w)) }
 {
     if !model_types::order_sound(d) {
-        return Verdict::Refused(Refusal::BadLimits, 0);
+        return Err(Refused(Refusal::BadLimits, 0));
     }
     four_models(d, f, g, h, w)
 }
@@ -134,13 +134,11 @@ pub fn unused_zero(n: u8, xs: [i64; model_types::MOST_VARS as usize]) -> bool
     requires { n ≤ key_width }
     ensures { result ≡ all_zero (drop n xs) }
 {
-    let mut i = n;
-    while i < model_types::MOST_VARS {
+    for i in n..model_types::MOST_VARS {
         let x = xs[i as usize];
         if x != 0 {
             return false;
         }
-        i += 1;
     }
     true
 }
@@ -150,13 +148,11 @@ pub fn used_within(n: u8, xs: [i64; model_types::MOST_VARS as usize]) -> bool
     requires { n ≤ key_width }
     ensures { result ≡ all_in_unit (take n xs) }
 {
-    let mut i = 0;
-    while i < n {
+    for i in 0..n {
         let x = xs[i as usize];
         if !fixed::within_unit(x) {
             return false;
         }
-        i += 1;
     }
     true
 }
@@ -166,13 +162,13 @@ pub fn at_point(m: Model, xs: [i64; model_types::MOST_VARS as usize]) -> Verdict
     ensures { result ≡ verdict (at_point xs (view m)) }
 {
     if !model_soundness::sound(m, model_types::MOST_DEGREE) {
-        return Verdict::Refused(Refusal::BadModel, 0);
+        return Err(Refused(Refusal::BadModel, 0));
     }
     if !unused_zero(m.n, xs) {
-        return Verdict::Refused(Refusal::BadStep, 0);
+        return Err(Refused(Refusal::BadStep, 0));
     }
     if !used_within(m.n, xs) {
-        return Verdict::Refused(Refusal::LeavesBox, 0);
+        return Err(Refused(Refusal::LeavesBox, 0));
     }
-    Verdict::Accepted
+    Ok(())
 }

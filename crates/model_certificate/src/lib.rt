@@ -22,7 +22,7 @@ fn largest_value(count: usize, radius: u64, keys: &[Key], coefficients: &[i64]) 
     let ends = model_range::range_slices(count, radius, keys, coefficients);
     let low = fixed::magnitude(ends.low);
     let high = fixed::magnitude(ends.high);
-    if low <= high { high } else { low }
+    low.max(high)
 }
 
 // The struct of a model in slices: its terms, and zeros after them.
@@ -36,9 +36,9 @@ fn copied(n: u8, count: usize, radius: u64, keys: &[Key], coefficients: &[i64]) 
     model_slices::copy_keys(count, keys, &mut kept);
     model_slices::copy_coefficients(count, coefficients, &mut terms);
     Model {
-        n: n,
-        count: count,
-        radius: radius,
+        n,
+        count,
+        radius,
         keys: kept,
         coefficients: terms,
     }

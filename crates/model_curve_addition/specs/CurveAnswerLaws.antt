@@ -1,15 +1,14 @@
 -- What each way out of a call on curves answers.
-use Rattle.std.specs.Prelude.{◌≡◌, refl, true, false, leb, eqb, length}
-use Rattle.std.proofs.Common.{sym, ◌∙◌, ap, eq-eqb}
+use Rattle.std.specs.Prelude.{◌≡◌, true, false, leb, length}
+use Rattle.std.proofs.Common.{sym, ◌∙◌, eq-eqb}
 use Rattle.numbers.specs.Fixed.{span_limit}
 use Rattle.calculus.specs.Refusal.{stopped, over_span, bad_model, at_place, require, require_at}
-use Rattle.chebyshev.specs.Curve as C
 use Rattle.chebyshev.specs.Curve.{span, sound}
 use Rattle.chebyshev.specs.PowerRows.{places}
 use Rattle.chebyshev.specs.CurveOperations.{limited_curve, negate, added, add, subtract}
 use Rattle.chebyshev.specs.CurveCalls.{call_negate, call_add, call_subtract, require_two}
 use Rattle.model_types.specs.declared.Curve.{Curve}
-use Rattle.model_types.specs.declared.Verdict.TheVariants.{Accepted}
+use Rattle.std.specs.Prelude.{Ok}
 use Rattle.model_types.specs.CurveStruct.{view_curve, pack_curve, curve_answer}
 
 module _ (c : Curve) (w : length c.coefficients ≡ 16) where
@@ -18,7 +17,7 @@ module _ (c : Curve) (w : length c.coefficients ≡ 16) where
   by_span = rw (eq-eqb (length c.coefficients) 16 w)
 
   pub limited_in : sound (view_curve c) ≡ true
-      → record { curve = c; verdict = Accepted } ≡ curve_answer (at_place 0 (limited_curve (view_curve c)))
+      → record { curve = c; verdict = Ok tt } ≡ curve_answer (at_place 0 (limited_curve (view_curve c)))
   unfolding limited_curve require at_place curve_answer
   limited_in t = rw (sym by_span ∙ t)
 
@@ -34,7 +33,7 @@ unfolding call_negate require_at
 negate_unsound c t = rw t
 
 pub negate_sound : (c : Curve) → sound (view_curve c) ≡ true
-    → record { curve = pack_curve (negate (view_curve c)); verdict = Accepted }
+    → record { curve = pack_curve (negate (view_curve c)); verdict = Ok tt }
     ≡ curve_answer (call_negate (view_curve c))
 unfolding call_negate require_at curve_answer
 negate_sound c t = rw t

@@ -10,7 +10,7 @@ ghost use Rattle.chebyshev.specs.CurveCalls.{call_negate, call_add, call_subtrac
 ghost use Rattle.model_types.specs.ModelStruct.{cause};
 ghost use Rattle.model_types.specs.CurveStruct.{view_curve, pack_curve, curve_answer};
 
-use model_types::{Curve, CurveAnswer, Refusal, Verdict};
+use model_types::{Curve, CurveAnswer, Refusal, Refused};
 
 // The answer of a refused call.
 pub fn refuse_curve(refusal: Refusal, place: usize) -> CurveAnswer
@@ -22,7 +22,7 @@ pub fn refuse_curve(refusal: Refusal, place: usize) -> CurveAnswer
     };
     CurveAnswer {
         curve: zero,
-        verdict: Verdict::Refused(refusal, place),
+        verdict: Err(Refused(refusal, place)),
     }
 }
 
@@ -31,10 +31,8 @@ pub fn curve_sound(c: Curve) -> bool
     ensures { result ≡ sound (view_curve c) }
 {
     let mut total = c.radius;
-    let mut i = 0;
-    while i < 16 {
-        total = fixed::capped_sum(total, fixed::magnitude(c.coefficients[i]));
-        i += 1;
+    for z in &c.coefficients {
+        total = fixed::capped_sum(total, fixed::magnitude(*z));
     }
     fixed::within_span(total)
 }
@@ -46,7 +44,7 @@ pub fn limited_curve(c: Curve) -> CurveAnswer
     if curve_sound(c) {
         return CurveAnswer {
             curve: c,
-            verdict: Verdict::Accepted,
+            verdict: Ok(()),
         };
     }
     refuse_curve(Refusal::OverSpan, 0)
@@ -58,11 +56,9 @@ fn turned_curve(c: Curve) -> Curve
     ensures { result ≡ pack_curve (Op.negate (view_curve c)) }
 {
     let mut out = [0; 16];
-    let mut i = 0;
-    while i < 16 {
+    for i in 0..16 {
         let z = fixed::negated(c.coefficients[i]);
         out[i] = z;
-        i += 1;
     }
     Curve {
         coefficients: out,
@@ -77,11 +73,9 @@ fn added_curves(f: Curve, g: Curve) -> Curve
     ensures { result ≡ pack_curve (added (view_curve f) (view_curve g)) }
 {
     let mut out = [0; 16];
-    let mut i = 0;
-    while i < 16 {
+    for i in 0..16 {
         let z = fixed::sum(f.coefficients[i], g.coefficients[i]);
         out[i] = z;
-        i += 1;
     }
     Curve {
         coefficients: out,
@@ -99,7 +93,7 @@ pub fn negate(c: Curve) -> CurveAnswer
     }
     CurveAnswer {
         curve: turned_curve(c),
-        verdict: Verdict::Accepted,
+        verdict: Ok(()),
     }
 }
 

@@ -58,11 +58,10 @@ fn degrees_from(c: Curve) -> Degrees
     let mut total = [0; 16];
     model_curve_rows::combine_rows(&mut total, &c.coefficients, &rows);
     let mut out = [0; 31];
-    let mut i = 0;
-    while i < 16 {
+    // No copy_from_slice: it asks for memmove, which the library does not ask of a program.
+    for i in 0..16 {
         let z = total[i];
         out[i] = z;
-        i += 1;
     }
     Degrees { places: out }
 }
@@ -73,9 +72,7 @@ fn row_from(m: Model) -> Curve
     ensures { result.coefficients ≡ row_of (view m).terms }
 {
     let mut out = [0; 16];
-    let mut i = m.count;
-    while 0 < i {
-        i -= 1;
+    for i in (0..m.count).rev() {
         let key = m.keys[i];
         let k = model_keys::first_exponent(key);
         let c = m.coefficients[i];

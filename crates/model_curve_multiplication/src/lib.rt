@@ -25,10 +25,7 @@ pub struct Degrees {
 fn apart(i: usize, j: usize) -> usize
     ensures { result ≡ R.apart i j }
 {
-    if i < j {
-        return j - i;
-    }
-    i - j
+    i.abs_diff(j)
 }
 
 // The products of a at degree i with all of g, each added at its two degrees, from the last one down.
@@ -39,9 +36,7 @@ fn add_products(z: &mut [i64; 31], i: usize, a: i64, g: &[i64; 16])
     requires z_bound { 2 * (nat_abs a * size g.now) + size z.old < 2 ^ 63 }
     ensures { z.new ≡ products_of i a 0 g.now z.old }
 {
-    let mut j: usize = 16;
-    while 0 < j {
-        j -= 1;
+    for j in (0..16).rev() {
         let v = fixed::product(a, g[j]);
         let near = apart(i, j);
         let far = i + j;
@@ -59,9 +54,7 @@ fn collected(f: Curve, g: Curve) -> Degrees
     ensures { result.places ≡ products (view_curve f) (view_curve g) }
 {
     let mut z = [0; 31];
-    let mut i: usize = 16;
-    while 0 < i {
-        i -= 1;
+    for i in (0..16).rev() {
         let a = f.coefficients[i];
         add_products(&mut z, i, a, &g.coefficients);
     }
@@ -74,9 +67,7 @@ fn swept_of(z: Degrees) -> u64
     ensures { result ≡ swept z.places }
 {
     let mut total: u64 = 0;
-    let mut i = 31;
-    while 16 < i {
-        i -= 1;
+    for i in (16..31).rev() {
         total += fixed::magnitude(z.places[i]);
     }
     total
@@ -104,13 +95,11 @@ pub fn rounded_degrees(z: Degrees, d: u64, e: u64) -> Curve
 {
     let mut total = e + swept_of(z);
     let mut out = [0; 16];
-    let mut i = 0;
-    while i < 16 {
+    for i in 0..16 {
         let c = z.places[i];
         let q = fixed::nearest_divided(c, d);
         total += left_of(c, q, d);
         out[i] = q;
-        i += 1;
     }
     Curve {
         coefficients: out,

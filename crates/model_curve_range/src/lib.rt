@@ -8,7 +8,7 @@ ghost use Rattle.chebyshev.specs.CurveCalls.{call_range};
 ghost use Rattle.model_types.specs.ModelStruct.{bounds};
 ghost use Rattle.model_types.specs.CurveStruct.{view_curve};
 
-use model_types::{Bounds, Curve, Refusal, Verdict};
+use model_types::{Bounds, Curve, Refusal};
 
 // The sum of all |c| but that of the constant, and e.
 pub fn variation_of(c: Curve) -> u64
@@ -16,9 +16,7 @@ pub fn variation_of(c: Curve) -> u64
     ensures { result ≡ variation (view_curve c) }
 {
     let mut total: u64 = 0;
-    let mut i = 16;
-    while 1 < i {
-        i -= 1;
+    for i in (1..16).rev() {
         total += fixed::magnitude(c.coefficients[i]);
     }
     total + c.radius
@@ -36,6 +34,6 @@ pub fn range(c: Curve) -> Bounds
     Bounds {
         low: fixed::difference(middle, around),
         high: fixed::sum(middle, around),
-        verdict: Verdict::Accepted,
+        verdict: Ok(()),
     }
 }

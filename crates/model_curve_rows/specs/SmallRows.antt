@@ -1,5 +1,5 @@
 -- Tables whose rows fit: sixteen rows of sixteen, each with sizes that sum to at most 2^19.
-use Rattle.std.specs.Prelude.{Bool, true, ◌&&◌, List, [], ◌∷◌, ℕ, ◌^◌, eqb, leb, length}
+use Rattle.std.specs.Prelude.{Bool, true, ◌&&◌, List, [], ◌∷◌, ◌^◌, eqb, leb, length}
 use Rattle.chebyshev.specs.Coefficients.{Row, size}
 
 -- rows of sixteen, each of small size

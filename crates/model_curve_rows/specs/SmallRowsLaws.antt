@@ -1,7 +1,7 @@
 -- Rows combined from the last one down: one place more, one row more, and the sizes.
 use Rattle.std.specs.Prelude.{◌≡◌, ◌&&◌, ℕ, zero, suc, ◌+◌, ◌*◌, ◌-◌, ◌^◌, ◌≤◌, ◌<◌, T, eqb, leb, ℤ, pos, nat_abs, ◌+ℤ◌, ◌*ℤ◌, take, get_or, set}
 use Rattle.std.proofs.Math.Path.{refl, sym, ap}
-use Rattle.std.proofs.Common.{◌∙◌, ap₂, subst, arith, leb→le}
+use Rattle.std.proofs.Common.{◌∙◌, ap₂, arith, leb→le}
 use mathlib.Core.List.{List, [], ◌∷◌, ◌++◌}
 use Rattle.std.proofs.Math.Nat as NatL
 use Rattle.std.proofs.Math.Dec.{eqb→eq}

@@ -13,9 +13,7 @@ fn add_scaled(total: &mut [i64; 16], c: i64, row: &[i64; 16])
     requires total_bound { nat_abs c * size row.now + size total.old < 2 ^ 63 }
     ensures { total.new ≡ sum (scale c row.now) total.old }
 {
-    let mut j: usize = 16;
-    while 0 < j {
-        j -= 1;
+    for j in (0..16).rev() {
         let part = fixed::product(c, row[j]);
         let x = fixed::sum(part, total[j]);
         total[j] = x;
@@ -30,9 +28,7 @@ pub fn combine_rows(total: &mut [i64; 16], cs: &[i64; 16], rows: &[[i64; 16]; 16
     requires t { T (rows_small rows.now) }
     ensures { total.new ≡ combine cs.now rows.now }
 {
-    let mut k: usize = 16;
-    while 0 < k {
-        k -= 1;
+    for k in (0..16).rev() {
         let c = cs[k];
         add_scaled(total, c, &rows[k]);
     }

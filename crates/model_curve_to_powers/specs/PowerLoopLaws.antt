@@ -26,7 +26,7 @@ use Rattle.chebyshev.specs.Curve.{sound}
 use Rattle.chebyshev.specs.CurveOperations.{terms_from, in_powers, to_powers}
 use Rattle.chebyshev.specs.CurveCalls.{call_to_powers}
 use Rattle.model_types.specs.declared.Curve.{Curve}
-use Rattle.model_types.specs.declared.Verdict.TheVariants.{Accepted}
+use Rattle.std.specs.Prelude.{Ok}
 use Rattle.model_types.specs.ModelStruct.{pack, answer, of_terms}
 use Rattle.model_types.specs.CurveStruct.{view_curve}
 use Rattle.algebra.specs.Integer.{natAbs_add, nat_abs_mul}
@@ -171,11 +171,11 @@ module _ (c : Curve) (s : c.radius < 2 ^ 31) (out : List S.Term) (count span i :
       (h.made ∙ ap (λ p. pad (map pack_term p)) all)
 
   pub powers_within : leb span span_limit ≡ true
-      → record { model = of_terms 1 count c.radius out; verdict = Accepted }
+      → record { model = of_terms 1 count c.radius out; verdict = Ok tt }
       ≡ answer (at_place 0 (to_powers (view_curve c)))
   unfolding to_powers require at_place answer
   powers_within t = rw (ap (λ n. leb n span_limit) (sym span_is) ∙ t)
-      (ap (λ m. record { model = m; verdict = Accepted }) model_is)
+      (ap (λ m. record { model = m; verdict = Ok tt }) model_is)
 
   pub powers_over : leb span span_limit ≡ false
       → answer (stopped over_span 0) ≡ answer (at_place 0 (to_powers (view_curve c)))

@@ -11,7 +11,7 @@ ghost use Rattle.chebyshev.specs.CurveCalls.{call_to_powers};
 ghost use Rattle.model_types.specs.ModelStruct.{answer};
 ghost use Rattle.model_types.specs.CurveStruct.{view_curve};
 
-use model_types::{Answer, Curve, Key, MOST_TERMS, Model, Refusal, Verdict};
+use model_types::{Answer, Curve, Key, MOST_TERMS, Model, Refusal};
 
 // Coefficients of powers 0 to 15.
 #[derive(Clone, Copy)]
@@ -71,12 +71,10 @@ fn in_powers(c: Curve) -> Answer
     let mut coefficients = [0i64; MOST_TERMS];
     let mut count = 0;
     let mut span = radius;
-    let mut i = 0;
-    while i < 16 {
+    for i in 0..16 {
         let z = row.places[i];
         let size = fixed::magnitude(z);
         let key = model_keys::power_key(i);
-        i += 1;
         if size == 0 {
             continue;
         }
@@ -95,7 +93,7 @@ fn in_powers(c: Curve) -> Answer
         };
         return Answer {
             model: m,
-            verdict: Verdict::Accepted,
+            verdict: Ok(()),
         };
     }
     model_types::refuse(Refusal::OverSpan, 0)

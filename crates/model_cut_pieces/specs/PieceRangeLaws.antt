@@ -14,7 +14,9 @@ use Rattle.calculus.specs.Operations.{range, substitute}
 use Rattle.calculus.specs.Tests.{vars_sound}
 use Rattle.model_types.specs.declared.Model.{Model}
 use Rattle.model_types.specs.declared.Refusal.{Refusal}
-use Rattle.model_types.specs.declared.Verdict.TheVariants.{Accepted, Refused}
+use Rattle.std.specs.Prelude.{Ok, Err}
+use Rattle.model_types.specs.declared.Refused.{Refused}
+use Rattle.model_types.specs.ModelStruct.{refused_at}
 use Rattle.model_types.specs.declared.Answer.{Answer}
 use Rattle.model_types.specs.declared.Bounds.{Bounds}
 use Rattle.model_types.specs.ModelStruct.{view, pack, answer, bounds, refusal, cause}
@@ -29,13 +31,15 @@ use Rattle.model_cut_pieces.specs.Cutting.{Cutting, piece_products}
 use Rattle.model_cut_pieces.specs.PieceStructLaws.{both_terms, piece_sound}
 
 -- what follows a refusal is refused with it, at place j
-refused_range : {a : Answer} {x : Refusal} {y : ℕ} (j : ℕ) (p : R.Answer C.Model) → a.verdict ≡ Refused x y
+refused_range : {a : Answer} {x : Refusal} {y : ℕ} (j : ℕ) (p : R.Answer C.Model) → a.verdict ≡ Err (refused_at x y)
     → a ≡ answer (at_place 0 p)
     → bounds (stopped (cause x) j) ≡ bounds (at_place j (p then (λ m. accepted (range m))))
 unfolding answer at_place ◌then◌
 refused_range j (accepted m) w e = let z : ◌≡◌ {A = ℕ} 0 1 = cc in absurd (omega arith)
-refused_range {x = x} j (refused q) w e = let s : x ≡ refusal q = cc in
-    ap (λ r. bounds (stopped r j)) (ap cause s ∙ cause_refusal q)
+refused_range {x = x} {y = y} j (refused q) w e =
+    let both : refused_at x y ≡ refused_at (refusal q) 0 = cc in
+    let same : x ≡ refusal q = ap (λ (p : Refused). p.0) both in
+    ap (λ r. bounds (stopped r j)) (ap cause same ∙ cause_refusal q)
 
 module _ {d v k : ℕ} {f : Model} (c : Cutting d v k f) {j : ℕ} (hj : j < 2 ^ k) {g : Model}
     (e : g ≡ pack (piece f.n v k j)) where
@@ -80,20 +84,20 @@ module _ {d v k : ℕ} {f : Model} (c : Cutting d v k f) {j : ℕ} (hj : j < 2 ^
     put_is : a ≡ answer (at_place 0 put)
     put_is = h ∙ ap (λ g. answer (at_place 0 (substitute d v (view f) g))) (held_view vars c.order piece_holds)
 
-    taken : a.verdict ≡ Accepted → Got f.n d put a.model
+    taken : a.verdict ≡ Ok tt → Got f.n d put a.model
     taken w = got put_is w (substitute_sound f.n d v (view f) (piece f.n v k j)
         (sound_struct f refl c.model).0 piece_holds.sound.0)
 
-    pub piece_taken : a.verdict ≡ Accepted → T (sound most_degree (view a.model))
+    pub piece_taken : a.verdict ≡ Ok tt → T (sound most_degree (view a.model))
     piece_taken w = sound_order d (view a.model) c.order (held_sound vars c.order (taken w).holds)
 
-    pub piece_accepted : a.verdict ≡ Accepted → {b : Bounds} → b ≡ bounds (done (range (view a.model)))
+    pub piece_accepted : a.verdict ≡ Ok tt → {b : Bounds} → b ≡ bounds (done (range (view a.model)))
         → b ≡ bounds (at_place j (piece_range d v k (view f) j))
     unfolding piece_range view at_place
     piece_accepted w h = h ∙ ap (λ m. bounds (done (range m))) (held_view vars c.order (taken w).holds)
         ∙ ap (λ r. bounds (at_place j r)) (sym (then_is (λ m. accepted (range m)) (taken w).is))
 
-    pub piece_refused : {x : Refusal} {y : ℕ} → a.verdict ≡ Refused x y
+    pub piece_refused : {x : Refusal} {y : ℕ} → a.verdict ≡ Err (refused_at x y)
         → {b : Bounds} → b ≡ bounds (stopped (cause x) j) → b ≡ bounds (at_place j (piece_range d v k (view f) j))
     unfolding piece_range view
     piece_refused {x} {y} w h = h ∙ go put put_is

@@ -9,7 +9,7 @@ ghost use Rattle.model_types.specs.ModelStruct.{view, pack, bounds};
 ghost use Rattle.cuts.specs.Cuts.{most_depth, half_width, piece_middle, piece, piece_range};
 ghost use Rattle.model_cut_pieces.specs.Cutting.{Cutting, piece_products};
 
-use model_types::{Bounds, Key, Model, Verdict};
+use model_types::{Bounds, Key, Model, Refused};
 
 // The products of a model and a piece, which has two terms at the most.
 pub const PIECE_PRODUCTS: usize = model_types::MOST_TERMS * 2;
@@ -103,7 +103,7 @@ pub fn piece_range(
     let m = a.model;
     let w = a.verdict;
     match w {
-        Verdict::Accepted => model_range::range_of(m),
-        Verdict::Refused(refusal, _place) => model_types::refuse_bounds(refusal, j as usize),
+        Ok(()) => model_range::range_of(m),
+        Err(Refused(refusal, _place)) => model_types::refuse_bounds(refusal, j as usize),
     }
 }

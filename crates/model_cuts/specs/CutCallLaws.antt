@@ -11,7 +11,7 @@ use Rattle.calculus_laws.specs.RefusalLaws.{passed_at, at_followed}
 use Rattle.calculus.specs.Operations.{Ends}
 use Rattle.calculus.specs.Tests.{order_sound, variable_sound}
 use Rattle.model_types.specs.declared.Model.{Model}
-use Rattle.model_types.specs.declared.Verdict.TheVariants.{Accepted}
+use Rattle.std.specs.Prelude.{Ok}
 use Rattle.model_types.specs.ModelStruct.{view, verdict}
 use Rattle.model_call_tests.specs.Admission.{integrating}
 use Rattle.model_call_tests.specs.AdmissionLaws.{accepted_done}
@@ -37,7 +37,7 @@ module _ (d i k : ℕ) (f : C.Model) where
   not_too_deep h = rw (le-leb k 6 h)
 
 -- what passes them can be cut
-pub cutting : (d i k : ℕ) (f : Model) → verdict (integrating d i (view f)) ≡ Accepted → k ≤ 6 → Cutting d i k f
+pub cutting : (d i k : ℕ) (f : Model) → verdict (integrating d i (view f)) ≡ Ok tt → k ≤ 6 → Cutting d i k f
 unfolding integrating order_sound variable_sound most_depth view
 cutting d i k f e h =
     let limit = passed_at 0 _ _ _ tt (accepted_done (integrating d i (view f)) e) in

@@ -10,7 +10,7 @@ ghost use Rattle.cuts.specs.Cuts as Cut;
 ghost use Rattle.cuts.specs.Cuts.{cut_range, call_cut_range};
 
 use model_cut_pieces::PIECE_PRODUCTS;
-use model_types::{Bounds, Model, Refusal, Verdict};
+use model_types::{Bounds, Model, Refusal, Refused};
 
 // The largest depth.
 const MOST_DEPTH: u8 = 6;
@@ -46,29 +46,27 @@ fn cut(
     let whole = model_range::range_of(f);
     let first = model_cut_pieces::piece_range(d, i, k, 0, f, slots, keys, sums);
     let u = first.verdict;
-    let Verdict::Accepted = u else {
+    let Ok(()) = u else {
         return first;
     };
     let pieces = model_cut_pieces::pieces(k);
     let mut low = first.low;
     let mut high = first.high;
-    let mut j: u64 = 1;
-    while j < pieces {
+    for j in 1..pieces {
         let next = model_cut_pieces::piece_range(d, i, k, j, f, slots, keys, sums);
         let w = next.verdict;
-        let Verdict::Accepted = w else {
+        let Ok(()) = w else {
             return next;
         };
         low = smaller(low, next.low);
         high = larger(high, next.high);
-        j += 1;
     }
     let from = larger(whole.low, low);
     let to = smaller(whole.high, high);
     Bounds {
         low: from,
         high: to,
-        verdict: Verdict::Accepted,
+        verdict: Ok(()),
     }
 }
 
@@ -80,7 +78,7 @@ pub fn range(d: u8, i: u8, k: u8, f: Model) -> Bounds
 {
     let v = model_call_tests::integrating(d, i, f);
     match v {
-        Verdict::Accepted => {
+        Ok(()) => {
             if MOST_DEPTH < k {
                 return model_types::refuse_bounds(Refusal::CutTooDeep, 0);
             }
@@ -89,6 +87,6 @@ pub fn range(d: u8, i: u8, k: u8, f: Model) -> Bounds
             let mut sums = [0i64; PIECE_PRODUCTS + 1];
             cut(d, i, k, f, &mut slots, &mut keys, &mut sums)
         }
-        Verdict::Refused(refusal, place) => model_types::refuse_bounds(refusal, place),
+        Err(Refused(refusal, place)) => model_types::refuse_bounds(refusal, place),
     }
 }

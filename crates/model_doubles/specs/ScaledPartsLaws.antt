@@ -30,14 +30,11 @@ pub divisor_pos : (e : ℕ) → 0 < divisor e
 unfolding divisor
 divisor_pos e = pow_pos (min (point - e) 55)
 
--- a power below 2^55 loses nothing at 64 bits
-pub shifted : (k : ℕ) → k < 55 → 1 * 2 ^ k % 18446744073709551616 ≡ 2 ^ k
+-- a power up to 2^55 loses nothing at 64 bits
+pub shifted : (k : ℕ) → k ≤ 55 → 1 * 2 ^ k % 18446744073709551616 ≡ 2 ^ k
 shifted k h =
-    let p : 2 ^ k ≤ 36028797018963968 = pow_mono (less k h) in
+    let p : 2 ^ k ≤ 36028797018963968 = pow_mono h in
     ap (λ i. i % 18446744073709551616) (NatL.one-mul (2 ^ k)) ∙ NatL.mod-eq_of_lt (NatL.lt_of_le_of_lt p (lit< tt))
-  where
-    less : (k : ℕ) → k < 55 → k ≤ 55
-    less k h = omega arith
 
 -- ---- whether anything is left
 pub at_most_one : (r : ℕ) → one_if_any r ≤ 1

@@ -98,28 +98,20 @@ const POINT: u64 = 1074 - fixed::UNIT_BITS as u64;
 // A divisor of 2^55 leaves less than a half of any 53 digits, and so does any larger one.
 const MOST_SHIFT: u64 = 55;
 
-const LARGEST: u64 = 1 << MOST_SHIFT;
-
 // What the digits are divided by: 2^(POINT - places), or 2^55 where that is larger.
 fn divisor(places: u64) -> u64
     requires { places ≤ point }
     ensures { result ≡ divisor places }
 {
     let shift = POINT - places;
-    if MOST_SHIFT <= shift {
-        return LARGEST;
-    }
-    1u64 << shift
+    1u64 << shift.min(MOST_SHIFT)
 }
 
 // 1 if anything is left.
 fn one_if_any(rest: u64) -> u64
     ensures { result ≡ one_if_any rest }
 {
-    if rest == 0 {
-        return 0;
-    }
-    1
+    (rest != 0) as u64
 }
 
 // The digits with their sign.
@@ -217,19 +209,7 @@ fn joined(a: Parts, b: Parts, c: Parts, e: Parts) -> Model
 fn deliverable(a: Parts, b: Parts, c: Parts, e: Parts, negative: bool) -> bool
     ensures { result ≡ (a.finite && b.finite && c.finite && e.finite && not negative) }
 {
-    if !a.finite {
-        return false;
-    }
-    if !b.finite {
-        return false;
-    }
-    if !c.finite {
-        return false;
-    }
-    if !e.finite {
-        return false;
-    }
-    !negative
+    a.finite && b.finite && c.finite && e.finite && !negative
 }
 
 // Whether none is so large that it exceeds the span by itself.
@@ -237,16 +217,7 @@ fn moderate(a: Parts, b: Parts, c: Parts, e: Parts) -> bool
     ensures { result ≡ (leb a.places point && leb b.places point
         && leb c.places point && leb e.places point) }
 {
-    if POINT < a.places {
-        return false;
-    }
-    if POINT < b.places {
-        return false;
-    }
-    if POINT < c.places {
-        return false;
-    }
-    e.places <= POINT
+    a.places <= POINT && b.places <= POINT && c.places <= POINT && e.places <= POINT
 }
 
 // The model of a curve in doubles: 16 where a value is not finite or the radius is negative, then 7.

@@ -18,7 +18,8 @@ use Rattle.calculus.specs.Tests.{vars_sound, all_in_unit}
 use Rattle.calculus_laws.specs.SoundLaws.{Sound, sound_parts, constant_sound, substitute_sound}
 use Rattle.model_types.specs.declared.Model.{Model}
 use Rattle.model_types.specs.declared.Refusal.{Refusal}
-use Rattle.model_types.specs.declared.Verdict.TheVariants.{Accepted, Refused}
+use Rattle.std.specs.Prelude.{Ok, Err}
+use Rattle.model_types.specs.ModelStruct.{refused_at}
 use Rattle.model_types.specs.declared.Answer.{Answer}
 use Rattle.model_types.specs.declared.Bounds.{Bounds}
 use Rattle.model_types.specs.ModelStruct.{view, answer, bounds}
@@ -121,13 +122,13 @@ module _ {m : Model} {xs : List ℤ} (s : Evaluation m xs) (l : m.n ≤ length x
             ∙ ap (λ x. x ∷ drop (suc (i - 1)) (point m xs)) (get_or-take m.n xs (i - 1) (pos 0) before)))
             ∙ r.rest
 
-        pub put_refused : {x : Refusal} {y : ℕ} → a.verdict ≡ Refused x y
+        pub put_refused : {x : Refusal} {y : ℕ} → a.verdict ≡ Err (refused_at x y)
             → record { low = pos 0; high = pos 0; verdict = a.verdict } ≡ bounds (at_place 0 (whole m xs))
         put_refused v = refused_ends (put then others m xs (i + 1)) (λ r. accepted (range r)) v
             (refused_then put (others m xs (i + 1)) v put_is)
             ∙ ap (λ w. bounds (at_place 0 w)) (ends iteration)
 
-        pub put_accepted : a.verdict ≡ Accepted → Remaining m xs (i + 1) a.model
+        pub put_accepted : a.verdict ≡ Ok tt → Remaining m xs (i + 1) a.model
         put_accepted v = record {
           first = omega arith;
           model = held_sound vars (omega arith) g.holds;

@@ -17,7 +17,8 @@ use Rattle.calculus.specs.Tests.{vars_sound}
 use Rattle.calculus_laws.specs.SoundLaws.{Canonical, Sound, sound_parts, constant_sound, multiply_sound, add_sound}
 use Rattle.model_types.specs.declared.Model.{Model}
 use Rattle.model_types.specs.declared.Refusal.{Refusal}
-use Rattle.model_types.specs.declared.Verdict.TheVariants.{Accepted, Refused}
+use Rattle.std.specs.Prelude.{Ok, Err}
+use Rattle.model_types.specs.ModelStruct.{refused_at}
 use Rattle.model_types.specs.declared.Answer.{Answer}
 use Rattle.model_types.specs.ModelStruct.{view, pack, answer}
 use Rattle.model_types.specs.ModelStructLaws.{sound_vars}
@@ -58,12 +59,12 @@ module _ {X : ℤ} {h q : Model} (s : Iterating X h q) where
   plus p = add p (view q)
 
   module _ {r : Answer} (e : r ≡ answer (at_place 0 product)) where
-    pub product_refused : {x : Refusal} {y : ℕ} → r.verdict ≡ Refused x y
+    pub product_refused : {x : Refusal} {y : ℕ} → r.verdict ≡ Err (refused_at x y)
         → r ≡ answer (at_place 0 (put_iteration h.n X (view h) (view q)))
     unfolding put_iteration
     product_refused v = refused_then product plus v e
 
-    module _ (t : r.verdict ≡ Accepted) where
+    module _ (t : r.verdict ≡ Ok tt) where
       pub product_operands : Operands r.model q
       product_operands = record {
         first = taken_sound vars (omega arith) product_sound e t;
@@ -155,7 +156,8 @@ module _ {i : ℕ} {X : ℤ} {f : Model} (s : Putting i X f) where
       rest : iterated then down i X f (k - 1) then wider i X f ≡ whole i X f
       rest = ap (λ a. a then wider i X f) (sym (down_iteration i X f k l.model z)) ∙ l.rest
 
-      pub iteration_refused : {x : Refusal} {y : ℕ} → r.verdict ≡ Refused x y → r ≡ answer (at_place 0 (whole i X f))
+      pub iteration_refused : {x : Refusal} {y : ℕ} → r.verdict ≡ Err (refused_at x y) → r
+          ≡ answer (at_place 0 (whole i X f))
       iteration_refused v = refused_then (iterated then down i X f (k - 1)) (wider i X f) v
           (refused_then iterated (down i X f (k - 1)) v iterated_is)
           ∙ ap (λ a. answer (at_place 0 a)) rest
@@ -166,7 +168,7 @@ module _ {i : ℕ} {X : ℤ} {f : Model} (s : Putting i X f) where
           inner.0)
           (λ p s. add_sound f.n most_degree p (part i (k - 1) (view f)) s.0 part_holds.sound.0)
 
-      pub iteration_accepted : r.verdict ≡ Accepted → Left i X f (k - 1) r.model
+      pub iteration_accepted : r.verdict ≡ Ok tt → Left i X f (k - 1) r.model
       iteration_accepted v = record {
         model = m.model;
         holds = m.holds;

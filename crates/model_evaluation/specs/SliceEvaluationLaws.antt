@@ -14,8 +14,9 @@ use Rattle.calculus.specs.Operations.{constant, range, substitute, evaluate}
 use Rattle.model_types.specs.declared.Term.{Term}
 use Rattle.model_types.specs.declared.Model.{Model}
 use Rattle.model_types.specs.declared.Refusal.{Refusal}
-use Rattle.model_types.specs.declared.Verdict.{Verdict}
-use Rattle.model_types.specs.declared.Verdict.TheVariants.{Accepted, Refused}
+use Rattle.model_types.specs.ModelStruct.{Verdict}
+use Rattle.std.specs.Prelude.{Ok, Err}
+use Rattle.model_types.specs.ModelStruct.{refused_at}
 use Rattle.model_types.specs.declared.Bounds.{Bounds}
 use Rattle.model_types.specs.ArrayLaws.{take_padded}
 use Rattle.model_types.specs.ModelStruct.{zero_term, paired, listed, view_term, view, answer, bounds}
@@ -106,14 +107,14 @@ module _ (n count₀ radius₀ : ℕ) (ks₀ : List ℕ) (cs₀ : List ℤ) {xs 
       module _ {a : Left} (ks₂ : List ℕ) (cs₂ : List ℤ)
           (q : LeftIn n a ks₂ cs₂ (answer (at_place 0 (substitute most_degree i (view (held n count radius ks cs))
           (constant n X))))) where
-        pub iteration_refused : {x : Refusal} {y : ℕ} → a.verdict ≡ Refused x y
+        pub iteration_refused : {x : Refusal} {y : ℕ} → a.verdict ≡ Err (refused_at x y)
             → record { low = pos 0; high = pos 0; verdict = a.verdict }
             ≡ bounds (at_place 0 (evaluate (take n xs) (view m₀)))
         unfolding held
         iteration_refused v = ap (λ (v : Verdict). record { low = pos 0; high = pos 0; verdict = v }) q.verdict
             ∙ E.put_refused s inside r z refl (sym q.verdict ∙ v)
 
-        pub iteration_accepted : a.verdict ≡ Accepted → Remaining m₀ xs (i + 1) (held n a.count a.radius ks₂ cs₂)
+        pub iteration_accepted : a.verdict ≡ Ok tt → Remaining m₀ xs (i + 1) (held n a.count a.radius ks₂ cs₂)
         unfolding held
         iteration_accepted v = subst (Remaining m₀ xs (i + 1)) (sym (q.model v))
             (E.put_accepted s inside r z refl (sym q.verdict ∙ v))

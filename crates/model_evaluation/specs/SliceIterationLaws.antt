@@ -12,7 +12,8 @@ use Rattle.calculus.specs.Operations.{limited, constant, multiply, add, largest_
 use Rattle.model_types.specs.declared.Model.{Model}
 use Rattle.model_types.specs.declared.Refusal.{Refusal}
 use Rattle.model_types.specs.declared.Refusal.TheVariants.{TooManyTerms}
-use Rattle.model_types.specs.declared.Verdict.TheVariants.{Accepted, Refused}
+use Rattle.std.specs.Prelude.{Ok, Err}
+use Rattle.model_types.specs.ModelStruct.{refused_at}
 use Rattle.model_types.specs.declared.Answer.{Answer}
 use Rattle.model_types.specs.ModelStruct.{view, pack, answer, refusal}
 use Rattle.model_limits.specs.Limits.{Packed, LeftIn}
@@ -28,7 +29,7 @@ use Rattle.model_evaluation.specs.Evaluate.{Putting, put_iteration, Iterating, I
 use Rattle.model_evaluation.specs.PutCoordinateLaws as P
 
 -- a refusal that is another answer's too
-refused_left : {n : ℕ} {r : Left} {a : Answer} {x : Refusal} {y : ℕ} → r.verdict ≡ Refused x y
+refused_left : {n : ℕ} {r : Left} {a : Answer} {x : Refusal} {y : ℕ} → r.verdict ≡ Err (refused_at x y)
     → r.verdict ≡ a.verdict → (ks : List ℕ) (cs : List ℤ) → LeftIn n r ks cs a
 refused_left v e ks cs = record {
   verdict = e;
@@ -75,15 +76,15 @@ module _ {X : ℤ} {c radius d : ℕ} {ks ks₂ : List ℕ} {cs cs₂ : List ℤ
   -- what is left of it
   module _ {f : Left} (ks₃ : List ℕ) (cs₃ : List ℤ) (l : LeftIn w.vars f ks₃ cs₃ (answer (at_place 0 product)))
     where
-      pub iteration_stops : {x : Refusal} {y : ℕ} → f.verdict ≡ Refused x y → (ks₄ : List ℕ) (cs₄ : List ℤ)
+      pub iteration_stops : {x : Refusal} {y : ℕ} → f.verdict ≡ Err (refused_at x y) → (ks₄ : List ℕ) (cs₄ : List ℤ)
           → LeftIn w.vars f ks₄ cs₄ iterated
       unfolding held
       iteration_stops v ks₄ cs₄ = refused_left v
           (l.verdict ∙ ap (λ (a : Answer). a.verdict) (P.product_refused w.iterating refl (sym l.verdict ∙ v)))
           ks₄ cs₄
 
-      module _ (t : f.verdict ≡ Accepted) where
-        accepts : (answer (at_place 0 product)).verdict ≡ Accepted
+      module _ (t : f.verdict ≡ Ok tt) where
+        accepts : (answer (at_place 0 product)).verdict ≡ Ok tt
         accepts = sym l.verdict ∙ t
 
         pub iteration_operands : Operands (held w.vars f.count f.radius ks₃ cs₃) q
@@ -108,7 +109,7 @@ module _ {X : ℤ} {c radius d : ℕ} {ks ks₂ : List ℕ} {cs cs₂ : List ℤ
 
         module _ {count : ℕ} (ks₄ : List ℕ) (cs₄ : List ℤ)
             (s : SumIn (held w.vars f.count f.radius ks₃ cs₃) q w.vars count ks₄ cs₄) where
-          pub iteration_many : 64 < count → {g : Left} → g.verdict ≡ Refused TooManyTerms 0
+          pub iteration_many : 64 < count → {g : Left} → g.verdict ≡ Err (refused_at TooManyTerms 0)
               → LeftIn w.vars g ks₄ cs₄ iterated
           unfolding answer refusal
           iteration_many m e = refused_left e
@@ -172,13 +173,13 @@ module _ {i : ℕ} {X : ℤ} {count radius : ℕ} {ks : List ℕ} {cs : List ℤ
       module _ (z : 0 < k) {r : Left} (ks₄ : List ℕ) (cs₄ : List ℤ)
           (a : LeftIn w.vars r ks₄ cs₄ (answer (at_place 0 (put_iteration w.vars X
           (view (held w.vars c e ks₂ cs₂)) (view (held w.vars d 0 ks₃ cs₃)))))) where
-        pub put_stops : {x : Refusal} {y : ℕ} → r.verdict ≡ Refused x y → LeftIn w.vars r ks₄ cs₄ whole
+        pub put_stops : {x : Refusal} {y : ℕ} → r.verdict ≡ Err (refused_at x y) → LeftIn w.vars r ks₄ cs₄ whole
         unfolding held
         put_stops v = refused_left v
             (a.verdict ∙ ap (λ (b : Answer). b.verdict)
             (P.iteration_refused w.putting l t z refl (sym a.verdict ∙ v))) ks₄ cs₄
 
-        pub put_goes_on : r.verdict ≡ Accepted
+        pub put_goes_on : r.verdict ≡ Ok tt
             → P.Left i X f (k - 1) (held w.vars r.count r.radius ks₄ cs₄)
         unfolding held
         put_goes_on v = subst (P.Left i X f (k - 1)) (sym (a.model v))

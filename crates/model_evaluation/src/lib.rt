@@ -14,7 +14,7 @@ ghost use Rattle.model_evaluation.specs.Evaluate.{Evaluation, IterationOf, Itera
 use model_horner::Passed;
 use model_limits::Left;
 use model_powers::Powers;
-use model_types::{Bounds, Key, Model, Refusal, Verdict};
+use model_types::{Bounds, Key, Model, Refusal, Refused};
 
 // One iteration of Horner's rule: h times x, then q added. The product goes into the last two slices, the sum into the
 // first two, in which h lay.
@@ -38,7 +38,7 @@ fn put_iteration<'a>(
     let p: Passed = model_horner::scaled(x, c, radius, keys, coefficients, spare, products);
     let product = model_limits::limited_slices(p.count, fixed::round_up(p.error), products);
     let v = product.verdict;
-    let Verdict::Accepted = v else {
+    let Ok(()) = v else {
         return product;
     };
     let e = product.radius;
@@ -56,7 +56,7 @@ fn put_iteration<'a>(
         return Left {
             count: 0,
             radius: 0,
-            verdict: Verdict::Refused(Refusal::TooManyTerms, 0),
+            verdict: Err(Refused(Refusal::TooManyTerms, 0)),
         };
     }
     model_limits::limited_slices(total, e, coefficients)
@@ -86,15 +86,14 @@ fn put_constant<'a>(
         stored.new out.new }
 {
     let p: Powers = model_powers::by_powers(i, count, keys);
-    let mut k = p.largest;
-    let mut c = model_powers::part(i, k, p, count, keys, coefficients, stored, out);
+    let top = p.largest;
+    let mut c = model_powers::part(i, top, p, count, keys, coefficients, stored, out);
     let mut e = 0;
-    while 0 < k {
-        k -= 1;
+    for k in (0..top).rev() {
         let d = model_powers::part(i, k, p, count, keys, coefficients, others, added);
         let iteration = put_iteration(x, c, e, stored, out, d, others, added, spare, products);
         let v = iteration.verdict;
-        let Verdict::Accepted = v else {
+        let Ok(()) = v else {
             return iteration;
         };
         c = iteration.count;
@@ -119,6 +118,7 @@ fn evaluated(m: Model, xs: [i64; model_types::MOST_VARS as usize]) -> Bounds
     let mut added = [0i64; model_types::MOST_TERMS];
     let mut spare = [0u32; model_types::MOST_TERMS];
     let mut products = [0i64; model_types::MOST_TERMS];
+    // `for i in 1..=n` was tried: the proof of what stands after the loop did not close.
     let mut i = 1;
     while i <= n {
         let x = xs[(i - 1) as usize];
@@ -137,7 +137,7 @@ fn evaluated(m: Model, xs: [i64; model_types::MOST_VARS as usize]) -> Bounds
             &mut products,
         );
         let v = a.verdict;
-        let Verdict::Accepted = v else {
+        let Ok(()) = v else {
             return Bounds {
                 low: 0,
                 high: 0,
@@ -150,11 +150,11 @@ fn evaluated(m: Model, xs: [i64; model_types::MOST_VARS as usize]) -> Bounds
         i += 1;
     }
     model_range::range_of(Model {
-        n: n,
-        count: count,
-        radius: radius,
-        keys: keys,
-        coefficients: coefficients,
+        n,
+        count,
+        radius,
+        keys,
+        coefficients,
     })
 }
 
@@ -165,7 +165,7 @@ pub fn evaluate(m: Model, xs: [i64; model_types::MOST_VARS as usize]) -> Bounds
 {
     let v = model_call_tests::at_point(m, xs);
     match v {
-        Verdict::Accepted => evaluated(m, xs),
-        Verdict::Refused(refusal, place) => model_types::refuse_bounds(refusal, place),
+        Ok(()) => evaluated(m, xs),
+        Err(Refused(refusal, place)) => model_types::refuse_bounds(refusal, place),
     }
 }

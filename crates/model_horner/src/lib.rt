@@ -35,23 +35,18 @@ pub fn scaled(
 {
     let mut count = 0;
     let mut error = fixed::magnitude(x) * radius;
-    let mut j = 0;
-    while j < total {
+    for j in 0..total {
         let key = keys[j];
         let c = coefficients[j];
         let new = model_scaling::scaled_coefficient(x, c);
         error += model_scaling::scaled_residual(x, c);
-        j += 1;
         if new != 0 {
             stored[count] = key;
             out[count] = new;
             count += 1;
         }
     }
-    Passed {
-        count: count,
-        error: error,
-    }
+    Passed { count, error }
 }
 
 // The terms that a count names go from two slices into two others.
@@ -61,12 +56,6 @@ pub fn copied(count: usize, keys: &[Key], coefficients: &[i64], stored: &mut [Ke
     ensures { (n radius : ℕ) → held n count radius stored.new out.new
         ≡ held n count radius keys.now coefficients.now }
 {
-    let mut j = 0;
-    while j < count {
-        let key = keys[j];
-        let c = coefficients[j];
-        stored[j] = key;
-        out[j] = c;
-        j += 1;
-    }
+    model_slices::copy_keys(count, keys, stored);
+    model_slices::copy_coefficients(count, coefficients, out);
 }

@@ -13,7 +13,8 @@ use Rattle.calculus.specs.Tests.{vars_sound}
 use Rattle.calculus_laws.specs.SoundLaws.{Canonical, Sound, sound_parts, multiply_sound, add_sound}
 use Rattle.model_types.specs.declared.Model.{Model}
 use Rattle.model_types.specs.declared.Refusal.{Refusal}
-use Rattle.model_types.specs.declared.Verdict.TheVariants.{Accepted, Refused}
+use Rattle.std.specs.Prelude.{Ok, Err}
+use Rattle.model_types.specs.ModelStruct.{refused_at}
 use Rattle.model_types.specs.declared.Answer.{Answer}
 use Rattle.model_types.specs.declared.Shares.{Shares}
 use Rattle.model_types.specs.declared.Accounted.{Accounted}
@@ -28,11 +29,11 @@ use Rattle.model_types.specs.ResultLaws.{sound_order, held_view, held_sound, hel
 -- ---- answers with shares
 -- where an answer is refused, what would follow it is refused with it, and all shares are zeros
 pub refused_accounted : {r : Accounted} {x : Refusal} {y : ℕ} (a : R.Answer C.Model) (f s : C.Model → S.Shares)
-    (k : C.Model → R.Answer C.Model) → r.answer.verdict ≡ Refused x y → r ≡ accounted a f
+    (k : C.Model → R.Answer C.Model) → r.answer.verdict ≡ Err (refused_at x y) → r ≡ accounted a f
     → r ≡ accounted (a then k) s
 unfolding accounted answer at_place ◌then◌ shares_of
 refused_accounted {r} (accepted m) f s k v e =
-    let t : r.answer.verdict ≡ Accepted = ap (λ (r : Accounted). r.answer.verdict) e in
+    let t : r.answer.verdict ≡ Ok tt = ap (λ (r : Accounted). r.answer.verdict) e in
     let z : ◌≡◌ {A = ℕ} 0 1 = cc in absurd (omega arith)
 refused_accounted (refused q) f s k v e = e
 
@@ -73,13 +74,13 @@ module _ {d : ℕ} {h g q : Model} (s : Iteration d h g q) where
     abbrev plus : C.Model → R.Answer C.Model
     plus p = add p (view q)
 
-    pub product_refused : {x : Refusal} {y : ℕ} → r.answer.verdict ≡ Refused x y
+    pub product_refused : {x : Refusal} {y : ℕ} → r.answer.verdict ≡ Err (refused_at x y)
         → r ≡ accounted (horner_iteration d (view h) (view g) (view q)) (λ m. shares)
     unfolding horner_iteration
     product_refused v = refused_accounted product (λ m. shares) (λ m. shares) plus v e
 
     -- ---- the sum
-    module _ (v : r.answer.verdict ≡ Accepted) where
+    module _ (v : r.answer.verdict ≡ Ok tt) where
       p : Got h.n d product r.answer.model
       p = got (accounted_answer product (λ m. shares) e) v (multiply_sound h.n d (view h) (view g) first second)
 

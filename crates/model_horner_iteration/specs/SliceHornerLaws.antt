@@ -8,7 +8,8 @@ use Rattle.calculus.specs.Shares.{product_shares}
 use Rattle.model_types.specs.declared.Model.{Model}
 use Rattle.model_types.specs.declared.Refusal.{Refusal}
 use Rattle.model_types.specs.declared.Refusal.TheVariants.{TooManyTerms}
-use Rattle.model_types.specs.declared.Verdict.TheVariants.{Accepted, Refused}
+use Rattle.std.specs.Prelude.{Ok, Err}
+use Rattle.model_types.specs.ModelStruct.{refused_at}
 use Rattle.model_types.specs.declared.Answer.{Answer}
 use Rattle.model_types.specs.declared.Shares.{Shares}
 use Rattle.model_types.specs.declared.Accounted.{Accounted}
@@ -24,7 +25,7 @@ use Rattle.model_horner_iteration.specs.HornerIteration.{FactorsOf, IterationOf}
 use Rattle.model_horner_iteration.specs.IterationLaws.{product_refused, product_operands, sum_accounted}
 
 -- a refusal that is another answer's too
-refused_kept : {n : ℕ} {k : Kept} {a : Accounted} {x : Refusal} {y : ℕ} → k.verdict ≡ Refused x y
+refused_kept : {n : ℕ} {k : Kept} {a : Accounted} {x : Refusal} {y : ℕ} → k.verdict ≡ Err (refused_at x y)
     → k.verdict ≡ a.answer.verdict → k.shares ≡ a.shares → (ks : List ℕ) (cs : List ℤ) → KeptIn n k ks cs a
 refused_kept v e s ks cs = record {
   verdict = e;
@@ -64,15 +65,15 @@ module _ {d n c e count radius t : ℕ} {ks ks₂ ks₃ : List ℕ} {cs cs₂ cs
     abbrev made : Model
     made = held n k.count k.radius ks₄ cs₄
 
-    pub iteration_stops : {x : Refusal} {y : ℕ} → k.verdict ≡ Refused x y → (ks₅ : List ℕ) (cs₅ : List ℤ)
+    pub iteration_stops : {x : Refusal} {y : ℕ} → k.verdict ≡ Err (refused_at x y) → (ks₅ : List ℕ) (cs₅ : List ℤ)
         → KeptIn n k ks₅ cs₅ iterated
     iteration_stops v ks₅ cs₅ =
         let same = product_refused w refl (sym p.verdict ∙ v) in
         refused_kept v (p.verdict ∙ ap (λ (a : Accounted). a.answer.verdict) same)
         (p.shares ∙ ap (λ (a : Accounted). a.shares) same) ks₅ cs₅
 
-    module _ (v : k.verdict ≡ Accepted) where
-      accepts : product.answer.verdict ≡ Accepted
+    module _ (v : k.verdict ≡ Ok tt) where
+      accepts : product.answer.verdict ≡ Ok tt
       accepts = sym p.verdict ∙ v
 
       pub iteration_operands : Operands made q
@@ -97,7 +98,7 @@ module _ {d n c e count radius t : ℕ} {ks ks₂ ks₃ : List ℕ} {cs cs₂ cs
           (ap (unless_refused sum.verdict) p.shares)
 
       module _ {total : ℕ} (ks₅ : List ℕ) (cs₅ : List ℤ) (s : SumIn made q n total ks₅ cs₅) where
-        pub iteration_many : 64 < total → {r : Kept} → r.verdict ≡ Refused TooManyTerms 0
+        pub iteration_many : 64 < total → {r : Kept} → r.verdict ≡ Err (refused_at TooManyTerms 0)
             → r.shares ≡ unless_refused r.verdict k.shares → KeptIn n r ks₅ cs₅ iterated
         unfolding answer refusal
         iteration_many m {r = r} u z =

@@ -12,7 +12,7 @@ ghost use Rattle.model_horner_iteration.specs.HornerIteration.{horner_iteration,
 ghost use Rattle.model_horner_iteration.specs.HornerIteration.{KeptIn};
 
 use model_slices::Kept;
-use model_types::{Key, Refusal, Shares, Verdict};
+use model_types::{Key, Refusal, Refused, Shares};
 
 // h times g with order d, then q added, with the shares of the product, whose radius the sum keeps. The sum goes into
 // the slices in which h lay; the last two are at hand for the product's terms, and the table for the product.
@@ -66,7 +66,7 @@ pub fn iterated<'a>(
         products,
     );
     let v = k.verdict;
-    let Verdict::Accepted = v else {
+    let Ok(()) = v else {
         return k;
     };
     let kept = k.shares;
@@ -85,7 +85,7 @@ pub fn iterated<'a>(
             count: 0,
             radius: 0,
             shares: Shares::ZERO,
-            verdict: Verdict::Refused(Refusal::TooManyTerms, 0),
+            verdict: Err(Refused(Refusal::TooManyTerms, 0)),
         };
     }
     let left = model_limits::limited_slices(total, k.radius, coefficients1);

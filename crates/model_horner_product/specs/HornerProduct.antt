@@ -1,6 +1,6 @@
 -- A product in Horner's rule, of models that lie in slices: what it asks, and what it leaves.
 use Rattle.std.specs.Prelude.{◌≡◌, List, ℕ, ℤ}
-use Rattle.model_types.specs.declared.Verdict.TheVariants.{Accepted}
+use Rattle.std.specs.Prelude.{Ok}
 use Rattle.model_types.specs.declared.Accounted.{Accounted}
 use Rattle.model_slices.specs.declared.Kept.{Kept}
 use Rattle.model_slices.specs.HeldModels.{held, Room}
@@ -18,4 +18,4 @@ pub record FactorsOf (d n c e : ℕ) (ks : List ℕ) (cs : List ℤ) (count radi
 pub record KeptIn (n : ℕ) (k : Kept) (ks : List ℕ) (cs : List ℤ) (a : Accounted) : Type 0 where
   pub verdict : k.verdict ≡ a.answer.verdict
   pub shares : k.shares ≡ a.shares
-  pub model : k.verdict ≡ Accepted → held n k.count k.radius ks cs ≡ a.answer.model
+  pub model : k.verdict ≡ Ok tt → held n k.count k.radius ks cs ≡ a.answer.model

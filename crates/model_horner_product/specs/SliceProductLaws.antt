@@ -11,7 +11,8 @@ use Rattle.calculus.specs.Shares.{product_shares}
 use Rattle.model_types.specs.declared.Term.{Term}
 use Rattle.model_types.specs.declared.Model.{Model}
 use Rattle.model_types.specs.declared.Refusal.{Refusal}
-use Rattle.model_types.specs.declared.Verdict.TheVariants.{Accepted, Refused}
+use Rattle.std.specs.Prelude.{Ok, Err}
+use Rattle.model_types.specs.ModelStruct.{refused_at}
 use Rattle.model_types.specs.declared.Accounted.{Accounted}
 use Rattle.model_types.specs.ModelStruct.{view, pad, of_terms}
 use Rattle.model_types.specs.ModelStructLaws.{limits}
@@ -90,7 +91,7 @@ terms_back (t ∷ m) k z = ap (λ (r : List Term). t ∷ r) (terms_back m k z)
 module _ (n : ℕ) {k : Kept} {kept : List ℕ} {rounded : List ℤ} (ready : KeptReady k kept rounded)
     {a : Accounted} (e : kept_accounted n k kept rounded ≡ a) where
   -- of a refused one no terms are stored
-  pub product_stops : {x : Refusal} {y : ℕ} → k.verdict ≡ Refused x y → (ks : List ℕ) (cs : List ℤ)
+  pub product_stops : {x : Refusal} {y : ℕ} → k.verdict ≡ Err (refused_at x y) → (ks : List ℕ) (cs : List ℤ)
       → KeptIn n k ks cs a
   unfolding kept_accounted
   product_stops v ks cs = record {
@@ -99,7 +100,7 @@ module _ (n : ℕ) {k : Kept} {kept : List ℕ} {rounded : List ℤ} (ready : Ke
     model = λ t. let z : ◌≡◌ {A = ℕ} 0 1 = cc in absurd (omega arith);
   }
 
-  module _ (v : k.verdict ≡ Accepted) {ks : List ℕ} {cs : List ℤ} (ks₂ : List ℕ) (cs₂ : List ℤ)
+  module _ (v : k.verdict ≡ Ok tt) {ks : List ℕ} {cs : List ℤ} (ks₂ : List ℕ) (cs₂ : List ℤ)
       (ks_are : ks ≡ over (narrow_keys (terms k.count kept rounded)) ks₂)
       (cs_are : cs ≡ over (narrow_coefficients (terms k.count kept rounded)) cs₂) where
     abbrev stored : List Term

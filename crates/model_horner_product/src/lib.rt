@@ -12,7 +12,7 @@ ghost use Rattle.product_slices.specs.product_room.ProductTerms.{ScratchRoom};
 ghost use Rattle.model_horner_product.specs.HornerProduct.{FactorsOf, KeptIn};
 
 use model_slices::Kept;
-use model_types::{Key, Verdict};
+use model_types::Key;
 
 // Handed on: crates above name these through this crate.
 pub use product_slices;
@@ -65,7 +65,7 @@ pub fn product(
         &mut rounded,
     );
     let v = k.verdict;
-    let Verdict::Accepted = v else {
+    let Ok(()) = v else {
         return k;
     };
     product_answer::store_first(k.count, &kept, &rounded, stored, out);

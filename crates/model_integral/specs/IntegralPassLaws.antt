@@ -1,6 +1,6 @@
 -- A loop that adds up what the terms with even exponents give, of a model that lies in slices.
 use Rattle.std.specs.Prelude.{◌≡◌, Bool, true, false, List, ℕ, ◌+◌, ◌≤◌, ◌<◌, ℤ, pos, ◌+ℤ◌, length, get_or}
-use Rattle.std.proofs.Common.{sym, ◌∙◌, ap₂}
+use Rattle.std.proofs.Common.{sym, ◌∙◌}
 use Rattle.std.proofs.Math.Path.{ap, subst}
 use native.Mathlib.Omega.{arith}
 use Rattle.std.proofs.Math.Dec.{T}

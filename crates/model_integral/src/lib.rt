@@ -16,7 +16,7 @@ ghost use Rattle.model_integral.specs.Rounding.{rule};
 ghost use Rattle.model_integral.specs.IntegralParts.{most_parts, exact_integral};
 ghost use Rattle.model_integral.specs.IntegralTerms.{TermsIn};
 
-use model_types::{Bounds, Integral, Key, Model, Verdict};
+use model_types::{Bounds, Integral, Key, Model};
 
 // The common denominator: a multiple of the product of (exponent + 1) of every even term.
 const DENOMINATOR: u64 = 212837625;
@@ -52,11 +52,9 @@ fn integral_parts(n: u8, count: usize, keys: &[Key], coefficients: &[i64]) -> i6
 {
     let scale = volume(n);
     let mut total: i64 = 0;
-    let mut i = 0;
-    while i < count {
+    for i in 0..count {
         let key = keys[i];
         let c = coefficients[i];
-        i += 1;
         if model_keys::all_even(key) {
             total = fixed::sum(total, parts(scale, key, c));
         }
@@ -96,11 +94,11 @@ fn exact(n: u8, count: usize, radius: u64, keys: &[Key], coefficients: &[i64]) -
     let low = fixed::difference(quotient, around);
     let high = fixed::sum(fixed::sum(quotient, around), above);
     Integral {
-        low: low,
-        high: high,
-        quotient: quotient,
-        remainder: remainder,
-        verdict: Verdict::Accepted,
+        low,
+        high,
+        quotient,
+        remainder,
+        verdict: Ok(()),
     }
 }
 
@@ -138,11 +136,9 @@ fn integral_sum(up: bool, n: u8, count: usize, keys: &[Key], coefficients: &[i64
 {
     let scale = fixed::signed(volume(n));
     let mut total: i64 = 0;
-    let mut i = 0;
-    while i < count {
+    for i in 0..count {
         let key = keys[i];
         let c = coefficients[i];
-        i += 1;
         if model_keys::all_even(key) {
             total = fixed::sum(total, share(up, scale, key, c));
         }
@@ -161,7 +157,7 @@ fn term_by_term(n: u8, count: usize, radius: u64, keys: &[Key], coefficients: &[
     Bounds {
         low: fixed::difference(integral_sum(false, n, count, keys, coefficients), around),
         high: fixed::sum(integral_sum(true, n, count, keys, coefficients), around),
-        verdict: Verdict::Accepted,
+        verdict: Ok(()),
     }
 }
 
@@ -188,24 +184,8 @@ pub fn integral_slices(
         high: b.high,
         quotient: 0,
         remainder: 0,
-        verdict: Verdict::Accepted,
+        verdict: Ok(()),
     }
-}
-
-// The same for two slices of one lifetime, at which a struct lends its arrays.
-fn integral_arrays<'a>(
-    n: u8,
-    count: usize,
-    radius: u64,
-    keys: &'a [Key],
-    coefficients: &'a [i64],
-) -> Integral
-    requires places { Places count keys.now coefficients.now }
-    requires t { T (sound most_degree (view (held n count radius keys.now coefficients.now))) }
-    ensures { result ≡ integral_answer (done (whole_integral
-        (view (held n count radius keys.now coefficients.now)))) }
-{
-    integral_slices(n, count, radius, keys, coefficients)
 }
 
 // Of a struct.
@@ -213,5 +193,5 @@ pub fn integral_of(m: Model) -> Integral
     requires { T (sound most_degree (view m)) }
     ensures { result ≡ integral_answer (done (whole_integral (view m))) }
 {
-    integral_arrays(m.n, m.count, m.radius, &m.keys, &m.coefficients)
+    integral_slices(m.n, m.count, m.radius, &m.keys, &m.coefficients)
 }

@@ -7,7 +7,8 @@ use Rattle.calculus.specs.Model.{span}
 use Rattle.calculus.specs.Refusal.{at_place}
 use Rattle.calculus.specs.Operations.{limited}
 use Rattle.model_slices.specs.model_types.declared.Refusal.TheVariants.{OverSpan}
-use Rattle.model_slices.specs.model_types.declared.Verdict.TheVariants.{Accepted, Refused}
+use Rattle.std.specs.Prelude.{Ok, Err}
+use Rattle.model_slices.specs.model_types.ModelStruct.{refused_at}
 use Rattle.model_slices.specs.model_types.declared.Answer.{Answer}
 use Rattle.model_slices.specs.model_types.ModelStruct.{view, answer, refusal}
 use Rattle.model_slices.specs.HeldModels.{held}
@@ -20,14 +21,14 @@ module _ (n count radius : ℕ) (ks : List ℕ) (cs : List ℤ) (p : Packed (hel
   tested = answer (at_place 0 (limited (view (held n count radius ks cs))))
 
   pub left_within : leb (span (view (held n count radius ks cs))) span_limit ≡ true
-      → LeftIn n (record { count = count; radius = radius; verdict = Accepted }) ks cs tested
+      → LeftIn n (record { count = count; radius = radius; verdict = Ok tt }) ks cs tested
   left_within h = record {
     verdict = ap (λ (a : Answer). a.verdict) (sym (answer_within _ p h));
     model = λ v. ap (λ (a : Answer). a.model) (sym (answer_within _ p h));
   }
 
   pub left_over : leb (span (view (held n count radius ks cs))) span_limit ≡ false → {r : Left}
-      → r.verdict ≡ Refused OverSpan 0 → LeftIn n r ks cs tested
+      → r.verdict ≡ Err (refused_at OverSpan 0) → LeftIn n r ks cs tested
   unfolding answer refusal
   left_over h e = record {
     verdict = e ∙ ap (λ (a : Answer). a.verdict) (sym (answer_over _ p h));

@@ -14,7 +14,7 @@ use Rattle.calculus.specs.Model.{most_terms, fits, span}
 use Rattle.calculus.specs.Refusal.{accepted, refused, over_span, too_many_terms, require, stopped, at_place}
 use Rattle.calculus.specs.Operations.{limited}
 use Rattle.model_slices.specs.model_types.declared.Model.{Model}
-use Rattle.model_slices.specs.model_types.declared.Verdict.TheVariants.{Accepted}
+use Rattle.std.specs.Prelude.{Ok}
 use Rattle.model_slices.specs.model_types.ModelStruct.{zero_term, view, pack, answer, listed}
 use Rattle.model_slices.specs.model_types.ModelStructLaws.{read, size_more, length_view, view_is, view_pack}
 use Rattle.model_limits.specs.Limits.{Packed}
@@ -104,7 +104,7 @@ module _ (m : Model) (p : Packed m) where
   at_most = omega (arith, length_view m, p.few)
 
   pub answer_within : leb (span (view m)) span_limit ≡ true
-      → answer (at_place 0 (limited (view m))) ≡ record { model = m; verdict = Accepted }
+      → answer (at_place 0 (limited (view m))) ≡ record { model = m; verdict = Ok tt }
   unfolding at_place answer require
   answer_within h = rw (limited_few (view m) at_most, h, p.packed)
 

@@ -3,7 +3,7 @@ use Rattle.std.specs.Prelude.{◌≡◌, List, ℕ, ◌≤◌, ℤ}
 use Rattle.calculus.specs.Model.{most_terms}
 use Rattle.model_slices.specs.model_types.declared.Model.{Model}
 use Rattle.model_slices.specs.model_types.declared.Answer.{Answer}
-use Rattle.model_slices.specs.model_types.declared.Verdict.TheVariants.{Accepted}
+use Rattle.std.specs.Prelude.{Ok}
 use Rattle.model_slices.specs.model_types.ModelStruct.{view, pack}
 use Rattle.model_slices.specs.HeldModels.{held}
 use Rattle.model_limits.specs.declared.Left.{Left}
@@ -16,4 +16,4 @@ pub record Packed (m : Model) : Type 0 where
 -- an answer of which the terms lie in slices: its verdict, and unless it is refused its model
 pub record LeftIn (n : ℕ) (r : Left) (ks : List ℕ) (cs : List ℤ) (a : Answer) : Type 0 where
   pub verdict : r.verdict ≡ a.verdict
-  pub model : r.verdict ≡ Accepted → held n r.count r.radius ks cs ≡ a.model
+  pub model : r.verdict ≡ Ok tt → held n r.count r.radius ks cs ≡ a.model

@@ -11,7 +11,7 @@ ghost use Rattle.model_slices.specs.HeldModels.{model_places, held, Room};
 ghost use Rattle.model_limits.specs.Limits.{Packed, LeftIn};
 
 use model_slices::model_types;
-use model_slices::model_types::{Answer, Model, Refusal, Verdict};
+use model_slices::model_types::{Answer, Model, Refusal, Refused, Verdict};
 
 // What is left of a model whose terms lie in two slices, or the refusal.
 #[derive(Clone, Copy)]
@@ -28,11 +28,9 @@ pub fn within(count: usize, radius: u64, coefficients: &[i64]) -> bool
         → result ≡ leb (span (view (held n count radius ks coefficients.now))) span_limit }
 {
     let mut span = radius;
-    let mut j = 0;
-    while j < count {
+    for j in 0..count {
         let c = coefficients[j];
         span = fixed::capped_sum(span, fixed::magnitude(c));
-        j += 1;
     }
     fixed::within_span(span)
 }
@@ -46,7 +44,7 @@ pub fn limited(m: Model) -> Answer
     if within(m.count, m.radius, &m.coefficients) {
         return Answer {
             model: m,
-            verdict: Verdict::Accepted,
+            verdict: Ok(()),
         };
     }
     model_types::refuse(Refusal::OverSpan, 0)
@@ -62,15 +60,15 @@ pub fn limited_slices(count: usize, radius: u64, coefficients: &[i64]) -> Left
 {
     if within(count, radius, coefficients) {
         return Left {
-            count: count,
-            radius: radius,
-            verdict: Verdict::Accepted,
+            count,
+            radius,
+            verdict: Ok(()),
         };
     }
     Left {
         count: 0,
         radius: 0,
-        verdict: Verdict::Refused(Refusal::OverSpan, 0),
+        verdict: Err(Refused(Refusal::OverSpan, 0)),
     }
 }
 
@@ -80,13 +78,8 @@ pub fn widened(m: Model, e: u64) -> Answer
     requires { Packed m }
     ensures { result ≡ answer (at_place 0 (widen e (view m))) }
 {
-    let keys = m.keys;
-    let coefficients = m.coefficients;
     limited(Model {
-        n: m.n,
-        count: m.count,
         radius: fixed::capped_sum(m.radius, e),
-        keys: keys,
-        coefficients: coefficients,
+        ..m
     })
 }

@@ -1,6 +1,5 @@
 // The product of two models, in scratch memory or in room of its own: the product of models in slices borrows the
-// arrays of both. (Keys are copied before: `&` of two fields of one struct is not covered by the borrow checker where
-// the callee takes them at two lifetimes.)
+// arrays of both.
 #![tactic(auto)]
 
 ghost use Rattle.std.specs.Prelude.{◌≡◌, ◌*◌};
@@ -30,18 +29,16 @@ pub fn multiplied_accounted(
     requires scratch_room { ScratchRoom (f.count * g.count) slots.old keys.old sums.old }
     ensures { result ≡ accounted (multiply d (view f) (view g)) (λ m. product_shares d (view f) (view g)) }
 {
-    let keys1 = f.keys;
-    let keys2 = g.keys;
     product_slices::multiplied_slices_accounted(
         d,
         f.n,
         f.count,
         f.radius,
-        &keys1,
+        &f.keys,
         &f.coefficients,
         g.count,
         g.radius,
-        &keys2,
+        &g.keys,
         &g.coefficients,
         slots,
         keys,
@@ -74,18 +71,16 @@ pub fn multiplied_alone(d: u8, f: Model, g: Model) -> Answer
 {
     let mut kept = [0u64; model_types::MOST_TERMS + 1];
     let mut coefficients = [0i64; model_types::MOST_TERMS + 1];
-    let keys1 = f.keys;
-    let keys2 = g.keys;
     let k = product_slices::multiplied_slices_alone(
         d,
         f.n,
         f.count,
         f.radius,
-        &keys1,
+        &f.keys,
         &f.coefficients,
         g.count,
         g.radius,
-        &keys2,
+        &g.keys,
         &g.coefficients,
         &mut kept,
         &mut coefficients,

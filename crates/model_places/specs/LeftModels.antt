@@ -3,8 +3,9 @@ use Rattle.std.specs.Prelude.{◌≡◌, List, ℕ, T, ℤ, pos, replicate}
 use Rattle.calculus.specs.Model.{most_degree, most_terms, sound, zero_model}
 use Rattle.model_types.specs.declared.Model.{Model}
 use Rattle.model_types.specs.declared.Answer.{Answer}
-use Rattle.model_types.specs.declared.Verdict.{Verdict}
-use Rattle.model_types.specs.declared.Verdict.TheVariants.{Accepted, Refused}
+use Rattle.model_types.specs.ModelStruct.{Verdict}
+use Rattle.std.specs.Prelude.{Ok, Err}
+use Rattle.model_types.specs.ModelStruct.{refused_at}
 use Rattle.model_types.specs.ModelStruct.{view, pack}
 use Rattle.model_limits.specs.model_slices.HeldModels.{held}
 use Rattle.model_limits.specs.declared.Left.{Left}
@@ -27,8 +28,8 @@ left_model n l ks cs = record { n = n; count = l.count; radius = l.radius; keys 
 
 -- a model, or beside a refusal the zero model
 unfoldable pub unless_refused : Verdict → Model → Model
-unless_refused Accepted m = m
-unless_refused (Refused r i) m = pack (zero_model 1)
+unless_refused (Ok u) m = m
+unless_refused (Err r) m = pack (zero_model 1)
 
 -- the answer
 unfoldable pub left_answer : (n : ℕ) → Left → List ℕ → List ℤ → Answer

@@ -13,8 +13,9 @@ use Rattle.model_types.specs.declared.Term.{Term}
 use Rattle.model_types.specs.declared.Model.{Model}
 use Rattle.model_types.specs.declared.Answer.{Answer}
 use Rattle.model_types.specs.declared.Refusal.{Refusal}
-use Rattle.model_types.specs.declared.Verdict.{Verdict}
-use Rattle.model_types.specs.declared.Verdict.TheVariants.{Accepted, Refused}
+use Rattle.model_types.specs.ModelStruct.{Verdict}
+use Rattle.std.specs.Prelude.{Ok, Err}
+use Rattle.model_types.specs.ModelStruct.{refused_at}
 use Rattle.model_types.specs.Arrays.{padded}
 use Rattle.model_types.specs.ModelStruct.{view, pad, pack, answer, cause, paired, listed}
 use Rattle.model_types.specs.ModelStructLaws.{Limits, limits, within_span, refusal_cause}
@@ -26,7 +27,7 @@ use Rattle.model_places.specs.SlicePlacesLaws.{room_places, places_long, places_
 
 module _ (n : ℕ) (l : Left) (ks : List ℕ) (cs : List ℤ) where
   -- an accepted one
-  pub left_accepted : l.verdict ≡ Accepted → (m : C.Model) → left_model n l ks cs ≡ pack m
+  pub left_accepted : l.verdict ≡ Ok tt → (m : C.Model) → left_model n l ks cs ≡ pack m
       → left_answer n l ks cs ≡ answer (done m)
   unfolding left_answer unless_refused answer
   left_accepted v m e = rw (v, e)
@@ -36,12 +37,12 @@ module _ (n : ℕ) (l : Left) (ks : List ℕ) (cs : List ℤ) where
   unfolding left_answer answer
   left_done m e = kept (ap (λ (a : Answer). a.verdict) e) (ap (λ (a : Answer). a.model) e)
     where
-      kept : l.verdict ≡ Accepted → unless_refused l.verdict (left_model n l ks cs) ≡ pack m
+      kept : l.verdict ≡ Ok tt → unless_refused l.verdict (left_model n l ks cs) ≡ pack m
           → left_model n l ks cs ≡ pack m
       kept v p = sym (ap (λ v. unless_refused v (left_model n l ks cs)) v ∙ (unfold unless_refused in refl)) ∙ p
 
   -- a refused one
-  pub left_refused : (r : Refusal) (i : ℕ) → l.verdict ≡ Refused r i
+  pub left_refused : (r : Refusal) (i : ℕ) → l.verdict ≡ Err (refused_at r i)
       → left_answer n l ks cs ≡ answer (stopped (cause r) i)
   unfolding left_answer unless_refused answer
   left_refused r i v = rw (v, refusal_cause r)

@@ -1,7 +1,7 @@
 // A model by the powers of one of its variables: the largest exponent, and what multiplies each power.
 #![tactic(auto)]
 
-ghost use Rattle.std.specs.Prelude.{◌≡◌, ◌<◌, max};
+ghost use Rattle.std.specs.Prelude.{◌≡◌, ◌<◌};
 ghost use Rattle.calculus.specs.Operations.{largest_exponent, part};
 ghost use Rattle.model_types.specs.ModelStruct.{view, pack};
 ghost use Rattle.model_slices.specs.HeldModels.{held, Room};
@@ -11,13 +11,6 @@ use model_types::Key;
 
 // The exponents that a key has room for.
 pub const EXPONENTS: usize = 16;
-
-// The larger of two.
-fn larger(a: u32, b: u32) -> u32
-    ensures { result ≡ max a b }
-{
-    if a < b { b } else { a }
-}
 
 // The terms of a model by their exponents of variable i, as chains of places: the first term of each power, and after
 // each term the next one of the same power, or the number of terms where there is none.
@@ -38,24 +31,22 @@ pub fn by_powers(i: u8, count: usize, keys: &[Key]) -> Powers
         (view (held w.vars count w.radius keys.now w.coefficients)).terms }
 {
     let none = count as u8;
-    let mut largest = 0;
+    let mut largest: u32 = 0;
     let mut first = [none; EXPONENTS];
     let mut next = [0u8; model_types::MOST_TERMS];
-    let mut j = count;
-    while 0 < j {
-        j -= 1;
+    for j in (0..count).rev() {
         let k = keys[j];
         let exponent = model_keys::exponent_of(k, i);
         let e = exponent as usize;
         let after = first[e];
         next[j] = after;
         first[e] = j as u8;
-        largest = larger(largest, exponent);
+        largest = largest.max(exponent);
     }
     Powers {
-        largest: largest,
-        first: first,
-        next: next,
+        largest,
+        first,
+        next,
     }
 }
 
@@ -80,6 +71,7 @@ pub fn part<'a>(
 {
     let mut count = 0;
     let mut j = p.first[k as usize] as usize;
+    // No range counts this loop: each term of a part names the next.
     while j < total {
         let key = keys[j];
         let c = coefficients[j];

@@ -18,7 +18,8 @@ use Rattle.calculus_laws.specs.SoundLaws.{Sound, sound_parts, multiply_sound, su
 use Rattle.calculus_laws.specs.SoundLaws.{constant_sound, one_constant}
 use Rattle.model_types.specs.declared.Model.{Model}
 use Rattle.model_types.specs.declared.Refusal.{Refusal}
-use Rattle.model_types.specs.declared.Verdict.TheVariants.{Accepted, Refused}
+use Rattle.std.specs.Prelude.{Ok, Err}
+use Rattle.model_types.specs.ModelStruct.{refused_at}
 use Rattle.model_types.specs.declared.Answer.{Answer}
 use Rattle.model_types.specs.ModelStruct.{view, pack, answer}
 use Rattle.model_types.specs.ModelStructLaws.{sound_vars}
@@ -77,12 +78,12 @@ module _ {d : ℕ} {f g h : Model} (s : Gap d f g h) where
       product_is : r ≡ answer (at_place 0 (multiply d (view g) (bare (view h))))
       product_is = t ∙ ap (λ c. answer (at_place 0 (multiply d (view g) c))) e
 
-      pub gap_refused : {x : Refusal} {y : ℕ} → r.verdict ≡ Refused x y
+      pub gap_refused : {x : Refusal} {y : ℕ} → r.verdict ≡ Err (refused_at x y)
           → r ≡ answer (at_place 0 (gap d (view f) (view g) (view h)))
       unfolding gap
       gap_refused v = refused_then (multiply d (view g) (bare (view h))) less v product_is
 
-      module _ (v : r.verdict ≡ Accepted) where
+      module _ (v : r.verdict ≡ Ok tt) where
         pub gap_operands : Operands r.model f
         gap_operands = record {
           first = sound_order d _ s.order
@@ -118,12 +119,12 @@ module _ {d : ℕ} {f g h w : Model} (s : Proposal d f g h w) where
     abbrev times : C.Model → R.Answer C.Model
     times = multiply d (bare (view w))
 
-    pub defect_refused : {x : Refusal} {y : ℕ} → r.verdict ≡ Refused x y
+    pub defect_refused : {x : Refusal} {y : ℕ} → r.verdict ≡ Err (refused_at x y)
         → r ≡ answer (at_place 0 (defect d (view f) (view g) (view h) (view w)))
     unfolding gap defect
     defect_refused v = refused_then (gap d (view f) (view g) (view h)) times v t
 
-    module _ (v : r.verdict ≡ Accepted) (b : Model) (e : view b ≡ bare (view w)) where
+    module _ (v : r.verdict ≡ Ok tt) (b : Model) (e : view b ≡ bare (view w)) where
       pub defect_factors : Factors d b r.model
       defect_factors = record {
         order = s.order;
@@ -171,12 +172,12 @@ module _ {d : ℕ} {g w : Model} (s : Factors d w g) where
       factor_is : r ≡ answer (at_place 0 (multiply d (bare (view w)) (view g)))
       factor_is = t ∙ ap (λ c. answer (at_place 0 (multiply d c (view g)))) e
 
-      pub deviation_refused : {x : Refusal} {y : ℕ} → r.verdict ≡ Refused x y
+      pub deviation_refused : {x : Refusal} {y : ℕ} → r.verdict ≡ Err (refused_at x y)
           → r ≡ answer (at_place 0 (deviation d (view g) (view w)))
       unfolding deviation
       deviation_refused v = refused_then (multiply d (bare (view w)) (view g)) from_one v factor_is
 
-      module _ (v : r.verdict ≡ Accepted) {u : Model} (k : u ≡ pack (one_model g.n)) where
+      module _ (v : r.verdict ≡ Ok tt) {u : Model} (k : u ≡ pack (one_model g.n)) where
         one_holds : Holds g.n d u (one_model g.n)
         one_holds = record { packed = k; sound = one_sound }
 

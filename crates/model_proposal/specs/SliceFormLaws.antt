@@ -11,7 +11,8 @@ use Rattle.calculus.specs.Refusal.{at_place}
 use Rattle.calculus.specs.Operations.{subtract, multiply, bare, defect, deviation}
 use Rattle.model_types.specs.declared.Model.{Model}
 use Rattle.model_types.specs.declared.Refusal.{Refusal}
-use Rattle.model_types.specs.declared.Verdict.TheVariants.{Accepted, Refused}
+use Rattle.std.specs.Prelude.{Ok, Err}
+use Rattle.model_types.specs.ModelStruct.{refused_at}
 use Rattle.model_types.specs.declared.Answer.{Answer}
 use Rattle.model_types.specs.Arrays.{padded}
 use Rattle.model_types.specs.ModelStruct.{view, pack, pack_term, answer}
@@ -40,7 +41,7 @@ handed_bare n count radius ks cs = refl
 -- ---- an answer whose terms lie in slices
 module _ {n : ℕ} {k : Left} {ks : List ℕ} {cs : List ℤ} {a : Answer} (p : LeftIn n k ks cs a) where
   -- a refusal that is another answer's too
-  pub left_stops : {b : Answer} {x : Refusal} {y : ℕ} → k.verdict ≡ Refused x y → a ≡ b
+  pub left_stops : {b : Answer} {x : Refusal} {y : ℕ} → k.verdict ≡ Err (refused_at x y) → a ≡ b
       → (ks₂ : List ℕ) (cs₂ : List ℤ) → LeftIn n k ks₂ cs₂ b
   left_stops v e ks₂ cs₂ = record {
     verdict = p.verdict ∙ ap (λ (a : Answer). a.verdict) e;
@@ -48,7 +49,7 @@ module _ {n : ℕ} {k : Left} {ks : List ℕ} {cs : List ℤ} {a : Answer} (p : 
   }
 
   -- an accepted one that is sound
-  module _ (v : k.verdict ≡ Accepted) (s : T (sound most_degree (view a.model))) where
+  module _ (v : k.verdict ≡ Ok tt) (s : T (sound most_degree (view a.model))) where
     pub left_sound : T (sound most_degree (view (held n k.count k.radius ks cs)))
     left_sound = subst (λ m. T (sound most_degree (view m))) (sym (p.model v)) s
 
@@ -67,7 +68,7 @@ module _ (n cf ef : ℕ) (ksf : List ℕ) (csf : List ℤ) (long : (cf ≤ lengt
   abbrev gap_is : Answer
   gap_is = answer (at_place 0 (gap d (view (handed n cf ef ksf csf)) (view g) (view h)))
 
-  pub gap_stops : {x : Refusal} {y : ℕ} → k.verdict ≡ Refused x y → (ks₂ : List ℕ) (cs₂ : List ℤ)
+  pub gap_stops : {x : Refusal} {y : ℕ} → k.verdict ≡ Err (refused_at x y) → (ks₂ : List ℕ) (cs₂ : List ℤ)
       → LeftIn n k ks₂ cs₂ gap_is
   gap_stops v = left_stops p v (gap_refused s h e refl (sym p.verdict ∙ v))
 
@@ -78,7 +79,7 @@ module _ (n cf ef : ℕ) (ksf : List ℕ) (csf : List ℤ) (long : (cf ≤ lengt
   places : Places cf ksf csf
   places = record { keys = long.0; coefficients = long.1 }
 
-  module _ (v : k.verdict ≡ Accepted) where
+  module _ (v : k.verdict ≡ Ok tt) where
     pub gap_addends : Room ks cs → Addends n k.count k.radius ks cs cf ef ksf csf
     gap_addends room =
         let o = gap_operands s h e refl (sym p.verdict ∙ v) in
@@ -113,11 +114,11 @@ module _ {n d : ℕ} {f g h w : Model} (s : Proposal d f g h w) (e : view w ≡ 
   abbrev defect_is : Answer
   defect_is = answer (at_place 0 (defect d (view f) (view g) (view h) (view w)))
 
-  pub defect_stops : {x : Refusal} {y : ℕ} → k.verdict ≡ Refused x y → (ks₂ : List ℕ) (cs₂ : List ℤ)
+  pub defect_stops : {x : Refusal} {y : ℕ} → k.verdict ≡ Err (refused_at x y) → (ks₂ : List ℕ) (cs₂ : List ℤ)
       → LeftIn n k ks₂ cs₂ defect_is
   defect_stops v = left_stops p v (defect_refused s refl (sym p.verdict ∙ v))
 
-  module _ (v : k.verdict ≡ Accepted) (room : Room ks cs) where
+  module _ (v : k.verdict ≡ Ok tt) (room : Room ks cs) where
     -- the difference, as it is handed over
     abbrev made : Model
     made = handed n k.count k.radius ks cs
@@ -172,11 +173,11 @@ module _ {n d : ℕ} {g w : Model} (s : Factors d w g) (same : g.n ≡ n) (e : v
   abbrev deviation_is : Answer
   deviation_is = answer (at_place 0 (deviation d (view g) (view w)))
 
-  pub deviation_stops : {x : Refusal} {y : ℕ} → k.verdict ≡ Refused x y → (ks₂ : List ℕ) (cs₂ : List ℤ)
+  pub deviation_stops : {x : Refusal} {y : ℕ} → k.verdict ≡ Err (refused_at x y) → (ks₂ : List ℕ) (cs₂ : List ℤ)
       → LeftIn n k ks₂ cs₂ deviation_is
   deviation_stops v = left_stops p v (deviation_refused s w e refl (sym p.verdict ∙ v))
 
-  module _ (v : k.verdict ≡ Accepted) {ks₁ : List ℕ} {cs₁ : List ℤ} (o : ks₁ ≡ 0 ∷ []) (u : cs₁ ≡ pos U ∷ []) where
+  module _ (v : k.verdict ≡ Ok tt) {ks₁ : List ℕ} {cs₁ : List ℤ} (o : ks₁ ≡ 0 ∷ []) (u : cs₁ ≡ pos U ∷ []) where
     one_struct : held n 1 0 ks₁ cs₁ ≡ pack (one_model g.n)
     one_struct = ap₂ (λ x y. held n 1 0 x y) o u
         ∙ one_held n (subst (λ i. i ≤ key_width) same (limits d g s.second).width)

@@ -13,7 +13,7 @@ ghost use Rattle.model_slice_results.specs.product_room.ProductTerms.{ScratchRoo
 ghost use Rattle.product_answer.specs.ProductFactors.{Factors};
 
 use model_limits::Left;
-use model_types::{Key, MOST_TERMS, Verdict};
+use model_types::{Key, MOST_TERMS};
 
 // Handed on: crates above name these through this crate.
 pub use model_slice_results;
@@ -52,7 +52,7 @@ pub fn deviation(
         d, n, na, 0, ka, ca, nb, eb, kb, cb, slots, keys, sums, &mut keysp, &mut p,
     );
     let v = k.verdict;
-    let Verdict::Accepted = v else {
+    let Ok(()) = v else {
         return k;
     };
     let constant: [Key; 1] = [0; 1];

@@ -9,8 +9,9 @@ use Rattle.calculus.specs.Refusal.{accepted, refused, uncertified, ◌then◌, s
 use Rattle.calculus.specs.Operations.{defect, deviation, largest_value, certified, quotient}
 use Rattle.model_types.specs.declared.Model.{Model}
 use Rattle.model_types.specs.declared.Refusal.{Refusal}
-use Rattle.model_types.specs.declared.Verdict.{Verdict}
-use Rattle.model_types.specs.declared.Verdict.TheVariants.{Accepted, Refused}
+use Rattle.model_types.specs.ModelStruct.{Verdict}
+use Rattle.std.specs.Prelude.{Ok, Err}
+use Rattle.model_types.specs.ModelStruct.{refused_at}
 use Rattle.model_types.specs.declared.Answer.{Answer}
 use Rattle.model_types.specs.ModelStruct.{view, answer, cause}
 use Rattle.model_types.specs.ModelStructLaws.{cause_refusal}
@@ -28,22 +29,22 @@ use Rattle.model_quotient.specs.Refusing.{Refuses}
 -- ---- a refusal
 -- the answer of a verdict that refuses
 abbrev refusing : Verdict → Answer
-refusing Accepted = answer (stopped uncertified 0)
-refusing (Refused x y) = answer (stopped (cause x) y)
+refusing (Ok u) = answer (stopped uncertified 0)
+refusing (Err r) = answer (stopped (cause r.0) r.1)
 
 -- is the whole answer
-refused_is : (a : R.Answer C.Model) (x : Refusal) (y : ℕ) → (answer (at_place 0 a)).verdict ≡ Refused x y
+refused_is : (a : R.Answer C.Model) (x : Refusal) (y : ℕ) → (answer (at_place 0 a)).verdict ≡ Err (refused_at x y)
     → answer (stopped (cause x) y) ≡ answer (at_place 0 a)
 unfolding answer at_place
 refused_is (accepted m) x y v = let z : ◌≡◌ {A = ℕ} 0 1 = cc in absurd (omega arith)
 refused_is (refused q) x y v = sym (ap refusing v) ∙ ap (λ r. answer (stopped r 0)) (cause_refusal q)
 
 -- a verdict that does not refuse has no such answer
-pub no_refusal : {v : Verdict} {r : Answer} → v ≡ Accepted → Refuses v r
+pub no_refusal : {v : Verdict} {r : Answer} → v ≡ Ok tt → Refuses v r
 no_refusal e = record { refuses = λ x y q. let z : ◌≡◌ {A = ℕ} 0 1 = cc in absurd (omega arith) }
 
 -- and one that refuses has this
-pub same_refusal : {v : Verdict} {r : Answer} {x : Refusal} {y : ℕ} → v ≡ Refused x y
+pub same_refusal : {v : Verdict} {r : Answer} {x : Refusal} {y : ℕ} → v ≡ Err (refused_at x y)
     → r ≡ answer (stopped (cause x) y) → Refuses v r
 same_refusal e a = record { refuses = λ x₂ y₂ q. a ∙ ap refusing (sym e ∙ q) }
 
@@ -75,12 +76,13 @@ module _ {d : ℕ} {f g h w : Model} (s : Proposal d f g h w) where
     abbrev first : Answer
     first = answer (at_place 0 (defect d (view f) (view g) (view h) (view w)))
 
-    pub first_refused : (x : Refusal) (y : ℕ) → k.verdict ≡ Refused x y → answer (stopped (cause x) y) ≡ quotient_is
+    pub first_refused : (x : Refusal) (y : ℕ) → k.verdict ≡ Err (refused_at x y) → answer (stopped (cause x) y)
+        ≡ quotient_is
     unfolding quotient
     first_refused x y v = refused_is (defect d (view f) (view g) (view h) (view w)) x y (sym p.verdict ∙ v)
         ∙ refused_then (defect d (view f) (view g) (view h) (view w)) rest (sym p.verdict ∙ v) refl
 
-    module _ (v : k.verdict ≡ Accepted) where
+    module _ (v : k.verdict ≡ Ok tt) where
       pub first_sound : T (sound most_degree (view first.model))
       first_sound = sound_order d _ s.order
           (taken_sound (struct_vars d f s.dividend) s.order (defect_sound s) refl (sym p.verdict ∙ v))
@@ -106,13 +108,13 @@ module _ {d : ℕ} {f g h w : Model} (s : Proposal d f g h w) where
         abbrev beta : ℕ
         beta = largest_value (view first.model)
 
-        pub second_refused : (x : Refusal) (y : ℕ) → m.verdict ≡ Refused x y
+        pub second_refused : (x : Refusal) (y : ℕ) → m.verdict ≡ Err (refused_at x y)
             → answer (stopped (cause x) y) ≡ quotient_is
         second_refused x y u = first_then
             (refused_is (deviation d (view g) (view w)) x y (sym q.verdict ∙ u)
             ∙ refused_then (deviation d (view g) (view w)) (last beta) (sym q.verdict ∙ u) refl)
 
-        module _ (u : m.verdict ≡ Accepted) where
+        module _ (u : m.verdict ≡ Ok tt) where
           pub second_sound : T (sound most_degree (view second.model))
           second_sound = sound_order d _ s.order
               (taken_sound (struct_vars d g s.divisor) s.order (deviation_sound second_factors) refl

@@ -16,7 +16,7 @@ ghost use Rattle.model_quotient.specs.Refusing.{Refuses};
 
 use model_limits::Left;
 use model_proposal::model_slice_results;
-use model_types::{Answer, Key, MOST_TERMS, Model, Refusal, Verdict};
+use model_types::{Answer, Key, MOST_TERMS, Model, Refusal, Refused, Verdict};
 
 // Handed on: crates above name these through this crate.
 pub use model_multiplication;
@@ -67,7 +67,7 @@ fn defect(
         d, n, ng, eg, kg, cg, nh, 0, kh, ch, slots, keys, sums, keysy, y,
     );
     let v = k.verdict;
-    let Verdict::Accepted = v else {
+    let Ok(()) = v else {
         return k;
     };
     let l = model_slice_results::difference(
@@ -84,7 +84,7 @@ fn defect(
         &mut differences,
     );
     let u = l.verdict;
-    let Verdict::Accepted = u else {
+    let Ok(()) = u else {
         return l;
     };
     model_slice_results::product(
@@ -111,8 +111,8 @@ fn refused(v: Verdict) -> Answer
     ensures { Refuses v result }
 {
     match v {
-        Verdict::Accepted => model_types::refuse(Refusal::Uncertified, 0),
-        Verdict::Refused(refusal, place) => model_types::refuse(refusal, place),
+        Ok(()) => model_types::refuse(Refusal::Uncertified, 0),
+        Err(Refused(refusal, place)) => model_types::refuse(refusal, place),
     }
 }
 
@@ -180,7 +180,7 @@ pub fn divided_slices(
         &mut y,
     );
     let v = first.verdict;
-    let Verdict::Accepted = v else {
+    let Ok(()) = v else {
         return refused(v);
     };
     let mut keysz: [Key; MOST_TERMS] = [0; MOST_TERMS];
@@ -202,7 +202,7 @@ pub fn divided_slices(
         &mut z,
     );
     let u = second.verdict;
-    let Verdict::Accepted = u else {
+    let Ok(()) = u else {
         return refused(u);
     };
     model_certificate::judged(
@@ -221,8 +221,7 @@ pub fn divided_slices(
     )
 }
 
-// The same of structs, which lend their arrays. (Keys are copied before: `&` of two fields of one struct is not covered
-// by the borrow checker where the callee takes them at two lifetimes.)
+// The same of structs, which lend their arrays.
 pub fn divided(
     d: u8,
     f: Model,
@@ -238,26 +237,22 @@ pub fn divided(
         sums.old }
     ensures { result ≡ answer (at_place 0 (quotient d (view f) (view g) (view h) (view w))) }
 {
-    let keysf = f.keys;
-    let keysg = g.keys;
-    let keysh = h.keys;
-    let keysw = w.keys;
     divided_slices(
         d,
         f.n,
         f.count,
         f.radius,
-        &keysf,
+        &f.keys,
         &f.coefficients,
         g.count,
         g.radius,
-        &keysg,
+        &g.keys,
         &g.coefficients,
         h.count,
-        &keysh,
+        &h.keys,
         &h.coefficients,
         w.count,
-        &keysw,
+        &w.keys,
         &w.coefficients,
         slots,
         keys,

@@ -1,4 +1,3 @@
-pub mod QuotientTables
 pub mod QuotientTableLaws
 -- Handed on: crates above name these through this crate.
 pub use Rattle.model_quotient.specs.model_multiplication

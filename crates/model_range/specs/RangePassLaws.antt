@@ -1,6 +1,6 @@
 -- The loop over a model that lies in slices, by the laws over the struct that holds it.
 use Rattle.std.specs.Prelude.{◌≡◌, List, ℕ, ◌+◌, ◌^◌, ◌≤◌, ◌<◌, ℤ, pos, nat_abs, ◌+ℤ◌, length, get_or}
-use Rattle.std.proofs.Common.{sym, ◌∙◌, ap, ap₂, arith}
+use Rattle.std.proofs.Common.{sym, ◌∙◌, ap, arith}
 use Rattle.numbers.proofs.FixedLaws.{span_fits}
 use Rattle.calculus.specs.Operations.{constant_part, below, above}
 use Rattle.model_types.specs.declared.Term.{Term}

@@ -10,16 +10,13 @@ ghost use Rattle.model_slices.specs.HeldModels.{held};
 ghost use Rattle.model_places.specs.LeftModels.{Lies};
 ghost use Rattle.model_range.specs.KeyRange.{key_steady, even_fall, even_rise, key_fall, key_rise};
 
-use model_types::{Bounds, Key, Model, Verdict};
+use model_types::{Bounds, Key, Model};
 
 // What a term counts in the constant part.
 fn steady(key: Key, coefficient: i64) -> i64
     ensures { result ≡ key_steady key coefficient }
 {
-    if key == 0 {
-        return coefficient;
-    }
-    0
+    if key == 0 { coefficient } else { 0 }
 }
 
 // How far an even term reaches below 0: its size where the coefficient is below 0.
@@ -27,9 +24,10 @@ fn under(coefficient: i64) -> u64
     ensures { result ≡ even_fall coefficient }
 {
     if 0 <= coefficient {
-        return 0;
+        0
+    } else {
+        fixed::magnitude(coefficient)
     }
-    fixed::magnitude(coefficient)
 }
 
 // How far it reaches above 0.
@@ -37,9 +35,10 @@ fn over(coefficient: i64) -> u64
     ensures { result ≡ even_rise coefficient }
 {
     if coefficient <= 0 {
-        return 0;
+        0
+    } else {
+        fixed::magnitude(coefficient)
     }
-    fixed::magnitude(coefficient)
 }
 
 // How far any term other than the constant reaches below 0. The sign is asked for in a function of its own: tested
@@ -49,12 +48,12 @@ fn fall(key: Key, coefficient: i64) -> u64
     ensures { result ≡ key_fall key coefficient }
 {
     if key == 0 {
-        return 0;
+        0
+    } else if model_keys::all_even(key) {
+        under(coefficient)
+    } else {
+        fixed::magnitude(coefficient)
     }
-    if model_keys::all_even(key) {
-        return under(coefficient);
-    }
-    fixed::magnitude(coefficient)
 }
 
 // How far it reaches above 0.
@@ -62,12 +61,12 @@ fn rise(key: Key, coefficient: i64) -> u64
     ensures { result ≡ key_rise key coefficient }
 {
     if key == 0 {
-        return 0;
+        0
+    } else if model_keys::all_even(key) {
+        over(coefficient)
+    } else {
+        fixed::magnitude(coefficient)
     }
-    if model_keys::all_even(key) {
-        return over(coefficient);
-    }
-    fixed::magnitude(coefficient)
 }
 
 // The range of a model in slices.
@@ -80,11 +79,9 @@ pub fn range_slices(count: usize, radius: u64, keys: &[Key], coefficients: &[i64
     let mut middle: i64 = 0;
     let mut below: u64 = 0;
     let mut above: u64 = 0;
-    let mut i = 0;
-    while i < count {
+    for i in 0..count {
         let key = keys[i];
         let c = coefficients[i];
-        i += 1;
         middle = fixed::sum(middle, steady(key, c));
         below += fall(key, c);
         above += rise(key, c);
@@ -94,18 +91,8 @@ pub fn range_slices(count: usize, radius: u64, keys: &[Key], coefficients: &[i64
     Bounds {
         low: fixed::difference(middle, down),
         high: fixed::sum(middle, up),
-        verdict: Verdict::Accepted,
+        verdict: Ok(()),
     }
-}
-
-// The same for two slices of one lifetime, at which a struct lends its arrays.
-fn range_arrays<'a>(count: usize, radius: u64, keys: &'a [Key], coefficients: &'a [i64]) -> Bounds
-    requires { Lies count radius keys.now coefficients.now }
-    ensures { (w : Lies count radius keys.now coefficients.now)
-        → result ≡ bounds (done (range
-        (view (held w.vars count radius keys.now coefficients.now)))) }
-{
-    range_slices(count, radius, keys, coefficients)
 }
 
 // The range.
@@ -113,7 +100,7 @@ pub fn range_of(m: Model) -> Bounds
     requires { T (sound most_degree (view m)) }
     ensures { result ≡ bounds (done (range (view m))) }
 {
-    range_arrays(m.count, m.radius, &m.keys, &m.coefficients)
+    range_slices(m.count, m.radius, &m.keys, &m.coefficients)
 }
 
 // Whether the range lies from -U to U.

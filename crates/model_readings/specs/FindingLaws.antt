@@ -19,11 +19,10 @@ use Rattle.readings.specs.Readings as R
 use Rattle.readings.specs.Readings.{in_order, contradicts, with_place, held}
 use Rattle.model_types.specs.declared.Model.{Model}
 use Rattle.model_types.specs.declared.Reading.{Reading}
-use Rattle.model_types.specs.declared.Finding.{Finding}
 use Rattle.model_types.specs.declared.Bounds.{Bounds}
 use Rattle.model_types.specs.declared.Refusal.{Refusal}
-use Rattle.model_types.specs.declared.Verdict.{Verdict}
-use Rattle.model_types.specs.declared.Verdict.TheVariants.{Accepted, Refused}
+use Rattle.model_types.specs.ModelStruct.{Verdict}
+use Rattle.std.specs.Prelude.{Ok, Err}
 use Rattle.model_types.specs.ModelStruct.{view, refusal, cause, bounds}
 use Rattle.model_types.specs.ModelStructLaws.{cause_refusal}
 use Rattle.model_call_tests.specs.Admission.{at_point}

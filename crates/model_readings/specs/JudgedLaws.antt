@@ -11,8 +11,9 @@ use Rattle.readings.specs.Readings as R
 use Rattle.readings.specs.Readings.{contradicts, with_place, held}
 use Rattle.model_types.specs.declared.Bounds.{Bounds}
 use Rattle.model_types.specs.declared.Refusal.{Refusal}
-use Rattle.model_types.specs.declared.Verdict.{Verdict}
-use Rattle.model_types.specs.declared.Verdict.TheVariants.{Accepted, Refused}
+use Rattle.model_types.specs.ModelStruct.{Verdict}
+use Rattle.std.specs.Prelude.{Ok, Err}
+use Rattle.model_types.specs.ModelStruct.{refused_at}
 use Rattle.model_types.specs.ModelStruct.{refusal, cause, bounds}
 use Rattle.model_types.specs.ModelStructLaws.{cause_refusal}
 use Rattle.model_readings.specs.ReadingStruct.{finding}
@@ -21,21 +22,21 @@ use Rattle.model_readings.specs.RowIterations.{judged}
 -- ---- what a struct of two ends says of the result that it is
 -- 1 for a refusal
 tag : Verdict → ℕ
-tag Accepted = 0
-tag (Refused c j) = 1
+tag (Ok u) = 0
+tag (Err r) = 1
 
 the_cause : Verdict → Refusal → Refusal
-the_cause Accepted d = d
-the_cause (Refused c j) d = c
+the_cause (Ok u) d = d
+the_cause (Err r) d = r.0
 
-pub accepted_ends : (e : Result Ends) (b : Bounds) → b ≡ bounds e → b.verdict ≡ Accepted
+pub accepted_ends : (e : Result Ends) (b : Bounds) → b ≡ bounds e → b.verdict ≡ Ok tt
     → e ≡ done (record { low = b.low; high = b.high })
 unfolding bounds tag
 accepted_ends (done en) b h v = ap (λ (b : Bounds). done (record { low = b.low; high = b.high })) (sym h)
 accepted_ends (stopped c j) b h v = absurd (omega (arith, ap (λ b. tag b.verdict) h, ap tag v))
 
 pub refused_ends : (i : ℕ) (e : Result Ends) (b : Bounds) (c : Refusal) (j : ℕ) → b ≡ bounds e → b.verdict
-    ≡ Refused c j
+    ≡ Err (refused_at c j)
     → with_place i e ≡ stopped (cause c) i
 unfolding bounds tag the_cause with_place
 refused_ends i (done en) b c j h v = absurd (omega (arith, ap (λ b. tag b.verdict) h, ap tag v))
@@ -47,28 +48,28 @@ module _ (i : ℕ) (r : R.Reading) (e : Result Ends) (b : Bounds) (h : b ≡ bou
   abbrev ends : Ends
   ends = record { low = b.low; high = b.high }
 
-  by_test : b.verdict ≡ Accepted → (t : Bool) → contradicts r ends ≡ t
+  by_test : b.verdict ≡ Ok tt → (t : Bool) → contradicts r ends ≡ t
       → finding (elim t [ true ↦ done (some i) | false ↦ done none ]) ≡ finding (judged i r e)
   unfolding judged with_place ◌followed_by◌ held
   by_test v t q = sym (ap (λ e. finding (judged i r e)) (accepted_ends e b h v)
       ∙ ap (λ t. finding (elim t [ true ↦ done (some i) | false ↦ done none ])) q)
 
-  pub above_band : b.verdict ≡ Accepted → lt_z r.high b.low ≡ true → finding (done (some i)) ≡ finding
+  pub above_band : b.verdict ≡ Ok tt → lt_z r.high b.low ≡ true → finding (done (some i)) ≡ finding
       (judged i r e)
   unfolding contradicts
   above_band v t = by_test v true (ap (λ x. x || lt_z b.high r.low) t)
 
-  pub below_band : b.verdict ≡ Accepted → lt_z r.high b.low ≡ false → lt_z b.high r.low ≡ true
+  pub below_band : b.verdict ≡ Ok tt → lt_z r.high b.low ≡ false → lt_z b.high r.low ≡ true
       → finding (done (some i)) ≡ finding (judged i r e)
   unfolding contradicts
   below_band v f t = by_test v true (ap₂ ◌||◌ f t)
 
-  pub in_common : b.verdict ≡ Accepted → lt_z r.high b.low ≡ false → lt_z b.high r.low ≡ false
+  pub in_common : b.verdict ≡ Ok tt → lt_z r.high b.low ≡ false → lt_z b.high r.low ≡ false
       → finding (done none) ≡ finding (judged i r e)
   unfolding contradicts
   in_common v f t = by_test v false (ap₂ ◌||◌ f t)
 
-  pub not_evaluated : (c : Refusal) (j : ℕ) → b.verdict ≡ Refused c j
+  pub not_evaluated : (c : Refusal) (j : ℕ) → b.verdict ≡ Err (refused_at c j)
       → finding (stopped (cause c) i) ≡ finding (judged i r e)
   unfolding judged ◌followed_by◌
   not_evaluated c j v = ap (λ x. finding (x followed_by held i r (done none))) (sym (refused_ends i e b c j h v))

@@ -1,31 +1,33 @@
--- Readings in memory, and the struct of what is found of a row.
-use Rattle.std.specs.Prelude.{List, [], ◌∷◌, ℕ}
+-- Readings in memory, and what is found of a row.
+use Rattle.std.specs.Prelude.{List, [], ◌∷◌, ℕ, None, Some, Ok, Err}
+use Rattle.std.specs.Prelude as S
 use Rattle.std.proofs.Math.Option.{Option, none, some}
 use Rattle.calculus.specs.Refusal.{Result, done, stopped}
 use Rattle.readings.specs.Readings as R
 use Rattle.readings.specs.Readings.{Found}
 use Rattle.model_types.specs.declared.Reading.{Reading}
-use Rattle.model_types.specs.declared.Contradiction.{Contradiction}
-use Rattle.model_types.specs.declared.Contradiction.TheVariants.{None, At}
-use Rattle.model_types.specs.declared.Finding.{Finding}
-use Rattle.model_types.specs.declared.Verdict.TheVariants.{Accepted, Refused}
-use Rattle.model_types.specs.ModelStruct.{refusal}
+use Rattle.model_types.specs.declared.Refused.{Refused}
+use Rattle.model_types.specs.ModelStruct.{refused_at, refusal}
 
 -- the reading that a struct holds
 abbrev pub view_reading : Reading → R.Reading
 view_reading r = record { point = r.x; low = r.low; high = r.high }
 
--- what each case of the enum stands for: that there is none, or the number of the first contradicting reading
-unfoldable pub reading_number : Contradiction → Option ℕ
+-- what each case stands for: that there is none, or the number of the first contradicting reading
+unfoldable pub reading_number : S.Option ℕ → Option ℕ
 reading_number None = none
-reading_number (At i) = some i
+reading_number (Some i) = some i
 
 -- and the case for each
-unfoldable pub contradiction : Option ℕ → Contradiction
+unfoldable pub contradiction : Option ℕ → S.Option ℕ
 contradiction none = None
-contradiction (some i) = At i
+contradiction (some i) = Some i
 
--- the struct of what is found: no contradiction beside a refusal
+-- the first contradicting reading, if there is one, or the refusal
+abbrev pub Finding : Type 0
+Finding = S.Result (S.Option ℕ) Refused
+
+-- what is found, as it is handed back
 unfoldable pub finding : Found → Finding
-finding (done o) = record { contradiction = contradiction o; verdict = Accepted }
-finding (stopped r i) = record { contradiction = None; verdict = Refused (refusal r) i }
+finding (done o) = Ok (contradiction o)
+finding (stopped r i) = Err (refused_at (refusal r) i)

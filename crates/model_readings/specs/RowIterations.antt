@@ -1,5 +1,5 @@
 -- The iterations of the one loop over a row: four for each reading.
-use Rattle.std.specs.Prelude.{Bool, true, false, ◌&&◌, List, [], ◌∷◌, ℕ, zero, suc, ◌*◌, ◌/◌, ◌%◌, min, max, leb, pos, length, take, drop, get_or}
+use Rattle.std.specs.Prelude.{Bool, true, false, ◌&&◌, List, [], ◌∷◌, ℕ, zero, suc, ◌*◌, ◌/◌, ◌%◌, min, max, leb, pos, length, take, drop, get_or, Option, None, Some, Ok, Err}
 use Rattle.std.proofs.Math.Option.{none}
 use Rattle.calculus.specs.Model as C
 use Rattle.calculus.specs.Model.{most_degree, sound}
@@ -12,13 +12,8 @@ use Rattle.readings.specs.Readings as R
 use Rattle.readings.specs.Readings.{Found, in_order, with_place, held}
 use Rattle.model_types.specs.declared.Model.{Model}
 use Rattle.model_types.specs.declared.Reading.{Reading}
-use Rattle.model_types.specs.declared.Contradiction.{Contradiction}
-use Rattle.model_types.specs.declared.Contradiction.TheVariants.{None, At}
-use Rattle.model_types.specs.declared.Finding.{Finding}
-use Rattle.model_types.specs.declared.Verdict.{Verdict}
-use Rattle.model_types.specs.declared.Verdict.TheVariants.{Accepted, Refused}
 use Rattle.model_types.specs.ModelStruct.{view}
-use Rattle.model_readings.specs.ReadingStruct.{view_reading, finding}
+use Rattle.model_readings.specs.ReadingStruct.{view_reading, Finding, finding}
 
 -- what stands for a reading past the end of a row
 abbrev pub no_reading : Reading
@@ -53,19 +48,11 @@ check (suc (suc zero)) i f r = check_within f.vars i r
 check (suc (suc (suc p))) i f r = judged i r (call_evaluate r.point f)
 
 -- ---- the iterations
--- no reading contradicts so far
-unfoldable pub no_contradiction : Contradiction → Bool
-no_contradiction None = true
-no_contradiction (At i) = false
-
--- nothing is refused so far
-unfoldable pub no_refusal : Verdict → Bool
-no_refusal Accepted = true
-no_refusal (Refused r i) = false
-
 -- neither a contradiction nor a refusal is found yet
 unfoldable pub undecided : Finding → Bool
-undecided s = no_contradiction s.contradiction && no_refusal s.verdict
+undecided (Ok None) = true
+undecided (Ok (Some i)) = false
+undecided (Err r) = false
 
 -- what was found stays; otherwise what is found next
 unfoldable pub after : Finding → Finding → Finding

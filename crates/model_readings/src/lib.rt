@@ -15,7 +15,7 @@ ghost use Rattle.model_readings.specs.RowIterations.{check_order, check_unused, 
 ghost use Rattle.model_readings.specs.RowIterations.{check};
 ghost use Rattle.model_readings.specs.RowIterations.{undecided, begun_of, iteration_of, next_iteration};
 
-use model_types::{Bounds, Contradiction, Finding, Model, Reading, Refusal, Verdict};
+use model_types::{Bounds, Finding, Model, Reading, Refusal, Refused};
 
 // The longest row.
 const MOST_READINGS: usize = 256;
@@ -24,30 +24,21 @@ const MOST_READINGS: usize = 256;
 fn nothing() -> Finding
     ensures { result ≡ finding (done none) }
 {
-    Finding {
-        contradiction: Contradiction::None,
-        verdict: Verdict::Accepted,
-    }
+    Ok(None)
 }
 
 // The first reading that contradicts.
 fn contradicted_at(place: usize) -> Finding
     ensures { result ≡ finding (done (some place)) }
 {
-    Finding {
-        contradiction: Contradiction::At(place),
-        verdict: Verdict::Accepted,
-    }
+    Ok(Some(place))
 }
 
 // A refusal at a place.
 fn refused_at(refusal: Refusal, place: usize) -> Finding
     ensures { result ≡ finding (stopped (cause refusal) place) }
 {
-    Finding {
-        contradiction: Contradiction::None,
-        verdict: Verdict::Refused(refusal, place),
-    }
+    Err(Refused(refusal, place))
 }
 
 // Before the first iteration: 15 for a row of more than 256 readings, then 5.
@@ -67,20 +58,14 @@ pub fn begun(m: Model, n: usize) -> Finding
 fn at_least_one(n: usize) -> usize
     ensures { result ≡ max n 1 }
 {
-    if n == 0 {
-        return 1;
-    }
-    n
+    n.max(1)
 }
 
 // The variables of a model that have a coordinate.
 fn coordinates(n: u8) -> u8
     ensures { result ≡ min n key_width }
 {
-    if model_types::MOST_VARS < n {
-        return model_types::MOST_VARS;
-    }
-    n
+    n.min(model_types::MOST_VARS)
 }
 
 // 15 for a low value above its high one.
@@ -123,7 +108,7 @@ fn judged(b: Bounds, i: usize, r: Reading) -> Finding
 {
     let v = b.verdict;
     match v {
-        Verdict::Accepted => {
+        Ok(()) => {
             let low = r.low;
             let high = r.high;
             let from = b.low;
@@ -136,7 +121,7 @@ fn judged(b: Bounds, i: usize, r: Reading) -> Finding
             }
             nothing()
         }
-        Verdict::Refused(refusal, place) => refused_at(refusal, i),
+        Err(Refused(refusal, place)) => refused_at(refusal, i),
     }
 }
 
@@ -161,12 +146,10 @@ fn checked(m: Model, phase: usize, i: usize, r: Reading) -> Finding
 fn undecided(s: Finding) -> bool
     ensures { result ≡ undecided s }
 {
-    let c = s.contradiction;
-    let Contradiction::None = c else {
+    let Ok(found) = s else {
         return false;
     };
-    let v = s.verdict;
-    let Verdict::Accepted = v else {
+    let None = found else {
         return false;
     };
     true
@@ -210,6 +193,7 @@ pub fn held_against(rows: &[Reading], m: Model) -> Finding
     let end = few * 4;
     let mut s = begun(m, n);
     let mut k = 0usize;
+    // No range counts this loop: once something is found it leaves out the rest.
     while k < end {
         s = iteration(m, s, k, n, rows[k % n]);
         k = following(s, k, end);

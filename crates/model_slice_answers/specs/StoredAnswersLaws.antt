@@ -6,7 +6,7 @@ use Rattle.calculus.specs.Model.{most_terms, zero_model}
 use Rattle.calculus.specs.Refusal.{number, stopped}
 use Rattle.model_types.specs.declared.Answer.{Answer}
 use Rattle.model_types.specs.declared.Refusal.{Refusal}
-use Rattle.model_types.specs.declared.Verdict.TheVariants.{Accepted}
+use Rattle.std.specs.Prelude.{Ok}
 use Rattle.model_types.specs.Arrays.{padded}
 use Rattle.model_types.specs.ModelStruct.{pack, answer, cause, verdict_number, verdict_place}
 use Rattle.model_types.specs.ModelStructLaws.{refusal_cause}
@@ -22,8 +22,8 @@ pub stored_same : {a b : Answer} {x : ℕ} {ks ks₂ ns ns₂ : List ℕ} {cs cs
 stored_same {x = x} {ks = ks} {ks₂ = ks₂} {ns = ns} {ns₂ = ns₂} {cs = cs} {cs₂ = cs₂} e s =
     subst (λ a. Stored a x ks cs ns ks₂ cs₂ ns₂) e s
 
-accepted_is : (n : ℕ) (l : Left) (kept : List ℕ) (rest : List ℤ) → l.verdict ≡ Accepted
-    → left_answer n l kept rest ≡ record { model = left_model n l kept rest; verdict = Accepted }
+accepted_is : (n : ℕ) (l : Left) (kept : List ℕ) (rest : List ℤ) → l.verdict ≡ Ok tt
+    → left_answer n l kept rest ≡ record { model = left_model n l kept rest; verdict = Ok tt }
 unfolding left_answer unless_refused
 accepted_is n l kept rest e = rw e
 
@@ -44,7 +44,7 @@ module _ {ks ks₂ ns ns₂ : List ℕ} {cs cs₂ : List ℤ} where
   module _ (n : ℕ) (l : Left) (kept : List ℕ) (rest : List ℤ) where
     whole_stored : Room kept rest → ks₂ ≡ over (take most_terms kept) ks → cs₂ ≡ over (take most_terms rest) cs
         → ns₂ ≡ over (0 ∷ n ∷ l.count ∷ l.radius ∷ []) ns
-        → Stored (record { model = left_model n l kept rest; verdict = Accepted }) 0 ks cs ns ks₂ cs₂ ns₂
+        → Stored (record { model = left_model n l kept rest; verdict = Ok tt }) 0 ks cs ns ks₂ cs₂ ns₂
     unfolding most_terms stored_keys stored_coefficients stored_numbers verdict_number verdict_place
     whole_stored w k c m = record {
       number = refl;
@@ -53,7 +53,7 @@ module _ {ks ks₂ ns ns₂ : List ℕ} {cs cs₂ : List ℤ} where
       numbers = m;
     }
 
-    pub left_stored : Room kept rest → l.verdict ≡ Accepted → ks₂ ≡ over (take most_terms kept) ks
+    pub left_stored : Room kept rest → l.verdict ≡ Ok tt → ks₂ ≡ over (take most_terms kept) ks
         → cs₂ ≡ over (take most_terms rest) cs → ns₂ ≡ over (0 ∷ n ∷ l.count ∷ l.radius ∷ []) ns
         → Stored (left_answer n l kept rest) 0 ks cs ns ks₂ cs₂ ns₂
     left_stored w e k c m = stored_same (sym (accepted_is n l kept rest e)) (whole_stored w k c m)

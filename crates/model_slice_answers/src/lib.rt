@@ -11,7 +11,7 @@ ghost use Rattle.model_places.specs.LeftModels.{left_answer};
 ghost use Rattle.model_slice_answers.specs.StoredAnswers.{Stored};
 
 use model_limits::Left;
-use model_types::{Key, MOST_TERMS, Refusal, Verdict};
+use model_types::{Key, MOST_TERMS, Refusal, Refused};
 
 // The numbers of an answer.
 pub fn store_numbers(place: usize, n: u8, count: usize, radius: u64, numbers: &mut [u64])
@@ -68,13 +68,13 @@ pub fn store_left(
     let radius = l.radius;
     let v = l.verdict;
     match v {
-        Verdict::Accepted => {
+        Ok(()) => {
             model_slices::copy_keys(MOST_TERMS, kept, keys);
             model_slices::copy_coefficients(MOST_TERMS, rest, coefficients);
             store_numbers(0, n, count, radius, numbers);
             0
         }
-        Verdict::Refused(refusal, place) => {
+        Err(Refused(refusal, place)) => {
             store_refused(refusal, place, keys, coefficients, numbers)
         }
     }

@@ -17,7 +17,8 @@ use Rattle.model_types.specs.declared.Term.{Term}
 use Rattle.model_types.specs.declared.Model.{Model}
 use Rattle.model_types.specs.declared.Answer.{Answer}
 use Rattle.model_types.specs.declared.Refusal.TheVariants.{TooManyTerms}
-use Rattle.model_types.specs.declared.Verdict.TheVariants.{Accepted, Refused}
+use Rattle.std.specs.Prelude.{Ok, Err}
+use Rattle.model_types.specs.ModelStruct.{refused_at}
 use Rattle.model_types.specs.ModelStruct.{view, answer, refusal, of_terms, pad}
 use Rattle.model_types.specs.ModelStructLaws.{limits}
 use Rattle.model_slices.specs.HandedModels.{terms_of, over}
@@ -125,7 +126,7 @@ module _ {n c₁ e₁ : ℕ} {ks₁ : List ℕ} {cs₁ : List ℤ} {c₂ e₂ : 
 
     module _ {count : ℕ} {ks : List ℕ} {cs : List ℤ}
         (s : SumIn first (held n c₂ e₂ ks₂ cs₃) n count ks cs) where
-      pub difference_many : 64 < count → {r : Left} → r.verdict ≡ Refused TooManyTerms 0
+      pub difference_many : 64 < count → {r : Left} → r.verdict ≡ Err (refused_at TooManyTerms 0)
           → LeftIn n r ks cs difference
       unfolding answer refusal
       difference_many h {r} v = record {

@@ -16,7 +16,7 @@ ghost use Rattle.model_slice_results.specs.Addends.{Addends};
 use model_horner_product::product_slices;
 use model_limits::Left;
 use model_slices::Kept;
-use model_types::{Key, MOST_TERMS, Refusal, Verdict};
+use model_types::{Key, MOST_TERMS, Refusal, Refused};
 
 // The product of two sound models in n variables at order d, each in slices that may be longer than its count. The
 // table is scratch.
@@ -72,7 +72,7 @@ pub fn product(
         radius: k.radius,
         verdict: v,
     };
-    let Verdict::Accepted = v else {
+    let Ok(()) = v else {
         return left;
     };
     product_answer::store_first(k.count, &wide, &rounded, stored, out);
@@ -117,7 +117,7 @@ pub fn difference(
         return Left {
             count: 0,
             radius: 0,
-            verdict: Verdict::Refused(Refusal::TooManyTerms, 0),
+            verdict: Err(Refused(Refusal::TooManyTerms, 0)),
         };
     }
     let radius = radiusp + radiusq;

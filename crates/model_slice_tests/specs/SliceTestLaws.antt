@@ -7,7 +7,8 @@ use Rattle.calculus.specs.Refusal.{bad_step, done, require_at, ◌followed_by◌
 use Rattle.calculus.specs.Tests.{threshold_sound}
 use Rattle.calculus_laws.specs.RefusalLaws.{at_followed}
 use Rattle.model_types.specs.declared.Refusal.{Refusal}
-use Rattle.model_types.specs.declared.Verdict.TheVariants.{Accepted, Refused}
+use Rattle.std.specs.Prelude.{Ok, Err}
+use Rattle.model_types.specs.ModelStruct.{refused_at}
 use Rattle.model_types.specs.ModelStruct.{view, verdict}
 use Rattle.model_types.specs.ModelStructLaws.{refusal_cause}
 use Rattle.model_slices.specs.HandedModels.{handed, borrowed}
@@ -44,13 +45,13 @@ module _ (t : ℤ) (f : Model) where
   sweeping_is = sym (at_followed 0 _ _ _ _)
 
   -- refused with its model
-  pub sweeping_refused : (x : Refusal) (y : ℕ) → verdict (single_model f) ≡ Refused x y
-      → verdict (sweeping t f) ≡ Refused x y
+  pub sweeping_refused : (x : Refusal) (y : ℕ) → verdict (single_model f) ≡ Err (refused_at x y)
+      → verdict (sweeping t f) ≡ Err (refused_at x y)
   unfolding verdict
   sweeping_refused x y e =
-      ap verdict (sweeping_is ∙ is_refused (single_model f) _ x y e) ∙ ap (λ q. Refused q y) (refusal_cause x)
+      ap verdict (sweeping_is ∙ is_refused (single_model f) _ x y e) ∙ ap (λ q. Err (refused_at q y)) (refusal_cause x)
 
   -- and else the threshold decides
-  pub by_threshold : verdict (single_model f) ≡ Accepted
+  pub by_threshold : verdict (single_model f) ≡ Ok tt
       → sweeping t f ≡ require_at 0 (threshold_sound t) bad_step (done tt)
   by_threshold e = sweeping_is ∙ goes_on (single_model f) _ e

@@ -6,7 +6,7 @@ ghost use Rattle.model_types.specs.ModelStruct.{view, verdict};
 ghost use Rattle.model_slices.specs.HandedModels.{handed, borrowed};
 ghost use Rattle.model_call_tests.specs.Admission.{single_model, sweeping, integrating, two_models, ordered};
 
-use model_types::{Key, Refusal, Verdict};
+use model_types::{Key, Refusal, Refused, Verdict};
 
 // The test of a call of one model. 5.
 pub fn single_model(n: u8, count: usize, radius: u64, keys: &[Key], coefficients: &[i64]) -> Verdict
@@ -22,9 +22,9 @@ pub fn single_model(n: u8, count: usize, radius: u64, keys: &[Key], coefficients
         coefficients,
         model_types::MOST_DEGREE,
     ) {
-        return Verdict::Refused(Refusal::BadModel, 0);
+        return Err(Refused(Refusal::BadModel, 0));
     }
-    Verdict::Accepted
+    Ok(())
 }
 
 // The tests of a sweep. 5, 6.
@@ -41,13 +41,13 @@ pub fn sweeping(
         (view (handed n count radius keys.now coefficients.now))) }
 {
     let v = single_model(n, count, radius, keys, coefficients);
-    let Verdict::Accepted = v else {
+    let Ok(()) = v else {
         return v;
     };
     if !fixed::threshold_within_limits(t) {
-        return Verdict::Refused(Refusal::BadStep, 0);
+        return Err(Refused(Refusal::BadStep, 0));
     }
-    Verdict::Accepted
+    Ok(())
 }
 
 // The tests of an antiderivative in variable i, with order d. 3, 5, 6.
@@ -65,15 +65,15 @@ pub fn integrating(
         (view (handed n count radius keys.now coefficients.now))) }
 {
     if !model_types::order_sound(d) {
-        return Verdict::Refused(Refusal::BadLimits, 0);
+        return Err(Refused(Refusal::BadLimits, 0));
     }
     if !model_soundness::sound_slices(n, count, radius, keys, coefficients, d) {
-        return Verdict::Refused(Refusal::BadModel, 0);
+        return Err(Refused(Refusal::BadModel, 0));
     }
     if !model_types::from_one(n, i) {
-        return Verdict::Refused(Refusal::BadStep, 0);
+        return Err(Refused(Refusal::BadStep, 0));
     }
-    Verdict::Accepted
+    Ok(())
 }
 
 // The tests of two models with degrees up to d. 5 at place 0 or 1, 10.
@@ -97,15 +97,15 @@ pub fn two_models(
         (view (handed n2 count2 radius2 keys2.now coefficients2.now))) }
 {
     if !model_soundness::sound_slices(n1, count1, radius1, keys1, coefficients1, d) {
-        return Verdict::Refused(Refusal::BadModel, 0);
+        return Err(Refused(Refusal::BadModel, 0));
     }
     if !model_soundness::sound_slices(n2, count2, radius2, keys2, coefficients2, d) {
-        return Verdict::Refused(Refusal::BadModel, 1);
+        return Err(Refused(Refusal::BadModel, 1));
     }
     if n1 != n2 {
-        return Verdict::Refused(Refusal::VariablesDiffer, 0);
+        return Err(Refused(Refusal::VariablesDiffer, 0));
     }
-    Verdict::Accepted
+    Ok(())
 }
 
 // The tests of a product with order d. 3, 5 at place 0 or 1, 10.
@@ -129,7 +129,7 @@ pub fn ordered(
         (view (handed n2 count2 radius2 keys2.now coefficients2.now))) }
 {
     if !model_types::order_sound(d) {
-        return Verdict::Refused(Refusal::BadLimits, 0);
+        return Err(Refused(Refusal::BadLimits, 0));
     }
     two_models(
         d,

@@ -9,7 +9,7 @@ ghost use Rattle.model_slices.specs.HandedModels.{handed, borrowed, over};
 ghost use Rattle.model_slices.specs.HandedModels.{answer_numbers, model_room};
 ghost use Rattle.model_slices.specs.HandedModels.{stored_keys, stored_coefficients, stored_numbers};
 
-use model_types::{Key, Model, Shares, Verdict};
+use model_types::{Key, Model, Refused, Shares, Verdict};
 
 // Handed on: crates above name these through this crate.
 pub use model_types;
@@ -30,10 +30,7 @@ const NUMBERS: usize = 4;
 pub fn least(a: usize, b: usize) -> usize
     ensures { result ≡ min a b }
 {
-    if a < b {
-        return a;
-    }
-    b
+    a.min(b)
 }
 
 // Whether slices of these lengths have every place that a count names. A count above 64 names 64 places.
@@ -41,24 +38,19 @@ pub fn borrowed(count: usize, keys: usize, coefficients: usize) -> bool
     ensures { result ≡ borrowed count keys coefficients }
 {
     let named = least(count, model_types::MOST_TERMS);
-    if keys < named {
-        return false;
-    }
-    named <= coefficients
+    named <= keys && named <= coefficients
 }
 
 // ---- terms copied
-// The first keys of a slice go into another. (Keys and coefficients each have a function: one for both could borrow
-// those of a struct only at one lifetime, and a caller's two slices have two.)
+// The first keys of a slice go into another.
 pub fn copy_keys(count: usize, keys: &[Key], out: &mut [Key])
     requires { (count ≤ length keys.now) × (count ≤ length out.old) }
     ensures { out.new ≡ over (take count keys.now) out.old }
 {
-    let mut i = 0;
-    while i < count {
+    // No copy_from_slice: it asks for memmove, which the library does not ask of a program.
+    for i in 0..count {
         let k = keys[i];
         out[i] = k;
-        i += 1;
     }
 }
 
@@ -67,11 +59,10 @@ pub fn copy_coefficients(count: usize, coefficients: &[i64], out: &mut [i64])
     requires { (count ≤ length coefficients.now) × (count ≤ length out.old) }
     ensures { out.new ≡ over (take count coefficients.now) out.old }
 {
-    let mut i = 0;
-    while i < count {
+    // No copy_from_slice: it asks for memmove, which the library does not ask of a program.
+    for i in 0..count {
         let c = coefficients[i];
         out[i] = c;
-        i += 1;
     }
 }
 
@@ -86,9 +77,9 @@ pub fn handed(n: u8, count: usize, radius: u64, keys: &[Key], coefficients: &[i6
     copy_keys(places, keys, &mut out_keys);
     copy_coefficients(places, coefficients, &mut out);
     Model {
-        n: n,
-        count: count,
-        radius: radius,
+        n,
+        count,
+        radius,
         keys: out_keys,
         coefficients: out,
     }
@@ -106,9 +97,9 @@ pub fn taken(n: u8, count: usize, radius: u64, keys: &[Key], coefficients: &[i64
     copy_keys(places, keys, &mut out_keys);
     copy_coefficients(places, coefficients, &mut out);
     Model {
-        n: n,
-        count: count,
-        radius: radius,
+        n,
+        count,
+        radius,
         keys: out_keys,
         coefficients: out,
     }
@@ -119,8 +110,8 @@ pub fn verdict_number(verdict: Verdict) -> u8
     ensures { result ≡ verdict_number verdict }
 {
     match verdict {
-        Verdict::Accepted => 0,
-        Verdict::Refused(refusal, place) => model_types::number(refusal),
+        Ok(()) => 0,
+        Err(Refused(refusal, place)) => model_types::number(refusal),
     }
 }
 
@@ -129,8 +120,8 @@ pub fn verdict_place(verdict: Verdict) -> usize
     ensures { result ≡ verdict_place verdict }
 {
     match verdict {
-        Verdict::Accepted => 0,
-        Verdict::Refused(refusal, place) => place,
+        Ok(()) => 0,
+        Err(Refused(refusal, place)) => place,
     }
 }
 
@@ -159,11 +150,5 @@ pub fn store_numbers(place: usize, m: Model, numbers: &mut [u64])
 pub fn model_room(keys: usize, coefficients: usize, numbers: usize) -> bool
     ensures { result ≡ model_room keys coefficients numbers }
 {
-    if keys < model_types::MOST_TERMS {
-        return false;
-    }
-    if coefficients < model_types::MOST_TERMS {
-        return false;
-    }
-    NUMBERS <= numbers
+    model_types::MOST_TERMS <= keys && model_types::MOST_TERMS <= coefficients && NUMBERS <= numbers
 }

@@ -16,17 +16,10 @@ fn term_sound(n: u8, d: u8, least: u64, key: Key, coefficient: i64) -> bool
     requires { (1 ≤ n) × (n ≤ key_width) }
     ensures { result ≡ term_sound n d least key coefficient }
 {
-    if coefficient == 0 {
-        return false;
-    }
-    if (key as u64) < least {
-        return false;
-    }
-    if model_keys::key_fits(n, key) {
-        model_keys::degree(key) <= d as u32
-    } else {
-        false
-    }
+    coefficient != 0
+        && least <= key as u64
+        && model_keys::key_fits(n, key)
+        && model_keys::degree(key) <= d as u32
 }
 
 // Whether slices hold a model by the rules, with degrees up to d. The span is summed without wrapping.
@@ -49,8 +42,7 @@ pub fn sound_slices(
     }
     let mut span = radius;
     let mut least: u64 = 0;
-    let mut i = 0;
-    while i < count {
+    for i in 0..count {
         let k = keys[i];
         let c = coefficients[i];
         if !term_sound(n, d, least, k, c) {
@@ -58,29 +50,13 @@ pub fn sound_slices(
         }
         span = fixed::capped_sum(span, fixed::magnitude(c));
         least = k as u64 + 1;
-        i += 1;
     }
     fixed::within_span(span)
-}
-
-// The same for two slices of one lifetime, at which a struct lends its arrays.
-pub fn sound_arrays<'a>(
-    n: u8,
-    count: usize,
-    radius: u64,
-    keys: &'a [Key],
-    coefficients: &'a [i64],
-    d: u8,
-) -> bool
-    requires { borrowed count (length keys.now) (length coefficients.now) ≡ true }
-    ensures { result ≡ sound d (view (handed n count radius keys.now coefficients.now)) }
-{
-    sound_slices(n, count, radius, keys, coefficients, d)
 }
 
 // Whether a struct holds a model by the rules, with degrees up to d.
 pub fn sound(m: Model, d: u8) -> bool
     ensures { result ≡ sound d (view m) }
 {
-    sound_arrays(m.n, m.count, m.radius, &m.keys, &m.coefficients, d)
+    sound_slices(m.n, m.count, m.radius, &m.keys, &m.coefficients, d)
 }

@@ -15,8 +15,9 @@ use Rattle.calculus_laws.specs.RefusalLaws.{IfAccepted}
 use Rattle.calculus_laws.specs.SoundLaws.{Sound, substitute_sound}
 use Rattle.model_types.specs.declared.Model.{Model}
 use Rattle.model_types.specs.declared.Refusal.{Refusal}
-use Rattle.model_types.specs.declared.Verdict.{Verdict}
-use Rattle.model_types.specs.declared.Verdict.TheVariants.{Accepted, Refused}
+use Rattle.model_types.specs.ModelStruct.{Verdict}
+use Rattle.std.specs.Prelude.{Ok, Err}
+use Rattle.model_types.specs.ModelStruct.{refused_at}
 use Rattle.model_types.specs.declared.Answer.{Answer}
 use Rattle.model_types.specs.declared.Shares.{Shares}
 use Rattle.model_types.specs.declared.Accounted.{Accounted}
@@ -54,15 +55,16 @@ kept_answer {n} {k} {ks} {cs} (refused r) f p =
 abbrev beside : Model → Verdict → Answer
 beside m v = record { model = m; verdict = v }
 
-pub answer_accepted : (v : Verdict) (m : Model) → v ≡ Accepted → {r : Model} → r ≡ m
-    → beside r Accepted ≡ beside (model_unless v m) v
+pub answer_accepted : (v : Verdict) (m : Model) → v ≡ Ok tt → {r : Model} → r ≡ m
+    → beside r (Ok tt) ≡ beside (model_unless v m) v
 unfolding model_unless
 answer_accepted v m e q = rw (e, q) refl
 
-pub answer_refused : (v : Verdict) (m : Model) (r : Refusal) (i : ℕ) → v ≡ Refused r i → {a : Answer}
+pub answer_refused : (v : Verdict) (m : Model) (r : Refusal) (i : ℕ) → v ≡ Err (refused_at r i) → {a : Answer}
     → a ≡ answer (stopped (cause r) i) → a ≡ beside (model_unless v m) v
 unfolding model_unless answer
-answer_refused v m r i e q = q ∙ ap (λ x. beside (pack (zero_model 1)) (Refused x i)) (refusal_cause r) ∙ rw e refl
+answer_refused v m r i e q = q ∙ ap (λ x. beside (pack (zero_model 1)) (Err (refused_at x i))) (refusal_cause r)
+    ∙ rw e refl
 
 -- ---- arrays that two models lend
 module _ {d i : ℕ} {f g : Model} (s : Substitution d i f g) (room : Room f.keys f.coefficients)
@@ -112,7 +114,7 @@ module _ {d i : ℕ} {f g : Model} (s : Substitution d i f g) (room : Room f.key
   own_answer {k} {ks} {cs} p = subst (KeptIn f.n k ks cs)
       (ap₂ (λ x y. accounted (substitute d i x y) (λ m. substitute_shares d i x y)) outer_view inner_view) p
 
-  pub own_few : {k : Kept} {ks : List ℕ} {cs : List ℤ} → KeptIn f.n k ks cs answers → k.verdict ≡ Accepted
+  pub own_few : {k : Kept} {ks : List ℕ} {cs : List ℤ} → KeptIn f.n k ks cs answers → k.verdict ≡ Ok tt
       → k.count ≤ model_places
   unfolding held pack most_terms
   own_few p v = omega (
@@ -126,6 +128,6 @@ module _ {d i : ℕ} {f g : Model} (s : Substitution d i f g) (room : Room f.key
       sound_whole = substitute_sound f.n d i (view f) (view g) (sound_struct f refl s.model).0
           (sound_struct g (sym s.vars) s.inner).0
 
-      taken : {k : Kept} {ks : List ℕ} {cs : List ℤ} → KeptIn f.n k ks cs answers → k.verdict ≡ Accepted
+      taken : {k : Kept} {ks : List ℕ} {cs : List ℤ} → KeptIn f.n k ks cs answers → k.verdict ≡ Ok tt
           → Got f.n d (substitute d i (view f) (view g)) answers.answer.model
       taken p v = got (accounted_answer (substitute d i (view f) (view g)) _ refl) (sym p.verdict ∙ v) sound_whole

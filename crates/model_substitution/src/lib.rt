@@ -1,12 +1,11 @@
 // Substitution: two models lend their arrays, and the answer is packed as a struct.
 #![tactic(auto)]
 
-ghost use Rattle.std.specs.Prelude.{◌≡◌, ◌*◌, ◌≤◌};
+ghost use Rattle.std.specs.Prelude.{Ok, ◌≡◌, ◌*◌, ◌≤◌};
 ghost use Rattle.calculus.specs.Model.{most_terms};
 ghost use Rattle.calculus.specs.Refusal.{at_place};
 ghost use Rattle.calculus.specs.Operations.{substitute};
 ghost use Rattle.calculus.specs.Shares.{substitute_shares};
-ghost use Rattle.model_types.specs.declared.Verdict.TheVariants.{Accepted};
 ghost use Rattle.model_types.specs.ModelStruct.{view, answer};
 ghost use Rattle.model_types.specs.SharesStruct.{accounted};
 ghost use Rattle.product_room.specs.ProductTerms.{ScratchRoom};
@@ -15,7 +14,7 @@ ghost use Rattle.product_answer.specs.KeptProduct.{model_unless};
 ghost use Rattle.model_substitution.specs.Substitute.{Substitution};
 
 use model_slices::Kept;
-use model_types::{Accounted, Answer, Key, Model, Refusal, Shares, Verdict};
+use model_types::{Accounted, Answer, Key, Model, Refusal, Refused, Shares};
 
 // The model that slices hold: zeros stand after its terms.
 fn packed(n: u8, count: usize, radius: u64, keys: &[Key], coefficients: &[i64]) -> Model
@@ -27,9 +26,9 @@ fn packed(n: u8, count: usize, radius: u64, keys: &[Key], coefficients: &[i64]) 
     model_slices::copy_keys(count, keys, &mut out_keys);
     model_slices::copy_coefficients(count, coefficients, &mut out);
     Model {
-        n: n,
-        count: count,
-        radius: radius,
+        n,
+        count,
+        radius,
         keys: out_keys,
         coefficients: out,
     }
@@ -37,7 +36,7 @@ fn packed(n: u8, count: usize, radius: u64, keys: &[Key], coefficients: &[i64]) 
 
 // The same beside its verdict, or the zero model beside a refusal.
 fn packed_answer(n: u8, k: Kept, keys: &[Key], coefficients: &[i64]) -> Answer
-    requires { (k.verdict ≡ Accepted → k.count ≤ model_places) × Room keys.now coefficients.now }
+    requires { (k.verdict ≡ Ok tt → k.count ≤ model_places) × Room keys.now coefficients.now }
     ensures { result ≡ (record {
       model = model_unless k.verdict
           (held n k.count k.radius keys.now coefficients.now);
@@ -46,17 +45,16 @@ fn packed_answer(n: u8, k: Kept, keys: &[Key], coefficients: &[i64]) -> Answer
 {
     let v = k.verdict;
     match v {
-        Verdict::Accepted => Answer {
+        Ok(()) => Answer {
             model: packed(n, k.count, k.radius, keys, coefficients),
-            verdict: Verdict::Accepted,
+            verdict: Ok(()),
         },
-        Verdict::Refused(refusal, place) => model_types::refuse(refusal, place),
+        Err(Refused(refusal, place)) => model_types::refuse(refusal, place),
     }
 }
 
 // g in the place of variable i of f, with order d, with the shares of its last product and the radius of f. Both lend
-// their arrays. (The keys of g are copied before: `&` of two fields of one struct is not covered by the borrow checker
-// where the callee takes them at two lifetimes.)
+// their arrays.
 pub fn substituted_accounted(
     d: u8,
     i: u8,
@@ -84,7 +82,6 @@ pub fn substituted_accounted(
     let mut added = [0i64; model_types::MOST_TERMS];
     let mut spare: [Key; model_types::MOST_TERMS] = [0; model_types::MOST_TERMS];
     let mut products = [0i64; model_types::MOST_TERMS];
-    let inner = g.keys;
     let k: Kept = model_substitution_slices::put_in(
         d,
         i,
@@ -95,7 +92,7 @@ pub fn substituted_accounted(
         &f.coefficients,
         g.count,
         g.radius,
-        &inner,
+        &g.keys,
         &g.coefficients,
         slots,
         keys,
@@ -109,10 +106,7 @@ pub fn substituted_accounted(
     );
     let shares = k.shares;
     let answer = packed_answer(f.n, k, &remaining, &rest);
-    Accounted {
-        answer: answer,
-        shares: shares,
-    }
+    Accounted { answer, shares }
 }
 
 // g in the place of variable i of f, with order d. The table is scratch for all products.

@@ -17,7 +17,8 @@ use Rattle.calculus.specs.Tests.{vars_sound}
 use Rattle.calculus_laws.specs.SoundLaws.{Sound, sound_parts}
 use Rattle.model_types.specs.declared.Model.{Model}
 use Rattle.model_types.specs.declared.Refusal.{Refusal}
-use Rattle.model_types.specs.declared.Verdict.TheVariants.{Accepted, Refused}
+use Rattle.std.specs.Prelude.{Ok, Err}
+use Rattle.model_types.specs.ModelStruct.{refused_at}
 use Rattle.model_types.specs.declared.Answer.{Answer}
 use Rattle.model_types.specs.declared.Shares.{Shares}
 use Rattle.model_types.specs.declared.Accounted.{Accounted}
@@ -166,14 +167,14 @@ module _ {d i : ℕ} {f g : Model} (s : Substitution d i f g) where
       rest : iterated then down d i f g (k - 1) then wider d i f g ≡ whole d i f g
       rest = ap (λ a. a then wider d i f g) (sym (down_iteration d i f g k l.model z)) ∙ l.rest
 
-      pub iteration_refused : {x : Refusal} {y : ℕ} → r.answer.verdict ≡ Refused x y
+      pub iteration_refused : {x : Refusal} {y : ℕ} → r.answer.verdict ≡ Err (refused_at x y)
           → r ≡ accounted (whole d i f g) (λ m. all_shares d i f g)
       iteration_refused v =
           refused_accounted (iterated then down d i f g (k - 1)) (λ m. made) (λ m. all_shares d i f g) (wider d i f g) v
           (refused_accounted iterated (λ m. made) (λ m. made) (down d i f g (k - 1)) v iterated_is)
           ∙ ap (λ a. accounted a (λ m. all_shares d i f g)) rest
 
-      pub iteration_accepted : r.answer.verdict ≡ Accepted → Left d i f g (k - 1) r.answer.model r.shares
+      pub iteration_accepted : r.answer.verdict ≡ Ok tt → Left d i f g (k - 1) r.answer.model r.shares
       iteration_accepted v = record {
         model = m.model;
         holds = m.holds;

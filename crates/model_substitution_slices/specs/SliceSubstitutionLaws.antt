@@ -10,7 +10,8 @@ use Rattle.calculus.specs.Shares as S
 use Rattle.calculus.specs.Shares.{product_shares, carrying, substitute_shares}
 use Rattle.model_types.specs.declared.Model.{Model}
 use Rattle.model_types.specs.declared.Refusal.{Refusal}
-use Rattle.model_types.specs.declared.Verdict.TheVariants.{Accepted, Refused}
+use Rattle.std.specs.Prelude.{Ok, Err}
+use Rattle.model_types.specs.ModelStruct.{refused_at}
 use Rattle.model_types.specs.declared.Answer.{Answer}
 use Rattle.model_types.specs.declared.Shares.{Shares}
 use Rattle.model_types.specs.declared.Accounted.{Accounted}
@@ -79,10 +80,10 @@ module _ {d i n count radius count₂ radius₂ : ℕ} {ks ks₂ : List ℕ} {cs
         module _ (z : 0 < k) {r : Kept} (ks₅ : List ℕ) (cs₅ : List ℤ)
             (a : KeptIn n r ks₅ cs₅ (accounted (horner_iteration d (view (held n c e ks₃ cs₃)) (view g)
             (view (held n t 0 ks₄ cs₄))) (λ m. product_shares d (view (held n c e ks₃ cs₃)) (view g)))) where
-          pub put_stops : {x : Refusal} {y : ℕ} → r.verdict ≡ Refused x y → KeptIn n r ks₅ cs₅ whole
+          pub put_stops : {x : Refusal} {y : ℕ} → r.verdict ≡ Err (refused_at x y) → KeptIn n r ks₅ cs₅ whole
           put_stops v = subst (KeptIn n r ks₅ cs₅) (H.iteration_refused s l q z refl (sym a.verdict ∙ v)) a
 
-          pub put_goes_on : r.verdict ≡ Accepted
+          pub put_goes_on : r.verdict ≡ Ok tt
               → H.Left d i f g (k - 1) (held n r.count r.radius ks₅ cs₅) r.shares
           put_goes_on v = subst (λ m. H.Left d i f g (k - 1) m r.shares) (sym (a.model v))
               (subst (H.Left d i f g (k - 1) _) (sym a.shares)

@@ -14,7 +14,7 @@ ghost use Rattle.model_substitution_slices.specs.Substituting.{SubstitutionOf};
 
 use model_powers::Powers;
 use model_slices::Kept;
-use model_types::{Key, Shares, Verdict};
+use model_types::{Key, Shares};
 use model_widening::model_horner_iteration;
 
 // g in the place of variable i of f, with order d: Horner's rule from the highest power down, with the shares of its
@@ -57,12 +57,11 @@ pub fn put_in<'a>(
         (view (held n count2 radius2 keys2.now coefficients2.now)))) }
 {
     let p: Powers = model_powers::by_powers(i, count, keys);
-    let mut k = p.largest;
-    let mut c = model_powers::part(i, k, p, count, keys, coefficients, remaining, rest);
+    let top = p.largest;
+    let mut c = model_powers::part(i, top, p, count, keys, coefficients, remaining, rest);
     let mut e = 0;
     let mut last = Shares::ZERO;
-    while 0 < k {
-        k -= 1;
+    for k in (0..top).rev() {
         let t = model_powers::part(i, k, p, count, keys, coefficients, others, added);
         let r = model_horner_iteration::iterated(
             d,
@@ -85,7 +84,7 @@ pub fn put_in<'a>(
             products,
         );
         let v = r.verdict;
-        let Verdict::Accepted = v else {
+        let Ok(()) = v else {
             return r;
         };
         c = r.count;

@@ -12,7 +12,8 @@ use Rattle.model_types.specs.declared.Model.{Model}
 use Rattle.model_types.specs.declared.Answer.{Answer}
 use Rattle.model_types.specs.declared.Refusal.{Refusal}
 use Rattle.model_types.specs.declared.Refusal.TheVariants.{OverSpan, TooManyTerms}
-use Rattle.model_types.specs.declared.Verdict.TheVariants.{Accepted, Refused}
+use Rattle.std.specs.Prelude.{Ok, Err}
+use Rattle.model_types.specs.ModelStruct.{refused_at}
 use Rattle.model_types.specs.ModelStruct.{view, verdict, answer, cause}
 use Rattle.model_types.specs.ModelStructLaws.{limits}
 use Rattle.model_slices.specs.HandedModels.{handed, borrowed}
@@ -41,7 +42,7 @@ module _ {n c₁ e₁ : ℕ} {ks₁ : List ℕ} {cs₁ : List ℤ} {c₂ e₂ : 
 
   module _ {count : ℕ} {ks : List ℕ} {cs : List ℤ}
       (s : SumIn (held n c₁ e₁ ks₁ cs₁) (held n c₂ e₂ ks₂ cs₂) n count ks cs) where
-    pub left_many : 64 < count → (l : Left) → l.verdict ≡ Refused TooManyTerms 0
+    pub left_many : 64 < count → (l : Left) → l.verdict ≡ Err (refused_at TooManyTerms 0)
         → left_answer n l ks cs ≡ whole
     unfolding cause
     left_many h l v = left_refused n l ks cs TooManyTerms 0 v ∙ sym (s.many h)
@@ -57,17 +58,17 @@ module _ {n c₁ e₁ : ℕ} {ks₁ : List ℕ} {cs₁ : List ℤ} {c₂ e₂ : 
       sum_is = s.sum h
 
       pub left_over : leb (span (view (held n count (e₁ + e₂) ks cs))) span_limit ≡ false → (l : Left)
-          → l.verdict ≡ Refused OverSpan 0
+          → l.verdict ≡ Err (refused_at OverSpan 0)
           → left_answer n l ks cs ≡ whole
       unfolding cause
       left_over f l v = left_refused n l ks cs OverSpan 0 v ∙ sym (answer_over _ packed f) ∙ sum_is
 
       pub left_within : leb (span (view (held n count (e₁ + e₂) ks cs))) span_limit ≡ true → Clear count ks cs
-          → left_answer n (record { count = count; radius = e₁ + e₂; verdict = Accepted }) ks cs
+          → left_answer n (record { count = count; radius = e₁ + e₂; verdict = Ok tt }) ks cs
           ≡ whole
       unfolding left_answer unless_refused
       left_within f z =
-          ap (λ (m : Model). record { model = m; verdict = Accepted }) (clear_struct n (e₁ + e₂) z)
+          ap (λ (m : Model). record { model = m; verdict = Ok tt }) (clear_struct n (e₁ + e₂) z)
           ∙ sym (answer_within _ packed f) ∙ sum_is
 
 -- ---- the calls
@@ -80,7 +81,7 @@ module _ (n₁ c₁ e₁ : ℕ) (ks₁ : List ℕ) (cs₁ : List ℤ) (n₂ c₂
 
   -- the tests have passed
   module _ (l : borrowed c₁ (length ks₁) (length cs₁) ≡ true) (m : borrowed c₂ (length ks₂) (length cs₂) ≡ true)
-      (passed : verdict (two_models most_degree handed_first handed_second) ≡ Accepted) where
+      (passed : verdict (two_models most_degree handed_first handed_second) ≡ Ok tt) where
     same : n₁ ≡ n₂
     unfolding view handed
     same = (two_passed most_degree _ _ passed).vars
@@ -132,7 +133,8 @@ module _ (n₁ c₁ e₁ : ℕ) (ks₁ : List ℕ) (cs₁ : List ℤ) (n₂ c₂
         ∙ ap answer (sym (subtract_is _ _ ∙ goes_on _ _ passed))
 
   -- they have not
-  module _ (r : Refusal) (i : ℕ) (t : verdict (two_models most_degree handed_first handed_second) ≡ Refused r i) where
+  module _ (r : Refusal) (i : ℕ) (t : verdict (two_models most_degree handed_first handed_second)
+      ≡ Err (refused_at r i)) where
     pub add_refused : answer (stopped (cause r) i) ≡ answer (call_add handed_first handed_second)
     add_refused = ap answer (sym (add_is _ _ ∙ is_refused _ _ r i t))
 

@@ -17,7 +17,7 @@ ghost use Rattle.model_addition.specs.Addition.{SumFrom};
 ghost use Rattle.model_slice_results.specs.Addends.{Addends};
 
 use model_limits::Left;
-use model_types::{Key, MOST_TERMS, Refusal, Verdict};
+use model_types::{Key, MOST_TERMS, Refusal, Refused};
 
 // ---- of sound models in the same variables
 // The sum goes into two arrays of zeros. The 65th term is refused before any span is tested.
@@ -57,7 +57,7 @@ fn sum_into(
         return Left {
             count: 0,
             radius: 0,
-            verdict: Verdict::Refused(Refusal::TooManyTerms, 0),
+            verdict: Err(Refused(Refusal::TooManyTerms, 0)),
         };
     }
     let radius = radius1 + radius2;
@@ -65,13 +65,13 @@ fn sum_into(
         return Left {
             count: count,
             radius: radius,
-            verdict: Verdict::Accepted,
+            verdict: Ok(()),
         };
     }
     Left {
         count: 0,
         radius: 0,
-        verdict: Verdict::Refused(Refusal::OverSpan, 0),
+        verdict: Err(Refused(Refusal::OverSpan, 0)),
     }
 }
 
@@ -201,7 +201,7 @@ pub fn add(
         coefficients2,
     );
     match v {
-        Verdict::Accepted => store_sum(
+        Ok(()) => store_sum(
             n1,
             count1,
             radius1,
@@ -215,7 +215,7 @@ pub fn add(
             coefficients,
             numbers,
         ),
-        Verdict::Refused(refusal, place) => {
+        Err(Refused(refusal, place)) => {
             model_slice_answers::store_refused(refusal, place, keys, coefficients, numbers)
         }
     }
@@ -261,7 +261,7 @@ pub fn subtract(
         coefficients2,
     );
     match v {
-        Verdict::Accepted => store_difference(
+        Ok(()) => store_difference(
             n1,
             count1,
             radius1,
@@ -275,7 +275,7 @@ pub fn subtract(
             coefficients,
             numbers,
         ),
-        Verdict::Refused(refusal, place) => {
+        Err(Refused(refusal, place)) => {
             model_slice_answers::store_refused(refusal, place, keys, coefficients, numbers)
         }
     }

@@ -7,7 +7,8 @@ use Rattle.calculus.specs.Operations as Op
 use Rattle.calculus.specs.Refusal.{done, stopped}
 use Rattle.calculus.specs.Calls.{call_negate, call_sweep, call_antiderivative, call_range, call_integral}
 use Rattle.model_types.specs.declared.Refusal.{Refusal}
-use Rattle.model_types.specs.declared.Verdict.TheVariants.{Accepted, Refused}
+use Rattle.std.specs.Prelude.{Ok, Err}
+use Rattle.model_types.specs.ModelStruct.{refused_at}
 use Rattle.model_types.specs.ModelStruct.{view, verdict, answer, bounds, integral_answer, cause}
 use Rattle.model_types.specs.ModelStructLaws.{limits}
 use Rattle.model_slices.specs.HandedModels.{handed, borrowed}
@@ -56,7 +57,7 @@ module _ (n count radius : ℕ) (ks : List ℕ) (cs : List ℤ) where
       still = places_sound n count radius ks cs named few d h
 
     -- ---- negate, range, integral
-    module _ (passed : verdict (single_model taken) ≡ Accepted) where
+    module _ (passed : verdict (single_model taken) ≡ Ok tt) where
       pub single_sound : SoundSlices n count radius ks cs
       single_sound =
           let h = single_passed taken passed in
@@ -78,7 +79,7 @@ module _ (n count radius : ℕ) (ks : List ℕ) (cs : List ℤ) where
           ∙ ap integral_answer (sym (integral_is taken ∙ goes_on _ _ passed))
 
     -- ---- sweep
-    module _ (t : ℤ) (passed : verdict (sweeping t taken) ≡ Accepted) where
+    module _ (t : ℤ) (passed : verdict (sweeping t taken) ≡ Ok tt) where
       pub sweep_sound : SoundSlices n count radius ks cs
       sweep_sound =
           let h = sweeping_passed t taken passed in
@@ -90,7 +91,7 @@ module _ (n count radius : ℕ) (ks : List ℕ) (cs : List ℤ) where
           ∙ ap answer (sym (sweep_is taken t ∙ goes_on _ _ passed))
 
     -- ---- antiderivative
-    module _ (d i : ℕ) (passed : verdict (integrating d i taken) ≡ Accepted) where
+    module _ (d i : ℕ) (passed : verdict (integrating d i taken) ≡ Ok tt) where
       pub antiderivative_sound : IntegrandSlices d i n count radius ks cs
       unfolding held handed view
       antiderivative_sound =
@@ -112,22 +113,22 @@ module _ (n count radius : ℕ) (ks : List ℕ) (cs : List ℤ) where
 
   -- ---- refused
   module _ (r : Refusal) (p : ℕ) where
-    pub negate_refused : verdict (single_model taken) ≡ Refused r p
+    pub negate_refused : verdict (single_model taken) ≡ Err (refused_at r p)
         → answer (stopped (cause r) p) ≡ answer (call_negate taken)
     negate_refused e = ap answer (sym (negate_is taken ∙ is_refused _ _ r p e))
 
-    pub sweep_refused : (t : ℤ) → verdict (sweeping t taken) ≡ Refused r p
+    pub sweep_refused : (t : ℤ) → verdict (sweeping t taken) ≡ Err (refused_at r p)
         → answer (stopped (cause r) p) ≡ answer (call_sweep t taken)
     sweep_refused t e = ap answer (sym (sweep_is taken t ∙ is_refused _ _ r p e))
 
-    pub antiderivative_refused : (d i : ℕ) → verdict (integrating d i taken) ≡ Refused r p
+    pub antiderivative_refused : (d i : ℕ) → verdict (integrating d i taken) ≡ Err (refused_at r p)
         → answer (stopped (cause r) p) ≡ answer (call_antiderivative d i taken)
     antiderivative_refused d i e = ap answer (sym (antiderivative_is taken d i ∙ is_refused _ _ r p e))
 
-    pub range_refused : verdict (single_model taken) ≡ Refused r p
+    pub range_refused : verdict (single_model taken) ≡ Err (refused_at r p)
         → bounds (stopped (cause r) p) ≡ bounds (call_range taken)
     range_refused e = ap bounds (sym (range_is taken ∙ is_refused _ _ r p e))
 
-    pub integral_refused : verdict (single_model taken) ≡ Refused r p
+    pub integral_refused : verdict (single_model taken) ≡ Err (refused_at r p)
         → integral_answer (stopped (cause r) p) ≡ integral_answer (call_integral taken)
     integral_refused e = ap integral_answer (sym (integral_is taken ∙ is_refused _ _ r p e))

@@ -16,7 +16,7 @@ ghost use Rattle.model_slice_answers.specs.StoredAnswers.{Stored};
 ghost use Rattle.model_term_slices.specs.SoundSlices.{SoundSlices, IntegrandSlices};
 
 use model_limits::Left;
-use model_types::{Bounds, Integral, Key, MOST_TERMS, Verdict};
+use model_types::{Bounds, Integral, Key, MOST_TERMS, Refused};
 
 // ---- of a sound model: into two arrays of zeros, and from there into the slices of the answer
 // All signs turned.
@@ -143,7 +143,7 @@ pub fn negate(
 {
     let v = model_slice_tests::single_model(n, count, radius, keys, coefficients);
     match v {
-        Verdict::Accepted => store_negated(
+        Ok(()) => store_negated(
             n,
             count,
             radius,
@@ -153,7 +153,7 @@ pub fn negate(
             outcoefficients,
             numbers,
         ),
-        Verdict::Refused(refusal, place) => {
+        Err(Refused(refusal, place)) => {
             model_slice_answers::store_refused(refusal, place, outkeys, outcoefficients, numbers)
         }
     }
@@ -181,7 +181,7 @@ pub fn sweep(
 {
     let v = model_slice_tests::sweeping(t, n, count, radius, keys, coefficients);
     match v {
-        Verdict::Accepted => store_swept(
+        Ok(()) => store_swept(
             fixed::magnitude(t),
             n,
             count,
@@ -192,7 +192,7 @@ pub fn sweep(
             outcoefficients,
             numbers,
         ),
-        Verdict::Refused(refusal, place) => {
+        Err(Refused(refusal, place)) => {
             model_slice_answers::store_refused(refusal, place, outkeys, outcoefficients, numbers)
         }
     }
@@ -221,7 +221,7 @@ pub fn antiderivative(
 {
     let v = model_slice_tests::integrating(d, i, n, count, radius, keys, coefficients);
     match v {
-        Verdict::Accepted => store_integrated(
+        Ok(()) => store_integrated(
             d,
             i,
             n,
@@ -233,7 +233,7 @@ pub fn antiderivative(
             outcoefficients,
             numbers,
         ),
-        Verdict::Refused(refusal, place) => {
+        Err(Refused(refusal, place)) => {
             model_slice_answers::store_refused(refusal, place, outkeys, outcoefficients, numbers)
         }
     }
@@ -248,8 +248,8 @@ pub fn range(n: u8, count: usize, radius: u64, keys: &[Key], coefficients: &[i64
 {
     let v = model_slice_tests::single_model(n, count, radius, keys, coefficients);
     match v {
-        Verdict::Accepted => model_range::range_slices(count, radius, keys, coefficients),
-        Verdict::Refused(refusal, place) => model_types::refuse_bounds(refusal, place),
+        Ok(()) => model_range::range_slices(count, radius, keys, coefficients),
+        Err(Refused(refusal, place)) => model_types::refuse_bounds(refusal, place),
     }
 }
 
@@ -261,7 +261,7 @@ pub fn integral(n: u8, count: usize, radius: u64, keys: &[Key], coefficients: &[
 {
     let v = model_slice_tests::single_model(n, count, radius, keys, coefficients);
     match v {
-        Verdict::Accepted => model_integral::integral_slices(n, count, radius, keys, coefficients),
-        Verdict::Refused(refusal, place) => model_types::refuse_integral(refusal, place),
+        Ok(()) => model_integral::integral_slices(n, count, radius, keys, coefficients),
+        Err(Refused(refusal, place)) => model_types::refuse_integral(refusal, place),
     }
 }

@@ -1,5 +1,6 @@
 -- Models in memory: the model that a struct holds, and the struct that holds a model; answers likewise.
-use Rattle.std.specs.Prelude.{Bool, ◌&&◌, List, [], ◌∷◌, map, ℕ, leb, ℤ, pos, length}
+use Rattle.std.specs.Prelude as S
+use Rattle.std.specs.Prelude.{Bool, ◌&&◌, List, [], ◌∷◌, map, ℕ, leb, ℤ, pos, length, Ok, Err}
 use Rattle.polynomial.specs.Polynomial as P
 use Rattle.calculus.specs.Key.{key_width, key, key_fits, monomial_of, key_degree}
 use Rattle.calculus.specs.Terms.{term, is_nonzero}
@@ -19,8 +20,7 @@ use Rattle.model_types.specs.declared.Refusal.TheVariants.{OverSpan, TooManyTerm
 use Rattle.model_types.specs.declared.Refusal.TheVariants.{VariablesDiffer, ShortBuffer, Uncertified}
 use Rattle.model_types.specs.declared.Refusal.TheVariants.{NotOneVariable, CutTooDeep, BadReading}
 use Rattle.model_types.specs.declared.Refusal.TheVariants.{BadDouble, BadRank}
-use Rattle.model_types.specs.declared.Verdict.{Verdict}
-use Rattle.model_types.specs.declared.Verdict.TheVariants.{Accepted, Refused}
+use Rattle.model_types.specs.declared.Refused.{Refused}
 use Rattle.model_types.specs.declared.Answer.{Answer}
 use Rattle.model_types.specs.declared.Bounds.{Bounds}
 use Rattle.model_types.specs.declared.Integral.{Integral}
@@ -127,30 +127,38 @@ cause BadReading = R.bad_reading
 cause BadDouble = R.bad_double
 cause BadRank = R.bad_rank
 
+-- a refusal with its place
+abbrev pub refused_at : Refusal → ℕ → Refused
+refused_at r i = record { 0 = r; 1 = i }
+
+-- accepted, or refused
+abbrev pub Verdict : Type 0
+Verdict = S.Result Unit Refused
+
 -- document 01's number of a verdict, 0 without a refusal
 unfoldable pub verdict_number : Verdict → ℕ
-verdict_number Accepted = 0
-verdict_number (Refused r i) = R.number (cause r)
+verdict_number (Ok u) = 0
+verdict_number (Err r) = R.number (cause r.0)
 
 -- and its place
 unfoldable pub verdict_place : Verdict → ℕ
-verdict_place Accepted = 0
-verdict_place (Refused r i) = i
+verdict_place (Ok u) = 0
+verdict_place (Err r) = r.1
 
 -- the verdict of a result
 unfoldable pub verdict : {A : Type 0} → Result A → Verdict
-verdict (done a) = Accepted
-verdict (stopped r i) = Refused (refusal r) i
+verdict (done a) = Ok tt
+verdict (stopped r i) = Err (refused_at (refusal r) i)
 
 -- a model, or the zero model in one variable beside the refusal
 unfoldable pub answer : Result C.Model → Answer
-answer (done m) = record { model = pack m; verdict = Accepted }
-answer (stopped r i) = record { model = pack (zero_model 1); verdict = Refused (refusal r) i }
+answer (done m) = record { model = pack m; verdict = Ok tt }
+answer (stopped r i) = record { model = pack (zero_model 1); verdict = Err (refused_at (refusal r) i) }
 
 -- two ends, or zeros beside the refusal
 unfoldable pub bounds : Result Ends → Bounds
-bounds (done e) = record { low = e.low; high = e.high; verdict = Accepted }
-bounds (stopped r i) = record { low = zero_ends.low; high = zero_ends.high; verdict = Refused (refusal r) i }
+bounds (done e) = record { low = e.low; high = e.high; verdict = Ok tt }
+bounds (stopped r i) = record { low = zero_ends.low; high = zero_ends.high; verdict = Err (refused_at (refusal r) i) }
 
 -- an integral, or zeros beside the refusal
 unfoldable pub integral_answer : Result Op.Integral → Integral
@@ -159,14 +167,14 @@ integral_answer (done i) = record {
   high = i.ends.high;
   quotient = i.exact.quotient;
   remainder = i.exact.remainder;
-  verdict = Accepted;
+  verdict = Ok tt;
 }
 integral_answer (stopped r i) = record {
   low = zero_ends.low;
   high = zero_ends.high;
   quotient = zero_mixed.quotient;
   remainder = zero_mixed.remainder;
-  verdict = Refused (refusal r) i;
+  verdict = Err (refused_at (refusal r) i);
 }
 
 -- the ends, q and r that a struct holds

@@ -17,7 +17,8 @@ use Rattle.calculus.specs.Tests.{vars_sound}
 use Rattle.calculus_laws.specs.SoundLaws.{Canonical, Sound, sound_parts, parts_sound}
 use Rattle.model_types.specs.declared.Model.{Model}
 use Rattle.model_types.specs.declared.Refusal.{Refusal}
-use Rattle.model_types.specs.declared.Verdict.TheVariants.{Accepted, Refused}
+use Rattle.std.specs.Prelude.{Ok, Err}
+use Rattle.model_types.specs.ModelStruct.{refused_at}
 use Rattle.model_types.specs.declared.Answer.{Answer}
 use Rattle.model_types.specs.ModelStruct.{view, pack, answer, bounds}
 use Rattle.model_types.specs.ModelStructLaws.{sound_vars, view_pack_sound}
@@ -68,7 +69,7 @@ pub record Got (n d : ℕ) (a : R.Answer C.Model) (h : Model) : Type 0 where
   pub is : a ≡ accepted model
   pub holds : Holds n d h model
 
-pub got : {n d : ℕ} {a : R.Answer C.Model} {r : Answer} → r ≡ answer (at_place 0 a) → r.verdict ≡ Accepted
+pub got : {n d : ℕ} {a : R.Answer C.Model} {r : Answer} → r ≡ answer (at_place 0 a) → r.verdict ≡ Ok tt
     → IfAccepted (Sound n d) a → Got n d a r.model
 unfolding answer at_place
 got e v (holds {a = m} s) = record { model = m; is = refl; holds = record { packed = ap (λ r. r.model) e; sound = s } }
@@ -81,7 +82,7 @@ then_is f e = ap (λ a. a then f) e
 
 -- so the struct that is taken from it is sound, and what is made of that struct is the whole answer
 module _ {n d : ℕ} (v : vars_sound n ≡ true) (o : d ≤ most_degree) {a : R.Answer C.Model}
-    (s : IfAccepted (Sound n d) a) {r : Answer} (e : r ≡ answer (at_place 0 a)) (t : r.verdict ≡ Accepted) where
+    (s : IfAccepted (Sound n d) a) {r : Answer} (e : r ≡ answer (at_place 0 a)) (t : r.verdict ≡ Ok tt) where
   taken : Got n d a r.model
   taken = got e t s
 
@@ -103,13 +104,13 @@ sound_struct {d = d} m e h = subst (λ n. Sound n d (view m)) e (sound_parts d (
 
 -- ---- an answer that is refused: what would follow it is refused with it
 module _ {r : Answer} {x : Refusal} {y : ℕ} where
-  pub refused_then : (a : R.Answer C.Model) (f : C.Model → R.Answer C.Model) → r.verdict ≡ Refused x y
+  pub refused_then : (a : R.Answer C.Model) (f : C.Model → R.Answer C.Model) → r.verdict ≡ Err (refused_at x y)
       → r ≡ answer (at_place 0 a) → r ≡ answer (at_place 0 (a then f))
   unfolding answer at_place ◌then◌
   refused_then (accepted m) f v e = let z : ◌≡◌ {A = ℕ} 0 1 = cc in absurd (omega arith)
   refused_then (refused q) f v e = e
 
-  pub refused_ends : (a : R.Answer C.Model) (f : C.Model → R.Answer Ends) → r.verdict ≡ Refused x y
+  pub refused_ends : (a : R.Answer C.Model) (f : C.Model → R.Answer Ends) → r.verdict ≡ Err (refused_at x y)
       → r ≡ answer (at_place 0 a)
       → record { low = pos 0; high = pos 0; verdict = r.verdict } ≡ bounds (at_place 0 (a then f))
   unfolding answer bounds at_place ◌then◌ zero_ends

@@ -6,8 +6,9 @@ use Rattle.calculus.specs.Shares as S
 use Rattle.calculus.specs.Shares.{no_shares, shares_of}
 use Rattle.model_types.specs.declared.Shares.{Shares}
 use Rattle.model_types.specs.declared.Accounted.{Accounted}
-use Rattle.model_types.specs.declared.Verdict.{Verdict}
-use Rattle.model_types.specs.declared.Verdict.TheVariants.{Accepted, Refused}
+use Rattle.model_types.specs.ModelStruct.{Verdict}
+use Rattle.std.specs.Prelude.{Ok, Err}
+use Rattle.model_types.specs.ModelStruct.{refused_at}
 use Rattle.model_types.specs.ModelStruct.{answer}
 
 -- the struct of four shares
@@ -20,5 +21,5 @@ accounted a s = record { answer = answer (at_place 0 a); shares = stored_shares 
 
 -- what stands beside a verdict: zeros beside a refusal
 unfoldable pub unless_refused : Verdict → Shares → Shares
-unless_refused Accepted s = s
-unless_refused (Refused r i) s = stored_shares no_shares
+unless_refused (Ok u) s = s
+unless_refused (Err r) s = stored_shares no_shares

@@ -12,7 +12,7 @@ use Rattle.calculus.specs.Refusal.{accepted, refused, stopped, at_place}
 use Rattle.calculus.specs.Shares as S
 use Rattle.calculus.specs.Shares.{no_shares, shares_of, grown, all_carried}
 use Rattle.model_types.specs.declared.Model.{Model}
-use Rattle.model_types.specs.declared.Verdict.TheVariants.{Accepted}
+use Rattle.std.specs.Prelude.{Ok}
 use Rattle.model_types.specs.declared.Answer.{Answer}
 use Rattle.model_types.specs.declared.Shares.{Shares}
 use Rattle.model_types.specs.declared.Accounted.{Accounted}
@@ -52,8 +52,8 @@ accounted_refused r f e = ap (λ a. both a zeros) e
 -- of a model that no limit refuses
 pub accounted_accepted : {h : Model} {s : Shares} (m : C.Model) (f : C.Model → S.Shares) → h ≡ pack m
     → s ≡ stored_shares (f m)
-    → record { answer = record { model = h; verdict = Accepted }; shares = s } ≡ accounted (accepted m) f
-accounted_accepted m f e h = ap₂ (λ h s. both (record { model = h; verdict = Accepted }) s) e h
+    → record { answer = record { model = h; verdict = Ok tt }; shares = s } ≡ accounted (accepted m) f
+accounted_accepted m f e h = ap₂ (λ h s. both (record { model = h; verdict = Ok tt }) s) e h
     ∙ (unfold accounted answer at_place shares_of in refl)
 
 -- of a refusal, whose radius is 0

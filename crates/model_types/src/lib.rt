@@ -51,35 +51,36 @@ pub struct Model {
 }
 
 // Why a call is refused: one case for each number of the documents' table.
-#[derive(Clone, Copy)]
+#[derive(Clone, Copy, Debug, PartialEq, Eq)]
 pub enum Refusal {
-    BadLength,
-    BadMark,
-    BadLimits,
-    BadOffset,
-    BadModel,
-    BadStep,
-    OverSpan,
-    TooManyTerms,
-    LeavesBox,
-    VariablesDiffer,
-    ShortBuffer,
-    Uncertified,
-    NotOneVariable,
-    CutTooDeep,
-    BadReading,
-    BadDouble,
-    BadRank,
+    BadLength = 1,
+    BadMark = 2,
+    BadLimits = 3,
+    BadOffset = 4,
+    BadModel = 5,
+    BadStep = 6,
+    OverSpan = 7,
+    TooManyTerms = 8,
+    LeavesBox = 9,
+    VariablesDiffer = 10,
+    ShortBuffer = 11,
+    Uncertified = 12,
+    NotOneVariable = 13,
+    CutTooDeep = 14,
+    BadReading = 15,
+    BadDouble = 16,
+    BadRank = 17,
 }
 
-// The refusal stands with its place.
-#[derive(Clone, Copy)]
-pub enum Verdict {
-    Accepted,
-    Refused(Refusal, usize),
-}
+// Why a call is refused, and the place of the fault.
+#[derive(Clone, Copy, Debug, PartialEq, Eq)]
+pub struct Refused(pub Refusal, pub usize);
 
-// A model, or the zero model beside a refusal.
+// What stands beside a call's value: whether it is accepted.
+pub type Verdict = Result<(), Refused>;
+
+// A model, or the zero model beside a refusal. Document 01 asks for this form, a struct of the model and an enum beside
+// it, and for the zero model.
 #[derive(Clone, Copy)]
 pub struct Answer {
     pub model: Model,
@@ -109,14 +110,14 @@ pub struct Curve {
     pub radius: u64,
 }
 
-// A curve, or all zeros beside a refusal.
+// A curve, or all zeros beside a refusal, which every call on curves promises (`curve_answer`).
 #[derive(Clone, Copy)]
 pub struct CurveAnswer {
     pub curve: Curve,
     pub verdict: Verdict,
 }
 
-// Two ends, or zeros beside a refusal.
+// Two ends, or zeros beside a refusal, as document 01 has it.
 #[derive(Clone, Copy)]
 pub struct Bounds {
     pub low: i64,
@@ -132,22 +133,12 @@ pub struct Reading {
     pub high: i64,
 }
 
-// Whether a reading of a row contradicts a model: the first that does, by its number from 0.
-#[derive(Clone, Copy)]
-pub enum Contradiction {
-    None,
-    At(usize),
-}
-
-// What a row of readings gives, with no contradiction beside a refusal.
-#[derive(Clone, Copy)]
-pub struct Finding {
-    pub contradiction: Contradiction,
-    pub verdict: Verdict,
-}
+// What a row of readings gives: the first reading that contradicts the model, by its number from 0, if one does; or the
+// refusal.
+pub type Finding = Result<Option<usize>, Refused>;
 
 // The two ends of an integral, and that of the polynomial part alone: quotient + remainder / 212,837,625, exactly. All
-// are 0 beside a refusal.
+// are 0 beside a refusal, as document 01 has it.
 #[derive(Clone, Copy)]
 pub struct Integral {
     pub low: i64,
@@ -271,25 +262,7 @@ impl Shares {
 pub fn number(refusal: Refusal) -> u8
     ensures { result ≡ number (cause refusal) }
 {
-    match refusal {
-        Refusal::BadLength => 1,
-        Refusal::BadMark => 2,
-        Refusal::BadLimits => 3,
-        Refusal::BadOffset => 4,
-        Refusal::BadModel => 5,
-        Refusal::BadStep => 6,
-        Refusal::OverSpan => 7,
-        Refusal::TooManyTerms => 8,
-        Refusal::LeavesBox => 9,
-        Refusal::VariablesDiffer => 10,
-        Refusal::ShortBuffer => 11,
-        Refusal::Uncertified => 12,
-        Refusal::NotOneVariable => 13,
-        Refusal::CutTooDeep => 14,
-        Refusal::BadReading => 15,
-        Refusal::BadDouble => 16,
-        Refusal::BadRank => 17,
-    }
+    refusal as u8
 }
 
 // The answers of a refused call. One of the zeros is stored again, at a place that the compiler cannot know: it then
@@ -303,7 +276,7 @@ pub fn refuse(refusal: Refusal, place: usize) -> Answer
     zero.coefficients[at] = 0;
     Answer {
         model: zero,
-        verdict: Verdict::Refused(refusal, place),
+        verdict: Err(Refused(refusal, place)),
     }
 }
 
@@ -313,7 +286,7 @@ pub fn refuse_bounds(refusal: Refusal, place: usize) -> Bounds
     Bounds {
         low: 0,
         high: 0,
-        verdict: Verdict::Refused(refusal, place),
+        verdict: Err(Refused(refusal, place)),
     }
 }
 
@@ -325,7 +298,7 @@ pub fn refuse_integral(refusal: Refusal, place: usize) -> Integral
         high: 0,
         quotient: 0,
         remainder: 0,
-        verdict: Verdict::Refused(refusal, place),
+        verdict: Err(Refused(refusal, place)),
     }
 }
 
@@ -375,7 +348,7 @@ impl Model {
         }
         Answer {
             model: constant_of(n, value),
-            verdict: Verdict::Accepted,
+            verdict: Ok(()),
         }
     }
 
@@ -391,7 +364,7 @@ impl Model {
         }
         Answer {
             model: variable_of(n, i),
-            verdict: Verdict::Accepted,
+            verdict: Ok(()),
         }
     }
 }
@@ -462,7 +435,7 @@ pub fn grown(e: u64, rounding: u64, swept: u64) -> Shares
 pub fn unless_refused(v: Verdict, shares: Shares) -> Shares
     ensures { result ≡ unless_refused v shares }
 {
-    let Verdict::Accepted = v else {
+    let Ok(()) = v else {
         return Shares::ZERO;
     };
     shares

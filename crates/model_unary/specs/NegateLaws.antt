@@ -8,7 +8,6 @@ use Rattle.std.proofs.Math.Dec.{T}
 use Rattle.std.proofs.Math.IntN.{neg_ℤ}
 use Rattle.std.proofs.Math.ListN.{take}
 use Rattle.std.proofs.lemmas.List.{length-map}
-use Rattle.std.proofs.Math.Seq.{take-length}
 use Rattle.calculus.specs.Key.{monomial_of}
 use Rattle.calculus.specs.Terms.{Terms, term, map_coefficients}
 use Rattle.calculus.specs.Model as C

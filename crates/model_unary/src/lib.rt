@@ -13,16 +13,13 @@ ghost use Rattle.model_slices.specs.HeldModels.{held};
 ghost use Rattle.model_places.specs.LeftModels.{Lies, Zeros, left_answer};
 
 use model_places::model_limits::Left;
-use model_types::{Accounted, Answer, Key, MOST_TERMS, Model, Verdict};
+use model_types::{Accounted, Answer, Key, MOST_TERMS, Model};
 
 // Whether a term is swept: not the constant one, and not above the threshold.
 fn is_small(threshold: u64, key: Key, size: u64) -> bool
     ensures { result ≡ (not (eqb key 0) && leb size threshold) }
 {
-    if key == 0 {
-        return false;
-    }
-    size <= threshold
+    key != 0 && size <= threshold
 }
 
 // ---- signs turned
@@ -33,11 +30,9 @@ pub fn turn(count: usize, coefficients: &[i64], out: &mut [i64])
     ensures { out.new
         ≡ over (map neg_ℤ (take count coefficients.now)) out.old }
 {
-    let mut i = 0;
-    while i < count {
+    for i in 0..count {
         let old = coefficients[i];
         out[i] = fixed::negated(old);
-        i += 1;
     }
 }
 
@@ -60,29 +55,10 @@ pub fn negated_slices(
     model_slices::copy_keys(count, keys, stored);
     turn(count, coefficients, out);
     Left {
-        count: count,
-        radius: radius,
-        verdict: Verdict::Accepted,
+        count,
+        radius,
+        verdict: Ok(()),
     }
-}
-
-// The same for two slices of one lifetime, at which a struct lends its arrays.
-fn negated_arrays<'a>(
-    count: usize,
-    radius: u64,
-    keys: &'a [Key],
-    coefficients: &'a [i64],
-    stored: &mut [Key],
-    out: &mut [i64],
-) -> Left
-    requires lies { Lies count radius keys.now coefficients.now }
-    requires zeros { Zeros stored.old out.old }
-    ensures { (w : Lies count radius keys.now coefficients.now)
-        → left_answer w.vars result stored.new out.new
-        ≡ answer (done (negate
-        (view (held w.vars count radius keys.now coefficients.now)))) }
-{
-    negated_slices(count, radius, keys, coefficients, stored, out)
 }
 
 // All signs turned.
@@ -92,7 +68,7 @@ pub fn negated(m: Model) -> Model
 {
     let mut keys: [Key; MOST_TERMS] = [0; MOST_TERMS];
     let mut turned = [0i64; MOST_TERMS];
-    let l = negated_arrays(
+    let l = negated_slices(
         m.count,
         m.radius,
         &m.keys,
@@ -104,7 +80,7 @@ pub fn negated(m: Model) -> Model
         n: m.n,
         count: l.count,
         radius: l.radius,
-        keys: keys,
+        keys,
         coefficients: turned,
     }
 }
@@ -130,12 +106,10 @@ pub fn swept_slices(
 {
     let mut count = 0;
     let mut radius = start;
-    let mut i = 0;
-    while i < total {
+    for i in 0..total {
         let key = keys[i];
         let c = coefficients[i];
         let size = fixed::magnitude(c);
-        i += 1;
         if is_small(threshold, key, size) {
             radius += size;
         } else {
@@ -145,30 +119,10 @@ pub fn swept_slices(
         }
     }
     Left {
-        count: count,
-        radius: radius,
-        verdict: Verdict::Accepted,
+        count,
+        radius,
+        verdict: Ok(()),
     }
-}
-
-// The same for two slices of one lifetime.
-fn swept_arrays<'a>(
-    threshold: u64,
-    total: usize,
-    start: u64,
-    keys: &'a [Key],
-    coefficients: &'a [i64],
-    stored: &mut [Key],
-    out: &mut [i64],
-) -> Left
-    requires lies { Lies total start keys.now coefficients.now }
-    requires zeros { Zeros stored.old out.old }
-    ensures { (w : Lies total start keys.now coefficients.now)
-        → left_answer w.vars result stored.new out.new
-        ≡ answer (done (sweep threshold
-        (view (held w.vars total start keys.now coefficients.now)))) }
-{
-    swept_slices(threshold, total, start, keys, coefficients, stored, out)
 }
 
 // The same of a struct.
@@ -178,7 +132,7 @@ pub fn swept(m: Model, threshold: u64) -> Model
 {
     let mut keys: [Key; MOST_TERMS] = [0; MOST_TERMS];
     let mut coefficients = [0i64; MOST_TERMS];
-    let l = swept_arrays(
+    let l = swept_slices(
         threshold,
         m.count,
         m.radius,
@@ -191,8 +145,8 @@ pub fn swept(m: Model, threshold: u64) -> Model
         n: m.n,
         count: l.count,
         radius: l.radius,
-        keys: keys,
-        coefficients: coefficients,
+        keys,
+        coefficients,
     }
 }
 
@@ -205,11 +159,8 @@ pub fn swept_accounted(m: Model, threshold: u64) -> Accounted
     let dropped = model.radius - m.radius;
     let shares = model_types::grown(m.radius, 0, dropped);
     let answer = Answer {
-        model: model,
-        verdict: Verdict::Accepted,
+        model,
+        verdict: Ok(()),
     };
-    Accounted {
-        answer: answer,
-        shares: shares,
-    }
+    Accounted { answer, shares }
 }

@@ -6,37 +6,30 @@
 // said in a line on standard error.
 #![tactic(auto)]
 
-ghost use Rattle.polymodel.specs.Input.{Within};
+ghost use Rattle.std.specs.Prelude.{◌≤◌, length, IfOk};
 
+use std::io;
 use std::io::{Print, Read};
 use std::rt::{Stderr, Stdin, Stdout};
 
 // One byte more than the longest sheet has, so that a longer input shows as too long.
 const MOST_INPUT: usize = format::LONGEST + 1;
 
-// How many bytes came in before the input ended or the buffer was full.
-#[derive(Clone, Copy)]
-enum Input {
-    Bytes(usize),
-    Unreadable,
-}
-
-// Fills the buffer from standard input. A pipe hands out its bytes in parts of any size, so it is asked until there are
-// none.
-fn read_input(mut input: Stdin, buffer: &mut [u8]) -> Input
-    ensures { Within buffer.new result }
+// Fills the buffer from standard input: how many bytes came in before the input ended or the buffer was full. A pipe
+// hands out its bytes in parts of any size, so it is asked until there are none.
+fn read_input(mut input: Stdin, buffer: &mut [u8]) -> io::Result<usize>
+    ensures { IfOk result (λ n. n ≤ length buffer.new) }
 {
     let mut count = 0;
+    // No range counts this loop: a read hands out any number of bytes.
     while count < buffer.len() {
-        let Ok(more) = input.read(&mut buffer[count..]) else {
-            return Input::Unreadable;
-        };
+        let more = input.read(&mut buffer[count..])?;
         if more == 0 {
-            return Input::Bytes(count);
+            break;
         }
         count += more;
     }
-    Input::Bytes(count)
+    Ok(count)
 }
 
 // Writes the lines of a sheet.
@@ -51,8 +44,7 @@ fn answer(output: Stdout, errors: Stderr, sheet: &[u8]) {
 fn main(rt: HostRuntime) {
     let mut buffer = [0u8; MOST_INPUT];
     let errors = rt.stderr();
-    let input = read_input(rt.stdin(), &mut buffer);
-    let Input::Bytes(count) = input else {
+    let Ok(count) = read_input(rt.stdin(), &mut buffer) else {
         let _ = errors.write_all(b"polymodel: the sheet cannot be read\n");
         return;
     };

@@ -4,8 +4,9 @@ use Rattle.calculus.specs.Model.{zero_model}
 use Rattle.calculus.specs.Shares.{no_shares}
 use Rattle.model_types.specs.declared.Model.{Model}
 use Rattle.model_types.specs.declared.Refusal.{Refusal}
-use Rattle.model_types.specs.declared.Verdict.{Verdict}
-use Rattle.model_types.specs.declared.Verdict.TheVariants.{Accepted, Refused}
+use Rattle.model_types.specs.ModelStruct.{Verdict}
+use Rattle.std.specs.Prelude.{Ok, Err}
+use Rattle.model_types.specs.ModelStruct.{refused_at}
 use Rattle.model_types.specs.declared.Accounted.{Accounted}
 use Rattle.model_types.specs.ModelStruct.{pack}
 use Rattle.model_types.specs.SharesStruct.{stored_shares}
@@ -15,8 +16,8 @@ use Rattle.product_answer.specs.PackedTerms.{PackReady, packed}
 
 -- a model, or the zero model in one variable beside a refusal
 unfoldable pub model_unless : Verdict → Model → Model
-model_unless Accepted m = m
-model_unless (Refused r i) m = pack (zero_model 1)
+model_unless (Ok u) m = m
+model_unless (Err r) m = pack (zero_model 1)
 
 -- the model of an answer: the first count terms of the two arrays
 unfoldable pub kept_model : (n : ℕ) → Kept → List ℕ → List ℤ → Model
@@ -32,13 +33,13 @@ kept_accounted n k keys coefficients = record {
 
 -- the terms of an accepted one can be packed
 pub record KeptReady (k : Kept) (keys : List ℕ) (coefficients : List ℤ) : Type 0 where
-  pub ready : k.verdict ≡ Accepted → PackReady k.count keys coefficients
+  pub ready : k.verdict ≡ Ok tt → PackReady k.count keys coefficients
 
 -- the answer of a refused product
 unfoldable pub kept_refused : Refusal → Kept
-kept_refused r = record { count = 0; radius = 0; shares = stored_shares no_shares; verdict = Refused r 0 }
+kept_refused r = record { count = 0; radius = 0; shares = stored_shares no_shares; verdict = Err (refused_at r 0) }
 
 -- how many terms are kept: none beside a refusal
 unfoldable pub kept_count : Verdict → ℕ → ℕ
-kept_count Accepted count = count
-kept_count (Refused r i) count = 0
+kept_count (Ok u) count = count
+kept_count (Err r) count = 0

@@ -18,8 +18,9 @@ use Rattle.calculus.specs.Shares.{product_shares}
 use Rattle.model_types.specs.declared.Model.{Model}
 use Rattle.model_types.specs.declared.Refusal.{Refusal}
 use Rattle.model_types.specs.declared.Refusal.TheVariants.{OverSpan, TooManyTerms}
-use Rattle.model_types.specs.declared.Verdict.{Verdict}
-use Rattle.model_types.specs.declared.Verdict.TheVariants.{Accepted, Refused}
+use Rattle.model_types.specs.ModelStruct.{Verdict}
+use Rattle.std.specs.Prelude.{Ok, Err}
+use Rattle.model_types.specs.ModelStruct.{refused_at}
 use Rattle.model_types.specs.declared.Answer.{Answer}
 use Rattle.model_types.specs.declared.Shares.{Shares}
 use Rattle.model_types.specs.ArrayLaws.{first_padded}
@@ -102,7 +103,8 @@ module _ {n a e1 b e2 : ℕ} {r : Gathered} {keys : List ℕ} {cs : List ℤ} (w
   unfolding kept_refused kept_model model_unless unless_refused answer
   refused_by q h =
       kept_by (kept_refused q) (a * e2 + b * e1 + e1 * e2) refl
-      (ap (λ v. record { model = pack (zero_model 1); verdict = Refused v 0 }) (sym (refusal_cause q)) ∙ h) refl
+      (ap (λ v. record { model = pack (zero_model 1); verdict = Err (refused_at v 0) }) (sym (refusal_cause q))
+      ∙ h) refl
 
   pub kept_many : most_terms < r.count → kept_accounted n (kept_refused TooManyTerms) keys cs ≡ accounted o shares
   unfolding cause
@@ -125,18 +127,18 @@ module _ {n a e1 b e2 : ℕ} {r : Gathered} {keys : List ℕ} {cs : List ℤ} (w
 
     pub kept_within : (s : Shares) → leb (size (terms r.count keys cs) + e) span_limit ≡ true
         → s ≡ stored_shares (error_shares old r.rounding r.swept)
-        → kept_accounted n (record { count = r.count; radius = e; shares = s; verdict = Accepted }) keys cs
+        → kept_accounted n (record { count = r.count; radius = e; shares = s; verdict = Ok tt }) keys cs
         ≡ accounted o shares
     unfolding kept_model model_unless unless_refused
     kept_within s h hs =
-        kept_by (record { count = r.count; radius = e; shares = s; verdict = Accepted }) old ro
+        kept_by (record { count = r.count; radius = e; shares = s; verdict = Ok tt }) old ro
         (sym (answer_within struct (struct_packed w l old ro e struct re refl) (sym same_span ∙ h))
         ∙ struct_answer w l old ro e struct re refl) hs
 
 -- ---- what the arrays of an answer are ready for
 told_apart : Verdict → ℕ
-told_apart Accepted = 0
-told_apart (Refused r i) = 1
+told_apart (Ok u) = 0
+told_apart (Err r) = 1
 
 pub refused_ready : (q : Refusal) (keys : List ℕ) (cs : List ℤ) → KeptReady (kept_refused q) keys cs
 unfolding kept_refused told_apart
@@ -144,16 +146,16 @@ refused_ready q keys cs = record { ready = λ h. absurd (omega (arith, ap told_a
 
 -- ---- as a struct
 -- the terms of an accepted answer are packed
-pub answer_accepted : (n : ℕ) (k : Kept) (keys : List ℕ) (coefficients : List ℤ) → k.verdict ≡ Accepted → {m : Model}
+pub answer_accepted : (n : ℕ) (k : Kept) (keys : List ℕ) (coefficients : List ℤ) → k.verdict ≡ Ok tt → {m : Model}
     → m ≡ packed n k.radius (terms k.count keys coefficients)
-    → record { model = m; verdict = Accepted } ≡ (kept_accounted n k keys coefficients).answer
+    → record { model = m; verdict = Ok tt } ≡ (kept_accounted n k keys coefficients).answer
 unfolding kept_accounted kept_model model_unless
 answer_accepted n k keys coefficients e q = rw (e, q) refl
 
 -- the answer of a refused call
 pub answer_refused : (n : ℕ) (k : Kept) (keys : List ℕ) (coefficients : List ℤ) (r : Refusal) (i : ℕ)
-    → k.verdict ≡ Refused r i → {a : Answer} → a ≡ answer (stopped (cause r) i)
+    → k.verdict ≡ Err (refused_at r i) → {a : Answer} → a ≡ answer (stopped (cause r) i)
     → a ≡ (kept_accounted n k keys coefficients).answer
 unfolding kept_accounted kept_model model_unless answer
 answer_refused n k keys coefficients r i e q =
-    q ∙ ap (λ x. record { model = pack (zero_model 1); verdict = Refused x i }) (refusal_cause r) ∙ rw e refl
+    q ∙ ap (λ x. record { model = pack (zero_model 1); verdict = Err (refused_at x i) }) (refusal_cause r) ∙ rw e refl

@@ -16,7 +16,7 @@ ghost use Rattle.product_answer.specs.ErrorShares.{error_shares};
 ghost use Rattle.product_answer.specs.KeptProduct.{kept_accounted, KeptReady, kept_refused};
 
 use model_slices::Kept;
-use model_types::{Accounted, Answer, Key, Model, Refusal, Shares, Verdict};
+use model_types::{Accounted, Answer, Key, Model, Refusal, Refused, Shares};
 use product_sums::Gathered;
 
 // ---- the error E
@@ -61,10 +61,8 @@ fn within(radius: u64, count: usize, coefficients: &[i64]) -> bool
         → result ≡ leb (size (terms count keys coefficients.now) + radius) span_limit }
 {
     let mut span = radius;
-    let mut i = 0;
-    while i < count {
-        span = fixed::capped_sum(span, fixed::magnitude(coefficients[i]));
-        i += 1;
+    for c in &coefficients[..count] {
+        span = fixed::capped_sum(span, fixed::magnitude(*c));
     }
     fixed::within_span(span)
 }
@@ -77,7 +75,7 @@ fn refused(refusal: Refusal) -> Kept
         count: 0,
         radius: 0,
         shares: Shares::ZERO,
-        verdict: Verdict::Refused(refusal, 0),
+        verdict: Err(Refused(refusal, 0)),
     }
 }
 
@@ -113,7 +111,7 @@ pub fn kept_answer(
         count: r.count,
         radius: e,
         shares: all,
-        verdict: Verdict::Accepted,
+        verdict: Ok(()),
     }
 }
 
@@ -134,12 +132,10 @@ pub fn store_first(
         ≡ over (narrow_coefficients (terms count kept.now rounded.now))
         coefficients.old) }
 {
-    let mut i = 0;
-    while i < count {
+    for i in 0..count {
         let c = rounded[i];
         keys[i] = model_keys::narrow_key(kept[i]);
         coefficients[i] = c;
-        i += 1;
     }
 }
 
@@ -167,11 +163,11 @@ fn packed_answer(n: u8, k: Kept, keys: &[u64], coefficients: &[i64]) -> Answer
 {
     let v = k.verdict;
     match v {
-        Verdict::Accepted => Answer {
+        Ok(()) => Answer {
             model: pack(n, k.radius, k.count, keys, coefficients),
-            verdict: Verdict::Accepted,
+            verdict: Ok(()),
         },
-        Verdict::Refused(refusal, place) => model_types::refuse(refusal, place),
+        Err(Refused(refusal, place)) => model_types::refuse(refusal, place),
     }
 }
 

@@ -5,7 +5,8 @@ use Rattle.std.proofs.Math.Path.{ap}
 use Rattle.calculus.specs.Model.{zero_model}
 use Rattle.model_types.specs.declared.Model.{Model}
 use Rattle.model_types.specs.declared.Refusal.{Refusal}
-use Rattle.model_types.specs.declared.Verdict.TheVariants.{Accepted, Refused}
+use Rattle.std.specs.Prelude.{Ok, Err}
+use Rattle.model_types.specs.ModelStruct.{refused_at}
 use Rattle.model_types.specs.ModelStruct.{pack}
 use Rattle.product_sums.specs.TermArrays.{terms}
 use Rattle.product_sums.specs.TermArrayLaws.{terms_length}
@@ -18,7 +19,7 @@ module _ (n : ℕ) (k : Kept) (keys : List ℕ) (coefficients : List ℤ) where
   held = kept_model n k keys coefficients
 
   -- the numbers of an accepted one
-  module _ (h : KeptReady k keys coefficients) (e : k.verdict ≡ Accepted) where
+  module _ (h : KeptReady k keys coefficients) (e : k.verdict ≡ Ok tt) where
     is_packed : held ≡ packed n k.radius (terms k.count keys coefficients)
     unfolding kept_model model_unless
     is_packed = ap (λ v. model_unless v (packed n k.radius (terms k.count keys coefficients))) e
@@ -39,7 +40,7 @@ module _ (n : ℕ) (k : Kept) (keys : List ℕ) (coefficients : List ℤ) where
         ∙ terms_length k.count keys coefficients r.keys_long r.coefficients_long
 
   -- a refused one is the zero model
-  module _ (r : Refusal) (i : ℕ) (e : k.verdict ≡ Refused r i) where
+  module _ (r : Refusal) (i : ℕ) (e : k.verdict ≡ Err (refused_at r i)) where
     is_zero : held ≡ pack (zero_model 1)
     unfolding kept_model model_unless
     is_zero = ap (λ v. model_unless v (packed n k.radius (terms k.count keys coefficients))) e

@@ -13,8 +13,9 @@ use Rattle.model_types.specs.declared.Accounted.{Accounted}
 use Rattle.model_types.specs.declared.Model.{Model}
 use Rattle.model_types.specs.declared.Refusal.{Refusal}
 use Rattle.model_types.specs.declared.Shares.{Shares}
-use Rattle.model_types.specs.declared.Verdict.{Verdict}
-use Rattle.model_types.specs.declared.Verdict.TheVariants.{Accepted, Refused}
+use Rattle.model_types.specs.ModelStruct.{Verdict}
+use Rattle.std.specs.Prelude.{Ok, Err}
+use Rattle.model_types.specs.ModelStruct.{refused_at}
 use Rattle.model_types.specs.ModelStruct.{view, verdict, answer}
 use Rattle.model_types.specs.ModelStructLaws.{refusal_cause}
 use Rattle.model_types.specs.SharesStruct.{accounted}
@@ -29,7 +30,7 @@ use Rattle.product_answer.specs.KeptProduct.{model_unless, kept_model, kept_acco
 
 -- the answer of a refused call: no terms
 abbrev refused_kept : Shares → Refusal → ℕ → Kept
-refused_kept s r i = record { count = 0; radius = 0; shares = s; verdict = Refused r i }
+refused_kept s r i = record { count = 0; radius = 0; shares = s; verdict = Err (refused_at r i) }
 
 module _ (d n₁ c₁ e₁ : ℕ) (ks₁ : List ℕ) (cs₁ : List ℤ) (n₂ c₂ e₂ : ℕ) (ks₂ : List ℕ) (cs₂ : List ℤ) where
   abbrev first : Model
@@ -39,7 +40,7 @@ module _ (d n₁ c₁ e₁ : ℕ) (ks₁ : List ℕ) (cs₁ : List ℤ) (n₂ c�
   second = handed n₂ c₂ e₂ ks₂ cs₂
 
   -- ---- the tests have passed
-  module _ (passed : verdict (ordered d (view first) (view second)) ≡ Accepted) where
+  module _ (passed : verdict (ordered d (view first) (view second)) ≡ Ok tt) where
     same : n₁ ≡ n₂
     unfolding view handed
     same = (ordered_passed d _ _ passed).models.vars
@@ -75,7 +76,7 @@ module _ (d n₁ c₁ e₁ : ℕ) (ks₁ : List ℕ) (cs₁ : List ℤ) (n₂ c�
 
   -- ---- they have not
   pub slices_refused : (s : Shares) (kept : List ℕ) (sums : List ℤ) (r : Refusal) (i : ℕ)
-      → verdict (ordered d (view first) (view second)) ≡ Refused r i
+      → verdict (ordered d (view first) (view second)) ≡ Err (refused_at r i)
       → (kept_accounted n₁ (refused_kept s r i) kept sums).answer
       ≡ answer (call_multiply d (view first) (view second))
   unfolding kept_accounted kept_model model_unless answer
@@ -90,5 +91,6 @@ module _ (d n₁ c₁ e₁ : ℕ) (ks₁ : List ℕ) (cs₁ : List ℤ) (n₂ c�
 pub slices_unready : (s : Shares) (kept : List ℕ) (sums : List ℤ) (r : Refusal) (i : ℕ)
     → KeptReady (refused_kept s r i) kept sums
 slices_unready s kept sums r i = record {
-  ready = λ (a : ◌≡◌ {A = Verdict} (Refused r i) Accepted). let z : ◌≡◌ {A = ℕ} 0 1 = cc in absurd (omega arith);
+  ready = λ (a : ◌≡◌ {A = Verdict} (Err (refused_at r i)) (Ok tt)).
+      let z : ◌≡◌ {A = ℕ} 0 1 = cc in absurd (omega arith);
 }

@@ -10,7 +10,7 @@ ghost use Rattle.product_room.specs.ProductTerms.{KeptRoom};
 ghost use Rattle.product_answer.specs.KeptProduct.{kept_accounted, KeptReady};
 
 use model_slices::Kept;
-use model_types::{Key, Shares, Verdict};
+use model_types::{Key, Refused, Shares};
 
 // ---- handed on
 pub use product_slices::{multiplied_slices_accounted, store_kept};
@@ -57,7 +57,7 @@ pub fn multiply_slices(
         coefficients2,
     );
     match v {
-        Verdict::Accepted => product_slices::multiplied_slices_alone(
+        Ok(()) => product_slices::multiplied_slices_alone(
             d,
             n1,
             count1,
@@ -71,11 +71,11 @@ pub fn multiply_slices(
             kept,
             coefficients,
         ),
-        Verdict::Refused(refusal, place) => Kept {
+        Err(Refused(refusal, place)) => Kept {
             count: 0,
             radius: 0,
             shares: Shares::ZERO,
-            verdict: Verdict::Refused(refusal, place),
+            verdict: Err(Refused(refusal, place)),
         },
     }
 }

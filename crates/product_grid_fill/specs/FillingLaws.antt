@@ -10,12 +10,11 @@ use Rattle.algebra.specs.Lexicographic.{same}
 use Rattle.algebra.specs.LexicographicLaws.{same_ok, same_refl}
 use Rattle.polynomial.specs.Polynomial.{Term, add_exponents, times, product}
 use Rattle.calculus.specs.Terms.{Terms, term, sum_over, size}
-use Rattle.calculus_laws.specs.SumLaws.{ℕ_addition, sum-++}
 use Rattle.calculus_laws.specs.CanonicalLaws.{coefficient_at, coefficient_nil, coefficient_cons, coefficient-++, share}
 use Rattle.calculus_laws.specs.CanonicalLaws.{share_here, share_elsewhere}
 use Rattle.calculus_laws.specs.LoopLaws.{times_snoc, product_snoc}
 use Rattle.model_keys.specs.Keys.{wide_degree}
-use Rattle.product_sums.specs.ProductsLaws.{size_append, size_nil, size_times, size_product}
+use Rattle.product_sums.specs.ProductsLaws.{size_append, size_times, size_product}
 use Rattle.product_sums.specs.TermArrays.{at_key, none, terms}
 use Rattle.product_sums.specs.TermArrayLaws.{terms_length, terms_at}
 use Rattle.product_grid_index.specs.declared.Sides.{Sides}
@@ -45,14 +44,6 @@ other_key k l n = not_T (same (k ∷ []) (l ∷ [])) (λ h.
     let f : k ≡ l = cc in n f)
 
 -- ---- sums
--- one more is 0
-pub zeros_more : (l : List ℤ) (i : ℕ) → i < length l → ((j : ℕ) → j < i → get_or l j (pos 0) ≡ pos 0)
-    → (j : ℕ) → j < i + 1 → get_or (set l i (pos 0)) j (pos 0) ≡ pos 0
-zeros_more l i h f j g = elim (ℕ_discrete j i) [
-  | yes e ↦ rw e (get_or-set_same l i (pos 0) (pos 0) h)
-  | no n ↦ get_or-set_other l i j (pos 0) (pos 0) n ∙ f j (omega arith)
-]
-
 -- nothing is added yet
 pub filled_none : (s : Sides) (sums : List ℤ) (degrees : List ℕ) → Marked s sums degrees
     → Filled s sums [] sums degrees

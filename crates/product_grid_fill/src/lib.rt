@@ -13,11 +13,7 @@ pub fn empty(sums: &mut [i64], size: usize)
     requires { size ≤ length sums.old }
     ensures { (i : ℕ) → i < size → get_or sums.new i (pos 0) ≡ pos 0 }
 {
-    let mut i = 0;
-    while i < size {
-        sums[i] = 0;
-        i += 1;
-    }
+    sums[..size].fill(0);
 }
 
 // The products of one term with the first count terms of the second factor are added, each at its place, and the
@@ -37,8 +33,7 @@ fn row(
         → Filled w.sides sums.old (times ℤR (at_key w.key c) (terms count w.kb cb.now))
         sums.new degrees.new }
 {
-    let mut j = 0;
-    while j < count {
+    for j in 0..count {
         let y = cb[j];
         let word = at + ib[j];
         let place = word / product_grid_index::LAST_BYTE;
@@ -48,7 +43,6 @@ fn row(
         let sum = fixed::sum(z, old);
         sums[place] = sum;
         degrees[place] = degree as u8;
-        j += 1;
     }
 }
 
@@ -71,10 +65,8 @@ pub fn fill(
         (product ℤR (terms na w.ka ca.now) (terms nb w.kb cb.now))
         sums.new degrees.new }
 {
-    let mut i = 0;
-    while i < na {
+    for i in 0..na {
         let c = ca[i];
         row(sums, degrees, ia[i], c, cb, ib, nb);
-        i += 1;
     }
 }

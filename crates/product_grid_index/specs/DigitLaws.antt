@@ -11,6 +11,10 @@ use Rattle.model_keys.specs.Keys.{wide_base, wide_width, wide_key}
 use Rattle.product_grid_index.specs.Grid.{first_of, second_of, third_of, fourth_of, others_of, upper, digit_sum}
 use Rattle.product_grid_index.specs.Grid.{FourTold, LowKey}
 
+-- the first digit has nothing above it
+pub first_digit : (key : ℕ) → key < 2 ^ 64 → key / 2 ^ 57 % 2 ^ 7 ≡ first_of key
+first_digit key h = omega arith
+
 -- none above the most, with their sum below them
 pub record Digits (most key : ℕ) : Type 0 where
   pub a : ℕ

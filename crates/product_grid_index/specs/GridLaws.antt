@@ -1,6 +1,6 @@
 -- How large a grid is, the extents of more and more keys, and places stored one after the other.
-use Rattle.std.specs.Prelude.{◌≡◌, refl, List, ℕ, zero, suc, ◌+◌, ◌-◌, ◌*◌, ◌^◌, max, ◌<◌, ◌≤◌, length, get_or, set}
-use Rattle.std.proofs.Common.{◌∙◌, mul-le-mul, arith, get_or-set_same, get_or-set_other}
+use Rattle.std.specs.Prelude.{◌≡◌, refl, List, ℕ, zero, suc, ◌+◌, ◌-◌, ◌*◌, ◌^◌, max, ◌<◌, ◌≤◌, get_or}
+use Rattle.std.proofs.Common.{mul-le-mul, arith}
 use Rattle.std.proofs.Math.Nat.{le-max_left, le-max_right, max-le}
 use Rattle.std.proofs.Math.Decide.{ℕ_discrete}
 use Rattle.std.proofs.Math.Numerals.{unary_clauses}
@@ -9,7 +9,6 @@ use Rattle.std.proofs.lemmas.Nat.{and_le_l, and_le_r}
 use Rattle.product_grid_index.specs.declared.Extents.{Extents}
 use Rattle.product_grid_index.specs.Grid.{first_of, second_of, third_of, fourth_of, others_of, Within, raised_by}
 use Rattle.product_grid_index.specs.Grid.{Low, LowKey, extents, sides_for, Narrow, place_by}
-use Rattle.product_grid_index.specs.DigitLaws.{Digits, read_first, read_second, read_third, read_fourth}
 
 -- ---- how large they are
 module _ (e h : Extents) (p : Low e) (q : Low h) where
@@ -143,12 +142,4 @@ extents_within zero keys i l = absurd (omega arith)
 extents_within (suc n) keys i l = elim (ℕ_discrete i n) [
   | yes c ↦ rw c (within_new (extents n keys) (get_or keys n 0))
   | no c ↦ within_old (extents n keys) (get_or keys n 0) (get_or keys i 0) (extents_within n keys i (omega arith))
-]
-
--- ---- one more number is stored
-pub stored_more : (l : List ℕ) (i x : ℕ) (f : ℕ → ℕ) → i < length l → ((j : ℕ) → j < i → get_or l j 0 ≡ f j) → x ≡ f i
-    → (j : ℕ) → j < i + 1 → get_or (set l i x) j 0 ≡ f j
-stored_more l i x f h g e j k = elim (ℕ_discrete j i) [
-  | yes c ↦ rw c (get_or-set_same l i x 0 h ∙ e)
-  | no c ↦ get_or-set_other l i j x 0 c ∙ g j (omega arith)
 ]

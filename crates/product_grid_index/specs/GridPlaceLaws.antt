@@ -1,7 +1,7 @@
 -- Places in a grid: in the order of the keys, one for each, and that of a product is the sum of its factors'.
-use Rattle.std.specs.Prelude.{◌≡◌, refl, ◌⊎◌, ℕ, ◌+◌, ◌*◌, ◌/◌, ◌%◌, ◌^◌, ◌<◌, ◌≤◌}
+use Rattle.std.specs.Prelude.{◌≡◌, ◌⊎◌, ℕ, ◌+◌, ◌*◌, ◌/◌, ◌%◌, ◌^◌, ◌<◌, ◌≤◌}
 use Rattle.std.proofs.Math.Path.{sym, ap, ap₂}
-use Rattle.std.proofs.Common.{◌∙◌, inl, inr, mul-le-mul, mul-le-mul_right, add-mul, arith}
+use Rattle.std.proofs.Common.{◌∙◌, inl, inr, mul-le-mul_right, add-mul, arith}
 use Rattle.std.proofs.Math.Decide.{dec_lt, ℕ_discrete}
 use Rattle.product_grid_index.specs.declared.Extents.{Extents}
 use Rattle.product_grid_index.specs.declared.Sides.{Sides}

@@ -2,8 +2,8 @@
 // the product has a place of its own, the sum of two numbers that are found once for each term.
 #![tactic(auto)]
 
-ghost use Rattle.std.specs.Prelude.{◌≡◌, ℕ, max, ◌<◌, ◌≤◌, length, get_or};
-ghost use Rattle.product_grid_index.specs.Grid.{first_of, second_of, third_of, fourth_of, others_of};
+ghost use Rattle.std.specs.Prelude.{◌≡◌, ℕ, ◌/◌, ◌%◌, ◌^◌, ◌<◌, ◌≤◌, length, get_or};
+ghost use Rattle.product_grid_index.specs.Grid.{others_of};
 ghost use Rattle.product_grid_index.specs.Grid.{Low};
 ghost use Rattle.product_grid_index.specs.Grid.{raised_by, extents};
 ghost use Rattle.product_grid_index.specs.Grid.{sides_for, Narrow, place_by, word_by};
@@ -26,28 +26,12 @@ const DEGREE: u64 = 1 << 8;
 // Where there are other exponents, a grid counts as having so many places more, which is too many.
 const TOO_MANY: usize = 1 << 24;
 
-fn first_of(key: u64) -> u8
-    ensures { result ≡ first_of key }
+// The exponent that counts UNIT in a wide key.
+fn exponent<const UNIT: u64>(key: u64) -> u8
+    requires { 0 < UNIT }
+    ensures { result ≡ key / UNIT % 2 ^ 7 }
 {
-    (key / FIRST) as u8
-}
-
-fn second_of(key: u64) -> u8
-    ensures { result ≡ second_of key }
-{
-    (key / SECOND % DIGIT) as u8
-}
-
-fn third_of(key: u64) -> u8
-    ensures { result ≡ third_of key }
-{
-    (key / THIRD % DIGIT) as u8
-}
-
-fn fourth_of(key: u64) -> u8
-    ensures { result ≡ fourth_of key }
-{
-    (key / FOURTH % DIGIT) as u8
+    (key / UNIT % DIGIT) as u8
 }
 
 // The exponents of the other variables, as one number.
@@ -82,21 +66,15 @@ pub struct Sides {
     pub size: usize,
 }
 
-fn larger(a: u8, b: u8) -> u8
-    ensures { result ≡ max a b }
-{
-    if a < b { b } else { a }
-}
-
 // The larger of the exponents so far and those of one more key.
 fn raised(e: Extents, key: u64) -> Extents
     ensures { result ≡ raised_by e key }
 {
     Extents {
-        first: larger(e.first, first_of(key)),
-        second: larger(e.second, second_of(key)),
-        third: larger(e.third, third_of(key)),
-        fourth: larger(e.fourth, fourth_of(key)),
+        first: e.first.max(exponent::<FIRST>(key)),
+        second: e.second.max(exponent::<SECOND>(key)),
+        third: e.third.max(exponent::<THIRD>(key)),
+        fourth: e.fourth.max(exponent::<FOURTH>(key)),
         others: e.others | others_of(key),
     }
 }
@@ -113,10 +91,8 @@ pub fn extents_of(keys: &[u64], count: usize) -> Extents
         fourth: 0,
         others: 0,
     };
-    let mut i = 0;
-    while i < count {
-        e = raised(e, keys[i]);
-        i += 1;
+    for key in &keys[..count] {
+        e = raised(e, *key);
     }
     e
 }
@@ -148,10 +124,10 @@ fn place_of(key: u64, second: usize, third: usize, fourth: usize) -> usize
     requires { Narrow second third fourth }
     ensures { result ≡ place_by second third fourth key }
 {
-    let a = first_of(key) as usize;
-    let b = second_of(key) as usize;
-    let c = third_of(key) as usize;
-    let d = fourth_of(key) as usize;
+    let a = exponent::<FIRST>(key) as usize;
+    let b = exponent::<SECOND>(key) as usize;
+    let c = exponent::<THIRD>(key) as usize;
+    let d = exponent::<FOURTH>(key) as usize;
     let line = a * second + b;
     let plane = line * third + c;
     plane * fourth + d
@@ -182,10 +158,8 @@ pub fn word_all(
     ensures { (i : ℕ) → i < count
         → get_or words.new i 0 ≡ word_by second third fourth (get_or keys.now i 0) }
 {
-    let mut i = 0;
-    while i < count {
+    for i in 0..count {
         words[i] = word_of(keys[i], second, third, fourth);
-        i += 1;
     }
 }
 
@@ -196,11 +170,9 @@ pub fn degree_of(keys: &[u64], count: usize) -> usize
     ensures { TopDegree keys.now count result }
 {
     let mut most = 0;
-    let mut i = 0;
-    while i < count {
-        let degree = model_keys::wide_degree(keys[i]);
-        most = larger(most, degree as u8);
-        i += 1;
+    for key in &keys[..count] {
+        let degree = model_keys::wide_degree(*key);
+        most = most.max(degree as u8);
     }
     most as usize
 }

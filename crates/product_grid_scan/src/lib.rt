@@ -55,8 +55,7 @@ fn row(
     let mut count = from;
     let mut rounding = 0;
     let mut swept = 0;
-    let mut i = 0;
-    while i < n {
+    for i in 0..n {
         let place = at + i;
         let z = sums[place];
         let more = FOURTH * i as u64;
@@ -66,7 +65,6 @@ fn row(
         count = p.count;
         rounding += p.rounding;
         swept += p.swept;
-        i += 1;
     }
     Gathered {
         count: count,
@@ -97,8 +95,7 @@ fn line(
     let mut count = from;
     let mut rounding = 0;
     let mut swept = 0;
-    let mut i = 0;
-    while i < n {
+    for i in 0..n {
         let rest = left - i;
         let m = steps(fourth, rest);
         let place = (at + i) * fourth;
@@ -117,7 +114,6 @@ fn line(
         count = p.count;
         rounding += p.rounding;
         swept += p.swept;
-        i += 1;
     }
     Gathered {
         count: count,
@@ -149,8 +145,7 @@ fn plane(
     let mut count = from;
     let mut rounding = 0;
     let mut swept = 0;
-    let mut i = 0;
-    while i < n {
+    for i in 0..n {
         let rest = left - i;
         let m = steps(third, rest);
         let place = (at + i) * third;
@@ -171,7 +166,6 @@ fn plane(
         count = p.count;
         rounding += p.rounding;
         swept += p.swept;
-        i += 1;
     }
     Gathered {
         count: count,
@@ -203,8 +197,7 @@ pub fn scan(
     let mut count = 0;
     let mut rounding = 0;
     let mut swept = 0;
-    let mut i = 0;
-    while i < n {
+    for i in 0..n {
         let rest = most - i;
         let m = steps(second, rest);
         let place = i * second;
@@ -226,7 +219,6 @@ pub fn scan(
         count = p.count;
         rounding += p.rounding;
         swept += p.swept;
-        i += 1;
     }
     if model_types::MOST_TERMS < count {
         return Gathered {

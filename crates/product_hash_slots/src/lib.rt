@@ -72,6 +72,7 @@ fn find_below(slots: &[u16], keys: &[u64], homes: usize, key: u64, entry: usize)
     let whole = way(key);
     let mut h = homes + 2 * entry + whole % 2;
     let mut path = whole / 2;
+    // No range counts this loop: it ends where the key is found.
     loop {
         let x = entry_number(slots[h]);
         if keys[x] == key {
@@ -99,9 +100,5 @@ pub fn find(slots: &[u16], keys: &[u64], homes: usize, key: u64) -> usize
 pub fn clear(slots: &mut [u16])
     ensures { (s : ℕ) → get_or slots.new s 0 ≡ 0 }
 {
-    let mut i = 0;
-    while i < slots.len() {
-        slots[i] = 0;
-        i += 1;
-    }
+    slots.fill(0);
 }

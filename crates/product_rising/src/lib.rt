@@ -85,8 +85,7 @@ pub fn one_times(
     let mut count = 0;
     let mut rounding = 0;
     let mut swept = 0;
-    let mut i = 0;
-    while i < nb {
+    for i in 0..nb {
         let k = kb[i];
         let y = cb[i];
         let z = fixed::product(c, y);
@@ -96,7 +95,6 @@ pub fn one_times(
         count = pushed.count;
         rounding += pushed.rounding;
         swept += pushed.swept;
-        i += 1;
     }
     Gathered {
         count: count,

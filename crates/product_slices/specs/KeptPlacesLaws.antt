@@ -9,8 +9,9 @@ use Rattle.std.proofs.Math.ListN.{length, take, drop, replicate, length-append, 
 use Rattle.std.proofs.Math.Seq.{length-take-le, take_at, drop-append-add, drop-drop}
 use Rattle.calculus.specs.Model.{most_terms, zero_model}
 use Rattle.model_types.specs.declared.Term.{Term}
-use Rattle.model_types.specs.declared.Verdict.{Verdict}
-use Rattle.model_types.specs.declared.Verdict.TheVariants.{Accepted, Refused}
+use Rattle.model_types.specs.ModelStruct.{Verdict}
+use Rattle.std.specs.Prelude.{Ok, Err}
+use Rattle.model_types.specs.ModelStruct.{refused_at}
 use Rattle.model_types.specs.Arrays.{padded}
 use Rattle.model_types.specs.ModelStruct.{zero_term, pad, pack}
 use Rattle.model_types.specs.PairedLaws.{Listed}
@@ -67,8 +68,8 @@ places_are : (v : Verdict) (n e count : ℕ) (kept : List ℕ) (cs : List ℤ)
     → let m = model_unless v (packed n e (terms count kept cs)) in
     Listed m.keys m.coefficients (pad (map narrowed_term (terms (kept_count v count) kept cs)))
 unfolding model_unless kept_count packed pack zero_model terms
-places_are Accepted n e count kept cs = record { keys_are = refl; coefficients_are = refl }
-places_are (Refused r i) n e count kept cs = record { keys_are = refl; coefficients_are = refl }
+places_are (Ok u) n e count kept cs = record { keys_are = refl; coefficients_are = refl }
+places_are (Err r) n e count kept cs = record { keys_are = refl; coefficients_are = refl }
 
 module _ (k : Kept) (kept : List ℕ) (cs : List ℤ) (w : KeptReady k kept cs) where
   -- how many terms are stored
@@ -78,10 +79,10 @@ module _ (k : Kept) (kept : List ℕ) (cs : List ℤ) (w : KeptReady k kept cs) 
   pub stored_ready : PackReady stored kept cs
   stored_ready = go k.verdict w.ready
     where
-      go : (v : Verdict) → (v ≡ Accepted → PackReady k.count kept cs)
+      go : (v : Verdict) → (v ≡ Ok tt → PackReady k.count kept cs)
           → PackReady (kept_count v k.count) kept cs
-      go Accepted h = unfold kept_count in h refl
-      go (Refused r i) h = unfold kept_count in record {
+      go (Ok u) h = unfold kept_count in h refl
+      go (Err r) h = unfold kept_count in record {
         few = omega arith;
         keys_long = omega arith;
         coefficients_long = omega arith;

@@ -31,12 +31,10 @@ fn unpack(count: usize, keys: &[Key], coefficients: &[i64], wide: &mut [u64]) ->
         wide.new coefficients.now result }
 {
     let mut total = 0;
-    let mut i = 0;
-    while i < count {
+    for i in 0..count {
         let c = coefficients[i];
         wide[i] = model_keys::wide_key(keys[i]);
         total += fixed::magnitude(c);
-        i += 1;
     }
     total
 }
@@ -201,7 +199,7 @@ pub fn multiplied_slices_accounted(
 fn kept_count(v: Verdict, count: usize) -> usize
     ensures { result ≡ kept_count v count }
 {
-    let Verdict::Accepted = v else {
+    let Ok(()) = v else {
         return 0;
     };
     count
@@ -214,11 +212,9 @@ fn store_zeros(from: usize, keys: &mut [Key], coefficients: &mut [i64])
     ensures { (keys.new ≡ zeroed 0 from most_terms keys.old)
         × (coefficients.new ≡ zeroed (pos 0) from most_terms coefficients.old) }
 {
-    let mut i = from;
-    while i < model_types::MOST_TERMS {
+    for i in from..model_types::MOST_TERMS {
         keys[i] = 0;
         coefficients[i] = 0;
-        i += 1;
     }
 }
 

@@ -37,13 +37,7 @@ pub fn in_grid(size: usize, products: usize, sums: usize) -> bool
     requires { products ≤ most_entries }
     ensures { result ≡ true → (size ≤ sums) × (size ≤ scratch_places) }
 {
-    if sums < size {
-        return false;
-    }
-    if product_sums::PLACES < size {
-        return false;
-    }
-    size <= GRID_EACH * products
+    size <= sums && size <= product_sums::PLACES && size <= GRID_EACH * products
 }
 
 // The terms that order d keeps of the products of each of the first na terms with each of the first nb, rising, with

@@ -9,7 +9,12 @@ ghost use Rattle.product_own_room.specs.product_hash_collect.CollectorContracts.
 ghost use Rattle.product_own_room.specs.product_room.ProductTerms.{KeptRoom};
 
 use product_grid_index::Sides;
-use product_sums::Gathered;
+use product_own_room::product_hash_table::{ENTRIES, ENTRY_PLACES, SLOTS};
+use product_own_room::{
+    FEW_ENTRY_PLACES, FEW_PLACES, FEW_PRODUCTS, FEW_SLOTS, FEWEST_ENTRY_PLACES, FEWEST_PRODUCTS,
+    FEWEST_SLOTS, HALF_ENTRY_PLACES, HALF_PRODUCTS, HALF_SLOTS, in_own_grid, in_own_table,
+};
+use product_sums::{Gathered, PLACES};
 
 // Handed on: crates above name these through this crate.
 pub use product_strategy;
@@ -33,35 +38,53 @@ fn summed_alone(
         nb kb.now cb.now kept.new coefficients.new result }
 {
     let products = na * nb;
-    if products <= product_own_room::FEWEST_PRODUCTS {
-        return product_own_room::in_smallest_table(d, ka, ca, na, kb, cb, nb, kept, coefficients);
+    if products <= FEWEST_PRODUCTS {
+        return in_own_table::<FEWEST_PRODUCTS, FEWEST_ENTRY_PLACES, FEWEST_SLOTS>(
+            d,
+            ka,
+            ca,
+            na,
+            kb,
+            cb,
+            nb,
+            kept,
+            coefficients,
+        );
     }
-    if products <= product_own_room::FEW_PRODUCTS {
-        return product_own_room::in_small_table(d, ka, ca, na, kb, cb, nb, kept, coefficients);
+    if products <= FEW_PRODUCTS {
+        return in_own_table::<FEW_PRODUCTS, FEW_ENTRY_PLACES, FEW_SLOTS>(
+            d,
+            ka,
+            ca,
+            na,
+            kb,
+            cb,
+            nb,
+            kept,
+            coefficients,
+        );
     }
     let s: Sides = product_strategy::grid_for(ka, ca, na, kb, cb, nb);
-    let places = product_sums::PLACES;
-    if product_strategy::in_grid(s.size, products, places) {
-        if s.size <= product_own_room::FEW_PLACES {
-            return product_own_room::in_small_grid(
-                s,
-                d,
-                ka,
-                ca,
-                na,
-                kb,
-                cb,
-                nb,
-                kept,
-                coefficients,
-            );
+    if product_strategy::in_grid(s.size, products, PLACES) {
+        if s.size <= FEW_PLACES {
+            return in_own_grid::<FEW_PLACES>(s, d, ka, ca, na, kb, cb, nb, kept, coefficients);
         }
-        return product_own_room::in_large_grid(s, d, ka, ca, na, kb, cb, nb, kept, coefficients);
+        return in_own_grid::<PLACES>(s, d, ka, ca, na, kb, cb, nb, kept, coefficients);
     }
-    if products <= product_own_room::HALF_PRODUCTS {
-        return product_own_room::in_half_table(d, ka, ca, na, kb, cb, nb, kept, coefficients);
+    if products <= HALF_PRODUCTS {
+        return in_own_table::<HALF_PRODUCTS, HALF_ENTRY_PLACES, HALF_SLOTS>(
+            d,
+            ka,
+            ca,
+            na,
+            kb,
+            cb,
+            nb,
+            kept,
+            coefficients,
+        );
     }
-    product_own_room::in_large_table(d, ka, ca, na, kb, cb, nb, kept, coefficients)
+    in_own_table::<ENTRIES, ENTRY_PLACES, SLOTS>(d, ka, ca, na, kb, cb, nb, kept, coefficients)
 }
 
 // The terms that order d keeps of the products of each of the first na terms with each of the first nb, rising, with

@@ -7,7 +7,8 @@ use Rattle.calculus.specs.Refusal.{Result, done, stopped, ◌followed_by◌}
 use Rattle.calculus.specs.Book as B
 use Rattle.calculus.specs.Shares.{reported, rows_sound}
 use Rattle.model_types.specs.declared.Refusal.{Refusal}
-use Rattle.model_types.specs.declared.Verdict.TheVariants.{Accepted, Refused}
+use Rattle.std.specs.Prelude.{Ok, Err}
+use Rattle.model_types.specs.ModelStruct.{refused_at}
 use Rattle.model_types.specs.SharesStruct.{stored_shares}
 use Rattle.format.specs.HeldBook.{HeldBook, view_book, HeldPasses}
 use Rattle.format.specs.HeldBookLaws.{held_tested_passes}
@@ -28,9 +29,9 @@ pub record RenamedAnswer {n : ℕ} (ρ : Reordering n) (r s : Summary) : Type 0 
   -- with the same verdict
   pub same_verdict : s.verdict ≡ r.verdict
   -- accepted, it holds the renamed model, and all else as it was
-  pub accepted : r.verdict ≡ Accepted → summary_of s ≡ rename_summary ρ (summary_of r)
+  pub accepted : r.verdict ≡ Ok tt → summary_of s ≡ rename_summary ρ (summary_of r)
   -- refused, it is the same answer
-  pub refused : (x : Refusal) (y : ℕ) → r.verdict ≡ Refused x y → s ≡ r
+  pub refused : (x : Refusal) (y : ℕ) → r.verdict ≡ Err (refused_at x y) → s ≡ r
 
 -- and so with its rows, which are the same
 pub record RenamedReport {n : ℕ} (ρ : Reordering n) (r s : Report) : Type 0 where

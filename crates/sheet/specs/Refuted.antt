@@ -13,7 +13,7 @@ use Rattle.calculus.specs.Book as B
 use Rattle.calculus.specs.Book.{Step, input, constant, variable, negate, add, subtract, multiply, substitute, sweep}
 use Rattle.calculus.specs.Book.{operands, Book, model_of, result_of, run_step, run_steps, last, summary}
 use Rattle.calculus.specs.Book.{returned_summary}
-use Rattle.model_types.specs.declared.Verdict.TheVariants.{Accepted}
+use Rattle.std.specs.Prelude.{Ok}
 use Rattle.model_types.specs.ModelStruct.{view, verdict_number, verdict_place}
 use Rattle.format.specs.HeldBook.{HeldBook, view_book}
 use Rattle.format.specs.Format.{read, run_sheet}
@@ -111,7 +111,7 @@ pub record NamesOtherStep (W : Program) : Type 0 where
 -- refuses a sheet that the run accepts
 pub record RefusesAccepted (W : Program) : Type 0 where
   pub at : AcceptedSheet
-  pub refuses : (W at.sheet).verdict ≢ Accepted
+  pub refuses : (W at.sheet).verdict ≢ (Ok tt)
 
 -- ---- programs that are always so, whatever their verdict and their ends are: each is of its kind
 -- widens the radius, so that the terms of the result have the largest span with it, or a larger one
@@ -144,7 +144,7 @@ NamesAlways k W = (sheet : List ℕ) (q : Refusal) (i : ℕ) → run_sheet sheet
 
 -- refuses every sheet
 abbrev pub RefusesAll : Program → Type 0
-RefusesAll W = (sheet : List ℕ) → (W sheet).verdict ≢ Accepted
+RefusesAll W = (sheet : List ℕ) → (W sheet).verdict ≢ (Ok tt)
 
 -- ---- one of each that can be run
 -- a model of the largest span

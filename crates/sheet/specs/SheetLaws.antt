@@ -15,7 +15,8 @@ use Rattle.claim.specs.Claim.{Claim}
 use Rattle.claim.proofs.ClaimProof.{claim_sound}
 use Rattle.model_types.specs.declared.Model.{Model}
 use Rattle.model_types.specs.declared.Refusal.{Refusal}
-use Rattle.model_types.specs.declared.Verdict.TheVariants.{Accepted, Refused}
+use Rattle.std.specs.Prelude.{Ok, Err}
+use Rattle.model_types.specs.ModelStruct.{refused_at}
 use Rattle.model_types.specs.declared.Answer.{Answer}
 use Rattle.model_types.specs.ModelStruct.{view, pack, answer}
 use Rattle.model_types.specs.SharesStruct.{stored_shares}
@@ -102,7 +103,7 @@ module _ (h : HeldBook) {r : Answer} (e : r ≡ answer (last_result (view_book h
       → run_sound (view_book h) ≡ (a followed_by (λ m. done (summary m)))
   from a q = run_from_last (view_book h) ∙ ap (λ a. a followed_by (λ m. done (summary m))) q
 
-  pub summed : HeldPasses h → r.verdict ≡ Accepted → Summed h r.model
+  pub summed : HeldPasses h → r.verdict ≡ Ok tt → Summed h r.model
   unfolding answer ◌followed_by◌ summary
   summed p v = go (last_result (view_book h)) refl e
     where
@@ -119,7 +120,7 @@ module _ (h : HeldBook) {r : Answer} (e : r ≡ answer (last_result (view_book h
           }
       go (stopped x i) q k = let z : ◌≡◌ {A = ℕ} 0 1 = cc in absurd (omega arith)
 
-  pub step_stopped : {x : Refusal} {y : ℕ} → r.verdict ≡ Refused x y
+  pub step_stopped : {x : Refusal} {y : ℕ} → r.verdict ≡ Err (refused_at x y)
       → refused_summary r.verdict ≡ run_answer (run_sound (view_book h))
   unfolding answer run_answer ◌followed_by◌
   step_stopped v = go (last_result (view_book h)) refl e
@@ -144,7 +145,7 @@ module _ {r : Ran} (t : RunOf r) where
     pub is_packed : pack (view m) ≡ m
     pub answers_run : run_answer (done (summary (view m))) ≡ run_answer (run_read o)
 
-  pub summed_read : r.answer.verdict ≡ Accepted → SummedRead r.answer.model
+  pub summed_read : r.answer.verdict ≡ Ok tt → SummedRead r.answer.model
   unfolding run_read ◌followed_by◌ answer
   summed_read v = go o refl read_answered
     where
@@ -161,7 +162,7 @@ module _ {r : Ran} (t : RunOf r) where
       go (stopped x i) p q = let z : ◌≡◌ {A = ℕ} 0 1 = cc in absurd (omega arith)
 
   -- or a refusal handed on,
-  pub stopped_read : {x : Refusal} {y : ℕ} → r.answer.verdict ≡ Refused x y
+  pub stopped_read : {x : Refusal} {y : ℕ} → r.answer.verdict ≡ Err (refused_at x y)
       → refused_summary r.answer.verdict ≡ run_answer (run_read o)
   unfolding run_read ◌followed_by◌ answer run_answer
   stopped_read v = go o refl read_answered
@@ -235,21 +236,21 @@ exact_encloses_book h r e s d = subst (Claim (view_book h)) (sym (ap summary_of 
     c = held_tested_done h (run_sound (view_book h)) s d
 
 -- ---- a book that is tested
-pub tested_accepted : (b : Book) → book_verdict b ≡ Accepted
+pub tested_accepted : (b : Book) → book_verdict b ≡ Ok tt
     → run_sound (view_book (held_book b)) ≡ run_held (held_book b)
 unfolding run_held
 tested_accepted b e = sym (verdict_hands_on b e (run_sound (view_book (held_book b))))
 
-pub tested_rows : (b : Book) → book_verdict b ≡ Accepted
+pub tested_rows : (b : Book) → book_verdict b ≡ Ok tt
     → all_rows (rows_sound (view_book (held_book b))) ≡ rows_held (held_book b)
 unfolding rows_held reported returned
 tested_rows b e = sym (ap reported (verdict_hands_on b e (done (rows_sound (view_book (held_book b))))))
 
-pub tested_refused : (b : Book) (x : Refusal) (y : ℕ) → book_verdict b ≡ Refused x y
-    → report (refused_summary (Refused x y)) (all_rows [])
+pub tested_refused : (b : Book) (x : Refusal) (y : ℕ) → book_verdict b ≡ Err (refused_at x y)
+    → report (refused_summary (Err (refused_at x y))) (all_rows [])
     ≡ report (run_answer (run_held (held_book b))) (rows_held (held_book b))
 unfolding run_held run_answer rows_held reported returned
 tested_refused b x y e = ap₂ report
-    (ap (λ q. refused_summary (Refused q y)) (sym (refusal_cause x))
+    (ap (λ q. refused_summary (Err (refused_at q y))) (sym (refusal_cause x))
     ∙ sym (ap run_answer (verdict_refused b x y e (run_sound (view_book (held_book b))))))
     (sym (ap reported (verdict_refused b x y e (done (rows_sound (view_book (held_book b)))))))

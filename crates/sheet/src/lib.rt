@@ -14,7 +14,7 @@ ghost use Rattle.sheet.specs.Sheet.{Exact, ExactBook, Encloses, EnclosesBook};
 ghost use Rattle.sheet.specs.Sheet.{Reports, ReportsBook};
 ghost use Rattle.sheet.specs.ReadRun.{report_read, RunOf};
 
-pub use model_types::{Model, Refusal, Shares, Verdict};
+pub use model_types::{Model, Refusal, Refused, Shares, Verdict};
 pub use sheet_book::{Book, Ends, Kind, Read, Report, Start, Step, Summary, Written};
 pub use sheet_records::{Opened, Records};
 use sheet_run_bytes::sheet_running;
@@ -46,7 +46,7 @@ fn summed_up(ran: Ran) -> Report
     let answer = ran.answer;
     let shares = ran.shares;
     let v = answer.verdict;
-    let Verdict::Accepted = v else {
+    let Ok(()) = v else {
         return Report {
             summary: sheet_summary::refused(v),
             shares: shares,
@@ -117,7 +117,7 @@ pub fn run_book_reported(b: Book) -> Report
     ensures encloses { EnclosesBook (held_book b) result.summary }
 {
     let v = sheet_book_tests::tested(b);
-    let Verdict::Accepted = v else {
+    let Ok(()) = v else {
         return refused_report(v);
     };
     run_passed(b)

@@ -9,7 +9,7 @@ use Rattle.calculus.specs.Refusal.{Result, done, stopped}
 use Rattle.calculus.specs.Book.{most_models, most_steps}
 use Rattle.calculus_laws.specs.BookLaws.{all_from_at}
 use Rattle.model_types.specs.declared.Model.{Model}
-use Rattle.model_types.specs.declared.Verdict.TheVariants.{Accepted}
+use Rattle.std.specs.Prelude.{Ok}
 use Rattle.model_types.specs.Arrays.{first_places, padded}
 use Rattle.model_types.specs.ArrayLaws.{first_take}
 use Rattle.model_types.specs.ModelStruct.{zero_term, places, listed, of_terms, pad}
@@ -32,14 +32,14 @@ use Rattle.sheet_book.specs.Cleared.{Whole, cleared_model, cleared}
 
 -- ---- written, then read
 -- THEOREM: the sheet of a book that passes its tests reads back as that book
-pub sheet_reads_back : (b : Book) → book_verdict b ≡ Accepted
-    → read_answer (read (sheet_bytes (held_book b))) ≡ record { book = stored_book (held_book b); verdict = Accepted }
+pub sheet_reads_back : (b : Book) → book_verdict b ≡ Ok tt
+    → read_answer (read (sheet_bytes (held_book b))) ≡ record { book = stored_book (held_book b); verdict = Ok tt }
 unfolding read_answer
 sheet_reads_back b e = ap read_answer (read_back (held_book b) (verdict_accepted b e))
 
 -- so does whatever was written of a book
 pub written_reads : (b : Book) (buffer s : List ℕ) → write (held_book b) buffer ≡ done s
-    → read_answer (read s) ≡ record { book = stored_book (held_book b); verdict = Accepted }
+    → read_answer (read s) ≡ record { book = stored_book (held_book b); verdict = Ok tt }
 unfolding read_answer
 written_reads b buffer s e = ap read_answer (written_reads_back (held_book b) buffer s e)
 
@@ -50,12 +50,12 @@ pub read_writes : (s : List ℕ) (h : HeldBook) → AllBytes s → read s ≡ do
 read_writes s h y e buffer l = rw (held_stored h) (read_writes_back s h y e buffer l)
 
 -- the same of an accepted answer and its book
-pub answer_writes : (s : List ℕ) → AllBytes s → (read_answer (read s)).verdict ≡ Accepted
+pub answer_writes : (s : List ℕ) → AllBytes s → (read_answer (read s)).verdict ≡ Ok tt
     → (buffer : List ℕ) → length s ≤ length buffer → write (held_book (read_answer (read s)).book) buffer ≡ done s
 unfolding read_answer
 answer_writes s y e buffer l = go (read s) refl e
   where
-    go : (r : Result HeldBook) → read s ≡ r → (read_answer r).verdict ≡ Accepted
+    go : (r : Result HeldBook) → read s ≡ r → (read_answer r).verdict ≡ Ok tt
         → write (held_book (read_answer r).book) buffer ≡ done s
     go (done h) p k = read_writes s h y p buffer l
     go (stopped q i) p k = let z : ◌≡◌ {A = ℕ} 0 1 = cc in absurd (omega arith)
@@ -143,7 +143,7 @@ module _ (b : Book) (whole : Whole b) (p : HeldPasses (held_book b)) where
       }) same_models same_steps
 
 -- THEOREM: so the sheet of a book that passes its tests reads back as the struct with zeros in the places not used
-pub sheet_reads_cleared : (b : Book) → Whole b → book_verdict b ≡ Accepted
-    → read_answer (read (sheet_bytes (held_book b))) ≡ record { book = cleared b; verdict = Accepted }
+pub sheet_reads_cleared : (b : Book) → Whole b → book_verdict b ≡ Ok tt
+    → read_answer (read (sheet_bytes (held_book b))) ≡ record { book = cleared b; verdict = Ok tt }
 sheet_reads_cleared b whole e = sheet_reads_back b e
-    ∙ ap (λ k. record { book = k; verdict = Accepted }) (stored_held b whole (verdict_accepted b e))
+    ∙ ap (λ k. record { book = k; verdict = Ok tt }) (stored_held b whole (verdict_accepted b e))

@@ -5,8 +5,9 @@ use Rattle.calculus.specs.Refusal.{Result, done, stopped}
 use Rattle.calculus.specs.Book.{most_models, most_steps}
 use Rattle.model_types.specs.declared.Term.{Term}
 use Rattle.model_types.specs.declared.Model.{Model}
-use Rattle.model_types.specs.declared.Verdict.{Verdict}
-use Rattle.model_types.specs.declared.Verdict.TheVariants.{Accepted, Refused}
+use Rattle.model_types.specs.ModelStruct.{Verdict}
+use Rattle.std.specs.Prelude.{Ok, Err}
+use Rattle.model_types.specs.ModelStruct.{refused_at}
 use Rattle.model_types.specs.Arrays.{first_places, padded}
 -- the verdict of a result
 unfoldable pub use Rattle.model_types.specs.ModelStruct.{verdict}
@@ -78,10 +79,10 @@ book_verdict b = verdict (held_tested (held_book b) (done (held_book b)))
 
 -- what a read answers: with a refusal the book of zeros
 unfoldable pub read_answer : Result HeldBook → Read
-read_answer (done h) = record { book = stored_book h; verdict = Accepted }
-read_answer (stopped r i) = record { book = stored_book zero_book; verdict = Refused (refusal r) i }
+read_answer (done h) = record { book = stored_book h; verdict = Ok tt }
+read_answer (stopped r i) = record { book = stored_book zero_book; verdict = Err (refused_at (refusal r) i) }
 
 -- what a write answers: with a refusal the length 0
 unfoldable pub write_answer : Result (List ℕ) → Written
-write_answer (done s) = record { length = length s; verdict = Accepted }
-write_answer (stopped r i) = record { length = 0; verdict = Refused (refusal r) i }
+write_answer (done s) = record { length = length s; verdict = Ok tt }
+write_answer (stopped r i) = record { length = 0; verdict = Err (refused_at (refusal r) i) }

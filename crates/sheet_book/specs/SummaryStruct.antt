@@ -4,8 +4,9 @@ use Rattle.calculus.specs.Model.{zero_model}
 use Rattle.calculus.specs.Refusal.{Result, done, stopped}
 use Rattle.calculus.specs.Operations as Op
 use Rattle.calculus.specs.Book as B
-use Rattle.model_types.specs.declared.Verdict.{Verdict}
-use Rattle.model_types.specs.declared.Verdict.TheVariants.{Accepted, Refused}
+use Rattle.model_types.specs.ModelStruct.{Verdict}
+use Rattle.std.specs.Prelude.{Ok, Err}
+use Rattle.model_types.specs.ModelStruct.{refused_at}
 use Rattle.model_types.specs.ModelStruct.{view, pack, refusal}
 use Rattle.sheet_book.specs.declared.Ends.{Ends}
 use Rattle.sheet_book.specs.declared.Exact.{Exact}
@@ -37,9 +38,9 @@ run_answer (done s) = record {
   range = stored_ends s.range;
   integral = stored_ends s.integral;
   exact = stored_exact s.exact;
-  verdict = Accepted;
+  verdict = Ok tt;
 }
-run_answer (stopped r i) = refused_summary (Refused (refusal r) i)
+run_answer (stopped r i) = refused_summary (Err (refused_at (refusal r) i))
 
 -- ---- what an answer holds
 -- two ends

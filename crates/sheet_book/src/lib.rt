@@ -41,14 +41,14 @@ pub struct Book {
     pub steps: [Step; MOST_STEPS],
 }
 
-// A book, or one of zeros beside a refusal.
+// A book, or one of zeros beside a refusal, as document 01 has it.
 #[derive(Clone, Copy)]
 pub struct Read {
     pub book: Book,
     pub verdict: Verdict,
 }
 
-// The length of what was written, or 0 beside a refusal.
+// The length of what was written, or 0 beside a refusal, as document 01 has it.
 #[derive(Clone, Copy)]
 pub struct Written {
     pub length: usize,
@@ -70,7 +70,7 @@ pub struct Exact {
 }
 
 // The last step's result, its range and its integral, and the integral of its polynomial part, exactly; or the zero
-// model and zeros beside a refusal.
+// model and zeros beside a refusal, as document 01 has it.
 #[derive(Clone, Copy)]
 pub struct Summary {
     pub model: Model,
@@ -154,19 +154,11 @@ pub fn mark_of(n: u8) -> u8
 pub fn limits_sound(n: u8, d: u8, models: usize, steps: usize) -> bool
     ensures { result ≡ limits_sound (outline n d models steps) }
 {
-    if !model_types::vars_sound(n) {
-        return false;
-    }
-    if !model_types::order_sound(d) {
-        return false;
-    }
-    if MOST_MODELS < models {
-        return false;
-    }
-    if steps < 1 {
-        return false;
-    }
-    steps <= MOST_STEPS
+    model_types::vars_sound(n)
+        && model_types::order_sound(d)
+        && models <= MOST_MODELS
+        && 1 <= steps
+        && steps <= MOST_STEPS
 }
 
 // ---- test 6, field by field: a field that the code does not name is 0
@@ -175,48 +167,32 @@ pub fn limits_sound(n: u8, d: u8, models: usize, steps: usize) -> bool
 fn limit_a(models: usize, i: usize, code: u8) -> usize
     ensures { result ≡ limit_a models i code }
 {
-    if code == 0 {
-        return models;
+    match code {
+        0 => models,
+        1 | 2 => 1,
+        _ => i,
     }
-    if 3 <= code {
-        return i;
-    }
-    1
 }
 
 // What field b is below.
 fn limit_b(i: usize, code: u8) -> usize
     ensures { result ≡ limit_b i code }
 {
-    if code == 9 {
-        return i;
+    match code {
+        4..=7 | 9 => i,
+        _ => 1,
     }
-    if code < 4 {
-        return 1;
-    }
-    if 7 < code {
-        return 1;
-    }
-    i
 }
 
 // Whether field v is a variable of n, or a step before step i, where the code names it.
 fn v_sound(n: u8, i: usize, code: u8, v: u8) -> bool
     ensures { result ≡ v_sound n i code v }
 {
-    if code == 2 {
-        return model_types::from_one(n, v);
+    match code {
+        2 | 7 | 10 => model_types::from_one(n, v),
+        9 => (v as usize) < i,
+        _ => v == 0,
     }
-    if code == 7 {
-        return model_types::from_one(n, v);
-    }
-    if code == 10 {
-        return model_types::from_one(n, v);
-    }
-    if code == 9 {
-        return (v as usize) < i;
-    }
-    v == 0
 }
 
 // Whether a value is the number of a step before step i.
@@ -230,16 +206,12 @@ fn earlier(i: usize, value: i64) -> bool
 fn value_sound(i: usize, code: u8, value: i64) -> bool
     ensures { result ≡ value_sound i code value }
 {
-    if code == 1 {
-        return fixed::constant_within_limits(value);
+    match code {
+        1 => fixed::constant_within_limits(value),
+        8 => fixed::threshold_within_limits(value),
+        9 => earlier(i, value),
+        _ => fixed::magnitude(value) == 0,
     }
-    if code == 8 {
-        return fixed::threshold_within_limits(value);
-    }
-    if code == 9 {
-        return earlier(i, value);
-    }
-    fixed::magnitude(value) == 0
 }
 
 // Whether step i of a book has its form.
@@ -247,17 +219,9 @@ pub fn step_sound(n: u8, models: usize, i: usize, s: Step) -> bool
     ensures { result ≡ fields_sound n models i (held_step s) }
 {
     let code = s.code;
-    if LAST_CODE < code {
-        return false;
-    }
-    if limit_a(models, i, code) <= s.a as usize {
-        return false;
-    }
-    if limit_b(i, code) <= s.b as usize {
-        return false;
-    }
-    if !v_sound(n, i, code, s.v) {
-        return false;
-    }
-    value_sound(i, code, s.value)
+    code <= LAST_CODE
+        && (s.a as usize) < limit_a(models, i, code)
+        && (s.b as usize) < limit_b(i, code)
+        && v_sound(n, i, code, s.v)
+        && value_sound(i, code, s.value)
 }

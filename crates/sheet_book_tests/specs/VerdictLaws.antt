@@ -6,7 +6,8 @@ use Rattle.std.proofs.Math.Bool.{true, false}
 use Rattle.calculus.specs.Refusal.{Result, done, require_at, require_each, bad_limits, bad_model, bad_step}
 use Rattle.calculus.specs.Book.{limits_sound}
 use Rattle.model_types.specs.declared.Refusal.TheVariants.{BadLimits, BadModel, BadStep}
-use Rattle.model_types.specs.declared.Verdict.TheVariants.{Accepted, Refused}
+use Rattle.std.specs.Prelude.{Ok, Err}
+use Rattle.model_types.specs.ModelStruct.{refused_at}
 use Rattle.model_types.specs.ModelStruct.{refusal}
 use Rattle.format.specs.HeldBook.{HeldBook, outline, outline_of, held_model_sound, held_step_sound, held_tested}
 use Rattle.sheet_book.specs.declared.Book.{Book}
@@ -34,7 +35,7 @@ module _ (b : Book) where
   by_limits t e = ap (λ t. require_at 0 t bad_limits from_5) (limits_test b ∙ e)
 
   -- test 3 fails
-  pub limits_verdict : limits ≡ false → Refused BadLimits 0 ≡ book_verdict b
+  pub limits_verdict : limits ≡ false → Err (refused_at BadLimits 0) ≡ book_verdict b
   unfolding book_verdict refusal require_at
   limits_verdict e = sym (verdict_stopped _ bad_limits 0 (by_limits false e))
 
@@ -45,7 +46,7 @@ module _ (b : Book) where
 
     -- a model fails test 5
     pub model_verdict : first_unsound_model b < b.model_count
-        → Refused BadModel (first_unsound_model b) ≡ book_verdict b
+        → Err (refused_at BadModel (first_unsound_model b)) ≡ book_verdict b
     unfolding book_verdict refusal first_unsound_model
     model_verdict h = sym (verdict_stopped _ bad_model _ (passed_3
         ∙ failing_stops _ bad_model from_6 0 (held_book b).models (let c = count_models b in omega arith)))
@@ -58,13 +59,13 @@ module _ (b : Book) where
 
       -- a step fails test 6
       pub step_verdict : first_unsound_step b < b.step_count
-          → Refused BadStep (first_unsound_step b) ≡ book_verdict b
+          → Err (refused_at BadStep (first_unsound_step b)) ≡ book_verdict b
       unfolding book_verdict refusal first_unsound_step
       step_verdict h = sym (verdict_stopped _ bad_step _ (passed_5
           ∙ failing_stops _ bad_step _ 0 (held_book b).steps (let c = count_steps b in omega arith)))
 
       -- none fails
-      pub accepted_verdict : b.step_count ≤ first_unsound_step b → Accepted ≡ book_verdict b
+      pub accepted_verdict : b.step_count ≤ first_unsound_step b → (Ok tt) ≡ book_verdict b
       unfolding book_verdict first_unsound_step
       accepted_verdict h = sym (verdict_done _ (held_book b) (passed_5
           ∙ failing_none _ bad_step _ 0 (held_book b).steps (let c = count_steps b in omega arith)))

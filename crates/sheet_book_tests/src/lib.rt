@@ -8,7 +8,7 @@ ghost use Rattle.model_types.specs.ModelStruct.{view};
 ghost use Rattle.sheet_book.specs.BookStruct.{book_verdict};
 ghost use Rattle.sheet_book_tests.specs.Unsound.{first_unsound_model, first_unsound_step};
 
-use model_types::{Model, Refusal, Verdict};
+use model_types::{Model, Refusal, Refused, Verdict};
 use sheet_book::Book;
 
 // Test 5: whether a model has the book's n, and keeps the rules with degrees up to d.
@@ -18,7 +18,7 @@ fn model_sound(n: u8, d: u8, m: Model) -> bool
     if m.n != n {
         return false;
     }
-    model::sound_arrays(m.n, m.count, m.radius, &m.keys, &m.coefficients, d)
+    model::sound_slices(m.n, m.count, m.radius, &m.keys, &m.coefficients, d)
 }
 
 // The number of the first model that fails test 5, or the count.
@@ -29,15 +29,15 @@ fn first_unsound_model(b: Book) -> usize
     let n = b.n;
     let d = b.d;
     let count = b.model_count;
-    let mut k = 0;
-    'models: while k < count {
+    let mut place = count;
+    'models: for k in 0..count {
         let m = b.models[k];
         if !model_sound(n, d, m) {
+            place = k;
             break 'models;
         }
-        k += 1;
     }
-    k
+    place
 }
 
 // The number of the first step that fails test 6, or the count.
@@ -48,15 +48,15 @@ fn first_unsound_step(b: Book) -> usize
     let n = b.n;
     let models = b.model_count;
     let count = b.step_count;
-    let mut i = 0;
-    'steps: while i < count {
+    let mut place = count;
+    'steps: for i in 0..count {
         let s = b.steps[i];
         if !sheet_book::step_sound(n, models, i, s) {
+            place = i;
             break 'steps;
         }
-        i += 1;
     }
-    i
+    place
 }
 
 // Tests 3, 5 and 6 in order. A refusal's place is the number of the first model or step that fails.
@@ -66,15 +66,15 @@ pub fn tested(b: Book) -> Verdict
     let models = b.model_count;
     let steps = b.step_count;
     if !sheet_book::limits_sound(b.n, b.d, models, steps) {
-        return Verdict::Refused(Refusal::BadLimits, 0);
+        return Err(Refused(Refusal::BadLimits, 0));
     }
     let model = first_unsound_model(b);
     if model < models {
-        return Verdict::Refused(Refusal::BadModel, model);
+        return Err(Refused(Refusal::BadModel, model));
     }
     let step = first_unsound_step(b);
     if step < steps {
-        return Verdict::Refused(Refusal::BadStep, step);
+        return Err(Refused(Refusal::BadStep, step));
     }
-    Verdict::Accepted
+    Ok(())
 }

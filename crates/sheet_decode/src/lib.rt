@@ -59,14 +59,9 @@ fn marked_at(s: &[u8], at: usize) -> bool
     requires { at + trailer_length ≤ length s.now }
     ensures { result ≡ (read_trailer (drop at s.now)).marked }
 {
-    if model_bytes::byte_at(s, at + 6) != format::FIRST_MARK {
-        return false;
-    }
     let last = model_bytes::byte_at(s, at + 7);
-    if last == format::SHORT_MARK {
-        return true;
-    }
-    last == format::LONG_MARK
+    model_bytes::byte_at(s, at + 6) == format::FIRST_MARK
+        && (last == format::SHORT_MARK || last == format::LONG_MARK)
 }
 
 // A trailer.

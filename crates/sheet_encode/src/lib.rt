@@ -52,13 +52,11 @@ fn put_model(buffer: &mut [u8], at: usize, m: Model)
     model_bytes::put_u32(buffer, at, m.radius as u32);
     buffer[at + format::COUNT_AT] = count as u8;
     let mut place = at + format::MODEL_BYTES;
-    let mut i = 0;
-    while i < count {
+    for i in 0..count {
         let key = m.keys[i];
         let c = m.coefficients[i];
         put_term(buffer, place, n, key, c);
         place += size;
-        i += 1;
     }
 }
 
@@ -92,11 +90,9 @@ pub fn models_size(b: Book) -> usize
 {
     let count = b.model_count;
     let mut size = 0;
-    let mut k = 0;
-    while k < count {
+    for k in 0..count {
         let m = b.models[k];
         size += model_size(m);
-        k += 1;
     }
     size
 }
@@ -109,12 +105,10 @@ pub fn put_models(buffer: &mut [u8], b: Book)
 {
     let count = b.model_count;
     let mut place = 0;
-    let mut k = 0;
-    while k < count {
+    for k in 0..count {
         let m = b.models[k];
         put_model(buffer, place, m);
         place += model_size(m);
-        k += 1;
     }
 }
 
@@ -127,12 +121,10 @@ pub fn put_steps(buffer: &mut [u8], at: usize, b: Book)
 {
     let count = b.step_count;
     let mut place = at;
-    let mut k = 0;
-    while k < count {
+    for k in 0..count {
         let s = b.steps[k];
         put_step(buffer, place, s);
         place += format::STEP_BYTES;
-        k += 1;
     }
 }
 

@@ -1,5 +1,5 @@
 -- The loop that loads models: what it holds, and one law for its start, an iteration and each way out.
-use Rattle.std.specs.Prelude.{◌≡◌, List, [], ◌∷◌, ◌++◌, map, ◌≢◌, ℕ, ◌+◌, ◌*◌, ◌-◌, ◌≤◌, ◌<◌, ℤ, pos, drop, get_or, replicate}
+use Rattle.std.specs.Prelude.{◌≡◌, List, [], ◌∷◌, ◌++◌, map, ◌≢◌, ℕ, ◌+◌, ◌*◌, ◌-◌, ◌≤◌, ◌<◌, ℤ, pos, drop, get_or, replicate, Some}
 use Rattle.std.proofs.Math.Path.{refl, sym, ap, ap₂}
 use Rattle.std.proofs.Common.{◌∙◌, subst, length-set, length-append}
 use Rattle.std.proofs.lemmas.List.{map-append, get_or_at}
@@ -111,13 +111,13 @@ module _ {s : List ℕ} {n d count : ℕ} {m₀ m : Results} {at k : ℕ} (h : L
     -- an iteration: model k is read into the slices from its place on, and passes
     module _ {ks₂ : List ℕ} {cs₂ : List ℤ} {taken : ℕ}
         (g : RecordRead n d (drop at s) (take (length m.keys - from) (drop from m.keys)) ks₂
-        (take (length m.coefficients - from) (drop from m.coefficients)) cs₂ taken)
-        (z : taken ≡ 0 → ⊥) (total radius : ℕ) (e : total ≡ byte (at + 4) s) (q : radius ≡ u32 (drop at s)) where
+        (take (length m.coefficients - from) (drop from m.coefficients)) cs₂ (Some taken))
+        (total radius : ℕ) (e : total ≡ byte (at + 4) s) (q : radius ≡ u32 (drop at s)) where
       abbrev read : HeldModel
       read = read_model n (drop at s)
 
       few : length read.terms ≤ most_terms
-      few = omega (arith, count_at s n at, sound_few n d at s (read_passed n d at s g z))
+      few = omega (arith, count_at s n at, sound_few n d at s (read_passed n d at s g))
 
       abbrev after : Results
       after = results (take from m.keys ++ (ks₂ ++ drop (length m.keys - from) (drop from m.keys)))
@@ -128,7 +128,7 @@ module _ {s : List ℕ} {n d count : ℕ} {m₀ m : Results} {at k : ℕ} (h : L
       put : after ≡ with_result (stored_model read) k m
       unfolding with_result
       put =
-          let p = read_passed n d at s g z in
+          let p = read_passed n d at s g in
           let a = spliced_part from (held_keys read.terms) m.keys (omega (arith, keys_inside)) (g.keys_are p)
           ∙ ap (λ x. spliced from x m.keys) (sym (keys_taken read few)) in
           let b = spliced_part from (held_coefficients read.terms) m.coefficients
@@ -208,7 +208,7 @@ module _ {s : List ℕ} {n d count : ℕ} {m₀ m : Results} {at k : ℕ} (h : L
       pub load_iteration : Loading s n d count m₀ after (at + taken) (k + 1)
       load_iteration = record {
         before = h.before ++ (read ∷ []);
-        so_far = models_iteration s n d count h.before at k h.so_far l taken g.taken_is z;
+        so_far = models_iteration s n d count h.before at k h.so_far l taken g.taken_is;
         standing = record { each = λ a t. ap (λ (x : Results). view (held_result n x a)) put ∙ stands a t };
         room = λ p x. subst (Roomy p) (sym put) (keeps p x);
         keys_long = ap (λ (x : Results). length x.keys) put ∙ keys_kept ∙ h.keys_long;

@@ -9,8 +9,8 @@ use Rattle.std.proofs.lemmas.List.{length-map}
 use borrow.Author.Tests.{le-leb, lt-leb, leb-false}
 use Rattle.calculus.specs.Book.{most_steps, model_of}
 use Rattle.calculus.specs.Refusal.{Refusal, Result, done, stopped, bad_model, bad_step}
-use Rattle.model_types.specs.declared.Verdict.{Verdict}
-use Rattle.model_types.specs.declared.Verdict.TheVariants.{Accepted, Refused}
+use Rattle.model_types.specs.ModelStruct.{Verdict}
+use Rattle.std.specs.Prelude.{Ok, Err}
 use Rattle.model_types.specs.declared.Refusal.TheVariants.{BadModel, BadStep}
 use Rattle.model_types.specs.Arrays.{first_places, padded}
 use Rattle.model_types.specs.ArrayLaws.{first_padded}

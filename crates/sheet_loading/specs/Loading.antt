@@ -2,8 +2,9 @@
 use Rattle.std.specs.Prelude.{◌≡◌, cond, List, [], map, ℕ, ◌<◌, leb, length, get_or}
 use Rattle.calculus.specs.Model.{zero_model}
 use Rattle.calculus.specs.Refusal.{Result, done}
-use Rattle.model_types.specs.declared.Verdict.{Verdict}
-use Rattle.model_types.specs.declared.Verdict.TheVariants.{Accepted, Refused}
+use Rattle.model_types.specs.ModelStruct.{Verdict}
+use Rattle.std.specs.Prelude.{Ok, Err}
+use Rattle.model_types.specs.ModelStruct.{refused_at}
 use Rattle.model_types.specs.declared.Refusal.TheVariants.{BadModel, BadStep}
 use Rattle.model_types.specs.ModelStruct.{view, verdict}
 use Rattle.format.specs.HeldBook.{HeldModel, HeldBook, view_model}
@@ -34,8 +35,9 @@ pub record ModelsLoaded (n d c : ℕ) (s : List ℕ) (w : ModelsWalked) (m₀ m 
 unfoldable pub fault_of : (place count end offset fault total : ℕ) → Verdict
 fault_of place count end offset fault total =
     cond (leb count place)
-    (cond (leb offset end) (cond (leb total fault) Accepted (Refused BadStep fault)) (Refused BadModel count))
-    (Refused BadModel place)
+    (cond (leb offset end) (cond (leb total fault) (Ok tt) (Err (refused_at BadStep fault)))
+    (Err (refused_at BadModel count)))
+    (Err (refused_at BadModel place))
 
 -- the records of a sheet loaded, by how many steps it has and what reading it answers: its verdict; and of a book that
 -- is read the steps, and its models at their places

@@ -9,7 +9,7 @@ ghost use Rattle.sheet_decode.specs.Trailer.{held_trailer};
 ghost use Rattle.sheet_results.specs.Results.{results, Roomy};
 ghost use Rattle.sheet_loading.specs.Loading.{ModelsLoaded, fault_of, RecordsLoaded};
 
-use model_types::{Key, Refusal, Verdict};
+use model_types::{Key, Refusal, Refused, Verdict};
 use sheet_decode::Trailer;
 use sheet_read_walk::sheet_walk;
 use sheet_read_walk::sheet_walk::ModelsWalked;
@@ -25,8 +25,8 @@ pub struct Loaded {
     pub verdict: Verdict,
 }
 
-// The models in `s`, which ends at the first step: model k goes to place k. A fault leaves the loop, and k is then the
-// faulty model's number.
+// The models in `s`, which ends at the first step: model k goes to place k. A fault leaves the loop with the faulty
+// model's number.
 pub fn load_models(
     s: &[u8],
     n: u8,
@@ -43,28 +43,27 @@ pub fn load_models(
         (results keys.new coefficients.new counts.new radii.new) }
 {
     let mut at = 0;
-    let mut k = 0;
-    'models: while k < count {
+    let mut place = count;
+    'models: for k in 0..count {
         let from = model_types::MOST_TERMS * k;
-        let taken = sheet_walk::record_at(
+        let Some(taken) = sheet_walk::record_at(
             s,
             at,
             n,
             d,
             &mut keys[from..],
             &mut coefficients[from..],
-        );
-        if taken == 0 {
+        ) else {
+            place = k;
             break 'models;
-        }
+        };
         let total = model_bytes::byte_at(s, at + format::COUNT_AT) as usize;
         let radius = model_bytes::u32_at(s, at) as u64;
         counts[k] = total;
         radii[k] = radius;
         at += taken;
-        k += 1;
     }
-    ModelsWalked { place: k, end: at }
+    ModelsWalked { place, end: at }
 }
 
 // The verdict of tests 5 and 6 by how far the walks went: a faulty model, bytes that are left after the last one, a
@@ -80,15 +79,15 @@ fn fault_of(
     ensures { result ≡ fault_of place count end offset fault total }
 {
     if place < count {
-        return Verdict::Refused(Refusal::BadModel, place);
+        return Err(Refused(Refusal::BadModel, place));
     }
     if end < offset {
-        return Verdict::Refused(Refusal::BadModel, count);
+        return Err(Refused(Refusal::BadModel, count));
     }
     if fault < total {
-        return Verdict::Refused(Refusal::BadStep, fault);
+        return Err(Refused(Refusal::BadStep, fault));
     }
-    Verdict::Accepted
+    Ok(())
 }
 
 // Tests 5 and 6 of a sheet that passes the others, its models in the first places of slices, and its steps.

@@ -7,7 +7,8 @@ use Prim.Native.Nat.{ℕ, zero, suc, ◌+◌, ◌-◌, ◌≤◌, ◌<◌}
 use Rattle.std.proofs.Math.ListN.{length, length-append}
 use Rattle.calculus.specs.Refusal.{number, Result, done, stopped, ◌followed_by◌, returned}
 use Rattle.model_types.specs.declared.Refusal.{Refusal}
-use Rattle.model_types.specs.declared.Verdict.TheVariants.{Accepted, Refused}
+use Rattle.std.specs.Prelude.{Ok, Err}
+use Rattle.model_types.specs.ModelStruct.{refused_at}
 use Rattle.model_types.specs.ModelStruct.{verdict_number, verdict_place}
 use Rattle.model_types.specs.ModelStructLaws.{cause_refusal}
 use Rattle.format.specs.Bytes.{AllBytes}
@@ -55,32 +56,32 @@ pub opening_place : (s : List ℕ) → verdict_place (verdict (opened s)) ≡ (r
 unfolding returned_records
 opening_place s = verdict_places [] (opened s)
 
-accepted_at : {A : Type 0} (r : Result A) (end : ℕ) → verdict r ≡ Accepted → start_of r end ≡ 0
+accepted_at : {A : Type 0} (r : Result A) (end : ℕ) → verdict r ≡ Ok tt → start_of r end ≡ 0
 unfolding start_of
 accepted_at r end h = ap (λ r. start_of r end) (accepted_done r h).is
 
-refused_at : {A : Type 0} (r : Result A) (end : ℕ) (x : Refusal) (i : ℕ) → verdict r ≡ Refused x i
+ends_at : {A : Type 0} (r : Result A) (end : ℕ) (x : Refusal) (i : ℕ) → verdict r ≡ Err (refused_at x i)
     → start_of r end ≡ end
 unfolding start_of
-refused_at r end x i h = ap (λ r. start_of r end) (refused_stopped r x i h)
+ends_at r end x i h = ap (λ r. start_of r end) (refused_stopped r x i h)
 
 module _ (s : List ℕ) where
-  pub start_accepted : verdict (opened s) ≡ Accepted → record { at = 0; verdict = Accepted } ≡ start_answer s
+  pub start_accepted : verdict (opened s) ≡ Ok tt → record { at = 0; verdict = Ok tt } ≡ start_answer s
   unfolding start
   start_accepted h = ap₂ (λ a v. record { at = a; verdict = v }) (sym (accepted_at (opened s) (length s) h)) (sym h)
 
-  pub start_refused : (x : Refusal) (i : ℕ) → verdict (opened s) ≡ Refused x i
-      → record { at = length s; verdict = Refused x i } ≡ start_answer s
+  pub start_refused : (x : Refusal) (i : ℕ) → verdict (opened s) ≡ Err (refused_at x i)
+      → record { at = length s; verdict = Err (refused_at x i) } ≡ start_answer s
   unfolding start
   start_refused x i h =
-      ap₂ (λ a v. record { at = a; verdict = v }) (sym (refused_at (opened s) (length s) x i h)) (sym h)
+      ap₂ (λ a v. record { at = a; verdict = v }) (sym (ends_at (opened s) (length s) x i h)) (sym h)
 
 -- a sheet that is accepted has a book
 pub record HasBook (s : List ℕ) : Type 0 where
   pub book : HeldBook
   pub is_read : read s ≡ done book
 
-pub has_book : (s : List ℕ) → verdict (read s) ≡ Accepted → HasBook s
+pub has_book : (s : List ℕ) → verdict (read s) ≡ Ok tt → HasBook s
 has_book s v = let d = accepted_done (read s) v in record { book = d.value; is_read = d.is }
 
 -- and is long enough for a trailer
@@ -89,7 +90,7 @@ unfolding shortest
 long_enough s y b = subst (λ x. 16 ≤ length x) (read_sheet s b.book b.is_read y)
     (sheet_shortest b.book (read_passes s b.book b.is_read))
 
-pub accepted_long : (s : List ℕ) → AllBytes s → verdict (read s) ≡ Accepted → 16 ≤ length s
+pub accepted_long : (s : List ℕ) → AllBytes s → verdict (read s) ≡ Ok tt → 16 ≤ length s
 accepted_long s y v = long_enough s y (has_book s v)
 
 -- ---- the number of records
@@ -123,7 +124,7 @@ module _ (s : List ℕ) where
   value_accepted b = value_done (read s) b.book b.is_read
 
   -- a refused one none
-  pub value_refused : (x : Refusal) (i : ℕ) → verdict (read s) ≡ Refused x i → (returned_records s).value ≡ []
+  pub value_refused : (x : Refusal) (i : ℕ) → verdict (read s) ≡ Err (refused_at x i) → (returned_records s).value ≡ []
   unfolding returned_records opened returned ◌followed_by◌
   value_refused x i v =
       ap (λ r. (returned [] (r followed_by (λ h. done (records s)))).value) (refused_stopped (read s) x i v)

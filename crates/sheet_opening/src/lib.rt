@@ -5,7 +5,7 @@ ghost use Rattle.std.specs.Prelude.{◌≡◌, length};
 ghost use Rattle.format.specs.Format.{returned_records};
 ghost use Rattle.sheet_opening.specs.Opening.{start_answer, record_bytes};
 
-use model_types::Verdict;
+use model_types::Refused;
 use sheet_book::Start;
 
 // Tests 1 to 6: stepping begins at 0, or where they refuse the sheet at its end, so that none is handed out.
@@ -15,8 +15,8 @@ pub fn open_at(sheet: &[u8]) -> Start
     let verdict = sheet_tests::tested(sheet);
     let end = sheet.len();
     match verdict {
-        Verdict::Accepted => Start { at: 0, verdict },
-        Verdict::Refused(_, _) => Start { at: end, verdict },
+        Ok(()) => Start { at: 0, verdict },
+        Err(Refused(_, _)) => Start { at: end, verdict },
     }
 }
 
@@ -26,14 +26,14 @@ pub fn record_count(sheet: &[u8]) -> usize
 {
     let verdict = sheet_tests::tested(sheet);
     match verdict {
-        Verdict::Accepted => {
+        Ok(()) => {
             let end = sheet.len() - format::TRAILER_BYTES;
             let t = sheet_decode::trailer_at(sheet, end);
             let models = t.models as usize;
             let steps = t.steps as usize;
             models + steps
         }
-        Verdict::Refused(_, _) => 0,
+        Err(Refused(_, _)) => 0,
     }
 }
 
@@ -46,10 +46,8 @@ pub fn record(sheet: &[u8], i: usize) -> &[u8]
         return &sheet[0..0];
     }
     let mut at = 0;
-    let mut k = 0;
-    while k < i {
+    for _k in 0..i {
         at = sheet_record_places::next_at(sheet, at);
-        k += 1;
     }
     sheet_record_places::bytes_at(sheet, at)
 }

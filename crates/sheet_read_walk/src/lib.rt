@@ -29,7 +29,7 @@ pub struct StepsRead {
     pub steps: [Step; sheet_book::MOST_STEPS],
 }
 
-// The models in `s`, which ends at the first step. A fault leaves the loop, and k is then the faulty model's number.
+// The models in `s`, which ends at the first step. A fault leaves the loop with the faulty model's number.
 pub fn read_models(s: &[u8], n: u8, d: u8, count: usize) -> ModelsRead
     requires { (1 ≤ n) × (n ≤ key_width) × (count ≤ most_models) }
     ensures { result ≡ models_read n d count s.now }
@@ -37,14 +37,14 @@ pub fn read_models(s: &[u8], n: u8, d: u8, count: usize) -> ModelsRead
     let none = model_types::without_terms(0);
     let mut models = [none; sheet_book::MOST_MODELS];
     let mut at = 0;
-    let mut k = 0;
-    'models: while k < count {
+    let mut place = count;
+    'models: for k in 0..count {
         let mut keys: [Key; model_types::MOST_TERMS] = [0; model_types::MOST_TERMS];
         let mut coefficients = [0i64; model_types::MOST_TERMS];
-        let taken = sheet_walk::record_at(s, at, n, d, &mut keys, &mut coefficients);
-        if taken == 0 {
+        let Some(taken) = sheet_walk::record_at(s, at, n, d, &mut keys, &mut coefficients) else {
+            place = k;
             break 'models;
-        }
+        };
         let total = model_bytes::byte_at(s, at + format::COUNT_AT) as usize;
         let radius = model_bytes::u32_at(s, at) as u64;
         models[k] = Model {
@@ -55,34 +55,33 @@ pub fn read_models(s: &[u8], n: u8, d: u8, count: usize) -> ModelsRead
             coefficients: coefficients,
         };
         at += taken;
-        k += 1;
     }
     ModelsRead {
-        place: k,
+        place: place,
         end: at,
         models: models,
     }
 }
 
-// The steps from `offset` on. A fault leaves the loop, and k is then the faulty step's number.
+// The steps from `offset` on. A fault leaves the loop with the faulty step's number.
 pub fn read_steps(s: &[u8], offset: usize, n: u8, models: usize, count: usize) -> StepsRead
     requires { (count ≤ most_steps) × (offset + step_length * count ≤ length s.now) }
     ensures { result ≡ steps_read n models count (drop offset s.now) }
 {
     let mut steps = [Step::ZERO; sheet_book::MOST_STEPS];
     let mut at = offset;
-    let mut k = 0;
-    'steps: while k < count {
+    let mut place = count;
+    'steps: for k in 0..count {
         let step = sheet_decode::step_at(s, at);
         if !sheet_book::step_sound(n, models, k, step) {
+            place = k;
             break 'steps;
         }
         steps[k] = step;
         at += format::STEP_BYTES;
-        k += 1;
     }
     StepsRead {
-        place: k,
+        place: place,
         steps: steps,
     }
 }

@@ -3,7 +3,7 @@ use Rattle.std.specs.Prelude.{◌≡◌, refl, List, map, ℕ, ◌+◌, ◌*◌,
 use Rattle.std.proofs.Common.{◌∙◌, arith, take_all}
 use Rattle.std.proofs.Math.Path.{ap}
 use Rattle.calculus.specs.Book.{most_models, most_steps}
-use Rattle.model_types.specs.declared.Verdict.TheVariants.{Accepted}
+use Rattle.std.specs.Prelude.{Ok}
 use Rattle.model_types.specs.Arrays.{padded}
 use Rattle.format.specs.Format.{trailer_sound, read_steps, read_records}
 use Rattle.format.proofs.WriteBackLaws.{length_read_steps}
@@ -60,7 +60,7 @@ module _ (s : List ℕ) (t : Trailer) (h : T (trailer_sound (held_trailer t)))
           models = w.models;
           steps = v.steps;
         };
-        verdict = Accepted;
+        verdict = Ok tt;
       } ≡ read_answer (read_records s (held_trailer t))
   unfolding read_answer stored_book
   whole_answer f =

@@ -9,7 +9,7 @@ ghost use Rattle.format.specs.Format.{step_length, trailer_length, trailer_sound
 ghost use Rattle.sheet_book.specs.BookStruct.{stored_book, read_answer};
 ghost use Rattle.sheet_decode.specs.Trailer.{held_trailer};
 
-use model_types::{Refusal, Verdict};
+use model_types::{Refusal, Refused};
 use sheet_book::{Book, Read};
 use sheet_decode::Trailer;
 
@@ -39,7 +39,7 @@ fn refuse(refusal: Refusal, place: usize) -> Read
     let book = zero_book();
     Read {
         book: book,
-        verdict: Verdict::Refused(refusal, place),
+        verdict: Err(Refused(refusal, place)),
     }
 }
 
@@ -79,7 +79,7 @@ fn read_records(sheet: &[u8], t: Trailer) -> Read
             models: models,
             steps: steps,
         },
-        verdict: Verdict::Accepted,
+        verdict: Ok(()),
     }
 }
 
@@ -89,10 +89,10 @@ pub fn read(sheet: &[u8]) -> Read
 {
     let v = sheet_tests::head_tested(sheet);
     match v {
-        Verdict::Accepted => {
+        Ok(()) => {
             let t = sheet_decode::trailer_at(sheet, sheet.len() - format::TRAILER_BYTES);
             read_records(sheet, t)
         }
-        Verdict::Refused(refusal, place) => refuse(refusal, place),
+        Err(Refused(refusal, place)) => refuse(refusal, place),
     }
 }

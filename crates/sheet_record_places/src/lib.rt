@@ -56,12 +56,7 @@ pub fn length_at(s: &[u8], at: usize) -> usize
     if end <= at {
         return 0;
     }
-    let left = end - at;
-    let size = size_at(s, at);
-    if left < size {
-        return left;
-    }
-    size
+    size_at(s, at).min(end - at)
 }
 
 // Where the record after it stands: the place itself where there is none.

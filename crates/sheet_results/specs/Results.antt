@@ -1,12 +1,13 @@
 -- A book's models, the results of its steps and their rows, in flat slices: what stands at a place, and what the slices
 -- hold once a model is put there.
-use Rattle.std.specs.Prelude.{◌≡◌, List, [], ◌∷◌, ◌++◌, ℕ, zero, suc, ◌+◌, ◌*◌, ◌≤◌, ℤ, length, take, drop, get_or, set}
+use Rattle.std.specs.Prelude.{List, [], ◌∷◌, ◌++◌, ℕ, zero, suc, ◌+◌, ◌*◌, ◌≤◌, ℤ, length, take, drop, get_or, set}
 use Rattle.calculus.specs.Model.{most_terms}
 use Rattle.model_types.specs.declared.Model.{Model}
 use Rattle.model_types.specs.declared.Shares.{Shares}
 use Rattle.model_types.specs.declared.Accounted.{Accounted}
-use Rattle.model_types.specs.declared.Verdict.{Verdict}
-use Rattle.model_types.specs.declared.Verdict.TheVariants.{Accepted, Refused}
+use Rattle.model_types.specs.ModelStruct.{Verdict}
+use Rattle.std.specs.Prelude.{Ok, Err}
+use Rattle.model_types.specs.ModelStruct.{refused_at}
 use Rattle.model_slices.specs.HandedModels.{handed, over}
 
 -- ---- models and results
@@ -76,8 +77,8 @@ first_rows l (suc n) = first_rows l n ++ (row_at l n ∷ [])
 -- ---- an answer put down unless it is refused
 -- one of two by a verdict
 unfoldable pub unless : {A : Type 0} → Verdict → (put kept : A) → A
-unless Accepted put kept = put
-unless (Refused r i) put kept = kept
+unless (Ok u) put kept = put
+unless (Err r) put kept = kept
 
 -- its model
 unfoldable pub settled_results : Accounted → (i : ℕ) → Results → Results

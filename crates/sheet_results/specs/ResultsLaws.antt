@@ -2,7 +2,7 @@
 -- slices keep their room.
 use Rattle.std.specs.Prelude.{◌≡◌, ◌≢◌, ℤ, pos, get_or, set, replicate}
 use Rattle.std.proofs.Math.Path.{refl, sym, ap, ap₂}
-use Rattle.std.proofs.Common.{◌∙◌, take_all, get_or-drop, drop-drop, get_or-set_same, get_or-set_other}
+use Rattle.std.proofs.Common.{◌∙◌, take_all, drop-drop, get_or-set_same, get_or-set_other}
 use mathlib.Core.List.{List, [], ◌∷◌, ◌++◌, map, append-nil}
 use Prim.Native.Nat.{ℕ, zero, suc, ◌+◌, ◌*◌, ◌-◌, ◌≤◌, ◌<◌, min}
 use Rattle.std.proofs.Math.Decide.{dec_lt, ℕ_discrete}
@@ -22,7 +22,8 @@ use Rattle.model_slices.specs.HandedModels.{terms_of, handed, over}
 use Rattle.model_slices.specs.HandedModelsLaws.{taken_view}
 use Rattle.model_types.specs.declared.Refusal.{Refusal}
 use Rattle.model_types.specs.declared.Accounted.{Accounted}
-use Rattle.model_types.specs.declared.Verdict.TheVariants.{Accepted, Refused}
+use Rattle.std.specs.Prelude.{Ok, Err}
+use Rattle.model_types.specs.ModelStruct.{refused_at}
 use Rattle.sheet_results.specs.Results.{Results, results, Roomy, held_result, spliced, with_result, with_row}
 use Rattle.sheet_results.specs.Results.{unless, settled_results, settled_rows}
 
@@ -306,7 +307,7 @@ module _ {places : ℕ} {m : Results} (r : Roomy places m) {j : ℕ} (l : j < pl
 -- ---- an answer put down
 module _ (c : Accounted) (i : ℕ) (m : Results) (l : List ℕ) where
   -- that is accepted
-  module _ (e : c.answer.verdict ≡ Accepted) where
+  module _ (e : c.answer.verdict ≡ Ok tt) where
     pub settled_put : settled_results c i m ≡ with_result c.answer.model i m
     unfolding settled_results unless
     settled_put = ap (λ v. unless v (with_result c.answer.model i m) m) e
@@ -316,7 +317,7 @@ module _ (c : Accounted) (i : ℕ) (m : Results) (l : List ℕ) where
     settled_row = ap (λ v. unless v (with_row c.shares i l) l) e
 
   -- that is refused
-  module _ {r : Refusal} {p : ℕ} (e : c.answer.verdict ≡ Refused r p) where
+  module _ {r : Refusal} {p : ℕ} (e : c.answer.verdict ≡ Err (refused_at r p)) where
     pub settled_kept : settled_results c i m ≡ m
     unfolding settled_results unless
     settled_kept = ap (λ v. unless v (with_result c.answer.model i m) m) e

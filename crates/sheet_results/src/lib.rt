@@ -132,7 +132,7 @@ pub fn settled(
 {
     let a = c.answer;
     let v = a.verdict;
-    let Verdict::Accepted = v else {
+    let Ok(()) = v else {
         return v;
     };
     let m = a.model;
@@ -149,8 +149,7 @@ pub fn all_rows(flat: &[u64]) -> [Shares; sheet_book::MOST_STEPS]
     ensures { result ≡ first_rows flat.now most_steps }
 {
     let mut shares = [Shares::ZERO; sheet_book::MOST_STEPS];
-    let mut i = 0;
-    while i < sheet_book::MOST_STEPS {
+    for i in 0..sheet_book::MOST_STEPS {
         let at = ROW * i;
         let carried = flat[at];
         let rounding = flat[at + 1];
@@ -162,7 +161,6 @@ pub fn all_rows(flat: &[u64]) -> [Shares; sheet_book::MOST_STEPS]
             swept: swept,
             slack: slack,
         };
-        i += 1;
     }
     shares
 }

@@ -7,7 +7,8 @@ ghost use Rattle.sheet_run_tables.specs.model.OperationContracts.{most_entries};
 ghost use Rattle.sheet_results.specs.Results.{results};
 ghost use Rattle.sheet_run_tables.specs.sheet_run_laws.Run.{Part, Stopped};
 
-use model_types::{Key, Verdict};
+use model_types::Key;
+use sheet_run_tables::model;
 use sheet_run_tables::sheet_run_laws::{StepList, Stop};
 
 // The steps from one on, with the middle table and, where that does not serve, from there on with the full one. (It
@@ -31,13 +32,23 @@ fn run_on(
         rows.new }
 {
     if full {
-        return sheet_run_tables::large(l, from, keys, coefficients, counts, radii, rows);
+        return sheet_run_tables::steps_in::<
+            { model::ENTRIES },
+            { model::SLOTS },
+            { model::ENTRY_PLACES },
+            { model::PLACES },
+        >(l, from, keys, coefficients, counts, radii, rows);
     }
     let last = l.count;
-    let t = sheet_run_tables::middle(keys, coefficients, counts, radii, rows, l, from);
+    let t = sheet_run_tables::steps_in::<
+        { sheet_run_tables::SOME_PRODUCTS },
+        { sheet_run_tables::SOME_SLOTS },
+        { sheet_run_tables::SOME_PLACES },
+        { sheet_run_tables::GRID_PLACES },
+    >(l, from, keys, coefficients, counts, radii, rows);
     let at = t.at;
     let v = t.verdict;
-    let Verdict::Accepted = v else {
+    let Ok(()) = v else {
         return t;
     };
     if last <= at {
@@ -63,10 +74,15 @@ pub fn run(
         rows.new }
 {
     let count = l.count;
-    let t = sheet_run_tables::small(l, keys, coefficients, counts, radii, rows);
+    let t = sheet_run_tables::steps_in::<
+        { sheet_run_tables::FEW_PRODUCTS },
+        { sheet_run_tables::FEW_SLOTS },
+        { sheet_run_tables::FEW_PLACES },
+        { sheet_run_tables::FEW_PLACES },
+    >(l, 0, keys, coefficients, counts, radii, rows);
     let at = t.at;
     let v = t.verdict;
-    let Verdict::Accepted = v else {
+    let Ok(()) = v else {
         return t;
     };
     if count <= at {

@@ -8,7 +8,8 @@ use Rattle.calculus.specs.Refusal.{done, stopped, returned, ◌followed_by◌}
 use Rattle.calculus.specs.Shares.{no_shares, all_rows, reported}
 use Rattle.model_types.specs.declared.Answer.{Answer}
 use Rattle.model_types.specs.declared.Refusal.{Refusal}
-use Rattle.model_types.specs.declared.Verdict.TheVariants.{Accepted, Refused}
+use Rattle.std.specs.Prelude.{Ok, Err}
+use Rattle.model_types.specs.ModelStruct.{refused_at}
 use Rattle.model_types.specs.ModelStruct.{answer, verdict, cause}
 use Rattle.model_types.specs.SharesStruct.{stored_shares}
 use Rattle.format.specs.HeldBook.{HeldBook, view_book}
@@ -43,7 +44,7 @@ unfolding ran_read ran ◌followed_by◌ reported returned
 done_ran h = refl
 
 -- ---- a sheet by tests 1 to 4
-pub head_ran : (s : List ℕ) (x : Refusal) (i : ℕ) → verdict (headed s) ≡ Refused x i
+pub head_ran : (s : List ℕ) (x : Refusal) (i : ℕ) → verdict (headed s) ≡ Err (refused_at x i)
     → ran_read (stopped (cause x) i) ≡ ran_sheet s
 unfolding ran_sheet
 head_ran s x i v = ap ran_read (sym (head_refused s x i v))
@@ -52,30 +53,18 @@ module _ {s : List ℕ} {t : Trailer} (p : HeadPasses s t) where
   pub steps_most : t.steps ≤ 64
   steps_most = (in_limits t.n t.d t.models t.steps (trailer_limits t p.limits)).steps_high
 
-  pub zeros_short : t.steps ≤ few_steps → Roomy (most_models + t.steps)
-      (results (replicate 2560 0) (replicate 2560 (pos 0)) (replicate 40 0) (replicate 40 0))
-  unfolding most_models most_terms
-  zeros_short f = roomy_zeros 2560 2560 40 40 (16 + t.steps) (omega arith) (omega arith) (omega arith) (omega arith)
-
-  pub zeros_long : Roomy (most_models + t.steps)
-      (results (replicate 5120 0) (replicate 5120 (pos 0)) (replicate 80 0) (replicate 80 0))
-  unfolding most_models most_terms
-  zeros_long =
-      let f = steps_most in
-      roomy_zeros 5120 5120 80 80 (16 + t.steps) (omega arith) (omega arith) (omega arith) (omega arith)
-
   -- ---- and what was loaded of it
   module _ {r : Loaded} {m₀ m : Results}
       (g : RecordsLoaded t.steps (read_records s (held_trailer t)) r m₀ m) where
     -- tests 5 and 6 refuse it,
-    pub records_ran : {x : Refusal} {i : ℕ} → r.verdict ≡ Refused x i
+    pub records_ran : {x : Refusal} {i : ℕ} → r.verdict ≡ Err (refused_at x i)
         → ran_read (stopped (cause x) i) ≡ ran_sheet s
     unfolding ran_sheet
     records_ran {x = x} {i = i} v = ap ran_read
         (sym (p.goes_on ∙ refused_stopped (read_records s (held_trailer t)) x i (sym g.verdict_is ∙ v)))
 
     -- or its steps run
-    module _ (v : r.verdict ≡ Accepted) (room : Roomy (most_models + t.steps) m₀) where
+    module _ (v : r.verdict ≡ Ok tt) (room : Roomy (most_models + t.steps) m₀) where
       book : IsDone (read_records s (held_trailer t))
       book = accepted_done (read_records s (held_trailer t)) (sym g.verdict_is ∙ v)
 

@@ -2,16 +2,16 @@
 // built.
 #![tactic(auto)]
 
-ghost use Rattle.std.specs.Prelude.{◌≡◌, ◌+◌, ◌≤◌};
+ghost use Rattle.std.specs.Prelude.{◌≡◌, ◌+◌, ◌*◌, ◌^◌, ◌≤◌, ◌<◌};
 ghost use Rattle.calculus.specs.Refusal.{stopped};
 ghost use Rattle.calculus.specs.Book.{most_models};
+ghost use Rattle.calculus.specs.Model.{most_terms};
 ghost use Rattle.model_types.specs.ModelStruct.{cause};
 ghost use Rattle.sheet_loading.specs.sheet_tests.HeadedLaws.{HeadPasses};
 ghost use Rattle.sheet_results.specs.Results.{results, Roomy};
-ghost use Rattle.sheet_running.specs.Running.{few_steps};
 ghost use Rattle.sheet_run_bytes.specs.RunBytes.{ran_read, ran_sheet};
 
-use model_types::{Key, Refusal, Shares, Verdict};
+use model_types::{Key, Refusal, Refused, Shares};
 use sheet_decode::Trailer;
 use sheet_loading::sheet_tests;
 use sheet_running::Ran;
@@ -55,34 +55,23 @@ fn run_loaded(
     let p = sheet_loading::load_records(sheet, t, keys, coefficients, counts, radii);
     let list = p.list;
     let v = p.verdict;
-    let Verdict::Refused(refusal, place) = v else {
+    let Err(Refused(refusal, place)) = v else {
         return sheet_running::run_steps(list, keys, coefficients, counts, radii);
     };
     refused(refusal, place)
 }
 
-// The same with few steps, in arrays of its own,
-fn run_short(sheet: &[u8], t: Trailer) -> Ran
+// The same in arrays of its own, with so many places for models and results and so many for their terms.
+fn run_in<const PLACES: usize, const TERMS: usize>(sheet: &[u8], t: Trailer) -> Ran
     requires head_passes { HeadPasses sheet.now t }
-    requires steps_le_few_steps { t.steps ≤ few_steps }
+    requires sizes { (most_models + t.steps ≤ PLACES) × (most_terms * PLACES ≤ TERMS)
+        × (PLACES < 2 ^ 16) × (TERMS < 2 ^ 16) }
     ensures { result ≡ ran_sheet sheet.now }
 {
-    let mut keys: [Key; SHORT_TERMS] = [0; SHORT_TERMS];
-    let mut factors = [0i64; SHORT_TERMS];
-    let mut counts = [0usize; SHORT_PLACES];
-    let mut radii = [0u64; SHORT_PLACES];
-    run_loaded(&mut keys, &mut factors, &mut counts, &mut radii, sheet, t)
-}
-
-// and with any number of steps.
-fn run_long(sheet: &[u8], t: Trailer) -> Ran
-    requires { HeadPasses sheet.now t }
-    ensures { result ≡ ran_sheet sheet.now }
-{
-    let mut keys: [Key; LONG_TERMS] = [0; LONG_TERMS];
-    let mut factors = [0i64; LONG_TERMS];
-    let mut counts = [0usize; LONG_PLACES];
-    let mut radii = [0u64; LONG_PLACES];
+    let mut keys: [Key; TERMS] = [0; TERMS];
+    let mut factors = [0i64; TERMS];
+    let mut counts = [0usize; PLACES];
+    let mut radii = [0u64; PLACES];
     run_loaded(&mut keys, &mut factors, &mut counts, &mut radii, sheet, t)
 }
 
@@ -91,13 +80,13 @@ pub fn run_sheet(sheet: &[u8]) -> Ran
     ensures { result ≡ ran_sheet sheet.now }
 {
     let v = sheet_tests::head_tested(sheet);
-    let Verdict::Refused(refusal, place) = v else {
+    let Err(Refused(refusal, place)) = v else {
         let t = sheet_decode::trailer_at(sheet, sheet.len() - format::TRAILER_BYTES);
         let total = t.steps as usize;
         if total <= sheet_running::FEW_STEPS {
-            return run_short(sheet, t);
+            return run_in::<SHORT_PLACES, SHORT_TERMS>(sheet, t);
         }
-        return run_long(sheet, t);
+        return run_in::<LONG_PLACES, LONG_TERMS>(sheet, t);
     };
     refused(refusal, place)
 }

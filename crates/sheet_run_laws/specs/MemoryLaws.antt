@@ -12,7 +12,7 @@ use Rattle.calculus.specs.Book.{most_models, most_steps, model_sound, model_of}
 use Rattle.calculus_laws.specs.TestLaws.{and_right}
 use Rattle.calculus_laws.specs.BookLaws.{model_passes, model_vars}
 use Rattle.model_types.specs.declared.Model.{Model}
-use Rattle.model_types.specs.declared.Verdict.TheVariants.{Accepted}
+use Rattle.std.specs.Prelude.{Ok}
 use Rattle.model_types.specs.ModelStruct.{listed, view}
 use Rattle.model_types.specs.ModelStructLaws.{limits}
 use Rattle.model_types.specs.PairedLaws.{length_paired}
@@ -142,7 +142,7 @@ part_first t = record { held = t.held; begun = begun_first t }
 
 -- ---- the end of a run that was not refused
 module _ {h : HeldBook} {l : StepList} {t : Stop} {m : Results} {flat : List ℕ}
-    (s : Stopped h l most_entries t m flat) (e : t.verdict ≡ Accepted) where
+    (s : Stopped h l most_entries t m flat) (e : t.verdict ≡ Ok tt) where
   last_begun : Begun h l t.at m flat
   last_begun = s.going e
 

@@ -12,8 +12,9 @@ use Rattle.calculus.specs.Book.{most_models, most_steps, model_of, run_steps}
 use Rattle.calculus.specs.Shares as S
 use Rattle.calculus.specs.Shares.{no_shares, run_shares, rows_sound}
 use Rattle.model_types.specs.declared.Refusal.{Refusal}
-use Rattle.model_types.specs.declared.Verdict.{Verdict}
-use Rattle.model_types.specs.declared.Verdict.TheVariants.{Accepted, Refused}
+use Rattle.model_types.specs.ModelStruct.{Verdict}
+use Rattle.std.specs.Prelude.{Ok, Err}
+use Rattle.model_types.specs.ModelStruct.{refused_at}
 use Rattle.model_types.specs.Arrays.{first_places}
 use Rattle.model_types.specs.ModelStruct.{view, cause}
 use Rattle.model_types.specs.SharesStruct.{stored_shares}
@@ -95,8 +96,8 @@ module _ (h : HeldBook) where
 
   -- after step i: it was accepted, and the run goes on, or it was refused, and with it the run
   pub record Iterated (i : ℕ) (v : Verdict) (m : Results) (flat : List ℕ) : Type 0 where
-    pub going : v ≡ Accepted → Running (i + 1) m flat
-    pub ended : (x : Refusal) (y : ℕ) → v ≡ Refused x y → Ended (stopped (cause x) i) flat
+    pub going : v ≡ Ok tt → Running (i + 1) m flat
+    pub ended : (x : Refusal) (y : ℕ) → v ≡ Err (refused_at x y) → Ended (stopped (cause x) i) flat
 
 -- ---- one step
 -- step i of a book in n variables of order d that passes its tests, after the results of the steps before it
@@ -184,6 +185,6 @@ pub record Part (l : StepList) (i : ℕ) (m : Results) (flat : List ℕ) : Type 
 
 -- where it stopped: at a refusal, at the end, or, with less room, at a step that asks more than there is
 pub record Stopped (h : HeldBook) (l : StepList) (room : ℕ) (t : Stop) (m : Results) (flat : List ℕ) : Type 0 where
-  pub ended : (x : Refusal) (y : ℕ) → t.verdict ≡ Refused x y → Ended h (stopped (cause x) t.at) flat
-  pub going : t.verdict ≡ Accepted → Begun h l t.at m flat
-  pub whole : most_entries ≤ room → t.verdict ≡ Accepted → t.at ≡ l.count
+  pub ended : (x : Refusal) (y : ℕ) → t.verdict ≡ Err (refused_at x y) → Ended h (stopped (cause x) t.at) flat
+  pub going : t.verdict ≡ Ok tt → Begun h l t.at m flat
+  pub whole : most_entries ≤ room → t.verdict ≡ Ok tt → t.at ≡ l.count

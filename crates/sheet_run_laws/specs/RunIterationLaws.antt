@@ -15,8 +15,9 @@ use Rattle.calculus.specs.Book.{most_models, most_steps}
 use Rattle.calculus.specs.Shares.{all_carried, product_shares}
 use Rattle.model_types.specs.declared.Model.{Model}
 use Rattle.model_types.specs.declared.Refusal.{Refusal}
-use Rattle.model_types.specs.declared.Verdict.{Verdict}
-use Rattle.model_types.specs.declared.Verdict.TheVariants.{Accepted, Refused}
+use Rattle.model_types.specs.ModelStruct.{Verdict}
+use Rattle.std.specs.Prelude.{Ok, Err}
+use Rattle.model_types.specs.ModelStruct.{refused_at}
 use Rattle.model_types.specs.declared.Answer.{Answer}
 use Rattle.model_types.specs.declared.Accounted.{Accounted}
 use Rattle.model_types.specs.ModelStruct.{view, cause, answer}
@@ -374,13 +375,13 @@ module _ {n d a b v w : ℕ} {m : Results} (p : Proposed n d a b v w m) (f : Mod
 
 -- ---- where a part of a run stopped
 -- no verdict is both
-pub not_both : {A : Type 0} {v : Verdict} {x : Refusal} {y : ℕ} → v ≡ Accepted → v ≡ Refused x y → A
+pub not_both : {A : Type 0} {v : Verdict} {x : Refusal} {y : ℕ} → v ≡ Ok tt → v ≡ Err (refused_at x y) → A
 not_both p q = let z : ◌≡◌ {A = ℕ} 0 1 = cc in absurd (omega arith)
 
 module _ {h : HeldBook} {l : StepList} {room i : ℕ} {m : Results} {flat : List ℕ} where
   -- before a step that asks more room
   pub stopped_short : Begun h l i m flat → (most_entries ≤ room → ⊥)
-      → Stopped h l room (record { at = i; verdict = Accepted }) m flat
+      → Stopped h l room (record { at = i; verdict = Ok tt }) m flat
   stopped_short s o = record {
     ended = λ x y e. not_both refl e;
     going = λ e. s;
@@ -389,12 +390,12 @@ module _ {h : HeldBook} {l : StepList} {room i : ℕ} {m : Results} {flat : List
 
   -- at the end
   pub stopped_whole : Begun h l i m flat → i ≡ l.count
-      → Stopped h l room (record { at = i; verdict = Accepted }) m flat
+      → Stopped h l room (record { at = i; verdict = Ok tt }) m flat
   stopped_whole s o = record { ended = λ x y e. not_both refl e; going = λ e. s; whole = λ h e. o }
 
   -- at a refusal
-  pub stopped_refused : {v : Verdict} {x : Refusal} {y : ℕ} → v ≡ Refused x y
-      → ((x : Refusal) (y : ℕ) → v ≡ Refused x y → Ended h (stopped (cause x) i) flat)
+  pub stopped_refused : {v : Verdict} {x : Refusal} {y : ℕ} → v ≡ Err (refused_at x y)
+      → ((x : Refusal) (y : ℕ) → v ≡ Err (refused_at x y) → Ended h (stopped (cause x) i) flat)
       → Stopped h l room (record { at = i; verdict = v }) m flat
   stopped_refused q e = record {
     ended = e;
@@ -404,7 +405,7 @@ module _ {h : HeldBook} {l : StepList} {room i : ℕ} {m : Results} {flat : List
 
 -- with less room, at the end or at a refusal
 pub stopped_on : {h : HeldBook} {l : StepList} {room : ℕ} {t : Stop} {m : Results} {flat : List ℕ}
-    → Stopped h l room t m flat → (t.verdict ≡ Accepted → t.at ≡ l.count) → Stopped h l most_entries t m flat
+    → Stopped h l room t m flat → (t.verdict ≡ Ok tt → t.at ≡ l.count) → Stopped h l most_entries t m flat
 stopped_on s q = record { ended = s.ended; going = s.going; whole = λ h e. q e }
 
 -- no test is both

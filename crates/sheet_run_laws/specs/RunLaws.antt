@@ -36,8 +36,10 @@ use Rattle.model_types.specs.ArrayLaws.{length_padded}
 use Rattle.model_types.specs.declared.Model.{Model}
 use Rattle.model_types.specs.declared.Term.{Term}
 use Rattle.model_types.specs.declared.Refusal.{Refusal}
-use Rattle.model_types.specs.declared.Verdict.{Verdict}
-use Rattle.model_types.specs.declared.Verdict.TheVariants.{Accepted, Refused}
+use Rattle.model_types.specs.ModelStruct.{Verdict}
+use Rattle.std.specs.Prelude.{Ok, Err}
+use Rattle.model_types.specs.declared.Refused.{Refused}
+use Rattle.model_types.specs.ModelStruct.{refused_at}
 use Rattle.model_types.specs.declared.Answer.{Answer}
 use Rattle.model_types.specs.declared.Shares.{Shares}
 use Rattle.model_types.specs.declared.Accounted.{Accounted}
@@ -545,9 +547,10 @@ module _ {h : HeldBook} (p : HeldPasses h) where
         answered = ap (λ r. r.answer) is_given
 
         -- it is refused, and with it the run, at the number of the step; there are no rows from it on
-        step_refused : {x : Refusal} {y : ℕ} → r.answer.verdict ≡ Refused x y → Ended h (stopped (cause x) i) flat
+        step_refused : {x : Refusal} {y : ℕ} → r.answer.verdict ≡ Err (refused_at x y)
+            → Ended h (stopped (cause x) i) flat
         unfolding last_result answer at_place ◌followed_by◌ rows_of
-        step_refused {x = x} v = stop given answered iteration rows_iteration
+        step_refused {x = x} {y = y} v = stop given answered iteration rows_iteration
           where
             stop : (a : R.Answer C.Model) → r.answer ≡ answer (at_place 0 a)
                 → run_steps book [] book.steps ≡ (at_place i a followed_by after)
@@ -555,7 +558,8 @@ module _ {h : HeldBook} (p : HeldPasses h) where
                 → Ended h (stopped (cause x) i) flat
             stop (accepted k) q t w = let z : ◌≡◌ {A = ℕ} 0 1 = cc in absurd (omega arith)
             stop (refused k) q t w =
-                let same : refusal k ≡ x = cc in
+                let both : refused_at (refusal k) 0 ≡ refused_at x y = cc in
+                let same : refusal k ≡ x = ap (λ (p : Refused). p.0) both in
                 record {
                   is = ap (λ k. stopped k i) (sym (ap cause same) ∙ cause_refusal k)
                       ∙ sym (ap (λ s. s followed_by (λ results. done (last (zero_model book.vars) results))) t);
@@ -566,7 +570,7 @@ module _ {h : HeldBook} (p : HeldPasses h) where
                 }
 
         -- it is accepted, and put after the others, as its row is
-        step_accepted : r.answer.verdict ≡ Accepted
+        step_accepted : r.answer.verdict ≡ Ok tt
             → Running h (i + 1) (with_result r.answer.model (most_models + i) m) (with_row r.shares i flat)
         unfolding at_place ◌followed_by◌ accounted shares_of rows_of
         step_accepted v = record {

@@ -4,7 +4,7 @@
 ghost use Rattle.sheet_results.specs.Results.{results};
 ghost use Rattle.sheet_run_room.specs.sheet_run_laws.Run.{ScratchRoom, Part, Stopped};
 
-use model_types::{Key, Verdict};
+use model_types::Key;
 use sheet_run_room::sheet_run_laws::{StepList, Stop};
 
 // Handed on: crates above name these through this crate.
@@ -36,14 +36,13 @@ pub fn steps(
     let n = l.n;
     let d = l.d;
     let count = l.count;
-    let mut i = from;
-    while i < count {
+    for i in from..count {
         let s = l.steps[i];
         let served = sheet_run_room::fits(s, room, counts);
         if !served {
             return Stop {
                 at: i,
-                verdict: Verdict::Accepted,
+                verdict: Ok(()),
             };
         }
         let v = sheet_run_steps::step(
@@ -60,13 +59,12 @@ pub fn steps(
             places,
             sums,
         );
-        let Verdict::Accepted = v else {
+        let Ok(()) = v else {
             return Stop { at: i, verdict: v };
         };
-        i += 1;
     }
     Stop {
-        at: i,
-        verdict: Verdict::Accepted,
+        at: count,
+        verdict: Ok(()),
     }
 }

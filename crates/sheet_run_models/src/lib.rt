@@ -33,11 +33,9 @@ pub fn load(
         (results keys.new coefficients.new counts.new radii.new) }
 {
     let count = b.model_count;
-    let mut k = 0;
-    while k < count {
+    for k in 0..count {
         let m = b.models[k];
         sheet_results::put_model(m, k, keys, coefficients, counts, radii);
-        k += 1;
     }
     let steps = b.steps;
     StepList {

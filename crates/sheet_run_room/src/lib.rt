@@ -19,10 +19,7 @@ fn quotient_fits(g: usize, h: usize, w: usize, room: usize) -> bool
 {
     let products = g * h;
     let others = model_types::MOST_TERMS * w;
-    if room < products {
-        return false;
-    }
-    others <= room
+    products <= room && others <= room
 }
 
 // Whether a table for so many products serves a step. A substitution multiplies the result that b names by models of up
@@ -32,29 +29,31 @@ pub fn fits(s: Step, room: usize, counts: &[usize]) -> bool
     ensures { (result ≡ true → Fit (held_step s) room counts.now) × (most_entries ≤ room → result ≡ true) }
 {
     let code = s.code;
-    if code == sheet_run_laws::MULTIPLY {
-        let a = sheet_book::MOST_MODELS + s.a as usize;
-        let b = sheet_book::MOST_MODELS + s.b as usize;
-        let x = counts[a];
-        let y = counts[b];
-        let products = x * y;
-        return products <= room;
+    match code {
+        sheet_run_laws::MULTIPLY => {
+            let a = sheet_book::MOST_MODELS + s.a as usize;
+            let b = sheet_book::MOST_MODELS + s.b as usize;
+            let x = counts[a];
+            let y = counts[b];
+            let products = x * y;
+            products <= room
+        }
+        sheet_run_laws::SUBSTITUTE => {
+            let b = sheet_book::MOST_MODELS + s.b as usize;
+            let g = counts[b];
+            let most = model_types::MOST_TERMS * g;
+            most <= room
+        }
+        sheet_run_laws::QUOTIENT => {
+            let b = sheet_book::MOST_MODELS + s.b as usize;
+            let v = sheet_book::MOST_MODELS + s.v as usize;
+            let z = s.value;
+            let last = sheet_book::MOST_MODELS + fixed::magnitude(z) as usize;
+            let g = counts[b];
+            let h = counts[v];
+            let w = counts[last];
+            quotient_fits(g, h, w, room)
+        }
+        _ => true,
     }
-    if code == sheet_run_laws::SUBSTITUTE {
-        let b = sheet_book::MOST_MODELS + s.b as usize;
-        let g = counts[b];
-        let most = model_types::MOST_TERMS * g;
-        return most <= room;
-    }
-    if code == sheet_run_laws::QUOTIENT {
-        let b = sheet_book::MOST_MODELS + s.b as usize;
-        let v = sheet_book::MOST_MODELS + s.v as usize;
-        let z = s.value;
-        let last = sheet_book::MOST_MODELS + fixed::magnitude(z) as usize;
-        let g = counts[b];
-        let h = counts[v];
-        let w = counts[last];
-        return quotient_fits(g, h, w, room);
-    }
-    true
 }

@@ -244,11 +244,18 @@ pub fn step(
         rows.new) }
 {
     let code = s.code;
-    if code == sheet_run_laws::INPUT {
-        return sheet_run_inputs::input_step(n, keys, coefficients, counts, radii, rows, i, s);
-    }
-    if code == sheet_run_laws::MULTIPLY {
-        return product_step(
+    match code {
+        sheet_run_laws::INPUT => sheet_run_inputs::input_step(
+            n,
+            keys,
+            coefficients,
+            counts,
+            radii,
+            rows,
+            i,
+            s,
+        ),
+        sheet_run_laws::MULTIPLY => product_step(
             n,
             d,
             s,
@@ -261,10 +268,8 @@ pub fn step(
             slots,
             places,
             sums,
-        );
-    }
-    if code == sheet_run_laws::QUOTIENT {
-        return quotient_step(
+        ),
+        sheet_run_laws::QUOTIENT => quotient_step(
             n,
             d,
             s,
@@ -277,20 +282,20 @@ pub fn step(
             slots,
             places,
             sums,
-        );
+        ),
+        _ => sheet_run_others::other_step(
+            n,
+            d,
+            s,
+            i,
+            keys,
+            coefficients,
+            counts,
+            radii,
+            rows,
+            slots,
+            places,
+            sums,
+        ),
     }
-    sheet_run_others::other_step(
-        n,
-        d,
-        s,
-        i,
-        keys,
-        coefficients,
-        counts,
-        radii,
-        rows,
-        slots,
-        places,
-        sums,
-    )
 }

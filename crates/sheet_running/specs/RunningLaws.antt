@@ -6,7 +6,7 @@ use Rattle.calculus.specs.Refusal as R
 use Rattle.calculus.specs.Book.{most_models, most_steps}
 use Rattle.calculus.specs.Shares.{all_rows}
 use Rattle.model_types.specs.declared.Model.{Model}
-use Rattle.model_types.specs.declared.Verdict.TheVariants.{Accepted}
+use Rattle.std.specs.Prelude.{Ok}
 use Rattle.model_types.specs.declared.Answer.{Answer}
 use Rattle.model_types.specs.declared.Shares.{Shares}
 use Rattle.model_types.specs.ModelStruct.{view, pack, answer}
@@ -31,7 +31,7 @@ ended_ran e p q = ap₂ (λ a s. record { answer = a; shares = s }) (p ∙ ap an
 
 -- the end of a run that was not refused
 pub last_ran : {h : HeldBook} {l : StepList} {t : Stop} {m : Results} {flat : List ℕ}
-    (s : Stopped h l most_entries t m flat) (e : t.verdict ≡ Accepted)
+    (s : Stopped h l most_entries t m flat) (e : t.verdict ≡ Ok tt)
     (k : Model) (q : view k ≡ view (held_result l.n m (most_models + (l.count - 1)))) {a : Answer}
     {shares : List Shares}
     → a ≡ accepted_answer (pack (view k)) → shares ≡ first_rows flat most_steps

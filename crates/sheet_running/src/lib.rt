@@ -1,14 +1,16 @@
 // The run of a book: all its steps in order, then the last result or the refusal, with the rows.
 #![tactic(auto)]
 
-ghost use Rattle.std.specs.Prelude.{◌≡◌, ◌≤◌};
+ghost use Rattle.std.specs.Prelude.{◌≡◌, ◌+◌, ◌*◌, ◌^◌, ◌≤◌, ◌<◌};
+ghost use Rattle.calculus.specs.Book.{most_models};
+ghost use Rattle.calculus.specs.Model.{most_terms};
 ghost use Rattle.format.specs.HeldBook.{view_book, HeldPasses};
 ghost use Rattle.sheet_book.specs.BookStruct.{held_book};
 ghost use Rattle.sheet_results.specs.Results.{results};
 ghost use Rattle.sheet_run_models.specs.sheet_run_laws.Run.{Prepared};
-ghost use Rattle.sheet_running.specs.Running.{few_steps, ran};
+ghost use Rattle.sheet_running.specs.Running.{ran};
 
-use model_types::{Answer, Key, Shares, Verdict};
+use model_types::{Answer, Key, Refused, Shares};
 use sheet_book::Book;
 use sheet_run_models::sheet_run_laws::StepList;
 
@@ -55,7 +57,7 @@ pub fn run_steps(
     let shares = sheet_results::all_rows(&rows);
     let at = t.at;
     let v = t.verdict;
-    let Verdict::Refused(refusal, _) = v else {
+    let Err(Refused(refusal, _)) = v else {
         let place = sheet_book::MOST_MODELS + (count - 1);
         let last = sheet_results::result(n, place, keys, coefficients, counts, radii);
         let whole = sheet_step_answers::cleared(last);
@@ -70,30 +72,18 @@ pub fn run_steps(
     }
 }
 
-// A book with few steps. (A local array is filled with zeros where it is declared, so that each size has a function of
-// its own.)
-fn short_run(b: Book) -> Ran
+// A book in arrays of its own, with so many places for models and results and so many for their terms: they are filled
+// with zeros where they are declared.
+fn run_in<const PLACES: usize, const TERMS: usize>(b: Book) -> Ran
     requires held_passes { HeldPasses (held_book b) }
-    requires step_count_bound { b.step_count ≤ few_steps }
+    requires sizes { (most_models + b.step_count ≤ PLACES) × (most_terms * PLACES ≤ TERMS)
+        × (PLACES < 2 ^ 16) × (TERMS < 2 ^ 16) }
     ensures { result ≡ ran (view_book (held_book b)) }
 {
-    let mut keys: [Key; FEW_TERMS] = [0; FEW_TERMS];
-    let mut coefficients = [0i64; FEW_TERMS];
-    let mut counts = [0usize; FEW_PLACES];
-    let mut radii = [0u64; FEW_PLACES];
-    let l = sheet_run_models::load(b, &mut keys, &mut coefficients, &mut counts, &mut radii);
-    run_steps(l, &mut keys, &mut coefficients, &mut counts, &mut radii)
-}
-
-// Any book.
-fn long_run(b: Book) -> Ran
-    requires { HeldPasses (held_book b) }
-    ensures { result ≡ ran (view_book (held_book b)) }
-{
-    let mut keys: [Key; ALL_TERMS] = [0; ALL_TERMS];
-    let mut coefficients = [0i64; ALL_TERMS];
-    let mut counts = [0usize; ALL_PLACES];
-    let mut radii = [0u64; ALL_PLACES];
+    let mut keys: [Key; TERMS] = [0; TERMS];
+    let mut coefficients = [0i64; TERMS];
+    let mut counts = [0usize; PLACES];
+    let mut radii = [0u64; PLACES];
     let l = sheet_run_models::load(b, &mut keys, &mut coefficients, &mut counts, &mut radii);
     run_steps(l, &mut keys, &mut coefficients, &mut counts, &mut radii)
 }
@@ -104,7 +94,7 @@ pub fn last_result(b: Book) -> Ran
     ensures { result ≡ ran (view_book (held_book b)) }
 {
     if b.step_count <= FEW_STEPS {
-        return short_run(b);
+        return run_in::<FEW_PLACES, FEW_TERMS>(b);
     }
-    long_run(b)
+    run_in::<ALL_PLACES, ALL_TERMS>(b)
 }

@@ -7,7 +7,7 @@ ghost use Rattle.calculus.specs.Model.{most_degree, sound};
 ghost use Rattle.model_types.specs.ModelStruct.{view, pack};
 ghost use Rattle.sheet_step_answers.specs.Answers.{accepted_answer};
 
-use model_types::{Answer, Key, Model, Verdict};
+use model_types::{Answer, Key, Model};
 
 // A model that is not refused.
 pub fn accepted(m: Model) -> Answer
@@ -15,7 +15,7 @@ pub fn accepted(m: Model) -> Answer
 {
     Answer {
         model: m,
-        verdict: Verdict::Accepted,
+        verdict: Ok(()),
     }
 }
 

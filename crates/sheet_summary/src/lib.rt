@@ -45,6 +45,6 @@ pub fn summarized(m: Model) -> Summary
             quotient: integral.quotient,
             remainder: integral.remainder,
         },
-        verdict: Verdict::Accepted,
+        verdict: Ok(()),
     }
 }

@@ -9,7 +9,8 @@ use Rattle.calculus.specs.Refusal.{Refusal, Result, done, stopped, require_at, �
 use Rattle.calculus_laws.specs.RefusalLaws.{require_at_passed, passed_at}
 use Rattle.calculus_laws.specs.BookLaws.{between_low, between_high}
 use Rattle.model_types.specs.declared.Refusal as D
-use Rattle.model_types.specs.declared.Verdict.TheVariants.{Accepted, Refused}
+use Rattle.std.specs.Prelude.{Ok, Err}
+use Rattle.model_types.specs.ModelStruct.{refused_at}
 use Rattle.model_types.specs.ModelStruct.{verdict, cause}
 use Rattle.format.specs.Format as F
 use Rattle.format.specs.Format.{shortest, longest, trailer_sound, trailer_of, read_trailer, read_records, read}
@@ -101,13 +102,13 @@ module _ (s : List ℕ) where
 
   -- ---- a verdict on them
   -- accepted: the sheet has a length in its range,
-  head_range : verdict (headed s) ≡ Accepted → (16 ≤ length s) × (length s ≤ 8792)
+  head_range : verdict (headed s) ≡ Ok tt → (16 ≤ length s) × (length s ≤ 8792)
   unfolding headed
   head_range v =
       let d = accepted_done (headed s) v in
       length_range (length s) (passed_at 0 (between shortest longest (length s)) bad_length _ d.value d.is).test
 
-  pub head_long : verdict (headed s) ≡ Accepted → 16 ≤ length s
+  pub head_long : verdict (headed s) ≡ Ok tt → 16 ≤ length s
   head_long v = (head_range v).0
 
   -- its trailer has limits and an offset that pass, and the read goes on
@@ -116,7 +117,7 @@ module _ (s : List ℕ) where
     pub fits : t.offset + 8 * t.steps + 8 ≡ length s
     pub goes_on : read s ≡ read_records s (held_trailer t)
 
-  pub head_passes : verdict (headed s) ≡ Accepted → (t : Trailer)
+  pub head_passes : verdict (headed s) ≡ Ok tt → (t : Trailer)
       → t ≡ stored_trailer (read_trailer (drop (length s - 8) s)) → HeadPasses t
   unfolding read held_trailer
   head_passes v t is =
@@ -135,10 +136,11 @@ module _ (s : List ℕ) where
       }
 
   -- refused: so is the read
-  pub head_refused : (x : D.Refusal) (i : ℕ) → verdict (headed s) ≡ Refused x i → read s ≡ stopped (cause x) i
+  pub head_refused : (x : D.Refusal) (i : ℕ) → verdict (headed s) ≡ Err (refused_at x i) → read s ≡ stopped (cause x) i
   unfolding headed read read_records
   head_refused x i v = four_stopped _ _ _ _ _ _ (cause x) i (refused_stopped (headed s) x i v)
 
-  pub same_refusal : (x : D.Refusal) (i : ℕ) → verdict (headed s) ≡ Refused x i → Refused x i ≡ verdict (read s)
-  same_refusal x i v = ap (λ y. Refused y i) (sym (refusal_cause x))
+  pub same_refusal : (x : D.Refusal) (i : ℕ) → verdict (headed s) ≡ Err (refused_at x i) → Err (refused_at x i)
+      ≡ verdict (read s)
+  same_refusal x i v = ap (λ y. Err (refused_at y i)) (sym (refusal_cause x))
       ∙ sym (verdict_stopped (read s) (cause x) i (head_refused x i v))

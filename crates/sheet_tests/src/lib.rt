@@ -9,27 +9,22 @@ ghost use Rattle.format.specs.Format.{read_records, read};
 ghost use Rattle.sheet_decode.specs.Trailer.{held_trailer};
 ghost use Rattle.sheet_tests.specs.Headed.{headed};
 
-use model_types::{Refusal, Verdict};
+use model_types::{Refusal, Refused, Verdict};
 use sheet_decode::Trailer;
 
 // Test 1.
 fn length_sound(length: usize) -> bool
     ensures { result ≡ between shortest longest length }
 {
-    if length < format::SHORTEST {
-        return false;
-    }
-    length <= format::LONGEST
+    format::SHORTEST <= length && length <= format::LONGEST
 }
 
 // Test 3: the limits, and n fits the mark.
 fn trailer_sound(t: Trailer) -> bool
     ensures { result ≡ trailer_sound (held_trailer t) }
 {
-    if sheet_book::limits_sound(t.n, t.d, t.models as usize, t.steps as usize) {
-        return t.mark == sheet_book::mark_of(t.n);
-    }
-    false
+    sheet_book::limits_sound(t.n, t.d, t.models as usize, t.steps as usize)
+        && t.mark == sheet_book::mark_of(t.n)
 }
 
 // Tests 1 to 4.
@@ -38,7 +33,7 @@ pub fn head_tested(sheet: &[u8]) -> Verdict
 {
     let length = sheet.len();
     if !length_sound(length) {
-        return Verdict::Refused(Refusal::BadLength, 0);
+        return Err(Refused(Refusal::BadLength, 0));
     }
     let t = sheet_decode::trailer_at(sheet, length - format::TRAILER_BYTES);
     let steps = t.steps as usize;
@@ -46,16 +41,16 @@ pub fn head_tested(sheet: &[u8]) -> Verdict
     let marked = t.marked;
     let within = trailer_sound(t);
     if !marked {
-        return Verdict::Refused(Refusal::BadMark, 0);
+        return Err(Refused(Refusal::BadMark, 0));
     }
     if !within {
-        return Verdict::Refused(Refusal::BadLimits, 0);
+        return Err(Refused(Refusal::BadLimits, 0));
     }
     let end = offset + format::STEP_BYTES * steps + format::TRAILER_BYTES;
     if end != length {
-        return Verdict::Refused(Refusal::BadOffset, 0);
+        return Err(Refused(Refusal::BadOffset, 0));
     }
-    Verdict::Accepted
+    Ok(())
 }
 
 // Tests 5 and 6 of a sheet that passes the others.
@@ -72,17 +67,17 @@ fn records_tested(sheet: &[u8], t: Trailer) -> Verdict
     let w = sheet_walk::walk_models(&sheet[..offset], n, d, count);
     let place = w.place;
     if place < count {
-        return Verdict::Refused(Refusal::BadModel, place);
+        return Err(Refused(Refusal::BadModel, place));
     }
     // bytes are left after the last model
     if w.end < offset {
-        return Verdict::Refused(Refusal::BadModel, count);
+        return Err(Refused(Refusal::BadModel, count));
     }
     let fault = sheet_walk::walk_steps(sheet, offset, n, count, total);
     if fault < total {
-        return Verdict::Refused(Refusal::BadStep, fault);
+        return Err(Refused(Refusal::BadStep, fault));
     }
-    Verdict::Accepted
+    Ok(())
 }
 
 // Tests 1 to 6.
@@ -90,7 +85,7 @@ pub fn tested(sheet: &[u8]) -> Verdict
     ensures { result ≡ verdict (read sheet.now) }
 {
     let v = head_tested(sheet);
-    let Verdict::Accepted = v else {
+    let Ok(()) = v else {
         return v;
     };
     let t = sheet_decode::trailer_at(sheet, sheet.len() - format::TRAILER_BYTES);

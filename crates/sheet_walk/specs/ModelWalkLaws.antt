@@ -1,6 +1,6 @@
 -- The record at a place and the loop over models: what holds of them, and one law for each way out of a test, for the
 -- loop's start, an iteration and its end.
-use Rattle.std.specs.Prelude.{◌≡◌, Bool, ◌&&◌, ℕ, zero, suc, ◌+◌, ◌*◌, ◌-◌, ◌≤◌, ◌<◌, min, ℤ, pos, drop, replicate}
+use Rattle.std.specs.Prelude.{◌≡◌, Bool, ◌&&◌, ℕ, zero, suc, ◌+◌, ◌*◌, ◌-◌, ◌≤◌, ◌<◌, min, ℤ, pos, drop, replicate, Option, Some, None}
 use Rattle.std.proofs.Math.Path.{refl, sym, ap, ap₂}
 use Rattle.std.proofs.Common.{◌∙◌, subst, arith, length-append, drop-drop, le-leb, leb-false}
 use Rattle.std.proofs.Math.Bool.{true, false, cond}
@@ -29,28 +29,32 @@ borrowed_long count k z a b =
 -- ---- the record at the head
 module _ (n d : ℕ) (s : List ℕ) where
   -- by its test
-  taken_not : record_sound n d s ≡ false → record_taken n d s ≡ 0
+  taken_not : record_sound n d s ≡ false → record_taken n d s ≡ None
   unfolding record_taken
-  taken_not h = ap (λ b. cond b (model_length n s) 0) h
+  taken_not h = ap (λ b. cond b (Some (model_length n s)) None) h
 
-  taken_all : record_sound n d s ≡ true → record_taken n d s ≡ model_length n s
+  taken_all : record_sound n d s ≡ true → record_taken n d s ≡ Some (model_length n s)
   unfolding record_taken
-  taken_all h = ap (λ b. cond b (model_length n s) 0) h
+  taken_all h = ap (λ b. cond b (Some (model_length n s)) None) h
 
-  -- and back: a record has some bytes
-  pub taken_none : (taken : ℕ) → taken ≡ record_taken n d s → taken ≡ 0 → record_sound n d s ≡ false
-  taken_none taken e z = by_test (record_sound n d s) refl
+  -- and back
+  pub taken_none : None ≡ record_taken n d s → record_sound n d s ≡ false
+  taken_none e = by_test (record_sound n d s) refl
     where
       by_test : (b : Bool) → record_sound n d s ≡ b → record_sound n d s ≡ false
       by_test false h = h
-      by_test true h = absurd (omega (arith, e, taken_all h, model_at_least n s))
+      by_test true h = let z : None ≡ Some (model_length n s) = e ∙ taken_all h in cc
 
-  pub taken_some : (taken : ℕ) → taken ≡ record_taken n d s → (taken ≡ 0 → ⊥) → record_sound n d s ≡ true
-  taken_some taken e z = by_test (record_sound n d s) refl
+  pub taken_some : (taken : ℕ) → Some taken ≡ record_taken n d s → record_sound n d s ≡ true
+  taken_some taken e = by_test (record_sound n d s) refl
     where
       by_test : (b : Bool) → record_sound n d s ≡ b → record_sound n d s ≡ true
-      by_test false h = absurd (z (e ∙ taken_not h))
+      by_test false h = let z : Some taken ≡ None = e ∙ taken_not h in cc
       by_test true h = h
+
+  -- those of one that passes
+  pub taken_length : (taken : ℕ) → Some taken ≡ record_taken n d s → taken ≡ model_length n s
+  taken_length taken e = let z : Some taken ≡ Some (model_length n s) = e ∙ taken_all (taken_some taken e) in cc
 
   -- one that passes fits
   pub sound_fits : record_sound n d s ≡ true → model_length n s ≤ length s
@@ -64,7 +68,7 @@ module _ (n d : ℕ) (s : List ℕ) where
           absurd (subst T (sym z) tt)
 
   -- what is read of a faulty one
-  faulty : (ks ks₂ : List ℕ) (cs cs₂ : List ℤ) → record_sound n d s ≡ false → RecordRead n d s ks ks₂ cs cs₂ 0
+  faulty : (ks ks₂ : List ℕ) (cs cs₂ : List ℤ) → record_sound n d s ≡ false → RecordRead n d s ks ks₂ cs cs₂ None
   faulty ks ks₂ cs cs₂ h = record {
     taken_is = sym (taken_not h);
     keys_are = λ t. absurd (subst T (sym t ∙ h) tt);
@@ -74,29 +78,29 @@ module _ (n d : ℕ) (s : List ℕ) where
 -- ---- the record at a place
 module _ (n d at : ℕ) (s : List ℕ) (ks ks₂ : List ℕ) (cs cs₂ : List ℤ) where
   -- it does not fit,
-  no_room : length s - at < model_length n (drop at s) → RecordRead n d (drop at s) ks ks₂ cs cs₂ 0
+  no_room : length s - at < model_length n (drop at s) → RecordRead n d (drop at s) ks ks₂ cs cs₂ None
   unfolding record_sound
   no_room h =
       let l : length (drop at s) < model_length n (drop at s) = omega (arith, length-drop at s) in
       faulty n d (drop at s) ks ks₂ cs cs₂ (rw (lt-leb (model_length n (drop at s)) (length (drop at s)) l))
 
   -- as one of fewer bytes than the least record,
-  pub no_head : length s - at < 5 → RecordRead n d (drop at s) ks ks₂ cs cs₂ 0
+  pub no_head : length s - at < 5 → RecordRead n d (drop at s) ks ks₂ cs cs₂ None
   no_head h = no_room (omega (arith, model_at_least n (drop at s)))
 
   module _ (total : ℕ) (e : total ≡ byte (at + 4) s) where
     -- or its terms do not,
-    pub no_terms : length s - at < 5 + term_length n * total → RecordRead n d (drop at s) ks ks₂ cs cs₂ 0
+    pub no_terms : length s - at < 5 + term_length n * total → RecordRead n d (drop at s) ks ks₂ cs cs₂ None
     no_terms h = no_room (omega (arith, h, length_at s n at, ap (λ c. term_length n * c) e))
 
     -- or its model breaks a rule:
-    breaks : sound d (view_model (read_model n (drop at s))) ≡ false → RecordRead n d (drop at s) ks ks₂ cs cs₂ 0
+    breaks : sound d (view_model (read_model n (drop at s))) ≡ false → RecordRead n d (drop at s) ks ks₂ cs cs₂ None
     unfolding record_sound
     breaks h = faulty n d (drop at s) ks ks₂ cs cs₂
         (and_false (leb (model_length n (drop at s)) (length (drop at s))) _ h)
 
     -- too many terms,
-    pub too_many : most_terms < total → RecordRead n d (drop at s) ks ks₂ cs cs₂ 0
+    pub too_many : most_terms < total → RecordRead n d (drop at s) ks ks₂ cs cs₂ None
     too_many h = breaks (many_terms s n at d (omega arith))
 
     -- or another one, by its terms in two slices
@@ -108,12 +112,12 @@ module _ (n d at : ℕ) (s : List ℕ) (ks ks₂ : List ℕ) (cs cs₂ : List �
           ∙ ap (sound d) (read_view s n at total radius e r (omega arith) ks cs)
 
       pub unsound : sound d (view (handed n total radius ks₂ cs₂)) ≡ false
-          → RecordRead n d (drop at s) ks ks₂ cs cs₂ 0
+          → RecordRead n d (drop at s) ks ks₂ cs cs₂ None
       unsound h = breaks (sym in_slices ∙ h)
 
       -- else it passes
       pub passes : 5 + term_length n * total ≤ length s - at → sound d (view (handed n total radius ks₂ cs₂)) ≡ true
-          → RecordRead n d (drop at s) ks ks₂ cs cs₂ (5 + term_length n * total)
+          → RecordRead n d (drop at s) ks ks₂ cs cs₂ (Some (5 + term_length n * total))
       unfolding record_sound
       passes l h =
           let room : model_length n (drop at s) ≤ length (drop at s) =
@@ -122,7 +126,8 @@ module _ (n d at : ℕ) (s : List ℕ) (ks ks₂ : List ℕ) (cs cs₂ : List �
           let all : record_sound n d (drop at s) ≡ true =
           rw (le-leb (model_length n (drop at s)) (length (drop at s)) room, holds) in
           record {
-            taken_is = ap (λ c. 5 + term_length n * c) e ∙ sym (taken_all n d (drop at s) all ∙ length_at s n at);
+            taken_is = ap (λ c. Some (5 + term_length n * c)) e
+                ∙ sym (taken_all n d (drop at s) all ∙ ap Some (length_at s n at));
             keys_are = λ t. k ∙ ap (λ (l : List HeldTerm). over (held_keys l) ks) (terms_here s n at total e);
             coefficients_are = λ t.
                 c ∙ ap (λ (l : List HeldTerm). over (held_coefficients l) cs) (terms_here s n at total e);
@@ -140,9 +145,9 @@ sound_few n d at s h = by_test (leb (byte (at + 4) s) most_terms) refl
 
 -- ---- a record that was read and passed
 module _ (n d at : ℕ) (s : List ℕ) {ks ks₂ : List ℕ} {cs cs₂ : List ℤ} {taken : ℕ}
-    (h : RecordRead n d (drop at s) ks ks₂ cs cs₂ taken) (z : taken ≡ 0 → ⊥) where
+    (h : RecordRead n d (drop at s) ks ks₂ cs cs₂ (Some taken)) where
   pub read_passed : record_sound n d (drop at s) ≡ true
-  read_passed = taken_some n d (drop at s) taken h.taken_is z
+  read_passed = taken_some n d (drop at s) taken h.taken_is
 
   -- its first bytes are there
   pub head_inside : at ≤ length s → at + 5 ≤ length s
@@ -213,8 +218,8 @@ module _ (s : List ℕ) (n d count : ℕ) (before : List HeldModel) (at k : ℕ)
   stop f = sym h.rest ∙ walk_stop n d before (count - k) (drop at s) f
 
   -- at the first fault,
-  pub models_fault : (taken : ℕ) → taken ≡ record_taken n d (drop at s) → taken ≡ 0 → Ends
-  models_fault taken e z = stop (taken_none n d (drop at s) taken e z)
+  pub models_fault : None ≡ record_taken n d (drop at s) → Ends
+  models_fault e = stop (taken_none n d (drop at s) e)
 
   -- after the last
   pub models_end : count ≤ k → Ends
@@ -223,9 +228,9 @@ module _ (s : List ℕ) (n d count : ℕ) (before : List HeldModel) (at k : ℕ)
       sym h.rest ∙ ap (λ c. walk n d before c (drop at s)) e ∙ walk_end n d before (drop at s)
 
   -- an iteration
-  pub models_iteration : k < count → (taken : ℕ) → taken ≡ record_taken n d (drop at s) → (taken ≡ 0 → ⊥)
+  pub models_iteration : k < count → (taken : ℕ) → Some taken ≡ record_taken n d (drop at s)
       → ModelsSoFar s n d count (before ++ (read_model n (drop at s) ∷ [])) (at + taken) (k + 1)
-  models_iteration l taken e z = record {
+  models_iteration l taken e = record {
     number = omega (arith, length-append before (read ∷ []), h.number);
     most = omega arith;
     within = omega (arith, whole, sound_fits n d (drop at s) passed, length-drop at s, h.within);
@@ -241,10 +246,10 @@ module _ (s : List ℕ) (n d count : ℕ) (before : List HeldModel) (at k : ℕ)
       read = read_model n (drop at s)
 
       passed : record_sound n d (drop at s) ≡ true
-      passed = taken_some n d (drop at s) taken e z
+      passed = taken_some n d (drop at s) taken e
 
       whole : taken ≡ model_length n (drop at s)
-      whole = e ∙ taken_all n d (drop at s) passed
+      whole = taken_length n d (drop at s) taken e
 
   -- how far the walk goes where it ends
   pub walk_place : Ends → k ≡ length (walk n d [] count s).passed

@@ -1,5 +1,5 @@
 -- Walking forward through a sheet: the models and the steps, up to the first fault.
-use Rattle.std.specs.Prelude.{Bool, true, false, ◌&&◌, cond, ◌≡◌, List, [], ◌∷◌, ◌++◌, map, ℕ, zero, suc, ◌-◌, leb, ℤ, length, drop}
+use Rattle.std.specs.Prelude.{Bool, true, false, ◌&&◌, cond, ◌≡◌, List, [], ◌∷◌, ◌++◌, map, ℕ, zero, suc, ◌-◌, leb, ℤ, length, drop, Option, Some, None}
 use Rattle.calculus.specs.Model.{sound}
 use Rattle.model_slices.specs.HandedModels.{over}
 use Rattle.format.specs.HeldBook.{HeldTerm, HeldModel, view_model}
@@ -21,12 +21,12 @@ held_coefficients = map (λ t. t.coefficient)
 unfoldable pub record_sound : (n d : ℕ) → List ℕ → Bool
 record_sound n d s = leb (model_length n s) (length s) && sound d (view_model (read_model n s))
 
--- the bytes that it takes, or 0 where it does not pass
-unfoldable pub record_taken : (n d : ℕ) → List ℕ → ℕ
-record_taken n d s = cond (record_sound n d s) (model_length n s) 0
+-- the bytes that it takes, or none where it does not pass
+unfoldable pub record_taken : (n d : ℕ) → List ℕ → Option ℕ
+record_taken n d s = cond (record_sound n d s) (Some (model_length n s)) None
 
 -- what is read of it: the bytes that it takes, and if it passes its terms in two slices, over what these held
-pub record RecordRead (n d : ℕ) (s : List ℕ) (ks ks₂ : List ℕ) (cs cs₂ : List ℤ) (taken : ℕ) : Type 0 where
+pub record RecordRead (n d : ℕ) (s : List ℕ) (ks ks₂ : List ℕ) (cs cs₂ : List ℤ) (taken : Option ℕ) : Type 0 where
   pub taken_is : taken ≡ record_taken n d s
   pub keys_are : record_sound n d s ≡ true → ks₂ ≡ over (held_keys (read_model n s).terms) ks
   pub coefficients_are : record_sound n d s ≡ true → cs₂ ≡ over (held_coefficients (read_model n s).terms) cs

@@ -36,20 +36,18 @@ pub fn terms_at(
 {
     let size = sheet_book::term_bytes(n);
     let mut place = from;
-    let mut i = 0;
-    while i < count {
+    for i in 0..count {
         let t = sheet_decode::term_at(s, place, n);
         let k = t.key;
         let c = t.coefficient;
         keys[i] = k;
         coefficients[i] = c;
         place += size;
-        i += 1;
     }
 }
 
-// The record at a place: how many bytes it takes, or 0 where it is faulty. Its terms go into two slices and are tested
-// there.
+// The record at a place: how many bytes it takes, or none where it is faulty. Its terms go into two slices and are
+// tested there.
 pub fn record_at(
     s: &[u8],
     at: usize,
@@ -57,7 +55,7 @@ pub fn record_at(
     d: u8,
     keys: &mut [Key],
     coefficients: &mut [i64],
-) -> usize
+) -> Option<usize>
     requires at_in_bounds { at ≤ length s.now }
     requires most_terms_in_bounds { (most_terms ≤ length keys.old) × (most_terms ≤ length coefficients.old) }
     ensures { RecordRead n d (drop at s.now) keys.old keys.new
@@ -65,25 +63,25 @@ pub fn record_at(
 {
     let left = s.len() - at;
     if left < format::MODEL_BYTES {
-        return 0;
+        return None;
     }
     let total = model_bytes::byte_at(s, at + format::COUNT_AT) as usize;
     let taken = format::MODEL_BYTES + sheet_book::term_bytes(n) * total;
     if left < taken {
-        return 0;
+        return None;
     }
     if model_types::MOST_TERMS < total {
-        return 0;
+        return None;
     }
     let radius = model_bytes::u32_at(s, at) as u64;
     terms_at(s, at + format::MODEL_BYTES, n, total, keys, coefficients);
     if !model::sound_slices(n, total, radius, keys, coefficients, d) {
-        return 0;
+        return None;
     }
-    taken
+    Some(taken)
 }
 
-// The models in `s`, which ends at the first step. A fault leaves the loop, and k is then the faulty model's number.
+// The models in `s`, which ends at the first step. A fault leaves the loop with the faulty model's number.
 pub fn walk_models(s: &[u8], n: u8, d: u8, count: usize) -> ModelsWalked
     requires { (1 ≤ n) × (n ≤ key_width) }
     ensures { result ≡ models_walked n d count s.now }
@@ -91,32 +89,31 @@ pub fn walk_models(s: &[u8], n: u8, d: u8, count: usize) -> ModelsWalked
     let mut keys: [Key; model_types::MOST_TERMS] = [0; model_types::MOST_TERMS];
     let mut coefficients = [0i64; model_types::MOST_TERMS];
     let mut at = 0;
-    let mut k = 0;
-    'models: while k < count {
-        let taken = record_at(s, at, n, d, &mut keys, &mut coefficients);
-        if taken == 0 {
+    let mut place = count;
+    'models: for k in 0..count {
+        let Some(taken) = record_at(s, at, n, d, &mut keys, &mut coefficients) else {
+            place = k;
             break 'models;
-        }
+        };
         at += taken;
-        k += 1;
     }
-    ModelsWalked { place: k, end: at }
+    ModelsWalked { place, end: at }
 }
 
-// The steps from `offset` on. A fault leaves the loop, and k is then the faulty step's number.
+// The steps from `offset` on. A fault leaves the loop with the faulty step's number.
 pub fn walk_steps(s: &[u8], offset: usize, n: u8, models: usize, count: usize) -> usize
     requires { offset + step_length * count ≤ length s.now }
     ensures { result ≡ steps_walked n models count (drop offset s.now) }
 {
     let mut at = offset;
-    let mut k = 0;
-    'steps: while k < count {
+    let mut place = count;
+    'steps: for k in 0..count {
         let step = sheet_decode::step_at(s, at);
         if !sheet_book::step_sound(n, models, k, step) {
+            place = k;
             break 'steps;
         }
         at += format::STEP_BYTES;
-        k += 1;
     }
-    k
+    place
 }

@@ -10,8 +10,9 @@ use Rattle.calculus.specs.Refusal.{done, stopped, require_at, short_buffer, retu
 use Rattle.calculus_laws.specs.RefusalLaws.{require_at_passed}
 use Rattle.model_types.specs.declared.Refusal.{Refusal}
 use Rattle.model_types.specs.declared.Refusal.TheVariants.{ShortBuffer}
-use Rattle.model_types.specs.declared.Verdict.{Verdict}
-use Rattle.model_types.specs.declared.Verdict.TheVariants.{Accepted, Refused}
+use Rattle.model_types.specs.ModelStruct.{Verdict}
+use Rattle.std.specs.Prelude.{Ok, Err}
+use Rattle.model_types.specs.ModelStruct.{refused_at}
 use Rattle.model_types.specs.ModelStruct.{refusal, cause}
 use Rattle.model_types.specs.ModelStructLaws.{refusal_cause}
 use Rattle.format.specs.Bytes.{join}
@@ -33,18 +34,18 @@ pub record Outcome (h : HeldBook) (entry : List ℕ) (answer : Written) (exit : 
 
 module _ (h : HeldBook) (entry : List ℕ) where
   is_refused : (q : R.Refusal) (i : ℕ) → write h entry ≡ stopped q i
-      → Outcome h entry (record { length = 0; verdict = Refused (refusal q) i }) entry
+      → Outcome h entry (record { length = 0; verdict = Err (refused_at (refusal q) i) }) entry
   unfolding written write_answer ◌followed_by◌ returned
   is_refused q i e = record { answers = rw e; leaves = rw e }
 
   is_accepted : (s : List ℕ) → write h entry ≡ done s
-      → Outcome h entry (record { length = length s; verdict = Accepted }) (s ++ drop (length s) entry)
+      → Outcome h entry (record { length = length s; verdict = Ok tt }) (s ++ drop (length s) entry)
   unfolding written write_answer ◌followed_by◌ returned
   is_accepted s e = record { answers = rw e; leaves = rw e }
 
   -- the buffer is too short
   pub too_short : HeldPasses h → length entry < length (sheet_bytes h)
-      → Outcome h entry (record { length = 0; verdict = Refused ShortBuffer 0 }) entry
+      → Outcome h entry (record { length = 0; verdict = Err (refused_at ShortBuffer 0) }) entry
   unfolding write refusal
   too_short p l = is_refused short_buffer 0
       (held_tested_passes h _ p
@@ -56,7 +57,7 @@ module _ (h : HeldBook) (entry : List ℕ) where
       → end ≡ offset + step_length * length h.steps → end + trailer_length ≤ length entry
       → first ≡ sets entry 0 (models_bytes h) → second ≡ sets first offset (join (map step_bytes h.steps))
       → exit ≡ sets second end (trailer_bytes h)
-      → Outcome h entry (record { length = end + trailer_length; verdict = Accepted }) exit
+      → Outcome h entry (record { length = end + trailer_length; verdict = Ok tt }) exit
   unfolding write
   long_enough p offset end first second exit o e l f s t =
       rw (t, s, f, sheet_stores h entry offset end o e room, size)
@@ -73,7 +74,7 @@ module _ (h : HeldBook) (entry : List ℕ) where
 
 -- the book is refused
 pub book_refused : (b : Book) (entry : List ℕ) (x : Refusal) (y : ℕ) (v : Verdict) → v ≡ book_verdict b
-    → v ≡ Refused x y → Outcome (held_book b) entry (record { length = 0; verdict = v }) entry
+    → v ≡ Err (refused_at x y) → Outcome (held_book b) entry (record { length = 0; verdict = v }) entry
 unfolding write
 book_refused b entry x y v e k = rw (k, ← refusal_cause x)
     (is_refused (held_book b) entry (cause x) y (verdict_refused b x y (sym e ∙ k) _))

@@ -6,7 +6,7 @@ ghost use Rattle.std.specs.Prelude.{◌≡◌};
 ghost use Rattle.format.specs.Format.{write, written};
 ghost use Rattle.sheet_book.specs.BookStruct.{held_book, write_answer};
 
-use model_types::{Refusal, Verdict};
+use model_types::{Refusal, Refused};
 use sheet_book::{Book, Written};
 
 // Handed on: crates above name these through this crate.
@@ -19,7 +19,7 @@ pub fn write(book: Book, buffer: &mut [u8]) -> Written
     ensures leaves { buffer.new ≡ (written (held_book book) buffer.old).value.buffer }
 {
     let v = sheet_book_tests::tested(book);
-    let Verdict::Accepted = v else {
+    let Ok(()) = v else {
         return Written {
             length: 0,
             verdict: v,
@@ -31,7 +31,7 @@ pub fn write(book: Book, buffer: &mut [u8]) -> Written
     if buffer.len() < size {
         return Written {
             length: 0,
-            verdict: Verdict::Refused(Refusal::ShortBuffer, 0),
+            verdict: Err(Refused(Refusal::ShortBuffer, 0)),
         };
     }
     sheet_encode::put_models(buffer, book);
@@ -39,6 +39,6 @@ pub fn write(book: Book, buffer: &mut [u8]) -> Written
     sheet_encode::put_trailer(buffer, end, book, offset);
     Written {
         length: size,
-        verdict: Verdict::Accepted,
+        verdict: Ok(()),
     }
 }

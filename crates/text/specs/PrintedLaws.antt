@@ -5,7 +5,9 @@ use Rattle.calculus.specs.Model.{most_degree, sound}
 use Rattle.calculus.specs.Refusal.{number, Result, done, stopped}
 use Rattle.calculus.specs.Book as B
 use Rattle.model_types.specs.declared.Refusal.{Refusal}
-use Rattle.model_types.specs.declared.Verdict.TheVariants.{Accepted, Refused}
+use Rattle.std.specs.Prelude.{Ok, Err}
+use Rattle.model_types.specs.declared.Refused.{Refused}
+use Rattle.model_types.specs.ModelStruct.{refused_at}
 use Rattle.model_types.specs.ModelStruct.{view, pack, refusal, cause}
 use Rattle.model_types.specs.ModelStructLaws.{view_pack_sound, cause_refusal}
 use Rattle.format.specs.Format.{run_sheet}
@@ -26,7 +28,7 @@ packed_back : (r : B.Summary) → T (sound most_degree r.model) → view (pack r
 packed_back r h = view_pack_sound most_degree r.model (omega arith) h
 
 accepts_of : (s : List ℕ) (x : Result B.Summary) (a : Summary) → run_sheet s ≡ x → a ≡ run_answer x
-    → a.verdict ≡ Accepted → Accepts s a
+    → a.verdict ≡ Ok tt → Accepts s a
 unfolding run_answer refused_summary
 accepts_of s (done r) a h e v =
     let g = accepted_run s r h in
@@ -39,19 +41,20 @@ accepts_of s (done r) a h e v =
 accepts_of s (stopped q i) a h e v = let z : ◌≡◌ {A = ℕ} 0 1 = cc in absurd (omega arith)
 
 refuses_of : (s : List ℕ) (x : Result B.Summary) (a : Summary) (f : Refusal) (i : ℕ) → run_sheet s ≡ x
-    → a ≡ run_answer x → a.verdict ≡ Refused f i → refusal_line (number (cause f)) i ≡ printed s
+    → a ≡ run_answer x → a.verdict ≡ Err (refused_at f i) → refusal_line (number (cause f)) i ≡ printed s
 unfolding run_answer refused_summary
 refuses_of s (done r) a f i h e v = let z : ◌≡◌ {A = ℕ} 0 1 = cc in absurd (omega arith)
 refuses_of s (stopped q j) a f i h e v =
-    let same : refusal q ≡ f = cc in
-    let place : j ≡ i = cc in
+    let both : refused_at (refusal q) j ≡ refused_at f i = cc in
+    let same : refusal q ≡ f = ap (λ (p : Refused). p.0) both in
+    let place : j ≡ i = ap (λ (p : Refused). p.1) both in
     ap₂ (λ n p. refusal_line n p) (ap number (ap cause (sym same) ∙ cause_refusal q)) (sym place)
     ∙ sym (refused_line q j) ∙ ap lines (sym h) ∙ sym (printed_run s)
 
 module _ (s : List ℕ) (a : Summary) (e : a ≡ run_answer (run_sheet s)) where
-  pub accepts : a.verdict ≡ Accepted → Accepts s a
+  pub accepts : a.verdict ≡ Ok tt → Accepts s a
   accepts v = accepts_of s (run_sheet s) a refl e v
 
   -- a refused answer: its line is the text
-  pub refuses : (f : Refusal) (i : ℕ) → a.verdict ≡ Refused f i → refusal_line (number (cause f)) i ≡ printed s
+  pub refuses : (f : Refusal) (i : ℕ) → a.verdict ≡ Err (refused_at f i) → refusal_line (number (cause f)) i ≡ printed s
   refuses f i v = refuses_of s (run_sheet s) a f i refl e v

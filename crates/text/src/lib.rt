@@ -10,7 +10,7 @@ ghost use Rattle.text_decimal.specs.Put.{Put, Room};
 ghost use Rattle.text.specs.Text.{laid};
 ghost use Rattle.sheet_book.specs.SummaryStruct.{summary_of};
 
-use model_types::{Verdict, number};
+use model_types::{Refused, number};
 use sheet::{Summary, run};
 
 // Handed on: crates above name these through this crate.
@@ -44,7 +44,7 @@ pub fn print(sheet: &[u8], out: &mut [u8]) -> usize
 {
     let summary = run(sheet);
     let verdict = summary.verdict;
-    let Verdict::Refused(refusal, place) = verdict else {
+    let Err(Refused(refusal, place)) = verdict else {
         return put_summary(out, summary);
     };
     text_lines::put_refusal(out, number(refusal), place)

@@ -27,10 +27,8 @@ pub fn put_bytes(out: &mut [u8], at: usize, bytes: &[u8]) -> usize
     ensures { Put out.old at bytes.now out.new result }
 {
     let mut next = at;
-    let mut i = 0;
-    while i < bytes.len() {
-        next = put_byte(out, next, bytes[i]);
-        i += 1;
+    for byte in bytes {
+        next = put_byte(out, next, *byte);
     }
     next
 }
@@ -51,6 +49,7 @@ pub fn put_decimal(out: &mut [u8], at: usize, x: u64) -> usize
     let mut digits = [0u8; 20];
     let mut first = 20;
     let mut rest = x;
+    // No range counts this loop: it ends with the last digit.
     while 10 <= rest {
         first -= 1;
         digits[first] = digit(rest % 10);

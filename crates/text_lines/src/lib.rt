@@ -26,11 +26,8 @@ fn put_exponents(out: &mut [u8], at: usize, n: u8, key: Key) -> usize
     ensures { Put out.old at (join (map natural (monomial_of n key))) out.new result }
 {
     let mut next = at;
-    let mut i = 0;
-    while i < n {
-        let variable = i + 1;
-        next = text_decimal::put_natural(out, next, model::exponent_of(key, variable) as u64);
-        i = variable;
+    for i in 0..n {
+        next = text_decimal::put_natural(out, next, model::exponent_of(key, i + 1) as u64);
     }
     next
 }
@@ -55,12 +52,10 @@ pub fn put_terms(out: &mut [u8], at: usize, m: Model) -> usize
     let n = m.n;
     let count = m.count;
     let mut next = at;
-    let mut i = 0;
-    while i < count {
+    for i in 0..count {
         let key = m.keys[i];
         let c = m.coefficients[i];
         next = put_term(out, next, n, key, c);
-        i += 1;
     }
     next
 }

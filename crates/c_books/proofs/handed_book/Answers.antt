@@ -1,5 +1,4 @@
 -- `handed_book` puts the models and the steps together.
-use borrow.Author.Rules.{rules}
 use Rattle.c_books.specs.HandedBooks.{handed_book}
 use Rattle.c_books.proofs.handed_book.Goals as goal
 

@@ -1,5 +1,4 @@
 -- `model_places` takes the least.
-use borrow.Author.Rules.{rules}
 use Rattle.calculus.specs.Model.{most_terms}
 use Rattle.calculus.specs.Book.{most_models}
 use Rattle.c_books.specs.HandedBooks.{model_places}

@@ -1,5 +1,4 @@
 -- `step_places` takes the least.
-use borrow.Author.Rules.{rules}
 use Rattle.calculus.specs.Book.{most_steps}
 use Rattle.c_books.specs.HandedBooks.{step_places}
 use Rattle.c_books.proofs.step_places.Goals as goal

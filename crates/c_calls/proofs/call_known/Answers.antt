@@ -1,17 +1,17 @@
 -- `call_known` tests for the antiderivative first.
-use borrow.Author.Tests.{eq-eqb, ne_eqb, le-leb, lt-leb}
+use Rattle.std.proofs.Common.{arith}
+use Rattle.std.proofs.lemmas.Bool.Decides.{nat_tests}
 use Rattle.c_calls.specs.CallCodes.{call_known}
 use Rattle.c_calls.proofs.call_known.Goals as goal
 
 pub returns-then-code-eq-ANTIDERIVATIVE : goal.returns-then-code-eq-ANTIDERIVATIVE
 unfolding call_known
-returns-then-code-eq-ANTIDERIVATIVE c = rw (eq-eqb _ 10 c.if-code-eq-ANTIDERIVATIVE.true)
+returns-then-code-eq-ANTIDERIVATIVE c = grind (arith, nat_tests)
 
-pub returns-then-code-lt-CONSTANT : goal.returns-then-code-lt-CONSTANT
+pub returns-then-code-ge-CONSTANT : goal.returns-then-code-ge-CONSTANT
 unfolding call_known
-returns-then-code-lt-CONSTANT c =
-    rw (ne_eqb _ 10 c.if-code-eq-ANTIDERIVATIVE.false, lt-leb 1 _ c.if-code-lt-CONSTANT.true)
+returns-then-code-ge-CONSTANT c = grind (arith, nat_tests)
 
-pub returns : goal.returns
+pub returns-else-code-ge-CONSTANT : goal.returns-else-code-ge-CONSTANT
 unfolding call_known
-returns c = rw (ne_eqb _ 10 c.if-code-eq-ANTIDERIVATIVE.false, le-leb 1 _ c.if-code-lt-CONSTANT.false)
+returns-else-code-ge-CONSTANT c = grind (arith, nat_tests)

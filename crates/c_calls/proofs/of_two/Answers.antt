@@ -1,12 +1,13 @@
 -- `of_two` compares the code with the first and the last.
-use borrow.Author.Tests.{le-leb, lt-leb}
+use Rattle.std.proofs.Common.{arith}
+use Rattle.std.proofs.lemmas.Bool.Decides.{nat_tests}
 use Rattle.c_calls.specs.CallKinds.{of_two}
 use Rattle.c_calls.proofs.of_two.Goals as goal
 
-pub returns-then-code-lt-ADD : goal.returns-then-code-lt-ADD
+pub returns-then-code-ge-ADD : goal.returns-then-code-ge-ADD
 unfolding of_two
-returns-then-code-lt-ADD c = rw (lt-leb 4 _ c.if-code-lt-ADD.true)
+returns-then-code-ge-ADD c = grind (arith, nat_tests)
 
-pub returns : goal.returns
+pub returns-else-code-ge-ADD : goal.returns-else-code-ge-ADD
 unfolding of_two
-returns c = rw (le-leb 4 _ c.if-code-lt-ADD.false)
+returns-else-code-ge-ADD c = grind (arith, nat_tests)

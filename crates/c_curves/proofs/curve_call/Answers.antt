@@ -1,34 +1,26 @@
 -- `curve_call` goes through the codes.
-use borrow.Author.Rules.{rules}
-use borrow.Author.Tests.{eq-eqb, ne_eqb}
+use native.Mathlib.Omega.{arith}
+use borrow.Author.Tests.{ne_eqb}
+use Rattle.std.proofs.Common.{◌≢◌}
 use Rattle.c_curves.specs.HandedCurves.{curve_call}
 use Rattle.c_curves.proofs.curve_call.Goals as goal
 
-pub returns-then-code-eq-NEGATE : goal.returns-then-code-eq-NEGATE
+pub returns-in-3 : goal.returns-in-3
 unfolding curve_call
-returns-then-code-eq-NEGATE c = rw (c.negate.ensures, eq-eqb _ 3 c.if-code-eq-NEGATE.true)
+returns-in-3 c = rw (c.negate.ensures, c.in-3.is)
 
-pub returns-then-code-eq-ADD : goal.returns-then-code-eq-ADD
+pub returns-in-4 : goal.returns-in-4
 unfolding curve_call
-returns-then-code-eq-ADD c =
-    rw (c.add.ensures, ne_eqb _ 3 c.if-code-eq-NEGATE.false, eq-eqb _ 4 c.if-code-eq-ADD.true)
+returns-in-4 c = rw (c.add.ensures, c.in-4.is)
 
-pub returns-then-code-eq-SUBTRACT : goal.returns-then-code-eq-SUBTRACT
+pub returns-in-5 : goal.returns-in-5
 unfolding curve_call
-returns-then-code-eq-SUBTRACT c =
-    rw (
-      c.subtract.ensures,
-      ne_eqb _ 3 c.if-code-eq-NEGATE.false,
-      ne_eqb _ 4 c.if-code-eq-ADD.false,
-      eq-eqb _ 5 c.if-code-eq-SUBTRACT.true,
-    )
+returns-in-5 c = rw (c.subtract.ensures, c.in-5.is)
 
-pub returns : goal.returns
+pub returns-in_default : goal.returns-in_default
 unfolding curve_call
-returns c =
-    rw (
-      c.multiply.ensures,
-      ne_eqb _ 3 c.if-code-eq-NEGATE.false,
-      ne_eqb _ 4 c.if-code-eq-ADD.false,
-      ne_eqb _ 5 c.if-code-eq-SUBTRACT.false,
-    )
+returns-in_default c =
+    let a : c.args.code ≢ 3 = omega arith in
+    let b : c.args.code ≢ 4 = omega arith in
+    let d : c.args.code ≢ 5 = omega arith in
+    rw (c.multiply.ensures, ne_eqb _ 3 a, ne_eqb _ 4 b, ne_eqb _ 5 d)

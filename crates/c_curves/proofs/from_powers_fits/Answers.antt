@@ -1,14 +1,12 @@
 -- `from_powers_fits` tests the model's slices, then the room.
 use mathlib.Core.Path.{sym, ◌∙◌}
-use borrow.Author.Rules.{rules}
-use borrow.Author.Tests.{not-true, not-false}
 use Rattle.c_curves.specs.HandedCurves.{from_powers_fits}
 use Rattle.c_curves.proofs.from_powers_fits.Goals as goal
 
-pub returns-then-not-borrowed : goal.returns-then-not-borrowed
+pub returns-then-borrowed : goal.returns-then-borrowed
 unfolding from_powers_fits
-returns-then-not-borrowed c = rw (sym c.borrowed.ensures ∙ c.if-not-borrowed.true)
+returns-then-borrowed c = rw (sym c.borrowed.ensures ∙ c.if-borrowed.true)
 
-pub returns : goal.returns
+pub returns-else-borrowed : goal.returns-else-borrowed
 unfolding from_powers_fits
-returns c = rw (sym c.borrowed.ensures ∙ c.if-not-borrowed.false)
+returns-else-borrowed c = rw (sym c.borrowed.ensures ∙ c.if-borrowed.false, c.if-borrowed.false)

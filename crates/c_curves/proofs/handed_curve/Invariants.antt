@@ -16,6 +16,3 @@ use Rattle.c_curves.proofs.handed_curve.Given as goal
 
 abbrev pub invariant-loop-i : goal.invariant-loop-i
 invariant-loop-i l = (l.i ≤ 16) × (l.out ≡ padded (pos 0) 16 (take l.i l.coefficients))
-
-abbrev pub decreases-loop-i : goal.decreases-loop-i
-decreases-loop-i l = 16 - l.i

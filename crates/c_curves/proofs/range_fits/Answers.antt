@@ -4,10 +4,10 @@ use Rattle.chebyshev.specs.PowerRows.{places}
 use Rattle.c_curves.specs.HandedCurves.{range_fits}
 use Rattle.c_curves.proofs.range_fits.Goals as goal
 
-pub returns-then-coefficients-lt-CURVE_PLACES : goal.returns-then-coefficients-lt-CURVE_PLACES
+pub returns-then-coefficients-ge-CURVE_PLACES : goal.returns-then-coefficients-ge-CURVE_PLACES
 unfolding range_fits places
-returns-then-coefficients-lt-CURVE_PLACES c = rw (lt-leb 16 _ c.if-coefficients-lt-CURVE_PLACES.true)
+returns-then-coefficients-ge-CURVE_PLACES c = rw (le-leb 16 _ c.if-coefficients-ge-CURVE_PLACES.true)
 
-pub returns : goal.returns
+pub returns-else-coefficients-ge-CURVE_PLACES : goal.returns-else-coefficients-ge-CURVE_PLACES
 unfolding range_fits places
-returns c = rw (le-leb 16 _ c.if-coefficients-lt-CURVE_PLACES.false)
+returns-else-coefficients-ge-CURVE_PLACES c = rw (lt-leb 16 _ c.if-coefficients-ge-CURVE_PLACES.false)

@@ -18,6 +18,3 @@ abbrev pub invariant-loop-i : goal.invariant-loop-i
 invariant-loop-i l =
     (l.i ≤ 16) × (length l.coefficients ≡ length l.initial.coefficients)
     × (l.coefficients ≡ over (take l.i l.c.coefficients) l.initial.coefficients)
-
-abbrev pub decreases-loop-i : goal.decreases-loop-i
-decreases-loop-i l = 16 - l.i

@@ -2,14 +2,14 @@
 use Rattle.c_products.specs.StoredLaws.{stored_accepted, stored_refused}
 use Rattle.c_products.proofs.store.Goals as goal
 
-pub returns-in-Accepted : goal.returns-in-Accepted
-returns-in-Accepted c =
+pub returns-in-Ok : goal.returns-in-Ok
+returns-in-Ok c =
     let p = c.store_kept.ensures c.args.n in
-    stored_accepted _ _ _ _ _ _ _ _ c.args.numbers.now _ p.0 p.1 c.requires.kept_ready c.in-Accepted.is
+    stored_accepted _ _ _ _ _ _ _ _ c.args.numbers.now _ p.0 p.1 c.requires.kept_ready c.in-Ok.is
     c.store_numbers.ensures
 
-pub returns-in-Refused : goal.returns-in-Refused
-returns-in-Refused c =
+pub returns-in-Err : goal.returns-in-Err
+returns-in-Err c =
     let p = c.store_kept.ensures c.args.n in
-    stored_refused _ _ _ _ _ _ _ _ c.args.numbers.now _ p.0 p.1 _ _ _ c.in-Refused.is c.number.ensures
-    c.store_numbers-in-Refused.ensures
+    stored_refused _ _ _ _ _ _ _ _ c.args.numbers.now _ p.0 p.1 _ _ _ c.in-Err.is c.number.ensures
+    c.store_numbers-in-Err.ensures

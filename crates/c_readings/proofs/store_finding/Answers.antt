@@ -1,20 +1,17 @@
--- `store_finding` stores three numbers.
-use native.Mathlib.Omega.{arith}
-use lib.ListN.{length-set}
-use Rattle.c_readings.specs.HandedReadings.{stored_finding}
-use Rattle.c_readings.specs.HandedReadingsLaws.{over_three}
+-- `store_finding` takes the finding apart.
+use Rattle.std.proofs.Common.{ap, ap₂}
+use Rattle.model_types.specs.ModelStruct.{verdict_number, verdict_place}
+use Rattle.c_readings.specs.HandedReadings.{readings_state, stored_finding}
 use Rattle.c_readings.proofs.store_finding.Goals as goal
 
-pub bounds-numbers-1 : goal.bounds-numbers-1
-bounds-numbers-1 c = simp length-set (omega (arith, c.requires))
-
-pub returns : goal.returns
+pub returns-in-None : goal.returns-in-None
 unfolding stored_finding
-returns c =
-    rw (
-      c.verdict_number.ensures,
-      c.verdict_place-place.ensures,
-      c.any_contradicts-any.ensures,
-      c.number_of-number.ensures,
-      over_three c.args.numbers.now _ _ _ c.requires,
-    )
+returns-in-None c = rw c.in-Ok.is (rw c.in-None.is (ap (readings_state 0) c.store_three.ensures))
+
+pub returns-in-Some : goal.returns-in-Some
+unfolding stored_finding
+returns-in-Some c = rw c.in-Ok.is (rw c.in-Some.is (ap (readings_state 0) c.store_three-in-Some.ensures))
+
+pub returns-in-Err : goal.returns-in-Err
+unfolding stored_finding verdict_number verdict_place
+returns-in-Err c = rw c.in-Err.is (ap₂ readings_state c.number.ensures c.store_three-in-Err.ensures)

@@ -16,11 +16,11 @@ whole c = c.well_formed.0.1.1.1.0.1.0.1
 
 pub loop-i-init : goal.loop-i-init
 unfolding over row_numbers
-loop-i-init c = (omega arith, refl, refl)
+loop-i-init c = refl
 
 -- the slice has the four places of a row
 room : (c : In-loop-i) → 4 * c.loop-i.i + 3 < length c.loop-i.out
-room c = omega (arith, c.loop-i-test.true, c.loop-i.invariant.1, c.requires)
+room c = omega (arith, c.loop-i-test.true, c.loop-i.auto.out, c.requires)
 
 pub bounds-out-at-in-loop-i : goal.bounds-out-at-in-loop-i
 bounds-out-at-in-loop-i c = simp length-set (omega (arith, room (goal.at.bounds-out-at-in-loop-i c).In-loop-i))
@@ -34,15 +34,12 @@ bounds-out-at-in-loop-i-3 c = simp length-set (omega (arith, room (goal.at.bound
 pub loop-i-preserved : goal.loop-i-preserved
 loop-i-preserved c =
     let h = c.loop-i.invariant in
-    let i = c.loop-i.i in (
-      omega arith,
-      simp length-set h.1,
-      rw h.2 (rows_more c.args.r.shares c.args.out.now i (omega (arith, whole (goal.at.loop-i-preserved c).Start))
-          (omega (arith, room (goal.at.loop-i-preserved c).In-loop-i))),
-    )
+    let i = c.loop-i.i in
+    rw h (rows_more c.args.r.shares c.args.out.now i (omega (arith, whole (goal.at.loop-i-preserved c).Start))
+    (omega (arith, room (goal.at.loop-i-preserved c).In-loop-i)))
 
 pub returns : goal.returns
 unfolding stored_rows
 returns c =
     let all = take_all c.loop-i.i c.args.r.shares (omega (arith, whole (goal.at.returns c).Start)) in
-    rw (c.loop-i.invariant.2, all)
+    rw (c.loop-i.invariant, all)

@@ -12,8 +12,4 @@ use Rattle.c_shares.proofs.store_rows.Given as goal
 
 abbrev pub invariant-loop-i : goal.invariant-loop-i
 invariant-loop-i l =
-    (l.i ≤ 64) × (length l.out ≡ length l.initial.out)
-    × (l.out ≡ over (row_numbers (take l.i l.r.shares)) l.initial.out)
-
-abbrev pub decreases-loop-i : goal.decreases-loop-i
-decreases-loop-i l = 64 - l.i
+    l.out ≡ over (row_numbers (take l.i l.r.shares)) l.initial.out

@@ -11,6 +11,3 @@ use Rattle.c_sheets.proofs.copy.Given as goal
 abbrev pub invariant-loop-i : goal.invariant-loop-i
 invariant-loop-i l =
     (l.i ≤ l.places) × (length l.out ≡ length l.initial.out) × (l.out ≡ over (take l.i l.bytes) l.initial.out)
-
-abbrev pub decreases-loop-i : goal.decreases-loop-i
-decreases-loop-i l = l.places - l.i

@@ -30,5 +30,5 @@ returns c =
       c.write-w.ensures.leaves,
       le-leb 2 _ c.if-numbers-lt-NUMBERS.false,
       sym c.read-answer.ensures,
-      c.in-Accepted.is,
+      c.in-Ok.is,
     )

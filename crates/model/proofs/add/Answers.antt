@@ -3,30 +3,30 @@ use mathlib.Core.Path.{◌≡◌, sym, ◌∙◌, ap}
 use borrow.Author.Rules.{rules}
 use Rattle.calculus.specs.Model.{most_degree}
 use Rattle.model_types.specs.ModelStruct.{view, verdict, answer}
-use Rattle.model_types.specs.declared.Verdict.TheVariants.{Accepted}
+use Rattle.std.specs.Prelude.{Ok}
 use Rattle.model_call_tests.specs.Admission.{two_models}
 use Rattle.model_call_tests.specs.AdmissionLaws.{two_passed, goes_on, is_refused}
 use Rattle.model.specs.CallLaws.{add_is}
 use Rattle.model.proofs.add.Goals as goal
-use Rattle.model.proofs.add.Goals.{In-Accepted}
+use Rattle.model.proofs.add.Goals.{In-Ok}
 
 -- the tests have passed
-module _ (c : In-Accepted) where
-  passed : verdict (two_models most_degree (view c.args.a) (view c.args.b)) ≡ Accepted
+module _ (c : In-Ok) where
+  passed : verdict (two_models most_degree (view c.args.a) (view c.args.b)) ≡ Ok tt
   unfolding most_degree
-  passed = sym c.two_models-v.ensures ∙ c.in-Accepted.is
+  passed = sym c.two_models-v.ensures ∙ c.in-Ok.is
 
 pub added-requires : goal.added-requires
 unfolding view
 added-requires c =
     let p = two_passed _ _ _ (passed c) in record { first = p.first; second = p.second; vars = p.vars }
 
-pub returns-in-Accepted : goal.returns-in-Accepted
-returns-in-Accepted c = c.added.ensures ∙ ap answer
-    (sym (add_is _ _ ∙ goes_on _ _ (passed (goal.at.returns-in-Accepted c).In-Accepted)))
+pub returns-in-Ok : goal.returns-in-Ok
+returns-in-Ok c = c.added.ensures ∙ ap answer
+    (sym (add_is _ _ ∙ goes_on _ _ (passed (goal.at.returns-in-Ok c).In-Ok)))
 
-pub returns-in-Refused : goal.returns-in-Refused
+pub returns-in-Err : goal.returns-in-Err
 unfolding most_degree
-returns-in-Refused c =
-    let e = sym c.two_models-v.ensures ∙ c.in-Refused.is in
+returns-in-Err c =
+    let e = sym c.two_models-v.ensures ∙ c.in-Err.is in
     c.refuse.ensures ∙ ap answer (sym (add_is _ _ ∙ is_refused _ _ _ _ e))

@@ -8,21 +8,21 @@ use Rattle.calculus.specs.Refusal.{at_place}
 use Rattle.calculus.specs.Operations as Op
 use Rattle.calculus.specs.Calls.{call_quotient}
 use Rattle.model_types.specs.declared.Answer.{Answer}
-use Rattle.model_types.specs.declared.Verdict.TheVariants.{Accepted}
+use Rattle.std.specs.Prelude.{Ok}
 use Rattle.model_call_tests.specs.Admission.{dividing}
 use Rattle.model_call_tests.specs.AdmissionLaws.{dividing_passed, goes_on, is_refused}
 use Rattle.model_quotient_room.specs.model_proposal.Proposal.{Proposal}
-use Rattle.model_quotient_room.specs.QuotientTableLaws.{counts_few}
+use Rattle.model_quotient_room.specs.QuotientTableLaws.{counts_few, products_any}
 use Rattle.model.specs.CallLaws.{quotient_is}
 use Rattle.model.proofs.quotient.Goals as goal
-use Rattle.model.proofs.quotient.Goals.{In-Accepted}
+use Rattle.model.proofs.quotient.Goals.{In-Ok}
 
 -- the tests have passed
-module _ (c : In-Accepted) where
+module _ (c : In-Ok) where
   passed : verdict (dividing c.args.d (view c.args.f) (view c.args.g) (view c.args.h)
       (view c.args.w))
-      ≡ Accepted
-  passed = sym c.dividing-v.ensures ∙ c.in-Accepted.is
+      ≡ Ok tt
+  passed = sym c.dividing-v.ensures ∙ c.in-Ok.is
 
   asked : Proposal c.args.d c.args.f c.args.g c.args.h c.args.w
   unfolding view
@@ -51,37 +51,36 @@ pub most_products-products-requires : goal.most_products-products-requires
 most_products-products-requires c = counts_few (asked c)
 
 -- ---- few products
-pub divided_few-requires : goal.divided_few-requires
-divided_few-requires c = record {
-  proposal = asked (goal.at.divided_few-requires c).In-Accepted;
-  count_bound = omega (arith, c.most_products-products.ensures, c.if-products-le-FEW_PRODUCTS.true);
-}
+pub divided_in-requires-clause-proposal : goal.divided_in-requires-clause-proposal
+divided_in-requires-clause-proposal c = asked (goal.at.divided_in-requires-clause-proposal c).In-Ok
 
 pub returns-then-products-le-FEW_PRODUCTS : goal.returns-then-products-le-FEW_PRODUCTS
-returns-then-products-le-FEW_PRODUCTS c = answers (goal.at.returns-then-products-le-FEW_PRODUCTS c).In-Accepted
-    c.divided_few.ensures
+returns-then-products-le-FEW_PRODUCTS c = answers (goal.at.returns-then-products-le-FEW_PRODUCTS c).In-Ok
+    c.divided_in.ensures
 
 -- ---- some
-pub divided_some-requires : goal.divided_some-requires
-divided_some-requires c =
-    record {
-      proposal = asked (goal.at.divided_some-requires c).In-Accepted;
-      count_bound = omega (arith, c.most_products-products.ensures, c.if-products-le-SOME_PRODUCTS.true);
-    }
+pub divided_in-requires-then-products-le-SOME_PRODUCTS-clause-proposal :
+    goal.divided_in-requires-then-products-le-SOME_PRODUCTS-clause-proposal
+divided_in-requires-then-products-le-SOME_PRODUCTS-clause-proposal c =
+    asked (goal.at.divided_in-requires-then-products-le-SOME_PRODUCTS-clause-proposal c).In-Ok
 
 pub returns-then-products-le-SOME_PRODUCTS : goal.returns-then-products-le-SOME_PRODUCTS
-returns-then-products-le-SOME_PRODUCTS c = answers (goal.at.returns-then-products-le-SOME_PRODUCTS c).In-Accepted
-    c.divided_some.ensures
+returns-then-products-le-SOME_PRODUCTS c = answers (goal.at.returns-then-products-le-SOME_PRODUCTS c).In-Ok
+    c.divided_in-then-products-le-SOME_PRODUCTS.ensures
 
 -- ---- any number
-pub divided_any-requires : goal.divided_any-requires
-divided_any-requires c = asked (goal.at.divided_any-requires c).In-Accepted
+pub divided_in-requires-in-Ok-clause-proposal : goal.divided_in-requires-in-Ok-clause-proposal
+divided_in-requires-in-Ok-clause-proposal c = asked (goal.at.divided_in-requires-in-Ok-clause-proposal c).In-Ok
+
+pub divided_in-requires-in-Ok-clause-count_bound : goal.divided_in-requires-in-Ok-clause-count_bound
+divided_in-requires-in-Ok-clause-count_bound c =
+    products_any (asked (goal.at.divided_in-requires-in-Ok-clause-count_bound c).In-Ok)
 
 pub returns-else-products-le-SOME_PRODUCTS : goal.returns-else-products-le-SOME_PRODUCTS
-returns-else-products-le-SOME_PRODUCTS c = answers (goal.at.returns-else-products-le-SOME_PRODUCTS c).In-Accepted
-    c.divided_any.ensures
+returns-else-products-le-SOME_PRODUCTS c = answers (goal.at.returns-else-products-le-SOME_PRODUCTS c).In-Ok
+    c.divided_in-in-Ok.ensures
 
-pub returns-in-Refused : goal.returns-in-Refused
-returns-in-Refused c =
-    let e = sym c.dividing-v.ensures ∙ c.in-Refused.is in
+pub returns-in-Err : goal.returns-in-Err
+returns-in-Err c =
+    let e = sym c.dividing-v.ensures ∙ c.in-Err.is in
     c.refuse.ensures ∙ ap answer (sym (quotient_is _ _ _ _ _ ∙ is_refused _ _ _ _ e))

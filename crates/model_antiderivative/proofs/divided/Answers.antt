@@ -1,7 +1,5 @@
 -- `divided` is 0 for a term that is swept, else the quotient to the nearest.
 use mathlib.Core.Path.{sym, ◌∙◌, ap₂}
-use borrow.Author.Rules.{rules}
-use borrow.Author.Tests.{not-true, not-false}
 use native.Mathlib.Omega.{arith}
 use mir.Facts.{to_z-of_z}
 use Rattle.numbers.specs.Division.{nearest}

@@ -1,8 +1,7 @@
 -- `growth` is what a term adds to the radius.
 use mathlib.Core.Path.{◌≡◌, sym, ◌∙◌, ap, ap₂}
 use Prim.Native.Nat.{◌+◌, ◌%◌}
-use borrow.Author.Rules.{rules}
-use borrow.Author.Tests.{not-true, not-false, eq-eqb, ne_eqb}
+use borrow.Author.Tests.{eq-eqb, ne_eqb}
 use native.Mathlib.Omega.{arith}
 use lib.IntN.{nat_abs}
 use mir.Facts.{to_z-of_z}
@@ -49,10 +48,10 @@ returns-then-size-k-ne0 c =
       ne_eqb _ 0 (λ e. c.if-size-k-ne0.true (rest_is (goal.at.returns-then-size-k-ne0 c).After-stays ∙ e)),
     )
 
-pub returns : goal.returns
+pub returns-else-size-k-ne0 : goal.returns-else-size-k-ne0
 unfolding key_growth key_rounding if_so
-returns c =
+returns-else-size-k-ne0 c =
     rw (
       sym c.stays.ensures ∙ c.if-not-stays.false,
-      eq-eqb _ 0 (sym (rest_is (goal.at.returns c).After-stays) ∙ c.if-size-k-ne0.false),
+      eq-eqb _ 0 (sym (rest_is (goal.at.returns-else-size-k-ne0 c).After-stays) ∙ c.if-size-k-ne0.false),
     )

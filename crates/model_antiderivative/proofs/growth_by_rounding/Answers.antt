@@ -1,7 +1,5 @@
 -- `growth_by_rounding` is what a term that stays adds to the radius.
 use mathlib.Core.Path.{sym, ◌∙◌, ap}
-use borrow.Author.Rules.{rules}
-use borrow.Author.Tests.{not-true, not-false}
 use mir.Facts.{to_z-of_z}
 use Rattle.calculus_laws.specs.SumLaws.{if_so}
 use Rattle.model_antiderivative.specs.Antiderivatives.{key_rounding, key_growth}

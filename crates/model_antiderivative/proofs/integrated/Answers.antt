@@ -13,16 +13,16 @@ use Rattle.model_antiderivative.proofs.integrated.Goals.{Start}
 room : (c : Start) → Room c.args.f.keys c.args.f.coefficients
 room c = record { keys = search rules; coefficients = search rules }
 
-pub integrated_arrays-l-requires : goal.integrated_arrays-l-requires
+pub integrated_slices-l-requires : goal.integrated_slices-l-requires
 unfolding most_terms
-integrated_arrays-l-requires c =
+integrated_slices-l-requires c =
     record {
-      integrand_in = own_in _ c.requires (room (goal.at.integrated_arrays-l-requires c).Start);
+      integrand_in = own_in _ c.requires (room (goal.at.integrated_slices-l-requires c).Start);
       zeros = record { keys = refl; coefficients = refl };
     }
 
 pub returns : goal.returns
 returns c =
-    left_done _ _ _ _ _ (c.integrated_arrays-l.ensures (own_in c.args.f c.requires (room (goal.at.returns c).Start)))
+    left_done _ _ _ _ _ (c.integrated_slices-l.ensures (own_in c.args.f c.requires (room (goal.at.returns c).Start)))
     ∙ ap (λ m. pack (antiderivative c.args.d c.args.i m))
     (own_same c.args.f c.requires (room (goal.at.returns c).Start))

@@ -1,7 +1,6 @@
 -- `integrated_accounted` parts what the radius grew by: so much is by rounding, and the rest was swept.
 use mathlib.Core.Path.{◌∙◌, ap}
 use native.Mathlib.Omega.{arith}
-use borrow.Author.Rules.{rules}
 use Rattle.model_types.specs.SharesStruct.{stored_shares}
 use Rattle.model_types.specs.SharesStructLaws.{accounted_accepted}
 use Rattle.model_antiderivative.specs.GrowthShareLaws.{radius_grows, growth_covers, growth_fits, growth_shares}

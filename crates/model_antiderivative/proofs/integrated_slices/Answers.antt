@@ -2,7 +2,7 @@
 -- term adds.
 use mathlib.Core.Path.{◌≡◌, refl, sym, ◌∙◌, ap, subst}
 use mathlib.Core.Bool.{not}
-use Prim.Native.Nat.{◌+◌, ◌≤◌, ◌<◌, ◌-◌}
+use Prim.Native.Nat.{◌+◌, ◌≤◌, ◌<◌}
 use native.Mathlib.Omega.{arith}
 use borrow.Author.Rules.{rules}
 use lib.Dec.{T}
@@ -17,11 +17,11 @@ use Rattle.calculus.specs.Model.{most_terms}
 use Rattle.calculus.specs.Terms.{is_nonzero}
 use Rattle.model_types.specs.declared.Term.{Term}
 use Rattle.model_types.specs.declared.Model.{Model}
-use Rattle.model_types.specs.ModelStruct.{zero_term, paired, listed}
+use Rattle.model_types.specs.ModelStruct.{zero_term, listed}
 use Rattle.model_types.specs.PairedLaws.{listed_own, listed_put, listed_struct}
 use Rattle.model_types.specs.ZeroTestLaws.{zero_bits, nonzero_bits}
 use Rattle.model_keys.specs.Keys.{Raisable, key_raised}
-use Rattle.model_slices.specs.HeldModels.{held, Room}
+use Rattle.model_slices.specs.HeldModels.{held}
 use Rattle.model_slices.specs.HeldModelsLaws.{pair, room_still}
 use Rattle.model_places.specs.LeftModelsLaws.{left_accepted, zeros_room}
 use Rattle.model_antiderivative.specs.Antiderivatives.{key_coefficient, key_growth, IntegrandIn}
@@ -30,7 +30,7 @@ use Rattle.model_antiderivative.specs.PassLaws.{gathered_end, gathered_within, g
 use Rattle.model_antiderivative.specs.PassLaws.{raisable, nonzero_stays, in_limits, in_few, in_long, in_at}
 use Rattle.model_antiderivative.specs.PassLaws.{in_small}
 use Rattle.model_antiderivative.proofs.integrated_slices.Goals as goal
-use Rattle.model_antiderivative.proofs.integrated_slices.Goals.{After-c-1, After-divided-new, After-growth-radius, Start, Then-new-ne0}
+use Rattle.model_antiderivative.proofs.integrated_slices.Goals.{then-new-ne0, else-new-ne0, After-c-1, After-divided-new, After-growth-radius, Start, Then-new-ne0}
 
 few : (s : Start) → s.args.total ≤ 64
 unfolding most_terms
@@ -40,18 +40,6 @@ pub loop-j-init : goal.loop-j-init
 unfolding held
 loop-j-init c =
     (zeros_room c.requires.zeros, λ w. gathered_zeros w.integrand (in_long w) c.requires.zeros)
-
-pub offset_bounds-keys-j : goal.offset_bounds-keys-j
-offset_bounds-keys-j c = omega (arith, few (goal.at.offset_bounds-keys-j c).Start)
-
-pub bounds-keys-j : goal.bounds-keys-j
-bounds-keys-j c = omega (arith, c.requires.integrand_in.places.keys)
-
-pub offset_bounds-coefficients-j : goal.offset_bounds-coefficients-j
-offset_bounds-coefficients-j c = omega (arith, few (goal.at.offset_bounds-coefficients-j c).Start)
-
-pub bounds-coefficients-j : goal.bounds-coefficients-j
-bounds-coefficients-j c = omega (arith, c.requires.integrand_in.places.coefficients)
 
 -- the term at hand
 module _ (c : After-c-1) where
@@ -68,7 +56,7 @@ module _ (c : After-c-1) where
       (get_or c.args.coefficients.now c.loop-j.j (pos 0))
 
   inside : c.loop-j.j < c.args.total
-  inside = c.loop-j-test.true
+  inside = omega arith
 
   read_back : to_z w64 (of_z w64 at.coefficient) ≡ at.coefficient
   read_back = to_z-of_z {w = w64} (record { sfits = c.c-1.given })
@@ -143,9 +131,6 @@ overflow_add-radius c =
           (inside (goal.at.overflow_add-radius c).After-c-1),
     )
 
-pub overflow_add-j : goal.overflow_add-j
-overflow_add-j c = omega (arith, few (goal.at.overflow_add-j c).Start, inside (goal.at.overflow_add-j c).After-c-1)
-
 -- a coefficient that is not 0 belongs to a term that stays
 nonzero : (c : Then-new-ne0) → T (is_nonzero c.divided-new.result)
 nonzero c = subst T (sym (nonzero_bits _ c.if-new-ne0.true)) tt
@@ -176,54 +161,40 @@ bounds-out-count c =
 pub overflow_add-count : goal.overflow_add-count
 overflow_add-count c = omega (arith, room (goal.at.overflow_add-count c).After-growth-radius)
 
-pub loop-j-smaller-then-new-ne0 : goal.loop-j-smaller-then-new-ne0
-loop-j-smaller-then-new-ne0 c = omega (arith, inside (goal.at.loop-j-smaller-then-new-ne0 c).After-c-1)
-
-pub loop-j-preserved-then-new-ne0 : goal.loop-j-preserved-then-new-ne0
-unfolding held most_terms
-loop-j-preserved-then-new-ne0 c =
-    let r = c.loop-j.invariant.0 in (
-      room_still _ _ _ r,
-      λ w.
-          let put = listed_put (listed_own _ _ (r.keys ∙ sym r.coefficients)) c.loop-j.count
-          (record {
-            key = key_raised c.args.i (get_or (listed (model (goal.at.loop-j-preserved-then-new-ne0 c).After-c-1 w))
-                c.loop-j.j zero_term).key;
-            coefficient = key_coefficient c.args.d c.args.i
-                (get_or (listed (model (goal.at.loop-j-preserved-then-new-ne0 c).After-c-1 w)) c.loop-j.j zero_term).key
-                (get_or (listed (model (goal.at.loop-j-preserved-then-new-ne0 c).After-c-1 w)) c.loop-j.j
-                zero_term).coefficient;
-          })
-          (c.raised.ensures ∙ ap (λ (x : Term). key_raised c.args.i x.key)
-          (sym (here (goal.at.loop-j-preserved-then-new-ne0 c).After-c-1 w)))
-          (answered c.divided-new.type_inv (new_in (goal.at.loop-j-preserved-then-new-ne0 c).After-divided-new w)) in
-          subst (λ l. Gathered c.args.d c.args.i (model (goal.at.loop-j-preserved-then-new-ne0 c).After-c-1 w) l
-          (c.loop-j.count + 1)
-          (c.loop-j.radius + c.growth-radius.result) (c.loop-j.j + 1)) (sym put.1)
-          (gathered_keep w.integrand (in_long w) (c.loop-j.invariant.1 w)
-          (inside (goal.at.loop-j-preserved-then-new-ne0 c).After-c-1)
-          (radius_is (goal.at.loop-j-preserved-then-new-ne0 c).After-growth-radius w)
-          (subst (λ z. T (is_nonzero z)) (new_in (goal.at.loop-j-preserved-then-new-ne0 c).After-divided-new w)
-          (nonzero (goal.at.loop-j-preserved-then-new-ne0 c).Then-new-ne0))
-          (omega (
-            arith,
-            few (goal.at.loop-j-preserved-then-new-ne0 c).Start,
-            inside (goal.at.loop-j-preserved-then-new-ne0 c).After-c-1,
-          )) refl refl),
-    )
-
-pub loop-j-smaller : goal.loop-j-smaller
-loop-j-smaller c = omega (arith, inside (goal.at.loop-j-smaller c).After-c-1)
-
 pub loop-j-preserved : goal.loop-j-preserved
-unfolding held
-loop-j-preserved c = (
-  c.loop-j.invariant.0,
-  λ w. gathered_drop w.integrand (in_long w) (c.loop-j.invariant.1 w) (inside (goal.at.loop-j-preserved c).After-c-1)
-      (radius_is (goal.at.loop-j-preserved c).After-growth-radius w)
-      (subst (λ b. T (not b)) (sym (ap is_nonzero (sym (new_in (goal.at.loop-j-preserved c).After-divided-new w))
-      ∙ zero_bits (record { sfits = c.divided-new.type_inv }) c.if-new-ne0.false)) tt),
-)
+unfolding held most_terms
+loop-j-preserved c =
+    let p = (goal.at.loop-j-preserved c).After-c-1 in
+    let d = (goal.at.loop-j-preserved c).After-divided-new in
+    let g = (goal.at.loop-j-preserved c).After-growth-radius in
+    let r = c.loop-j.invariant.0 in
+    elim c.if-new-ne0.branch [
+      | then-new-ne0 u ↦ rw (u.stored-is, u.out-is, u.count-is) (
+        room_still _ _ _ r,
+        λ w.
+            let put = listed_put (listed_own _ _ (r.keys ∙ sym r.coefficients)) c.loop-j.count
+            (record {
+              key = key_raised c.args.i (get_or (listed (model p w)) c.loop-j.j zero_term).key;
+              coefficient = key_coefficient c.args.d c.args.i
+                  (get_or (listed (model p w)) c.loop-j.j zero_term).key
+                  (get_or (listed (model p w)) c.loop-j.j zero_term).coefficient;
+            })
+            (u.raised.ensures ∙ ap (λ (x : Term). key_raised c.args.i x.key) (sym (here p w)))
+            (answered c.divided-new.type_inv (new_in d w)) in
+            subst (λ l. Gathered c.args.d c.args.i (model p w) l (c.loop-j.count + 1)
+            (c.loop-j.radius + c.growth-radius.result) (c.loop-j.j + 1)) (sym put.1)
+            (gathered_keep w.integrand (in_long w) (c.loop-j.invariant.1 w) (inside p) (radius_is g w)
+            (subst (λ z. T (is_nonzero z)) (new_in d w)
+            (subst T (sym (nonzero_bits _ u.if-new-ne0.true)) tt))
+            (omega (arith, few (goal.at.loop-j-preserved c).Start, inside p)) refl refl),
+      )
+      | else-new-ne0 u ↦ rw (u.stored-is, u.out-is, u.count-is) (
+        r,
+        λ w. gathered_drop w.integrand (in_long w) (c.loop-j.invariant.1 w) (inside p) (radius_is g w)
+            (subst (λ b. T (not b)) (sym (ap is_nonzero (sym (new_in d w))
+            ∙ zero_bits (record { sfits = c.divided-new.type_inv }) u.if-new-ne0.false)) tt),
+      )
+    ]
 
 pub shape_of-stored : goal.shape_of-stored
 shape_of-stored c =
@@ -241,4 +212,4 @@ returns c w =
     let i = c.loop-j.invariant in
     left_accepted _ _ _ _ refl _
     (listed_struct (listed_own _ _ (i.0.keys ∙ sym i.0.coefficients)) _ _ _
-    ∙ gathered_end w.integrand (in_long w) (i.1 w) c.loop-j-test.false)
+    ∙ gathered_end w.integrand (in_long w) (i.1 w) (omega arith))

@@ -1,6 +1,6 @@
 -- `rounded` goes over the terms once, and sums what each adds to the radius by rounding.
 use mathlib.Core.Path.{◌≡◌, sym, ◌∙◌, ap, ap₂}
-use Prim.Native.Nat.{◌+◌, ◌≤◌, ◌<◌, ◌-◌}
+use Prim.Native.Nat.{◌+◌, ◌≤◌, ◌<◌}
 use native.Mathlib.Omega.{arith}
 use borrow.Author.Rules.{rules}
 use lib.IntN.{pos}
@@ -16,7 +16,7 @@ use Rattle.model_types.specs.ModelStructLaws.{limits}
 use Rattle.model_types.specs.PairedLaws.{length_paired, key_at, coefficient_at}
 use Rattle.model_antiderivative.specs.Antiderivatives.{key_rounding}
 use Rattle.model_antiderivative.specs.PassLaws.{known, slot}
-use Rattle.model_antiderivative.specs.GrowthShareLaws.{Rounded, rounded_first, rounded_within, rounded_iteration}
+use Rattle.model_antiderivative.specs.GrowthShareLaws.{rounded_first, rounded_within, rounded_iteration}
 use Rattle.model_antiderivative.specs.GrowthShareLaws.{rounded_end}
 use Rattle.model_antiderivative.proofs.rounded.Goals as goal
 use Rattle.model_antiderivative.proofs.rounded.Goals.{After-c-1, After-growth_by_rounding-sum, Start}
@@ -62,7 +62,7 @@ module _ (c : After-c-1) where
   at = get_or (listed c.args.f) c.loop-j.j zero_term
 
   inside : c.loop-j.j < c.args.f.count
-  inside = c.loop-j-test.true
+  inside = omega arith
 
   key_is : get_or c.args.f.keys c.loop-j.j 0 ≡ at.key
   key_is = sym (key_at _ _ c.loop-j.j (even c.before.before.before.before))
@@ -94,12 +94,6 @@ overflow_add-sum c =
           (inside (goal.at.overflow_add-sum c).After-c-1),
     )
 
-pub overflow_add-j : goal.overflow_add-j
-overflow_add-j c = omega (arith, few (goal.at.overflow_add-j c).Start, inside (goal.at.overflow_add-j c).After-c-1)
-
-pub loop-j-smaller : goal.loop-j-smaller
-loop-j-smaller c = omega arith
-
 pub loop-j-preserved : goal.loop-j-preserved
 loop-j-preserved c =
     rounded_iteration c.requires (long (goal.at.loop-j-preserved c).Start) c.loop-j.invariant
@@ -107,4 +101,4 @@ loop-j-preserved c =
 
 pub returns : goal.returns
 returns c =
-    rounded_end c.requires (long (goal.at.returns c).Start) c.loop-j.invariant c.loop-j-test.false
+    rounded_end c.requires (long (goal.at.returns c).Start) c.loop-j.invariant (omega arith)

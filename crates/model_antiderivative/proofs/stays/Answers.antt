@@ -1,6 +1,5 @@
 -- `stays` compares the degree with the order.
 use mathlib.Core.Path.{ap}
-use borrow.Author.Rules.{rules}
 use lib.Dec.{ltb}
 use Rattle.model_antiderivative.specs.Antiderivatives.{key_stays}
 use Rattle.model_antiderivative.proofs.stays.Goals as goal

@@ -51,7 +51,7 @@ pub ranks_tested-v-requires : goal.ranks_tested-v-requires
 ranks_tested-v-requires c =
     omega (
       arith,
-      c.fewer-few.ensures,
+      c.min-few.ensures,
       NatL.min-le_right c.args.terms
           (byte 5 c.args.bytes.now),
       c.if-bytes-count.false,
@@ -60,38 +60,38 @@ ranks_tested-v-requires c =
 pub restored_model-requires : goal.restored_model-requires
 unfolding go_on rank_width
 restored_model-requires c =
-    let l = read_all c.fewer-few.result (drop 6 c.args.bytes.now) in record {
+    let l = read_all c.min-few.result (drop 6 c.args.bytes.now) in record {
       n_value = sym c.from_one.ensures
           ∙ c.if-not-from_one.false;
       few_le_count = omega (
         arith,
-        c.fewer-few.ensures,
+        c.min-few.ensures,
         NatL.min-le_right c.args.terms
             (byte 5 c.args.bytes.now),
       );
       s_len = c.if-bytes-count.false;
       t = ranks_passed 0 0 l (c.ranks_tested-v.ensures _
-          ∙ ap (λ v. go_on v (stopped bad_length 0)) c.in-Accepted.is);
+          ∙ ap (λ v. go_on v (stopped bad_length 0)) c.in-Ok.is);
     }
 
-pub returns-in-Refused : goal.returns-in-Refused
+pub returns-in-Err : goal.returns-in-Err
 unfolding go_on
-returns-in-Refused c =
+returns-in-Err c =
     let M : ℕ → C.Model = λ k. restored_model (byte 0 c.args.bytes.now) (u32 (drop 1 c.args.bytes.now))
     (read_all k (drop 6 c.args.bytes.now)) in
-    c.refuse-in-Refused.ensures ∙ ap answer (sym (goes_on c.args.bytes.now c.args.terms
+    c.refuse-in-Err.ensures ∙ ap answer (sym (goes_on c.args.bytes.now c.args.terms
     c.if-bytes-count.false
     (sym c.from_one.ensures
     ∙ c.if-not-from_one.false)
     ∙ ap (λ k. require_ranks 0 0 (read_all k (drop 6 c.args.bytes.now))
-    (last_test (byte 5 c.args.bytes.now) (M k))) (sym c.fewer-few.ensures)
+    (last_test (byte 5 c.args.bytes.now) (M k))) (sym c.min-few.ensures)
     ∙ c.ranks_tested-v.ensures _
     ∙ ap (λ v. go_on v (last_test (byte 5 c.args.bytes.now)
-    (M c.fewer-few.result))) c.in-Refused.is))
+    (M c.min-few.result))) c.in-Err.is))
 
-pub returns-in-Accepted : goal.returns-in-Accepted
+pub returns-in-Ok : goal.returns-in-Ok
 unfolding go_on
-returns-in-Accepted c =
+returns-in-Ok c =
     let M : ℕ → C.Model = λ k. restored_model (byte 0 c.args.bytes.now) (u32 (drop 1 c.args.bytes.now))
     (read_all k (drop 6 c.args.bytes.now)) in
     c.restored_model.ensures ∙ ap answer
@@ -100,7 +100,7 @@ returns-in-Accepted c =
     (sym c.from_one.ensures
     ∙ c.if-not-from_one.false)
     ∙ ap (λ k. require_ranks 0 0 (read_all k (drop 6 c.args.bytes.now))
-    (last_test (byte 5 c.args.bytes.now) (M k))) (sym c.fewer-few.ensures)
+    (last_test (byte 5 c.args.bytes.now) (M k))) (sym c.min-few.ensures)
     ∙ c.ranks_tested-v.ensures _
     ∙ ap (λ v. go_on v (last_test (byte 5 c.args.bytes.now)
-    (M c.fewer-few.result))) c.in-Accepted.is))
+    (M c.min-few.result))) c.in-Ok.is))

@@ -8,7 +8,7 @@ use lib.ListN.{length}
 use Rattle.calculus.specs.Model.{most_terms, most_degree, between, sound}
 use Rattle.calculus_laws.specs.BookLaws.{between_high}
 use Rattle.archive.specs.Ranks.{rank_width}
-use Rattle.model_types.specs.declared.Verdict.TheVariants.{Accepted}
+use Rattle.std.specs.Prelude.{Ok}
 use Rattle.model_types.specs.ModelStruct.{view}
 use Rattle.model_types.specs.ModelStructLaws.{Limits, limits, length_view}
 use Rattle.model_archive.specs.StoringTestsLaws.{not_vars, not_sound, too_short, long_enough}
@@ -86,6 +86,6 @@ returns c =
     (omega (arith, c.if-buffer-size.false, length_view a.m)) _
     c.put_model.ensures in
     record {
-      answers = ap (λ k. record { length = 6 + 6 * k; verdict = Accepted }) (sym (length_view a.m)) ∙ o.answers;
+      answers = ap (λ k. record { length = 6 + 6 * k; verdict = Ok tt }) (sym (length_view a.m)) ∙ o.answers;
       leaves = o.leaves;
     }

@@ -9,13 +9,13 @@ use Rattle.model_types.specs.ModelStruct.{view, refusal, verdict}
 use Rattle.model_call_tests.specs.Admission.{substituting}
 use Rattle.model_call_tests.specs.AdmissionLaws.{substituting_refused, by_variable}
 use Rattle.model_call_tests.proofs.substituting.Goals as goal
-use Rattle.model_call_tests.proofs.substituting.Goals.{After-from_one, In-Accepted}
+use Rattle.model_call_tests.proofs.substituting.Goals.{After-from_one, In-Ok}
 
 -- the tests of a product have passed: the variable decides
-module _ (c : In-Accepted) where
+module _ (c : In-Ok) where
   decided : substituting c.args.d c.args.i (view c.args.f) (view c.args.g)
       ≡ require_at 0 (variable_sound (view c.args.f).vars c.args.i) bad_step (done tt)
-  decided = by_variable _ _ _ _ (sym c.ordered-v.ensures ∙ c.in-Accepted.is)
+  decided = by_variable _ _ _ _ (sym c.ordered-v.ensures ∙ c.in-Ok.is)
 
 pub returns-in_default : goal.returns-in_default
 returns-in_default c =
@@ -32,7 +32,7 @@ pub returns-then-not-from_one : goal.returns-then-not-from_one
 unfolding require_at refusal verdict
 returns-then-not-from_one c =
     rw (
-      decided (goal.at.returns-then-not-from_one c).In-Accepted,
+      decided (goal.at.returns-then-not-from_one c).In-Ok,
       tested (goal.at.returns-then-not-from_one c).After-from_one false (c.if-not-from_one.true),
     )
 
@@ -40,7 +40,7 @@ pub returns : goal.returns
 unfolding require_at verdict
 returns c =
     rw (
-      decided (goal.at.returns c).In-Accepted,
+      decided (goal.at.returns c).In-Ok,
       tested (goal.at.returns c).After-from_one true
           (c.if-not-from_one.false),
     )

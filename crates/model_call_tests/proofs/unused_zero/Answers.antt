@@ -16,7 +16,7 @@ unfolding key_width
 long c = search rules
 
 pub loop-i-init : goal.loop-i-init
-loop-i-init c = (omega arith, refl)
+loop-i-init c = refl
 
 pub bounds-xs-i : goal.bounds-xs-i
 unfolding key_width
@@ -24,23 +24,18 @@ bounds-xs-i c = search rules
 
 pub returns-then-x-ne0 : goal.returns-then-x-ne0
 returns-then-x-ne0 c =
-    sym (c.loop-i.invariant.1
+    sym (c.loop-i.invariant
     ∙ zero_fails c.args.xs c.loop-i.i (omega (arith, long (goal.at.returns-then-x-ne0 c).Start))
     (nonzero_bits _ c.if-x-ne0.true))
 
-pub loop-i-smaller : goal.loop-i-smaller
-unfolding key_width
-loop-i-smaller c = search rules
-
 pub loop-i-preserved : goal.loop-i-preserved
 unfolding key_width
-loop-i-preserved c = (
-  omega arith,
-  c.loop-i.invariant.1
-      ∙ zero_next c.args.xs c.loop-i.i (omega (arith, long (goal.at.loop-i-preserved c).Start))
-      (zero_bits (record { sfits = c.x-1.given }) c.if-x-ne0.false),
-)
+loop-i-preserved c =
+    c.loop-i.invariant
+    ∙ zero_next c.args.xs c.loop-i.i (omega (arith, long (goal.at.loop-i-preserved c).Start))
+    (zero_bits (record { sfits = c.x-1.given }) c.if-x-ne0.false)
 
 pub returns : goal.returns
+unfolding key_width
 returns c =
-    sym (c.loop-i.invariant.1 ∙ zero_end c.args.xs c.loop-i.i (omega (arith, long (goal.at.returns c).Start)))
+    sym (c.loop-i.invariant ∙ zero_end c.args.xs c.loop-i.i (omega (arith, long (goal.at.returns c).Start)))

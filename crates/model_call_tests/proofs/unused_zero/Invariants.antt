@@ -11,7 +11,4 @@ use Rattle.model_call_tests.specs.CoordinateLaws.{zero_next, zero_fails, zero_en
 use Rattle.model_call_tests.proofs.unused_zero.Given as goal
 
 abbrev pub invariant-loop-i : goal.invariant-loop-i
-invariant-loop-i l = (l.i ≤ key_width) × (all_zero (drop l.n l.xs) ≡ all_zero (drop l.i l.xs))
-
-abbrev pub decreases-loop-i : goal.decreases-loop-i
-decreases-loop-i l = key_width - l.i
+invariant-loop-i l = all_zero (drop l.n l.xs) ≡ all_zero (drop l.i l.xs)

@@ -22,7 +22,7 @@ unfolding key_width
 long c = search rules
 
 pub loop-i-init : goal.loop-i-init
-loop-i-init c = (omega arith, refl)
+loop-i-init c = refl
 
 pub overflow_cast-x : goal.overflow_cast-x
 overflow_cast-x c = omega arith
@@ -47,26 +47,18 @@ module _ (c : After-within_unit) where
 
 pub returns-then-not-within_unit : goal.returns-then-not-within_unit
 returns-then-not-within_unit c =
-    sym (c.loop-i.invariant.1
+    sym (c.loop-i.invariant
     ∙ unit_fails c.args.xs c.args.n c.loop-i.i (omega (arith, long (goal.at.returns-then-not-within_unit c).Start))
     (omega arith)
     (sym (tested (goal.at.returns-then-not-within_unit c).After-within_unit) ∙ c.if-not-within_unit.true))
 
-pub overflow_add-i : goal.overflow_add-i
-overflow_add-i c = omega arith
-
-pub loop-i-smaller : goal.loop-i-smaller
-loop-i-smaller c = omega arith
-
 pub loop-i-preserved : goal.loop-i-preserved
-loop-i-preserved c = (
-  omega arith,
-  c.loop-i.invariant.1
-      ∙ unit_next c.args.xs c.args.n c.loop-i.i (omega (arith, long (goal.at.loop-i-preserved c).Start)) (omega arith)
-      (sym (tested (goal.at.loop-i-preserved c).After-within_unit) ∙ c.if-not-within_unit.false),
-)
+loop-i-preserved c =
+    c.loop-i.invariant
+    ∙ unit_next c.args.xs c.args.n c.loop-i.i (omega (arith, long (goal.at.loop-i-preserved c).Start)) (omega arith)
+    (sym (tested (goal.at.loop-i-preserved c).After-within_unit) ∙ c.if-not-within_unit.false)
 
 pub returns : goal.returns
 returns c =
-    sym (c.loop-i.invariant.1
+    sym (c.loop-i.invariant
     ∙ unit_end c.args.xs c.args.n c.loop-i.i (omega (arith, long (goal.at.returns c).Start)) (omega arith))

@@ -17,7 +17,4 @@ use Rattle.model_call_tests.specs.CoordinateLaws.{unit_next, unit_fails, unit_en
 use Rattle.model_call_tests.proofs.used_within.Given as goal
 
 abbrev pub invariant-loop-i : goal.invariant-loop-i
-invariant-loop-i l = (l.i ≤ l.n) × (all_in_unit (take l.n l.xs) ≡ all_in_unit (drop l.i (take l.n l.xs)))
-
-abbrev pub decreases-loop-i : goal.decreases-loop-i
-decreases-loop-i l = l.n - l.i
+invariant-loop-i l = all_in_unit (take l.n l.xs) ≡ all_in_unit (drop l.i (take l.n l.xs))

@@ -36,20 +36,11 @@ high_size c w = c.magnitude-high.ensures ∙ ap nat_abs
     (to_z-of_z {w = w64} (record { sfits = c.struct_told-2-1.given.1.0.1 })
     ∙ ap (λ b. b.high) (c.range_slices-ends.ensures w))
 
-pub returns-then-low-high : goal.returns-then-low-high
+pub returns : goal.returns
 unfolding largest_value largest_end
-returns-then-low-high c w = omega (
+returns c w = omega (
   arith,
-  low_size (goal.at.returns-then-low-high c).After-magnitude-low w,
-  high_size (goal.at.returns-then-low-high c).After-magnitude-high w,
-  c.if-low-high.true,
-)
-
-pub returns-else-low-high : goal.returns-else-low-high
-unfolding largest_value largest_end
-returns-else-low-high c w = omega (
-  arith,
-  low_size (goal.at.returns-else-low-high c).After-magnitude-low w,
-  high_size (goal.at.returns-else-low-high c).After-magnitude-high w,
-  c.if-low-high.false,
+  low_size (goal.at.returns c).After-magnitude-low w,
+  high_size (goal.at.returns c).After-magnitude-high w,
+  c.max.ensures,
 )

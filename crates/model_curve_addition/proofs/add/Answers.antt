@@ -1,8 +1,6 @@
 -- `add` tests both curves, adds them, then tests the span.
 use mathlib.Core.Path.{◌≡◌, sym, ◌∙◌, ap, subst}
 use mathlib.Core.Bool.{true}
-use borrow.Author.Rules.{rules}
-use borrow.Author.Tests.{not-true, not-false}
 use lib.Dec.{T}
 use Rattle.calculus.specs.Refusal.{at_place}
 use Rattle.chebyshev.specs.Curve.{sound}

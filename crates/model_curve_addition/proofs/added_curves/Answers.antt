@@ -1,6 +1,6 @@
 -- `added_curves` adds the coefficients, place by place.
 use mathlib.Core.Path.{◌≡◌, sym, ◌∙◌, ap, ap₂}
-use Prim.Native.Nat.{◌-◌, ◌+◌}
+use Prim.Native.Nat.{◌+◌}
 use native.Mathlib.Omega.{arith}
 use borrow.Author.Rules.{rules}
 use lib.IntN.{pos, ◌+ℤ◌}
@@ -12,7 +12,7 @@ use Rattle.fixed.specs.MachineLaws.{answered}
 use Rattle.chebyshev.specs.Coefficients.{sum}
 use Rattle.chebyshev.proofs.RowLengthLaws.{sum_length}
 use Rattle.chebyshev.specs.CurveOperations.{added}
-use Rattle.model_curve_addition.specs.CurveLoopLaws.{Copied, copied_first, copied_length, copied_iteration}
+use Rattle.model_curve_addition.specs.CurveLoopLaws.{copied_first, copied_iteration}
 use Rattle.model_curve_addition.specs.CurveLoopLaws.{copied_end}
 use Rattle.model_curve_addition.specs.CurveLoopLaws.{added_at, entry_small, radius_small}
 use Rattle.model_curve_addition.proofs.added_curves.Goals as goal
@@ -34,18 +34,6 @@ module _ (c : Start) where
 pub loop-i-init : goal.loop-i-init
 loop-i-init c = copied_first _ (summed c)
 
-pub offset_bounds-f-i : goal.offset_bounds-f-i
-offset_bounds-f-i c = omega arith
-
-pub bounds-f-i : goal.bounds-f-i
-bounds-f-i c = omega arith
-
-pub offset_bounds-g-i : goal.offset_bounds-g-i
-offset_bounds-g-i c = omega arith
-
-pub bounds-g-i : goal.bounds-g-i
-bounds-g-i c = omega arith
-
 -- the coefficients at hand
 first_back : (c : After-sum-arg-1)
     → let z = get_or c.args.f.coefficients c.loop-i.i (pos 0) in to_z w64 (of_z w64 z) ≡ z
@@ -62,19 +50,6 @@ sum-z-requires c =
       entry_small c.args.f c.loop-i.i c.requires.t,
       entry_small c.args.g c.loop-i.i c.requires.t_2,
     ))
-
-pub offset_bounds-out-i : goal.offset_bounds-out-i
-offset_bounds-out-i c = omega arith
-
-pub bounds-out-i : goal.bounds-out-i
-bounds-out-i c =
-    omega (arith, copied_length _ (summed (goal.at.bounds-out-i c).Start) _ _ c.loop-i.invariant)
-
-pub overflow_add-i : goal.overflow_add-i
-overflow_add-i c = omega arith
-
-pub loop-i-smaller : goal.loop-i-smaller
-loop-i-smaller c = omega arith
 
 pub loop-i-preserved : goal.loop-i-preserved
 loop-i-preserved c =

@@ -1,12 +1,10 @@
 -- `negate` tests the curve, then turns its signs.
 use mathlib.Core.Path.{◌≡◌, sym, ◌∙◌, ap, subst}
 use mathlib.Core.Bool.{true}
-use borrow.Author.Rules.{rules}
-use borrow.Author.Tests.{not-true, not-false}
 use lib.Dec.{T}
 use Rattle.chebyshev.specs.Curve.{sound}
 use Rattle.model_types.specs.ModelStruct.{cause}
-use Rattle.model_types.specs.declared.Verdict.TheVariants.{Accepted}
+use Rattle.std.specs.Prelude.{Ok}
 use Rattle.model_types.specs.CurveStruct.{view_curve}
 use Rattle.model_curve_addition.specs.CurveAnswerLaws.{negate_unsound, negate_sound}
 use Rattle.model_curve_addition.proofs.negate.Goals as goal
@@ -25,5 +23,5 @@ turned_curve-requires c = subst T (sym (is_sound c)) tt
 
 pub returns : goal.returns
 returns c =
-    ap (λ r. record { curve = r; verdict = Accepted }) c.turned_curve.ensures
+    ap (λ r. record { curve = r; verdict = Ok tt }) c.turned_curve.ensures
     ∙ negate_sound _ (is_sound (goal.at.returns c).Else-not-curve_sound)

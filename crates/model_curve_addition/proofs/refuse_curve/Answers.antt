@@ -1,9 +1,6 @@
 -- `refuse_curve` is the answer of a refused call.
-use mathlib.Core.Path.{◌≡◌, sym, ap}
-use Rattle.calculus.specs.Refusal.{stopped}
 use Rattle.chebyshev.specs.Curve.{zero_curve}
 use Rattle.chebyshev.specs.PowerRows.{places, zeros}
-use Rattle.model_types.specs.ModelStruct.{cause}
 use Rattle.model_types.specs.ModelStructLaws.{refusal_cause}
 use Rattle.model_types.specs.CurveStruct.{curve_answer}
 use Rattle.model_curve_addition.proofs.refuse_curve.Goals as goal

@@ -1,12 +1,10 @@
 -- `subtract` tests both curves, adds the second one negated, then tests the span.
 use mathlib.Core.Path.{◌≡◌, sym, ◌∙◌, ap, subst}
 use mathlib.Core.Bool.{true}
-use borrow.Author.Rules.{rules}
-use borrow.Author.Tests.{not-true, not-false}
 use lib.Dec.{T}
 use Rattle.calculus.specs.Refusal.{at_place}
 use Rattle.chebyshev.specs.Curve.{sound}
-use Rattle.chebyshev.specs.CurveOperations.{limited_curve, negate, added}
+use Rattle.chebyshev.specs.CurveOperations.{limited_curve, added}
 use Rattle.chebyshev.proofs.CurveSoundLaws.{negate_sound}
 use Rattle.model_types.specs.ModelStruct.{cause}
 use Rattle.model_types.specs.CurveStruct.{view_curve, curve_answer}

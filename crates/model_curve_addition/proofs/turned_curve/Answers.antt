@@ -1,7 +1,6 @@
 -- `turned_curve` turns the sign of each coefficient.
-use mathlib.Core.Path.{◌≡◌, sym, ◌∙◌, ap}
+use mathlib.Core.Path.{◌≡◌, ◌∙◌, ap}
 use mathlib.Core.List.{map}
-use Prim.Native.Nat.{◌-◌}
 use native.Mathlib.Omega.{arith}
 use borrow.Author.Rules.{rules}
 use lib.IntN.{neg_ℤ, pos}
@@ -11,7 +10,7 @@ use mir.Syntax.{w64}
 use mir.Val.{to_z, of_z}
 use Rattle.fixed.specs.MachineLaws.{answered}
 use Rattle.chebyshev.specs.CurveOperations.{negate}
-use Rattle.model_curve_addition.specs.CurveLoopLaws.{Copied, copied_first, copied_length, copied_iteration}
+use Rattle.model_curve_addition.specs.CurveLoopLaws.{copied_first, copied_iteration}
 use Rattle.model_curve_addition.specs.CurveLoopLaws.{copied_end}
 use Rattle.model_curve_addition.specs.CurveLoopLaws.{negated_at, entry_small}
 use Rattle.model_curve_addition.proofs.turned_curve.Goals as goal
@@ -31,28 +30,9 @@ read_back c = to_z-of_z {w = w64} (record { sfits = c.negated-arg-1.given })
 pub loop-i-init : goal.loop-i-init
 loop-i-init c = copied_first _ (turned c)
 
-pub offset_bounds-c-i : goal.offset_bounds-c-i
-offset_bounds-c-i c = omega arith
-
-pub bounds-c-i : goal.bounds-c-i
-bounds-c-i c = omega arith
-
 pub negated-z-requires : goal.negated-z-requires
 negated-z-requires c =
     rw (read_back c) (omega (arith, entry_small c.args.c c.loop-i.i c.requires))
-
-pub offset_bounds-out-i : goal.offset_bounds-out-i
-offset_bounds-out-i c = omega arith
-
-pub bounds-out-i : goal.bounds-out-i
-bounds-out-i c =
-    omega (arith, copied_length _ (turned (goal.at.bounds-out-i c).Start) _ _ c.loop-i.invariant)
-
-pub overflow_add-i : goal.overflow_add-i
-overflow_add-i c = omega arith
-
-pub loop-i-smaller : goal.loop-i-smaller
-loop-i-smaller c = omega arith
 
 pub loop-i-preserved : goal.loop-i-preserved
 loop-i-preserved c =

@@ -57,12 +57,6 @@ offset_bounds-out-i c = omega (arith, c.loop-i-test.true)
 pub bounds-out-i : goal.bounds-out-i
 bounds-out-i c = omega (arith, c.loop-i-test.true)
 
-pub overflow_add-i : goal.overflow_add-i
-overflow_add-i c = omega (arith, c.loop-i-test.true)
-
-pub loop-i-smaller : goal.loop-i-smaller
-loop-i-smaller c = omega (arith, c.loop-i-test.true)
-
 pub loop-i-preserved : goal.loop-i-preserved
 loop-i-preserved c =
     filled_iteration _ (long (goal.at.loop-i-preserved c).After-combine_rows) _ _ _ c.loop-i.invariant

@@ -46,9 +46,6 @@ module _ (c : Start) where
 pub loop-i-init : goal.loop-i-init
 loop-i-init c = rowed_first _ c.requires (long c)
 
-pub overflow_sub-i : goal.overflow_sub-i
-overflow_sub-i c = omega (arith, c.loop-i-test.true)
-
 pub offset_bounds-m-i : goal.offset_bounds-m-i
 offset_bounds-m-i c = omega (arith, c.loop-i.invariant.within, few (goal.at.offset_bounds-m-i c).Start)
 
@@ -105,9 +102,6 @@ offset_bounds-out-k-in-loop-i c = omega (arith, c.first_exponent-k.ensures.below
 
 pub bounds-out-k-in-loop-i : goal.bounds-out-k-in-loop-i
 bounds-out-k-in-loop-i c = c.first_exponent-k.ensures.below
-
-pub loop-i-smaller : goal.loop-i-smaller
-loop-i-smaller c = omega (arith, more (goal.at.loop-i-smaller c).After-c-1)
 
 pub loop-i-preserved : goal.loop-i-preserved
 loop-i-preserved c =

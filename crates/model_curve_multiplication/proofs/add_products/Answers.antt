@@ -44,9 +44,6 @@ module _ (c : Start) where
 pub loop-j-init : goal.loop-j-init
 loop-j-init c = adding_first _ _ _ _ (low c) (whole c) (small c) (long c)
 
-pub overflow_sub-j : goal.overflow_sub-j
-overflow_sub-j c = omega (arith, c.loop-j-test.true)
-
 -- the degree at hand
 module _ (c : In-loop-j) where
   abbrev degree : ℕ
@@ -151,9 +148,6 @@ offset_bounds-z-far-in-loop-j c = omega (arith, far_in (goal.at.offset_bounds-z-
 
 pub bounds-z-far-in-loop-j : goal.bounds-z-far-in-loop-j
 bounds-z-far-in-loop-j c = far_in (goal.at.bounds-z-far-in-loop-j c).In-loop-j
-
-pub loop-j-smaller : goal.loop-j-smaller
-loop-j-smaller c = omega (arith, c.loop-j-test.true)
 
 pub loop-j-preserved : goal.loop-j-preserved
 loop-j-preserved c =

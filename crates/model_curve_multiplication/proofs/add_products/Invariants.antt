@@ -16,6 +16,3 @@ use Rattle.model_curve_multiplication.proofs.add_products.Given as goal
 
 abbrev pub invariant-loop-j : goal.invariant-loop-j
 invariant-loop-j l = Adding l.i l.a l.g l.initial.z l.z l.j
-
-abbrev pub decreases-loop-j : goal.decreases-loop-j
-decreases-loop-j l = l.j

@@ -34,9 +34,6 @@ module _ (c : Start) where
 pub loop-i-init : goal.loop-i-init
 loop-i-init c = collecting_first _ _ (first_whole c) (second_whole c) (small c)
 
-pub overflow_sub-i : goal.overflow_sub-i
-overflow_sub-i c = omega (arith, c.loop-i-test.true)
-
 -- the degree at hand
 module _ (c : In-loop-i) where
   within : c.loop-i.i - 1 < 16
@@ -67,9 +64,6 @@ add_products-requires c =
       z_bound = rw (first_is (goal.at.add_products-requires c).After-a-1)
           (room (goal.at.add_products-requires c).In-loop-i);
     }
-
-pub loop-i-smaller : goal.loop-i-smaller
-loop-i-smaller c = omega (arith, c.loop-i-test.true)
 
 pub loop-i-preserved : goal.loop-i-preserved
 loop-i-preserved c =

@@ -16,6 +16,3 @@ use Rattle.model_curve_multiplication.proofs.collected.Given as goal
 
 abbrev pub invariant-loop-i : goal.invariant-loop-i
 invariant-loop-i l = Collecting l.f.coefficients l.g.coefficients l.z l.i
-
-abbrev pub decreases-loop-i : goal.decreases-loop-i
-decreases-loop-i l = l.i

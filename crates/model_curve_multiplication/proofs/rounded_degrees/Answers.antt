@@ -105,12 +105,6 @@ offset_bounds-out-i c = omega (arith, inside (goal.at.offset_bounds-out-i c).Aft
 pub bounds-out-i : goal.bounds-out-i
 bounds-out-i c = inside (goal.at.bounds-out-i c).After-c-1
 
-pub overflow_add-i : goal.overflow_add-i
-overflow_add-i c = omega (arith, inside (goal.at.overflow_add-i c).After-c-1)
-
-pub loop-i-smaller : goal.loop-i-smaller
-loop-i-smaller c = omega (arith, inside (goal.at.loop-i-smaller c).After-c-1)
-
 pub loop-i-preserved : goal.loop-i-preserved
 loop-i-preserved c = iterated c
 

@@ -21,6 +21,3 @@ use Rattle.model_curve_multiplication.proofs.rounded_degrees.Given as goal
 
 abbrev pub invariant-loop-i : goal.invariant-loop-i
 invariant-loop-i l = Rounding l.z.places l.d l.e l.out l.total l.i
-
-abbrev pub decreases-loop-i : goal.decreases-loop-i
-decreases-loop-i l = 16 - l.i

@@ -20,9 +20,6 @@ whole c = search rules
 pub loop-i-init : goal.loop-i-init
 loop-i-init c = sweeping_first _ (whole c)
 
-pub overflow_sub-i : goal.overflow_sub-i
-overflow_sub-i c = omega (arith, c.loop-i.invariant.above)
-
 pub offset_bounds-z-i : goal.offset_bounds-z-i
 offset_bounds-z-i c = omega (arith, c.loop-i.invariant.within)
 
@@ -46,9 +43,6 @@ overflow_add-total c =
           (size_is c),
       c.requires,
     )
-
-pub loop-i-smaller : goal.loop-i-smaller
-loop-i-smaller c = omega (arith, c.loop-i.invariant.above)
 
 pub loop-i-preserved : goal.loop-i-preserved
 loop-i-preserved c =

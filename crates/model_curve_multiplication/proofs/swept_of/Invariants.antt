@@ -15,6 +15,3 @@ use Rattle.model_curve_multiplication.proofs.swept_of.Given as goal
 
 abbrev pub invariant-loop-i : goal.invariant-loop-i
 invariant-loop-i l = Sweeping l.z.places l.total l.i
-
-abbrev pub decreases-loop-i : goal.decreases-loop-i
-decreases-loop-i l = l.i

@@ -21,9 +21,6 @@ whole c = search rules
 pub loop-i-init : goal.loop-i-init
 loop-i-init c = gathered_first _ (whole c)
 
-pub overflow_sub-i : goal.overflow_sub-i
-overflow_sub-i c = omega (arith, c.loop-i.invariant.above)
-
 pub offset_bounds-c-i : goal.offset_bounds-c-i
 offset_bounds-c-i c = omega (arith, c.loop-i.invariant.within)
 
@@ -47,9 +44,6 @@ overflow_add-total c =
           (size_is c),
       sizes_small _ c.requires,
     )
-
-pub loop-i-smaller : goal.loop-i-smaller
-loop-i-smaller c = omega (arith, c.loop-i.invariant.above)
 
 pub loop-i-preserved : goal.loop-i-preserved
 loop-i-preserved c =

@@ -1,17 +1,16 @@
 -- `combine_rows` adds each coefficient's row, from the last one down.
-use mathlib.Core.Path.{◌≡◌, sym, ◌∙◌, ap}
+use mathlib.Core.Path.{◌≡◌, ◌∙◌, ap}
 use mathlib.Core.List.{[]}
 use Prim.Native.Nat.{◌-◌, ◌^◌, ◌<◌}
-use native.Mathlib.Omega.{arith}
 use lib.Dec.{T}
 use lib.IntN.{pos}
 use lib.ListN.{length, get_or}
 use mir.Facts.{to_z-of_z}
 use mir.Syntax.{w64}
 use mir.Val.{to_z, of_z}
-use Rattle.chebyshev.specs.Coefficients.{Row, sum, scale, size}
+use Rattle.chebyshev.specs.Coefficients.{sum, scale, size}
 use Rattle.model_curve_rows.specs.SmallRows.{rows_small}
-use Rattle.model_curve_rows.specs.SmallRowsLaws.{Combining, combining_first, combining_iteration, combining_end}
+use Rattle.model_curve_rows.specs.SmallRowsLaws.{combining_first, combining_iteration}
 use Rattle.model_curve_rows.specs.SmallRowsLaws.{row_inside, row_long, row_room}
 use Rattle.model_curve_rows.proofs.combine_rows.Goals as goal
 use Rattle.model_curve_rows.proofs.combine_rows.Goals.{After-c-1, In-loop-k, Start}
@@ -29,30 +28,15 @@ module _ (c : Start) where
 pub loop-k-init : goal.loop-k-init
 loop-k-init c = combining_first _ _ (whole c) (small c) (fit c) _ c.requires.total_value
 
-pub overflow_sub-k : goal.overflow_sub-k
-overflow_sub-k c = omega (arith, c.loop-k-test.true)
-
 -- the row at hand
 module _ (c : In-loop-k) where
   within : c.loop-k.k - 1 < 16
   within = row_inside _ _ (whole c.before.before) (small c.before.before) (fit c.before.before) _ _ c.loop-k.invariant
       c.loop-k-test.true
 
-pub offset_bounds-cs-k : goal.offset_bounds-cs-k
-offset_bounds-cs-k c = omega (arith, within c)
-
-pub bounds-cs-k : goal.bounds-cs-k
-bounds-cs-k c = within c
-
 c_is : (c : After-c-1)
     → let z = get_or c.args.cs.now (c.loop-k.k - 1) (pos 0) in to_z w64 (of_z w64 z) ≡ z
 c_is c = to_z-of_z {w = w64} (record { sfits = c.c-1.given })
-
-pub offset_bounds-rows-k : goal.offset_bounds-rows-k
-offset_bounds-rows-k c = omega (arith, within (goal.at.offset_bounds-rows-k c).In-loop-k)
-
-pub bounds-rows-k : goal.bounds-rows-k
-bounds-rows-k c = within (goal.at.bounds-rows-k c).In-loop-k
 
 pub add_scaled-requires : goal.add_scaled-requires
 add_scaled-requires c =
@@ -65,9 +49,6 @@ add_scaled-requires c =
           (fit (goal.at.add_scaled-requires c).Start) _ _ c.loop-k.invariant h);
     }
 
-pub loop-k-smaller : goal.loop-k-smaller
-loop-k-smaller c = omega (arith, c.loop-k-test.true)
-
 pub loop-k-preserved : goal.loop-k-preserved
 loop-k-preserved c =
     combining_iteration _ _ (whole (goal.at.loop-k-preserved c).Start) (small (goal.at.loop-k-preserved c).Start)
@@ -75,8 +56,3 @@ loop-k-preserved c =
     (c.add_scaled.ensures
     ∙ ap (λ z. sum (scale z (get_or c.args.rows.now (c.loop-k.k - 1) [])) c.loop-k.total)
     (c_is (goal.at.loop-k-preserved c).After-c-1))
-
-pub returns : goal.returns
-returns c =
-    combining_end _ _ (whole (goal.at.returns c).Start) (small (goal.at.returns c).Start)
-    (fit (goal.at.returns c).Start) _ _ c.loop-k.invariant c.loop-k-test.false

@@ -17,7 +17,7 @@ use Rattle.chebyshev.proofs.RowLengthLaws.{into_powers_length}
 use Rattle.chebyshev.specs.Tables.{chebyshev_table}
 use Rattle.model_types.specs.Arrays.{padded}
 use Rattle.model_types.specs.declared.Model.{Model}
-use Rattle.model_types.specs.declared.Verdict.TheVariants.{Accepted}
+use Rattle.std.specs.Prelude.{Ok}
 use Rattle.model_types.specs.ModelStruct.{cause, paired}
 use Rattle.model_types.specs.PairedLaws.{Listed, listed_put, listed_struct}
 use Rattle.model_curve_range.specs.CurveRangeLaws.{sizes_small}
@@ -51,17 +51,8 @@ pub loop-i-init : goal.loop-i-init
 unfolding most_terms padded paired
 loop-i-init c = (record { keys_are = refl; coefficients_are = refl }, converted_first _ _ (whole c) (radius_small c))
 
-pub offset_bounds-row-i : goal.offset_bounds-row-i
-offset_bounds-row-i c = omega (arith, c.loop-i-test.true)
-
-pub bounds-row-i : goal.bounds-row-i
-bounds-row-i c = omega (arith, c.loop-i-test.true)
-
 pub power_key-key-requires : goal.power_key-key-requires
 power_key-key-requires c = omega (arith, c.loop-i-test.true)
-
-pub overflow_add-i : goal.overflow_add-i
-overflow_add-i c = omega (arith, c.loop-i-test.true)
 
 -- the coefficient at hand, and its size
 module _ (c : After-magnitude-size) where
@@ -86,9 +77,6 @@ module _ (c : After-magnitude-size) where
     into_powers_size c.args.c.coefficients,
     sizes c.before.before.before.before,
   )
-
-pub loop-i-smaller-then-size-eq0 : goal.loop-i-smaller-then-size-eq0
-loop-i-smaller-then-size-eq0 c = omega (arith, inside (goal.at.loop-i-smaller-then-size-eq0 c).After-magnitude-size)
 
 pub loop-i-preserved-then-size-eq0 : goal.loop-i-preserved-then-size-eq0
 loop-i-preserved-then-size-eq0 c = (
@@ -139,9 +127,6 @@ overflow_add-count c = omega (
   inside (goal.at.overflow_add-count c).After-magnitude-size,
 )
 
-pub loop-i-smaller : goal.loop-i-smaller
-loop-i-smaller c = omega (arith, inside (goal.at.loop-i-smaller c).After-magnitude-size)
-
 pub loop-i-preserved : goal.loop-i-preserved
 loop-i-preserved c =
     let put = listed_put c.loop-i.invariant.0 c.loop-i.count
@@ -171,7 +156,7 @@ made c = subst (λ r. Converted r c.args.c.radius (paired c.loop-i.keys c.loop-i
 
 pub returns-then-within_span : goal.returns-then-within_span
 returns-then-within_span c =
-    ap (λ (m : Model). record { model = m; verdict = Accepted })
+    ap (λ (m : Model). record { model = m; verdict = Ok tt })
     (listed_struct c.loop-i.invariant.0 _ _ _)
     ∙ powers_within _ (radius_small (goal.at.returns-then-within_span c).After-in_rows-row) _ _ _ _
     (made (goal.at.returns-then-within_span c).At-loop-i) c.loop-i-test.false

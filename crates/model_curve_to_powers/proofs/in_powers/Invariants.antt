@@ -17,7 +17,7 @@ use Rattle.chebyshev.proofs.RowLengthLaws.{into_powers_length}
 use Rattle.chebyshev.specs.Tables.{chebyshev_table}
 use Rattle.model_types.specs.Arrays.{padded}
 use Rattle.model_types.specs.declared.Model.{Model}
-use Rattle.model_types.specs.declared.Verdict.TheVariants.{Accepted}
+use Rattle.std.specs.Prelude.{Ok}
 use Rattle.model_types.specs.ModelStruct.{cause, paired}
 use Rattle.model_types.specs.PairedLaws.{Listed, listed_put, listed_struct}
 use Rattle.model_curve_range.specs.CurveRangeLaws.{sizes_small}
@@ -30,6 +30,3 @@ abbrev pub invariant-loop-i : goal.invariant-loop-i
 invariant-loop-i l =
     Listed l.keys l.coefficients (paired l.keys l.coefficients)
     × Converted l.row.places l.radius (paired l.keys l.coefficients) l.count l.span l.i
-
-abbrev pub decreases-loop-i : goal.decreases-loop-i
-decreases-loop-i l = 16 - l.i

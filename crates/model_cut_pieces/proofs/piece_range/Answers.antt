@@ -32,14 +32,14 @@ substituted-a-requires c =
 
 pub range_of-requires : goal.range_of-requires
 range_of-requires c =
-    piece_taken c.requires.cutting c.requires.j_bound c.piece-g.ensures c.substituted-a.ensures c.in-Accepted.is
+    piece_taken c.requires.cutting c.requires.j_bound c.piece-g.ensures c.substituted-a.ensures c.in-Ok.is
 
-pub returns-in-Accepted : goal.returns-in-Accepted
-returns-in-Accepted c =
+pub returns-in-Ok : goal.returns-in-Ok
+returns-in-Ok c =
     piece_accepted c.requires.cutting c.requires.j_bound c.piece-g.ensures c.substituted-a.ensures
-    c.in-Accepted.is c.range_of.ensures
+    c.in-Ok.is c.range_of.ensures
 
-pub returns-in-Refused : goal.returns-in-Refused
-returns-in-Refused c =
+pub returns-in-Err : goal.returns-in-Err
+returns-in-Err c =
     piece_refused c.requires.cutting c.requires.j_bound c.piece-g.ensures c.substituted-a.ensures
-    c.in-Refused.is c.refuse_bounds.ensures
+    c.in-Err.is c.refuse_bounds.ensures

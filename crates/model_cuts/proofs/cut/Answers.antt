@@ -9,7 +9,7 @@ use mir.Facts.{to_z-of_z}
 use mir.Syntax.{w64}
 use mir.Val.{to_z, of_z}
 use Rattle.fixed.specs.MachineLaws.{answered}
-use Rattle.model_types.specs.declared.Verdict.TheVariants.{Accepted}
+use Rattle.std.specs.Prelude.{Ok}
 use Rattle.model_types.specs.ModelStruct.{view}
 use Rattle.model_types.specs.ResultLaws.{sound_order}
 use Rattle.product_room.specs.ProductTermsLaws.{free_room}
@@ -84,7 +84,7 @@ pieces-pieces-requires c =
 
 pub loop-j-init : goal.loop-j-init
 loop-j-init c =
-    let told = c.in-Accepted.is in
+    let told = c.in-Ok.is in
     let h = first_accepted c.args.d c.args.i c.args.k (view c.args.f) c.piece_range-first.ensures
     told in (
       subst₂ (Covered c.args.d c.args.i c.args.k (view c.args.f) 1)
@@ -123,25 +123,9 @@ returns-in_default-w c =
     (inside (goal.at.returns-in_default-w c).After-piece_range-next)
     c.piece_range-next.ensures c.in_default-w.is
 
-pub overflow_add-j : goal.overflow_add-j
-overflow_add-j c =
-    omega (
-      arith,
-      inside (goal.at.overflow_add-j c).After-piece_range-next,
-      few_pieces c.args.k c.requires.cutting.depth,
-    )
-
-pub loop-j-smaller : goal.loop-j-smaller
-loop-j-smaller c =
-    omega (
-      arith,
-      inside (goal.at.loop-j-smaller c).After-piece_range-next,
-      count_is (goal.at.loop-j-smaller c).At-loop-j,
-    )
-
 pub loop-j-preserved : goal.loop-j-preserved
 loop-j-preserved c =
-    let told = c.in-Accepted-w.is in
+    let told = c.in-Ok-w.is in
     let h = iteration_accepted c.args.d c.args.i c.args.k (view c.args.f) c.loop-j.invariant.0
     (inside (goal.at.loop-j-preserved c).After-piece_range-next)
     c.piece_range-next.ensures told in
@@ -172,7 +156,7 @@ returns c =
     let to = c.smaller-to in
     let low-in = to_z-of_z {w = w64} (record { sfits = c.struct_told-3-1.given.0.1 }) in
     let high-in = to_z-of_z {w = w64} (record { sfits = c.struct_told-4-1.given.1.0.1 }) in
-    ap₂ (λ x y. record { low = x; high = y; verdict = Accepted })
+    ap₂ (λ x y. record { low = x; high = y; verdict = Ok tt })
     (answered from.type_inv (from.ensures ∙ ap (λ z. larger z (to_z w64 c.loop-j.low-bits)) low-in))
     (answered to.type_inv (to.ensures ∙ ap (λ z. smaller z (to_z w64 c.loop-j.high-bits)) high-in))
     ∙ covered_end c.args.d c.args.i c.args.k (view c.args.f) c.loop-j.invariant.0

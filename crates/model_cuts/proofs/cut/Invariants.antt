@@ -9,7 +9,7 @@ use mir.Facts.{to_z-of_z}
 use mir.Syntax.{w64}
 use mir.Val.{to_z, of_z}
 use Rattle.fixed.specs.MachineLaws.{answered}
-use Rattle.model_types.specs.declared.Verdict.TheVariants.{Accepted}
+use Rattle.std.specs.Prelude.{Ok}
 use Rattle.model_types.specs.ModelStruct.{view}
 use Rattle.model_types.specs.ResultLaws.{sound_order}
 use Rattle.product_room.specs.ProductTermsLaws.{free_room}
@@ -25,6 +25,3 @@ invariant-loop-j l =
     Covered l.d l.i l.k (view l.f) l.j l.low l.high
     × (length l.slots ≡ length l.initial.slots) × (length l.keys ≡ length l.initial.keys)
     × (length l.sums ≡ length l.initial.sums)
-
-abbrev pub decreases-loop-j : goal.decreases-loop-j
-decreases-loop-j l = l.pieces - l.j

@@ -1,14 +1,11 @@
 -- `divisor` is a power of two, up to the largest.
-use mathlib.Core.Path.{◌∙◌}
+use mathlib.Core.Path.{◌∙◌, ap}
+use Prim.Native.Nat.{◌^◌}
 use native.Mathlib.Omega.{arith}
-use borrow.Author.Rules.{rules}
-use Rattle.model_doubles.specs.ScaledPartsLaws.{divisor_largest, divisor_shift, shifted}
+use Rattle.model_doubles.specs.DoubleParts.{divisor}
+use Rattle.model_doubles.specs.ScaledPartsLaws.{shifted}
 use Rattle.model_doubles.proofs.divisor.Goals as goal
 
-pub returns-then-shift-ge-MOST_SHIFT : goal.returns-then-shift-ge-MOST_SHIFT
-returns-then-shift-ge-MOST_SHIFT c = divisor_largest c.args.places (omega (arith, c.if-shift-ge-MOST_SHIFT.true))
-
 pub returns : goal.returns
-returns c =
-    shifted _ (omega (arith, c.if-shift-ge-MOST_SHIFT.false))
-    ∙ divisor_shift c.args.places (omega (arith, c.if-shift-ge-MOST_SHIFT.false))
+unfolding divisor
+returns c = shifted _ (omega (arith, c.min.ensures)) ∙ ap (λ k. 2 ^ k) c.min.ensures

@@ -13,7 +13,7 @@ use Rattle.calculus.specs.Key.{key_width}
 use Rattle.calculus.specs.Model.{most_degree, most_terms}
 use Rattle.calculus.specs.Refusal.{at_place}
 use Rattle.calculus.specs.Operations.{constant, substitute}
-use Rattle.model_types.specs.declared.Verdict.TheVariants.{Accepted}
+use Rattle.std.specs.Prelude.{Ok}
 use Rattle.model_types.specs.ModelStruct.{view, answer}
 use Rattle.model_types.specs.ModelStructLaws.{limits}
 use Rattle.model_slices.specs.HeldModels.{held, Room}
@@ -167,7 +167,7 @@ module _ (c : After-put_constant-a) where
             { keys = c.x-1.array_long };
       }))
 
-  goes_on : c.put_constant-a.result.verdict ≡ Accepted
+  goes_on : c.put_constant-a.result.verdict ≡ Ok tt
       → Remaining (held c.args.m.n c.args.m.count
       c.args.m.radius c.args.m.keys
       c.args.m.coefficients) c.args.xs
@@ -197,7 +197,7 @@ copied-requires c =
       count_le_model_places = (
         left_few _ _ _ _ _ (evaluation (goal.at.copied-requires c).Start)
             (long (goal.at.copied-requires c).Start) _ _ _ _
-            (goes_on (goal.at.copied-requires c).After-put_constant-a c.in-Accepted.is),
+            (goes_on (goal.at.copied-requires c).After-put_constant-a c.in-Ok.is),
         left_room (goal.at.copied-requires c).After-put_constant-a,
       );
       room = c.loop-i.invariant.1;
@@ -225,7 +225,7 @@ loop-i-preserved c =
     let m = c.args.m in (
       subst (Remaining (held m.n m.count m.radius m.keys m.coefficients) c.args.xs
           (c.loop-i.i + 1)) (sym (c.copied.ensures _ _))
-          (goes_on (goal.at.loop-i-preserved c).After-put_constant-a c.in-Accepted.is),
+          (goes_on (goal.at.loop-i-preserved c).After-put_constant-a c.in-Ok.is),
       copied_room (goal.at.loop-i-preserved c).After-copied,
       left_room (goal.at.loop-i-preserved c).After-put_constant-a,
       others_room (goal.at.loop-i-preserved c).After-put_constant-a,

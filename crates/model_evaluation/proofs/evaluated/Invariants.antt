@@ -13,7 +13,7 @@ use Rattle.calculus.specs.Key.{key_width}
 use Rattle.calculus.specs.Model.{most_degree, most_terms}
 use Rattle.calculus.specs.Refusal.{at_place}
 use Rattle.calculus.specs.Operations.{constant, substitute}
-use Rattle.model_types.specs.declared.Verdict.TheVariants.{Accepted}
+use Rattle.std.specs.Prelude.{Ok}
 use Rattle.model_types.specs.ModelStruct.{view, answer}
 use Rattle.model_types.specs.ModelStructLaws.{limits}
 use Rattle.model_slices.specs.HeldModels.{held, Room}

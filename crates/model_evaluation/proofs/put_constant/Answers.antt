@@ -74,9 +74,6 @@ loop-k-init c = (
 abbrev start : At-loop-k → Start
 start l = l.before.before.before.before.before.before.before.before.before.before.before.before.before
 
-pub overflow_sub-k : goal.overflow_sub-k
-overflow_sub-k c = omega arith
-
 pub part-d-requires : goal.part-d-requires
 part-d-requires c =
     let q = c.by_powers-p.ensures.chained in
@@ -210,10 +207,6 @@ returns-in_default c =
     (next_is (goal.at.returns-in_default c).After-part-d w) c.loop-k.invariant.0
     (next_room (goal.at.returns-in_default c).After-part-d))) c.in_default.is)
 
-pub loop-k-smaller : goal.loop-k-smaller
-loop-k-smaller c =
-    omega (arith, some (goal.at.loop-k-smaller c).After-part-d)
-
 pub loop-k-preserved : goal.loop-k-preserved
 loop-k-preserved c = (
   left_room (goal.at.loop-k-preserved c).After-put_iteration-iteration,
@@ -223,7 +216,7 @@ loop-k-preserved c = (
       (some (goal.at.loop-k-preserved c).After-part-d) _ _
       (c.put_iteration-iteration.ensures (put_iterating w _ _ _ _ (c.loop-k.invariant.3 w) _ _ _
       (next_is (goal.at.loop-k-preserved c).After-part-d w) c.loop-k.invariant.0
-      (next_room (goal.at.loop-k-preserved c).After-part-d))) c.in-Accepted.is,
+      (next_room (goal.at.loop-k-preserved c).After-part-d))) c.in-Ok.is,
   omega (arith, c.loop-k.invariant.4),
 )
 

@@ -25,6 +25,3 @@ invariant-loop-k l =
     × ((w : PutOf l.i l.x l.count l.radius l.keys l.coefficients)
     → P.Left l.i l.x (held w.vars l.count l.radius l.keys l.coefficients) l.k (held w.vars l.c l.e l.stored l.out))
     × (l.k < exponents)
-
-abbrev pub decreases-loop-k : goal.decreases-loop-k
-decreases-loop-k l = l.k

@@ -10,7 +10,8 @@ use mir.Syntax.{w64}
 use mir.Val.{to_z, of_z}
 use Rattle.calculus.specs.Refusal.{at_place}
 use Rattle.model_types.specs.declared.Refusal.TheVariants.{TooManyTerms}
-use Rattle.model_types.specs.declared.Verdict.TheVariants.{Refused}
+use Rattle.std.specs.Prelude.{Err}
+use Rattle.model_types.specs.ModelStruct.{refused_at}
 use Rattle.model_types.specs.ModelStruct.{answer}
 use Rattle.model_slices.specs.HeldModels.{held, Room}
 use Rattle.model_limits.specs.Limits.{LeftIn}
@@ -110,7 +111,7 @@ merged-total-requires c =
     let w = iteration_of (goal.at.merged-total-requires c).Start in
     record {
       sum_of = iteration_sum w _ _ (product_is (goal.at.merged-total-requires c).After-limited_slices-product w)
-          c.in-Accepted.is (room (goal.at.merged-total-requires c).After-round_up);
+          c.in-Ok.is (room (goal.at.merged-total-requires c).After-round_up);
       room = w.first_room;
     }
 
@@ -152,7 +153,7 @@ module _ (c : After-merged-total) where
           before = c.before.before.before.before.before;
           type_inv = record
               { spare = c.slice_known-3-1.given; others = c.shared_slice_known-1.given };
-        }) w) c.in-Accepted.is
+        }) w) c.in-Ok.is
         (room (record {
           before = c.before.before.before.before.before.before;
           type_inv = record
@@ -163,12 +164,12 @@ pub returns-then-total-gt-MOST_TERMS : goal.returns-then-total-gt-MOST_TERMS
 returns-then-total-gt-MOST_TERMS c =
     subst (λ z. IteratedIn z c.args.c c.args.radius c.args.keys.now c.args.coefficients.now
     c.args.d c.args.others.now c.args.added.now
-    (record { count = 0; radius = 0; verdict = Refused TooManyTerms 0 })
+    (record { count = 0; radius = 0; verdict = Err (refused_at TooManyTerms 0) })
     (sum_keys (goal.at.returns-then-total-gt-MOST_TERMS c).After-merged-total)
     (sums (goal.at.returns-then-total-gt-MOST_TERMS c).After-merged-total))
     (back (goal.at.returns-then-total-gt-MOST_TERMS c).Start)
     (λ w. iteration_many w _ _ (product_is (goal.at.returns-then-total-gt-MOST_TERMS c).After-limited_slices-product
-    w) c.in-Accepted.is _ _ (sum_is (goal.at.returns-then-total-gt-MOST_TERMS c).After-merged-total w)
+    w) c.in-Ok.is _ _ (sum_is (goal.at.returns-then-total-gt-MOST_TERMS c).After-merged-total w)
     (omega (arith, c.if-total-gt-MOST_TERMS.true)) refl)
 
 pub limited_slices-requires : goal.limited_slices-requires
@@ -183,7 +184,7 @@ returns c =
     c.args.d c.args.others.now c.args.added.now c.limited_slices.result
     (sum_keys (goal.at.returns c).After-merged-total) (sums (goal.at.returns c).After-merged-total))
     (back (goal.at.returns c).Start) (λ w.
-    let t = c.in-Accepted.is in
+    let t = c.in-Ok.is in
     iteration_end w _ _ (product_is (goal.at.returns c).After-limited_slices-product w) t _ _
     (sum_is (goal.at.returns c).After-merged-total w) (omega (arith, c.if-total-gt-MOST_TERMS.false))
     (c.limited_slices.ensures w.vars _ (sum_room (goal.at.returns c).After-merged-total)

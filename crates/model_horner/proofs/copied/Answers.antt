@@ -1,86 +1,41 @@
--- `copied` copies one term after the other.
-use mathlib.Core.Path.{◌≡◌, refl, subst}
-use Prim.Native.Nat.{◌-◌, ◌≤◌}
+-- `copied` copies as many keys and coefficients as the count says.
+use mathlib.Core.Path.{◌≡◌, refl, ap}
+use mathlib.Core.List.{List, [], ◌∷◌, ◌++◌}
+use Prim.Native.Nat.{ℕ, zero, suc, ◌≤◌}
 use native.Mathlib.Omega.{arith}
-use borrow.Author.Rules.{rules}
-use lib.IntN.{pos}
-use lib.ListN.{get_or}
-use mir.Facts.{to_z-of_z}
-use mir.Syntax.{w64}
-use mir.Val.{to_z, of_z}
-use Rattle.model_slices.specs.HandedModels.{terms_of}
-use Rattle.model_slices.specs.HeldModels.{Room}
-use Rattle.model_slices.specs.HeldModelsLaws.{room_still, copied_more, held_same}
+use lib.IntN.{ℤ}
+use lib.ListN.{length, take}
+use Rattle.model_types.specs.declared.Term.{Term}
+use Rattle.model_slices.specs.HandedModels.{terms_of, over}
+use Rattle.model_slices.specs.HeldModelsLaws.{held_same}
 use Rattle.model_horner.proofs.copied.Goals as goal
-use Rattle.model_horner.proofs.copied.Goals.{After-c-1}
 
-pub loop-j-init : goal.loop-j-init
+-- the terms of two slices, of which the first places are looked at
+terms_first : (n : ℕ) (ks rest : List ℕ) (cs others : List ℤ) → n ≤ length ks → n ≤ length cs
+    → terms_of n (take n ks ++ rest) (take n cs ++ others) ≡ terms_of n ks cs
 unfolding terms_of
-loop-j-init c = (omega arith, c.requires.room, refl)
+terms_first zero ks rest cs others h l = refl
+terms_first (suc n) [] rest cs others h l = absurd (omega arith)
+terms_first (suc n) (k ∷ ks) rest [] others h l = absurd (omega arith)
+terms_first (suc n) (k ∷ ks) rest (c ∷ cs) others h l =
+    ap (λ (r : List Term). record { key = k; coefficient = c } ∷ r)
+    (terms_first n ks rest cs others (omega arith) (omega arith))
 
-pub offset_bounds-keys-j : goal.offset_bounds-keys-j
-offset_bounds-keys-j c = omega (arith, c.requires.count_le_model_places.0)
+pub copy_keys-requires : goal.copy_keys-requires
+copy_keys-requires c =
+    let r = c.requires.count_le_model_places in
+    (omega (arith, r.0, r.1.keys), omega (arith, r.0, c.requires.room.keys))
 
-pub bounds-keys-j : goal.bounds-keys-j
-bounds-keys-j c =
-    omega (arith, c.requires.count_le_model_places.0, c.requires.count_le_model_places.1.keys)
-
-pub offset_bounds-coefficients-j : goal.offset_bounds-coefficients-j
-offset_bounds-coefficients-j c = omega (arith, c.requires.count_le_model_places.0)
-
-pub bounds-coefficients-j : goal.bounds-coefficients-j
-bounds-coefficients-j c =
-    omega (arith, c.requires.count_le_model_places.0, c.requires.count_le_model_places.1.coefficients)
-
--- an iteration
-module _ (c : After-c-1) where
-  few : c.args.count ≤ 64
-  few = c.requires.count_le_model_places.0
-
-pub offset_bounds-stored-j : goal.offset_bounds-stored-j
-offset_bounds-stored-j c = omega (arith, few c)
-
-pub bounds-stored-j : goal.bounds-stored-j
-bounds-stored-j c = omega (arith, few c, c.loop-j.invariant.1.keys)
-
-pub offset_bounds-out-j : goal.offset_bounds-out-j
-offset_bounds-out-j c = omega (arith, few c)
-
-pub bounds-out-j : goal.bounds-out-j
-bounds-out-j c = omega (arith, few c, c.loop-j.invariant.1.coefficients)
-
-pub overflow_add-j : goal.overflow_add-j
-overflow_add-j c = omega (arith, few c)
-
-pub loop-j-smaller : goal.loop-j-smaller
-loop-j-smaller c = omega arith
-
-pub loop-j-preserved : goal.loop-j-preserved
-loop-j-preserved c =
-    let a = c.args in
-    let z = get_or a.coefficients.now c.loop-j.j (pos 0) in
-    let back : to_z w64 (of_z w64 z) ≡ z = to_z-of_z {w = w64} (record { sfits = c.c-1.given }) in
-    let r = c.requires.count_le_model_places.1 in (
-      omega (arith, c.loop-j-test.true),
-      room_still _ _ _ c.loop-j.invariant.1,
-      rw back (copied_more c.loop-j.j a.keys.now c.loop-j.stored a.coefficients.now c.loop-j.out
-          (omega (arith, few c, r.keys)) (omega (arith, few c, r.coefficients)) c.loop-j.invariant.1
-          (omega (arith, few c)) c.loop-j.invariant.2),
-    )
-
-pub shape_of-stored : goal.shape_of-stored
-shape_of-stored c =
-    let a = c.loop-j.invariant.1.keys in
-    let b = c.requires.room.keys in search rules
-
-pub shape_of-out : goal.shape_of-out
-shape_of-out c =
-    let a = c.loop-j.invariant.1.coefficients in
-    let b = c.requires.room.coefficients in search rules
+pub copy_coefficients-requires : goal.copy_coefficients-requires
+copy_coefficients-requires c =
+    let r = c.requires.count_le_model_places in
+    (omega (arith, r.0, r.1.coefficients), omega (arith, r.0, c.requires.room.coefficients))
 
 pub returns : goal.returns
+unfolding over
 returns c =
-    let e : c.loop-j.j ≡ c.args.count = omega (arith, c.loop-j.invariant.0, c.loop-j-test.false) in
+    let r = c.requires.count_le_model_places in
     λ n radius. held_same n _ radius _ _ _ _
-    (subst (λ j. terms_of j c.loop-j.stored c.loop-j.out
-    ≡ terms_of j c.args.keys.now c.args.coefficients.now) e c.loop-j.invariant.2)
+    (rw (c.copy_keys.ensures, c.copy_coefficients.ensures)
+    (terms_first c.args.count c.args.keys.now _ c.args.coefficients.now _
+    (omega (arith, r.0, r.1.keys)) (omega (arith, r.0, r.1.coefficients))))

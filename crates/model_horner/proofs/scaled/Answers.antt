@@ -1,7 +1,7 @@
 -- `scaled` goes over the terms once: what is not 0 is stored in order, and E grows by what each term leaves.
 use mathlib.Core.Path.{◌≡◌, sym, ◌∙◌, ap, subst}
 use mathlib.Core.Bool.{not}
-use Prim.Native.Nat.{◌+◌, ◌*◌, ◌≤◌, ◌<◌, ◌-◌, ◌^◌}
+use Prim.Native.Nat.{◌+◌, ◌*◌, ◌≤◌, ◌<◌, ◌^◌}
 use native.Mathlib.Omega.{arith}
 use borrow.Author.Rules.{rules}
 use lib.Dec.{T}
@@ -16,7 +16,7 @@ use Rattle.calculus.specs.Terms.{is_nonzero}
 use Rattle.model_types.specs.ModelStruct.{view, pad, pack}
 use Rattle.model_types.specs.ZeroTestLaws.{zero_bits, nonzero_bits}
 use Rattle.model_slices.specs.HandedModels.{terms_of}
-use Rattle.model_slices.specs.HeldModels.{held, Room}
+use Rattle.model_slices.specs.HeldModels.{held}
 use Rattle.model_slices.specs.HeldModelsLaws.{room_still}
 use Rattle.model_scaling.specs.Scaling.{scaled_coefficient, scaled_residual, scaled_pass}
 use Rattle.model_scaling.specs.ScaledPassLaws.{Gathered}
@@ -24,7 +24,7 @@ use Rattle.model_horner.specs.Held.{ScaleOf}
 use Rattle.model_horner.specs.HeldPassLaws.{scale_few, carried_small, scale_first, scale_room, scale_fits}
 use Rattle.model_horner.specs.HeldPassLaws.{scale_within, scale_keep, scale_drop, scale_end}
 use Rattle.model_horner.proofs.scaled.Goals as goal
-use Rattle.model_horner.proofs.scaled.Goals.{After-c-1, After-magnitude, After-scaled_coefficient-new, After-scaled_residual-error, Start}
+use Rattle.model_horner.proofs.scaled.Goals.{then-new-ne0, else-new-ne0, After-c-1, After-magnitude, After-scaled_coefficient-new, After-scaled_residual-error, Start}
 
 module _ (c : Start) where
   -- the constant, as a loop holds it
@@ -74,7 +74,7 @@ module _ (c : After-c-1) where
   at = get_or c.args.coefficients.now c.loop-j.j (pos 0)
 
   inside : c.loop-j.j < c.args.total
-  inside = omega (arith, c.loop-j-test.true)
+  inside = omega arith
 
   read_back : to_z w64 (of_z w64 at) ≡ at
   read_back = to_z-of_z {w = w64} (record { sfits = c.c-1.given })
@@ -134,9 +134,6 @@ overflow_add-error c =
       );
     }
 
-pub overflow_add-j : goal.overflow_add-j
-overflow_add-j c = omega (arith, few (goal.at.overflow_add-j c).Start, inside (goal.at.overflow_add-j c).After-c-1)
-
 pub offset_bounds-stored-count : goal.offset_bounds-stored-count
 offset_bounds-stored-count c = omega (arith, room (goal.at.offset_bounds-stored-count c).After-c-1)
 
@@ -154,32 +151,25 @@ bounds-out-count c =
 pub overflow_add-count : goal.overflow_add-count
 overflow_add-count c = omega (arith, room (goal.at.overflow_add-count c).After-c-1)
 
-pub loop-j-smaller-then-new-ne0 : goal.loop-j-smaller-then-new-ne0
-loop-j-smaller-then-new-ne0 c = omega (arith, inside (goal.at.loop-j-smaller-then-new-ne0 c).After-c-1)
-
-pub loop-j-preserved-then-new-ne0 : goal.loop-j-preserved-then-new-ne0
-loop-j-preserved-then-new-ne0 c = (
-  room_still _ _ _ c.loop-j.invariant.0,
-  λ w. scale_keep w _ _ (c.loop-j.invariant.1 w) (inside (goal.at.loop-j-preserved-then-new-ne0 c).After-c-1)
-      (error_is (goal.at.loop-j-preserved-then-new-ne0 c).After-scaled_residual-error) c.loop-j.invariant.0
-      (subst T (sym (ap is_nonzero (sym (new_is (goal.at.loop-j-preserved-then-new-ne0 c).After-scaled_coefficient-new))
-      ∙ nonzero_bits _ c.if-new-ne0.true)) tt)
-      (answered c.scaled_coefficient-new.type_inv (new_is
-      (goal.at.loop-j-preserved-then-new-ne0 c).After-scaled_coefficient-new)),
-)
-
-pub loop-j-smaller : goal.loop-j-smaller
-loop-j-smaller c = omega (arith, inside (goal.at.loop-j-smaller c).After-c-1)
-
 pub loop-j-preserved : goal.loop-j-preserved
-loop-j-preserved c = (
-  c.loop-j.invariant.0,
-  λ w. scale_drop w _ _ (c.loop-j.invariant.1 w) (inside (goal.at.loop-j-preserved c).After-c-1)
-      (error_is (goal.at.loop-j-preserved c).After-scaled_residual-error)
-      (subst (λ b. T (not b)) (sym (ap is_nonzero (sym
-      (new_is (goal.at.loop-j-preserved c).After-scaled_coefficient-new))
-      ∙ zero_bits (record { sfits = c.scaled_coefficient-new.type_inv }) c.if-new-ne0.false)) tt),
-)
+loop-j-preserved c =
+    let p = (goal.at.loop-j-preserved c).After-c-1 in
+    let n = (goal.at.loop-j-preserved c).After-scaled_coefficient-new in
+    let e = (goal.at.loop-j-preserved c).After-scaled_residual-error in
+    elim c.if-new-ne0.branch [
+      | then-new-ne0 u ↦ rw (u.stored-is, u.out-is, u.count-is) (
+        room_still _ _ _ c.loop-j.invariant.0,
+        λ w. scale_keep w _ _ (c.loop-j.invariant.1 w) (inside p) (error_is e) c.loop-j.invariant.0
+            (subst T (sym (ap is_nonzero (sym (new_is n)) ∙ nonzero_bits _ u.if-new-ne0.true)) tt)
+            (answered c.scaled_coefficient-new.type_inv (new_is n)),
+      )
+      | else-new-ne0 u ↦ rw (u.stored-is, u.out-is, u.count-is) (
+        c.loop-j.invariant.0,
+        λ w. scale_drop w _ _ (c.loop-j.invariant.1 w) (inside p) (error_is e)
+            (subst (λ b. T (not b)) (sym (ap is_nonzero (sym (new_is n))
+            ∙ zero_bits (record { sfits = c.scaled_coefficient-new.type_inv }) u.if-new-ne0.false)) tt),
+      )
+    ]
 
 pub shape_of-stored : goal.shape_of-stored
 shape_of-stored c =
@@ -198,4 +188,4 @@ returns c =
     c.args.coefficients.now) → held w.vars c.loop-j.count c.loop-j.error
     c.loop-j.stored c.loop-j.out ≡ pack (scaled_pass z (view (held w.vars c.args.total
     c.args.radius c.args.keys.now c.args.coefficients.now)))) (back (goal.at.returns c).Start)
-    (λ w. scale_end w _ _ (c.loop-j.invariant.1 w) (omega (arith, c.loop-j-test.false))) w
+    (λ w. scale_end w _ _ (c.loop-j.invariant.1 w) (omega arith)) w

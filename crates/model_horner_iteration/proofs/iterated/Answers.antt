@@ -6,14 +6,14 @@ use native.Mathlib.Omega.{arith}
 use borrow.Author.Rules.{rules}
 use lib.IntN.{ℤ}
 use Rattle.calculus.specs.Shares.{no_shares}
-use Rattle.model_types.specs.declared.Verdict.TheVariants.{Accepted}
+use Rattle.std.specs.Prelude.{Ok}
 use Rattle.model_types.specs.SharesStruct.{stored_shares, unless_refused}
 use Rattle.model_slices.specs.HeldModels.{held, Room}
 use Rattle.model_addition.specs.Addition.{SumIn}
 use Rattle.model_horner_iteration.specs.SliceHornerLaws.{iteration_factors, iteration_stops, iteration_sum}
 use Rattle.model_horner_iteration.specs.SliceHornerLaws.{iteration_many, iteration_packed, iteration_end}
 use Rattle.model_horner_iteration.proofs.iterated.Goals as goal
-use Rattle.model_horner_iteration.proofs.iterated.Goals.{After-merged-total, After-product-k, In-Accepted, Start}
+use Rattle.model_horner_iteration.proofs.iterated.Goals.{After-merged-total, After-product-k, In-Ok, Start}
 
 pub product-k-requires : goal.product-k-requires
 product-k-requires c =
@@ -42,15 +42,15 @@ returns-in_default c =
     iteration_stops c.requires.iteration_of _ _ c.product-k.ensures c.in_default.is _ _
 
 -- it is accepted
-module _ (c : In-Accepted) where
-  taken : c.product-k.result.verdict ≡ Accepted
-  taken = c.in-Accepted.is
+module _ (c : In-Ok) where
+  taken : c.product-k.result.verdict ≡ Ok tt
+  taken = c.in-Ok.is
 
 pub merged-total-requires : goal.merged-total-requires
 merged-total-requires c =
     record {
       sum_of = iteration_sum c.requires.iteration_of _ _ c.product-k.ensures
-          (taken (goal.at.merged-total-requires c).In-Accepted)
+          (taken (goal.at.merged-total-requires c).In-Ok)
           (room (goal.at.merged-total-requires c).After-product-k);
       room = c.requires.iteration_of.first_room;
     }
@@ -112,7 +112,7 @@ pub returns-then-total-gt-MOST_TERMS : goal.returns-then-total-gt-MOST_TERMS
 unfolding unless_refused stored_shares no_shares
 returns-then-total-gt-MOST_TERMS c =
     iteration_many (begin (goal.at.returns-then-total-gt-MOST_TERMS c).After-merged-total).requires.iteration_of _ _
-    c.product-k.ensures (taken (goal.at.returns-then-total-gt-MOST_TERMS c).In-Accepted) _ _
+    c.product-k.ensures (taken (goal.at.returns-then-total-gt-MOST_TERMS c).In-Ok) _ _
     (sum_is (goal.at.returns-then-total-gt-MOST_TERMS c).After-merged-total)
     (omega (arith, c.if-total-gt-MOST_TERMS.true)) refl refl
 
@@ -127,9 +127,9 @@ returns c =
     let p = c.product-k.ensures in
     let few : c.merged-total.result ≤ 64 = omega (arith, c.if-total-gt-MOST_TERMS.false) in
     iteration_end (begin (goal.at.returns c).After-merged-total).requires.iteration_of _ _ p
-    (taken (goal.at.returns c).In-Accepted) _ _ (sum_is (goal.at.returns c).After-merged-total) few
+    (taken (goal.at.returns c).In-Ok) _ _ (sum_is (goal.at.returns c).After-merged-total) few
     (c.limited_slices-left.ensures (begin (goal.at.returns c).After-merged-total).args.n _
     (sum_room (goal.at.returns c).After-merged-total)
     (iteration_packed (begin (goal.at.returns c).After-merged-total).requires.iteration_of _ _ p
-    (taken (goal.at.returns c).In-Accepted) _ _ (sum_is (goal.at.returns c).After-merged-total) few))
+    (taken (goal.at.returns c).In-Ok) _ _ (sum_is (goal.at.returns c).After-merged-total) few))
     c.unless_refused-shares.ensures

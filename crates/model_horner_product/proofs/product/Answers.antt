@@ -6,11 +6,11 @@ use borrow.Author.Rules.{rules}
 use lib.Dec.{lit≤}
 use lib.ListN.{length}
 use Rattle.calculus.specs.Model.{most_terms}
-use Rattle.model_types.specs.declared.Verdict.TheVariants.{Accepted}
+use Rattle.std.specs.Prelude.{Ok}
 use Rattle.model_horner_product.specs.SliceProductLaws.{handed_factors, first_long, second_long, handed_product}
 use Rattle.model_horner_product.specs.SliceProductLaws.{product_stops, product_stored}
 use Rattle.model_horner_product.proofs.product.Goals as goal
-use Rattle.model_horner_product.proofs.product.Goals.{In-Accepted}
+use Rattle.model_horner_product.proofs.product.Goals.{In-Ok}
 
 pub multiplied_slices-k-requires : goal.multiplied_slices-k-requires
 unfolding most_terms
@@ -29,14 +29,14 @@ returns-in_default c =
     (handed_product c.requires.factors_of c.multiplied_slices-k.ensures.exact) c.in_default.is _ _
 
 -- it is accepted
-module _ (c : In-Accepted) where
-  taken : c.multiplied_slices-k.result.verdict ≡ Accepted
-  taken = c.in-Accepted.is
+module _ (c : In-Ok) where
+  taken : c.multiplied_slices-k.result.verdict ≡ Ok tt
+  taken = c.in-Ok.is
 
 pub store_first-requires : goal.store_first-requires
 unfolding most_terms
 store_first-requires c =
-    let r = c.multiplied_slices-k.ensures.ready.ready (taken (goal.at.store_first-requires c).In-Accepted) in
+    let r = c.multiplied_slices-k.ensures.ready.ready (taken (goal.at.store_first-requires c).In-Ok) in
     record {
       pack_ready = r;
       count_in_bounds = (
@@ -48,6 +48,6 @@ store_first-requires c =
 pub returns : goal.returns
 returns c =
     product_stored c.args.n c.multiplied_slices-k.ensures.ready
-    (handed_product c.requires.factors_of c.multiplied_slices-k.ensures.exact) (taken (goal.at.returns c).In-Accepted) _
+    (handed_product c.requires.factors_of c.multiplied_slices-k.ensures.exact) (taken (goal.at.returns c).In-Ok) _
     _
     c.store_first.ensures.0 c.store_first.ensures.1

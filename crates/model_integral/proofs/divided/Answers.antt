@@ -1,6 +1,5 @@
 -- `divided` rounds by the rule.
 use mathlib.Core.Path.{sym, ◌∙◌, ap}
-use borrow.Author.Rules.{rules}
 use mir.Facts.{to_z-of_z}
 use Rattle.numbers.specs.Division.{floor, ceiling}
 use Rattle.fixed.specs.MachineLaws.{answered}

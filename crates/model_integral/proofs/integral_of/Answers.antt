@@ -13,9 +13,9 @@ use Rattle.model_integral.proofs.integral_of.Goals.{Start}
 room : (c : Start) → Room c.args.m.keys c.args.m.coefficients
 room c = record { keys = search rules; coefficients = search rules }
 
-pub integral_arrays-requires : goal.integral_arrays-requires
-integral_arrays-requires c =
-    let w = own_lies c.args.m (room (goal.at.integral_arrays-requires c).Start) c.requires in
+pub integral_slices-requires : goal.integral_slices-requires
+integral_slices-requires c =
+    let w = own_lies c.args.m (room (goal.at.integral_slices-requires c).Start) c.requires in
     record {
       places = w.places;
       t = w.model;
@@ -23,6 +23,6 @@ integral_arrays-requires c =
 
 pub returns : goal.returns
 returns c =
-    c.integral_arrays.ensures
+    c.integral_slices.ensures
     ∙ ap (λ m. integral_answer (done (whole_integral m)))
     (own_view c.args.m (room (goal.at.returns c).Start) (few _ (room (goal.at.returns c).Start) c.requires))

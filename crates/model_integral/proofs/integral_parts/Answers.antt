@@ -1,9 +1,8 @@
 -- `integral_parts` sums the parts of the terms whose exponents are all even.
 use mathlib.Core.Path.{◌≡◌, sym, ◌∙◌, ap, ap₂}
-use Prim.Native.Nat.{◌-◌, ◌*◌, ◌/◌, ◌^◌, ◌≤◌, ◌<◌}
+use Prim.Native.Nat.{◌*◌, ◌/◌, ◌^◌, ◌<◌}
 use native.Mathlib.Nat as NatL
 use native.Mathlib.Omega.{arith}
-use borrow.Author.Rules.{rules}
 use lib.IntN.{ℤ, pos, ◌+ℤ◌, ◌*ℤ◌}
 use lib.ListN.{get_or}
 use mir.Facts.{to_z-of_z}
@@ -11,9 +10,9 @@ use mir.Syntax.{w64}
 use mir.Val.{to_z, of_z}
 use Rattle.fixed.specs.MachineLaws.{answered}
 use Rattle.calculus.specs.Terms.{size}
-use Rattle.calculus.specs.Model.{most_terms}
 use Rattle.calculus.specs.Operations.{integral_parts, common_denominator}
 use Rattle.model_types.specs.ModelStruct.{view}
+use Rattle.model_keys.specs.Keys.{key_divisor}
 use Rattle.model_slices.specs.HeldModels.{held}
 use Rattle.model_integral.specs.IntegralParts.{most_parts}
 use Rattle.model_integral.specs.IntegralPartsLaws.{parts_fit, volume_le, term_parts, terms_within, scaled_within}
@@ -22,11 +21,7 @@ use Rattle.model_integral.specs.IntegralPassLaws as L
 use Rattle.model_integral.specs.IntegralPassLaws.{EvenSum, even_first, even_end, even_room, even_more, even_same}
 use Rattle.model_integral.specs.IntegralPassLaws.{terms, terms_small, coefficient_small, powers, divisor_at}
 use Rattle.model_integral.proofs.integral_parts.Goals as goal
-use Rattle.model_integral.proofs.integral_parts.Goals.{After-c-1, After-parts, Start}
-
-few : (s : Start) → s.args.count ≤ 64
-unfolding most_terms
-few s = L.few s.requires.terms_in
+use Rattle.model_integral.proofs.integral_parts.Goals.{then-all_even, else-all_even, After-c-1, Start}
 
 pub volume-scale-requires : goal.volume-scale-requires
 volume-scale-requires c = let w = c.requires.terms_in in (L.some w, L.width w)
@@ -34,22 +29,10 @@ volume-scale-requires c = let w = c.requires.terms_in in (L.some w, L.width w)
 pub loop-i-init : goal.loop-i-init
 loop-i-init c w = even_first w _
 
-pub offset_bounds-keys-i : goal.offset_bounds-keys-i
-offset_bounds-keys-i c = omega (arith, few (goal.at.offset_bounds-keys-i c).Start)
-
-pub bounds-keys-i : goal.bounds-keys-i
-bounds-keys-i c = omega (arith, c.requires.terms_in.places.keys)
-
-pub offset_bounds-coefficients-i : goal.offset_bounds-coefficients-i
-offset_bounds-coefficients-i c = omega (arith, few (goal.at.offset_bounds-coefficients-i c).Start)
-
-pub bounds-coefficients-i : goal.bounds-coefficients-i
-bounds-coefficients-i c = omega (arith, c.requires.terms_in.places.coefficients)
-
 -- the term at hand
 module _ (c : After-c-1) where
   inside : c.loop-i.i < c.args.count
-  inside = c.loop-i-test.true
+  inside = omega arith
 
   abbrev coefficient : ℤ
   coefficient = get_or c.args.coefficients.now c.loop-i.i (pos 0)
@@ -61,8 +44,14 @@ module _ (c : After-c-1) where
   scaled : c.volume-scale.result ≡ 2 ^ c.args.n
   scaled = c.volume-scale.ensures
 
-pub overflow_add-i : goal.overflow_add-i
-overflow_add-i c = omega (arith, few (goal.at.overflow_add-i c).Start, inside c)
+  -- what it adds
+  shared : (w : TermsIn c.args.n c.args.count c.args.keys.now c.args.coefficients.now)
+      → to_z w64 (of_z w64 coefficient)
+      *ℤ pos (c.volume-scale.result * (common_denominator / key_divisor (get_or c.args.keys.now c.loop-i.i 0)))
+      ≡ term_parts c.args.n (powers w c.loop-i.i inside) coefficient
+  shared w =
+      ap₂ (λ z v. z *ℤ pos v) read_back (ap₂ (λ s v. s * (common_denominator / v)) scaled
+      (sym (divisor_at w c.loop-i.i inside)))
 
 pub parts-requires : goal.parts-requires
 unfolding most_parts
@@ -77,23 +66,10 @@ parts-requires c = (
       )),
 )
 
-module _ (c : After-parts) where
-  shared : (w : TermsIn c.args.n c.args.count c.args.keys.now
-      c.args.coefficients.now)
-      → to_z w64 (of_z w64 c.parts.result)
-      ≡ term_parts c.args.n (powers w c.loop-i.i (inside (goal.at.sum-total-requires c).After-c-1))
-      (coefficient (goal.at.sum-total-requires c).After-c-1)
-  shared w =
-      answered c.parts.type_inv
-      (c.parts.ensures
-      ∙ ap₂ (λ z v. z *ℤ pos v) (read_back (goal.at.sum-total-requires c).After-c-1)
-      (ap₂ (λ s v. s * (common_denominator / v)) (scaled (goal.at.sum-total-requires c).After-c-1)
-      (sym (divisor_at w c.loop-i.i (inside (goal.at.sum-total-requires c).After-c-1)))))
-
 pub sum-total-requires : goal.sum-total-requires
 sum-total-requires c =
     let w = c.requires.terms_in in
-    rw (shared c w)
+    rw (answered c.parts.type_inv c.parts.ensures ∙ shared (goal.at.sum-total-requires c).After-c-1 w)
     (omega (
       arith,
       parts_fit,
@@ -102,25 +78,19 @@ sum-total-requires c =
       scaled_within c.args.n (size (terms w)) c.requires.n_bound (terms_small w),
     ))
 
-pub loop-i-smaller-then-all_even : goal.loop-i-smaller-then-all_even
-loop-i-smaller-then-all_even c = omega arith
-
-pub loop-i-preserved-then-all_even : goal.loop-i-preserved-then-all_even
-loop-i-preserved-then-all_even c w =
-    even_more w _ (c.loop-i.invariant w) (inside (goal.at.loop-i-preserved-then-all_even c).After-c-1)
-    (sym c.all_even.ensures ∙ c.if-all_even.true)
-    (answered c.sum-total.type_inv (c.sum-total.ensures
-    ∙ ap (λ z. to_z w64 c.loop-i.total-bits +ℤ z)
-    (shared (goal.at.loop-i-preserved-then-all_even c).After-parts w)))
-
-pub loop-i-smaller : goal.loop-i-smaller
-loop-i-smaller c = omega arith
-
 pub loop-i-preserved : goal.loop-i-preserved
 loop-i-preserved c w =
-    even_same w _ (c.loop-i.invariant w) (inside (goal.at.loop-i-preserved c).After-c-1) (sym c.all_even.ensures
-    ∙ c.if-all_even.false)
+    let at = (goal.at.loop-i-preserved c).After-c-1 in
+    elim c.if-all_even.branch [
+      | then-all_even u ↦
+          even_more w _ (c.loop-i.invariant w) (inside at) (sym c.all_even.ensures ∙ u.if-all_even.true)
+          (u.total-is ∙ answered u.sum-total.type_inv (u.sum-total.ensures
+          ∙ ap (λ z. to_z w64 c.loop-i.total-bits +ℤ z) (answered u.parts.type_inv u.parts.ensures ∙ shared at w)))
+      | else-all_even u ↦
+          rw u.total-is (even_same w _ (c.loop-i.invariant w) (inside at) (sym c.all_even.ensures
+          ∙ u.if-all_even.false))
+    ]
 
 pub returns : goal.returns
 unfolding integral_parts view held
-returns c w = even_end w _ (c.loop-i.invariant w) c.loop-i-test.false
+returns c w = even_end w _ (c.loop-i.invariant w) (omega arith)

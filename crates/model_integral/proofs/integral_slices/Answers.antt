@@ -1,17 +1,15 @@
 -- `integral_slices` chooses by the number of variables.
 use mathlib.Core.Path.{◌≡◌, ◌∙◌, ap, ap₂}
-use native.Mathlib.Omega.{arith}
 use lib.IntN.{ℤ, pos}
 use mir.Facts.{to_z-of_z}
 use mir.Syntax.{w64}
 use mir.Val.{to_z, of_z}
-use borrow.Author.Rules.{rules}
 use Rattle.calculus.specs.Model.{Model}
 use Rattle.calculus.specs.Refusal.{done}
-use Rattle.calculus.specs.Operations.{zero_mixed, term_by_term, Integral}
+use Rattle.calculus.specs.Operations.{zero_mixed}
 use Rattle.model_types.specs.declared.Bounds.{Bounds}
 use Rattle.model_types.specs.declared.Integral as M
-use Rattle.model_types.specs.declared.Verdict.TheVariants.{Accepted}
+use Rattle.std.specs.Prelude.{Ok}
 use Rattle.model_types.specs.ModelStruct.{view, bounds, integral_answer}
 use Rattle.model_slices.specs.HeldModels.{held}
 use Rattle.model_integral.specs.IntegralPartsLaws.{whole_exact, whole_terms}
@@ -37,4 +35,4 @@ returns c =
     ∙ ap (λ i. integral_answer (done i)) (whole_terms (seen (goal.at.returns c).Start) c.if-n-le-MOST_EXACT.false)
   where
     ends : ℤ → ℤ → M.Integral
-    ends a b = record { low = a; high = b; quotient = pos 0; remainder = 0; verdict = Accepted }
+    ends a b = record { low = a; high = b; quotient = pos 0; remainder = 0; verdict = Ok tt }

@@ -1,8 +1,7 @@
 -- `integral_sum` sums the shares of the terms whose exponents are all even.
 use mathlib.Core.Path.{◌≡◌, sym, ◌∙◌, ap, ap₂}
-use Prim.Native.Nat.{◌-◌, ◌^◌, ◌≤◌, ◌<◌}
+use Prim.Native.Nat.{◌^◌, ◌<◌}
 use native.Mathlib.Omega.{arith}
-use borrow.Author.Rules.{rules}
 use lib.IntN.{ℤ, pos, ◌+ℤ◌, ◌*ℤ◌}
 use lib.ListN.{get_or}
 use mir.Facts.{to_z-of_z}
@@ -10,9 +9,9 @@ use mir.Syntax.{w64}
 use mir.Val.{to_z, of_z}
 use Rattle.fixed.specs.MachineLaws.{answered}
 use Rattle.calculus.specs.Terms.{size}
-use Rattle.calculus.specs.Model.{most_terms}
 use Rattle.calculus.specs.Operations.{integral_sum}
 use Rattle.model_types.specs.ModelStruct.{view}
+use Rattle.model_keys.specs.Keys.{key_divisor}
 use Rattle.model_slices.specs.HeldModels.{held}
 use Rattle.model_integral.specs.Rounding.{rule}
 use Rattle.model_integral.specs.IntegralSizeLaws.{share, shares_within, volume_le, scaled_fits}
@@ -21,11 +20,7 @@ use Rattle.model_integral.specs.IntegralPassLaws as L
 use Rattle.model_integral.specs.IntegralPassLaws.{EvenSum, even_first, even_end, even_room, even_more, even_same}
 use Rattle.model_integral.specs.IntegralPassLaws.{terms, terms_small, coefficient_small, powers, divisor_at}
 use Rattle.model_integral.proofs.integral_sum.Goals as goal
-use Rattle.model_integral.proofs.integral_sum.Goals.{After-c-1, After-share, Start}
-
-few : (s : Start) → s.args.count ≤ 64
-unfolding most_terms
-few s = L.few s.requires
+use Rattle.model_integral.proofs.integral_sum.Goals.{then-all_even, else-all_even, After-c-1, Start}
 
 pub volume-requires : goal.volume-requires
 volume-requires c = let w = c.requires in (L.some w, L.width w)
@@ -36,22 +31,10 @@ signed-scale-requires c = omega (arith, c.volume.ensures, volume_le _ (L.width c
 pub loop-i-init : goal.loop-i-init
 loop-i-init c w = even_first w _
 
-pub offset_bounds-keys-i : goal.offset_bounds-keys-i
-offset_bounds-keys-i c = omega (arith, few (goal.at.offset_bounds-keys-i c).Start)
-
-pub bounds-keys-i : goal.bounds-keys-i
-bounds-keys-i c = omega (arith, c.requires.places.keys)
-
-pub offset_bounds-coefficients-i : goal.offset_bounds-coefficients-i
-offset_bounds-coefficients-i c = omega (arith, few (goal.at.offset_bounds-coefficients-i c).Start)
-
-pub bounds-coefficients-i : goal.bounds-coefficients-i
-bounds-coefficients-i c = omega (arith, c.requires.places.coefficients)
-
 -- the term at hand
 module _ (c : After-c-1) where
   inside : c.loop-i.i < c.args.count
-  inside = c.loop-i-test.true
+  inside = omega arith
 
   abbrev coefficient : ℤ
   coefficient = get_or c.args.coefficients.now c.loop-i.i (pos 0)
@@ -64,8 +47,13 @@ module _ (c : After-c-1) where
   scaled =
       answered c.signed-scale.type_inv (c.signed-scale.ensures ∙ ap pos c.volume.ensures)
 
-pub overflow_add-i : goal.overflow_add-i
-overflow_add-i c = omega (arith, few (goal.at.overflow_add-i c).Start, inside c)
+  -- what it adds
+  shared : (w : TermsIn c.args.n c.args.count c.args.keys.now c.args.coefficients.now)
+      → rule c.args.up (to_z w64 (of_z w64 coefficient) *ℤ to_z w64 (of_z w64 c.signed-scale.result))
+      (key_divisor (get_or c.args.keys.now c.loop-i.i 0))
+      ≡ share c.args.up c.args.n (powers w c.loop-i.i inside) coefficient
+  shared w =
+      ap₂ (rule c.args.up) (ap₂ ◌*ℤ◌ read_back scaled) (sym (divisor_at w c.loop-i.i inside))
 
 pub share-requires : goal.share-requires
 share-requires c =
@@ -73,23 +61,10 @@ share-requires c =
     rw (read_back (goal.at.share-requires c).After-c-1, scaled (goal.at.share-requires c).After-c-1)
     (scaled_fits _ _ (L.width w) (coefficient_small w c.loop-i.i (inside (goal.at.share-requires c).After-c-1)))
 
-module _ (c : After-share) where
-  shared : (w : TermsIn c.args.n c.args.count c.args.keys.now
-      c.args.coefficients.now)
-      → to_z w64 (of_z w64 c.share.result)
-      ≡ share c.args.up c.args.n (powers w c.loop-i.i (inside (goal.at.sum-total-requires c).After-c-1))
-      (coefficient (goal.at.sum-total-requires c).After-c-1)
-  shared w =
-      answered c.share.type_inv
-      (c.share.ensures
-      ∙ ap₂ (rule c.args.up) (ap₂ ◌*ℤ◌ (read_back (goal.at.sum-total-requires c).After-c-1)
-      (scaled (goal.at.sum-total-requires c).After-c-1))
-      (sym (divisor_at w c.loop-i.i (inside (goal.at.sum-total-requires c).After-c-1))))
-
 pub sum-total-requires : goal.sum-total-requires
 sum-total-requires c =
     let w = c.requires in
-    rw (shared c w)
+    rw (answered c.share.type_inv c.share.ensures ∙ shared (goal.at.sum-total-requires c).After-c-1 w)
     (omega (
       arith,
       even_room w (share c.args.up c.args.n) (c.loop-i.invariant w) (inside (goal.at.sum-total-requires c).After-c-1),
@@ -97,25 +72,19 @@ sum-total-requires c =
       scaled_fits c.args.n (size (terms w)) (L.width w) (terms_small w),
     ))
 
-pub loop-i-smaller-then-all_even : goal.loop-i-smaller-then-all_even
-loop-i-smaller-then-all_even c = omega arith
-
-pub loop-i-preserved-then-all_even : goal.loop-i-preserved-then-all_even
-loop-i-preserved-then-all_even c w =
-    even_more w _ (c.loop-i.invariant w) (inside (goal.at.loop-i-preserved-then-all_even c).After-c-1)
-    (sym c.all_even.ensures ∙ c.if-all_even.true)
-    (answered c.sum-total.type_inv (c.sum-total.ensures
-    ∙ ap (λ z. to_z w64 c.loop-i.total-bits +ℤ z)
-    (shared (goal.at.loop-i-preserved-then-all_even c).After-share w)))
-
-pub loop-i-smaller : goal.loop-i-smaller
-loop-i-smaller c = omega arith
-
 pub loop-i-preserved : goal.loop-i-preserved
 loop-i-preserved c w =
-    even_same w _ (c.loop-i.invariant w) (inside (goal.at.loop-i-preserved c).After-c-1) (sym c.all_even.ensures
-    ∙ c.if-all_even.false)
+    let at = (goal.at.loop-i-preserved c).After-c-1 in
+    elim c.if-all_even.branch [
+      | then-all_even u ↦
+          even_more w _ (c.loop-i.invariant w) (inside at) (sym c.all_even.ensures ∙ u.if-all_even.true)
+          (u.total-is ∙ answered u.sum-total.type_inv (u.sum-total.ensures
+          ∙ ap (λ z. to_z w64 c.loop-i.total-bits +ℤ z) (answered u.share.type_inv u.share.ensures ∙ shared at w)))
+      | else-all_even u ↦
+          rw u.total-is (even_same w _ (c.loop-i.invariant w) (inside at) (sym c.all_even.ensures
+          ∙ u.if-all_even.false))
+    ]
 
 pub returns : goal.returns
 unfolding integral_sum view held
-returns c w = even_end w _ (c.loop-i.invariant w) c.loop-i-test.false
+returns c w = even_end w _ (c.loop-i.invariant w) (omega arith)

@@ -1,5 +1,4 @@
 -- `one_if_any` tells 0 from the others.
-use mathlib.Core.Path.{◌≡◌}
 use native.Mathlib.Omega.{arith}
 use Rattle.model_integral.specs.IntegralPartsLaws.{none_above, some_above}
 use Rattle.model_integral.proofs.one_if_any.Goals as goal

@@ -3,7 +3,6 @@ use mathlib.Core.Path.{◌≡◌, ◌∙◌, ap, ap₂}
 use Prim.Native.Nat.{◌*◌, ◌/◌, ◌≤◌}
 use native.Mathlib.Nat as NatL
 use native.Mathlib.Omega.{arith}
-use borrow.Author.Rules.{rules}
 use lib.IntN.{pos, nat_abs, ◌*ℤ◌}
 use mir.Facts.{to_z-of_z}
 use mir.Syntax.{w64}
@@ -12,7 +11,6 @@ use Rattle.polynomial.proofs.IntegralLaws.{divisor_pos}
 use Rattle.fixed.specs.MachineLaws.{answered}
 use Rattle.calculus.specs.Key.{key_width, key_exponents}
 use Rattle.calculus.specs.Operations.{common_denominator}
-use Rattle.model_keys.specs.Keys.{key_divisor}
 use Rattle.model_integral.proofs.parts.Goals as goal
 use Rattle.model_integral.proofs.parts.Goals.{After-divisor-share, After-signed}
 

@@ -1,5 +1,5 @@
 -- `volume` is 2^n.
-use mathlib.Core.Path.{◌≡◌, ◌∙◌, ap}
+use mathlib.Core.Path.{◌∙◌, ap}
 use Prim.Native.Nat.{◌^◌, ◌%◌}
 use native.Mathlib.Nat as NatL
 use native.Mathlib.Omega.{arith}

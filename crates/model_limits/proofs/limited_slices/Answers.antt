@@ -1,6 +1,5 @@
 -- `limited_slices` answers by the span.
 use mathlib.Core.Path.{refl, sym, ◌∙◌}
-use borrow.Author.Rules.{rules}
 use Rattle.model_limits.specs.LeftLaws.{left_within, left_over}
 use Rattle.model_limits.proofs.limited_slices.Goals as goal
 

@@ -1,7 +1,6 @@
 -- `widened` adds to the radius as far as the cap.
 use mathlib.Core.Path.{◌∙◌, ap}
 use Prim.Native.Nat.{◌+◌}
-use borrow.Author.Rules.{rules}
 use Rattle.calculus.specs.Refusal.{at_place}
 use Rattle.calculus.specs.Operations.{limited, widen}
 use Rattle.model_slices.specs.model_types.ModelStruct.{view, answer}

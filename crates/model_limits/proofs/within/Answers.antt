@@ -1,9 +1,7 @@
 -- `within` sums the span as far as the cap.
 use mathlib.Core.Path.{◌≡◌, ◌∙◌, ap}
-use mathlib.Core.List.{List}
-use Prim.Native.Nat.{ℕ, ◌+◌, ◌-◌, ◌≤◌}
+use Prim.Native.Nat.{◌+◌, ◌≤◌}
 use native.Mathlib.Omega.{arith}
-use borrow.Author.Rules.{rules}
 use lib.IntN.{pos, nat_abs}
 use lib.ListN.{get_or}
 use mir.Facts.{to_z-of_z}
@@ -11,8 +9,6 @@ use mir.Syntax.{w64}
 use mir.Val.{to_z, of_z}
 use Rattle.numbers.specs.Fixed.{capped}
 use Rattle.calculus.specs.Model.{most_terms}
-use Rattle.model_slices.specs.HeldModels.{held, Room}
-use Rattle.model_limits.specs.LimitLaws.{Summed}
 use Rattle.model_limits.specs.SpanPassLaws.{span_first, span_iteration, span_end}
 use Rattle.model_limits.proofs.within.Goals as goal
 use Rattle.model_limits.proofs.within.Goals.{After-c-1, Start}
@@ -24,18 +20,6 @@ few c = c.requires.0
 pub loop-j-init : goal.loop-j-init
 loop-j-init c = λ n ks r. span_first n _ _ ks _ r (few c)
 
-pub offset_bounds-coefficients-j : goal.offset_bounds-coefficients-j
-offset_bounds-coefficients-j c = omega (arith, c.requires.0)
-
-pub bounds-coefficients-j : goal.bounds-coefficients-j
-bounds-coefficients-j c = omega (arith, c.requires.0, c.requires.1)
-
-pub overflow_add-j : goal.overflow_add-j
-overflow_add-j c = omega (arith, c.requires.0)
-
-pub loop-j-smaller : goal.loop-j-smaller
-loop-j-smaller c = omega arith
-
 -- the coefficient at hand
 read_back : (c : After-c-1)
     → let z = get_or c.args.coefficients.now c.loop-j.j (pos 0) in to_z w64 (of_z w64 z) ≡ z
@@ -45,7 +29,7 @@ pub loop-j-preserved : goal.loop-j-preserved
 loop-j-preserved c =
     λ n ks r.
     span_iteration n _ _ ks _ r (few (goal.at.loop-j-preserved c).Start) _ _ _ (c.loop-j.invariant n ks r)
-    (omega (arith, c.loop-j-test.true)) (c.capped_sum-span.ensures
+    (omega arith) (c.capped_sum-span.ensures
     ∙ ap (λ x. capped (c.loop-j.span + x)) (c.magnitude.ensures
     ∙ ap nat_abs (read_back (goal.at.loop-j-preserved c).After-c-1)))
 
@@ -54,4 +38,4 @@ returns c =
     λ n ks r.
     c.within_span.ensures
     ∙ span_end n _ _ ks _ r (few (goal.at.returns c).Start) _ _ (c.loop-j.invariant n ks r)
-    (omega (arith, c.loop-j-test.false))
+    (omega arith)

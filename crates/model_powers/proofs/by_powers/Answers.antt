@@ -1,18 +1,14 @@
 -- `by_powers` links each term to the next one of its power, from the last term down.
-use mathlib.Core.Path.{◌≡◌, refl, sym, ◌∙◌, ap}
+use mathlib.Core.Path.{◌≡◌, refl, ◌∙◌, ap}
 use Prim.Native.Nat.{◌-◌, ◌≤◌, ◌<◌, max}
 use native.Mathlib.Omega.{arith}
-use borrow.Author.Rules.{rules}
 use lib.ListN.{get_or}
 use Rattle.calculus.specs.Key.{key_limit}
 use Rattle.calculus.specs.Model.{most_terms}
 use Rattle.calculus_laws.specs.MonomialKeyLaws.{word_key}
 use Rattle.model_keys.specs.Keys.{key_exponent}
-use Rattle.model_slices.specs.HeldModels.{held}
-use Rattle.model_powers.specs.Powers.{KeysOf, exponents}
-use Rattle.model_powers.specs.PowersLaws.{Largest}
 use Rattle.model_powers.specs.PowerPassLaws.{keys_few, keys_slot, largest_first, largest_iteration, largest_end}
-use Rattle.model_powers.specs.PowerChainLaws.{exponent_digit, Chaining, chaining_first, chaining_iteration}
+use Rattle.model_powers.specs.PowerChainLaws.{exponent_digit, chaining_first, chaining_iteration}
 use Rattle.model_powers.specs.PowerChainLaws.{chaining_end}
 use Rattle.model_powers.proofs.by_powers.Goals as goal
 use Rattle.model_powers.proofs.by_powers.Goals.{After-exponent_of-exponent, In-loop-j, Start}
@@ -34,9 +30,6 @@ module _ (c : In-loop-j) where
 
   inside : c.loop-j.j ≤ 64
   inside = omega (arith, few c.before.before.before.before, c.loop-j.invariant.0.within)
-
-pub overflow_sub-j : goal.overflow_sub-j
-overflow_sub-j c = omega (arith, some c)
 
 pub offset_bounds-keys-j : goal.offset_bounds-keys-j
 offset_bounds-keys-j c = omega (arith, inside c)
@@ -81,9 +74,6 @@ overflow_cast-first c = omega (arith, inside (goal.at.overflow_cast-first c).In-
 pub bounds-first-e-in-loop-j : goal.bounds-first-e-in-loop-j
 bounds-first-e-in-loop-j c = omega (arith, low c)
 
-pub loop-j-smaller : goal.loop-j-smaller
-loop-j-smaller c = omega (arith, some (goal.at.loop-j-smaller c).In-loop-j)
-
 pub loop-j-preserved : goal.loop-j-preserved
 loop-j-preserved c = (
   chaining_iteration c.loop-j.invariant.0 (some (goal.at.loop-j-preserved c).In-loop-j)
@@ -91,11 +81,11 @@ loop-j-preserved c = (
       (is_exponent (goal.at.loop-j-preserved c).After-exponent_of-exponent) refl,
   λ w. largest_iteration w (c.loop-j.invariant.1 w) (some (goal.at.loop-j-preserved c).In-loop-j)
       (omega (arith, some (goal.at.loop-j-preserved c).In-loop-j, c.loop-j.invariant.0.within))
-      (c.larger-largest.ensures ∙ ap (max c.loop-j.largest)
+      (c.max-largest.ensures ∙ ap (max c.loop-j.largest)
       (is_exponent (goal.at.loop-j-preserved c).After-exponent_of-exponent)),
   omega (
     arith,
-    c.larger-largest.ensures,
+    c.max-largest.ensures,
     low (goal.at.loop-j-preserved c).After-exponent_of-exponent,
     c.loop-j.invariant.2,
   ),

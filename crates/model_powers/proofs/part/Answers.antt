@@ -1,18 +1,14 @@
 -- `part` walks along the chain of the k-th power, and stores its terms in their order, without the variable.
-use mathlib.Core.Path.{◌≡◌, sym, ◌∙◌, subst}
-use Prim.Native.Nat.{◌+◌, ◌-◌, ◌≤◌, ◌<◌}
+use mathlib.Core.Path.{◌≡◌, subst}
+use Prim.Native.Nat.{◌+◌, ◌≤◌, ◌<◌}
 use native.Mathlib.Omega.{arith}
 use borrow.Author.Rules.{rules}
 use lib.ListN.{get_or}
 use mir.Facts.{to_z-of_z}
 use Rattle.calculus.specs.Model.{most_terms}
 use Rattle.model_keys.specs.Keys.{key_exponent}
-use Rattle.model_types.specs.ModelStruct.{pad}
-use Rattle.model_slices.specs.HandedModels.{terms_of}
-use Rattle.model_slices.specs.HeldModels.{held, Room}
 use Rattle.model_slices.specs.HeldModelsLaws.{room_still}
-use Rattle.model_powers.specs.Powers.{PartOf, Next}
-use Rattle.model_powers.specs.PowersLaws.{Taken}
+use Rattle.model_powers.specs.Powers.{Next}
 use Rattle.model_powers.specs.PowerPassLaws.{part_few, part_slot, part_first, part_room, part_in, part_end}
 use Rattle.model_powers.specs.PowerChainLaws.{walked}
 use mir.Syntax.{w64}

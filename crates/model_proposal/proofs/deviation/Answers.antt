@@ -9,13 +9,13 @@ use Rattle.numbers.specs.Fixed.{U}
 use Rattle.fixed.specs.MachineLaws.{answered}
 use Rattle.calculus.specs.Operations.{bare}
 use Rattle.model_types.specs.declared.Model.{Model}
-use Rattle.model_types.specs.declared.Verdict.TheVariants.{Accepted}
+use Rattle.std.specs.Prelude.{Ok}
 use Rattle.model_types.specs.ModelStruct.{view}
 use Rattle.model_slices.specs.HandedModels.{handed}
 use Rattle.model_slices.specs.HeldModels.{Room}
 use Rattle.model_proposal.specs.SliceFormLaws.{handed_bare, deviation_stops, deviation_addends, deviation_left}
 use Rattle.model_proposal.proofs.deviation.Goals as goal
-use Rattle.model_proposal.proofs.deviation.Goals.{After-product-k, After-unit, In-Accepted, Start}
+use Rattle.model_proposal.proofs.deviation.Goals.{After-product-k, After-unit, In-Ok, Start}
 
 -- ---- what is asked at the start
 module _ (s : Start) where
@@ -59,9 +59,9 @@ returns-in_default c =
     (bared (goal.at.returns-in_default c).Start) c.product-k.ensures c.in_default.is _ _
 
 -- it is accepted
-module _ (c : In-Accepted) where
-  taken : c.product-k.result.verdict ≡ Accepted
-  taken = c.in-Accepted.is
+module _ (c : In-Ok) where
+  taken : c.product-k.result.verdict ≡ Ok tt
+  taken = c.in-Ok.is
 
 -- the coefficient of 1
 one_term : (c : After-unit) → to_z w64 (of_z w64 c.unit.result) ∷ [] ≡ pos U ∷ []
@@ -72,7 +72,7 @@ difference-requires c =
     record {
       addends = deviation_addends c.requires.factors (vars (goal.at.difference-requires c).Start)
           (bared (goal.at.difference-requires c).Start) c.product-k.ensures
-          (taken (goal.at.difference-requires c).In-Accepted) refl (one_term (goal.at.difference-requires c).After-unit)
+          (taken (goal.at.difference-requires c).In-Ok) refl (one_term (goal.at.difference-requires c).After-unit)
           (room (goal.at.difference-requires c).After-product-k);
       room = c.requires.room;
     }
@@ -80,5 +80,5 @@ difference-requires c =
 pub returns : goal.returns
 returns c =
     deviation_left c.requires.factors (vars (goal.at.returns c).Start) (bared (goal.at.returns c).Start)
-    c.product-k.ensures (taken (goal.at.returns c).In-Accepted) refl (one_term (goal.at.returns c).After-unit)
+    c.product-k.ensures (taken (goal.at.returns c).In-Ok) refl (one_term (goal.at.returns c).After-unit)
     c.difference.ensures

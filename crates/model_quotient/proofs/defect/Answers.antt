@@ -7,7 +7,7 @@ use lib.IntN.{ℤ}
 use Rattle.calculus.specs.Refusal.{at_place}
 use Rattle.calculus.specs.Operations.{bare}
 use Rattle.model_types.specs.declared.Model.{Model}
-use Rattle.model_types.specs.declared.Verdict.TheVariants.{Accepted}
+use Rattle.std.specs.Prelude.{Ok}
 use Rattle.model_types.specs.ModelStruct.{view, answer}
 use Rattle.model_slices.specs.HandedModels.{handed}
 use Rattle.model_slices.specs.HeldModels.{Room}
@@ -19,7 +19,7 @@ use Rattle.model_proposal.specs.SliceFormLaws.{handed_bare, gap_products, form_p
 use Rattle.model_proposal.specs.SliceFormLaws.{gap_stops, gap_addends, gap_left}
 use Rattle.model_proposal.specs.SliceFormLaws.{defect_stops, defect_few, defect_long, defect_asked, defect_left}
 use Rattle.model_quotient.proofs.defect.Goals as goal
-use Rattle.model_quotient.proofs.defect.Goals.{After-difference-l, After-product-k, In-Accepted, Start}
+use Rattle.model_quotient.proofs.defect.Goals.{After-difference-l, After-product-k, In-Ok, Start}
 
 -- ---- what is asked at the start
 module _ (s : Start) where
@@ -94,16 +94,16 @@ returns-in_default c =
     (rounded (goal.at.returns-in_default c).After-product-k)) v _ _
 
 -- it is accepted
-module _ (c : In-Accepted) where
-  taken : c.product-k.result.verdict ≡ Accepted
-  taken = c.in-Accepted.is
+module _ (c : In-Ok) where
+  taken : c.product-k.result.verdict ≡ Ok tt
+  taken = c.in-Ok.is
 
 pub difference-l-requires : goal.difference-l-requires
 difference-l-requires c =
     record {
       addends = gap_addends c.args.n c.args.nf c.args.ef c.args.kf.now c.args.cf.now
           c.requires.nf_in_bounds (gap_asked c.requires.proposal) (third_bare (goal.at.difference-l-requires c).Start)
-          c.product-k.ensures (taken (goal.at.difference-l-requires c).In-Accepted)
+          c.product-k.ensures (taken (goal.at.difference-l-requires c).In-Ok)
           (room (goal.at.difference-l-requires c).After-product-k);
       room = record { keys = refl; coefficients = refl };
     }
@@ -170,7 +170,7 @@ returns-in_default-u c =
 
 pub product-requires : goal.product-requires
 product-requires c =
-    let v = c.in-Accepted-u.is in
+    let v = c.in-Ok-u.is in
     let s = begin (goal.at.product-requires c).After-difference-l in
     let free = free_room s.requires.scratch_room c.product-k.auto.slots c.product-k.auto.keys c.product-k.auto.sums
     in record {
@@ -205,6 +205,6 @@ shape_of-y c = c.product.auto.out ∙ c.product-k.auto.out
 pub returns : goal.returns
 returns c =
     let s = begin (goal.at.returns c).After-difference-l in
-    defect_left s.requires.proposal (fourth_bare s) (less (goal.at.returns c).After-difference-l) c.in-Accepted-u.is
+    defect_left s.requires.proposal (fourth_bare s) (less (goal.at.returns c).After-difference-l) c.in-Ok-u.is
     (rest_room (goal.at.returns c).After-difference-l)
     c.product.ensures

@@ -4,7 +4,7 @@ use Prim.Native.Nat.{◌≤◌}
 use borrow.Author.Rules.{rules}
 use Rattle.calculus.specs.Model.{most_terms}
 use Rattle.model_types.specs.declared.Model.{Model}
-use Rattle.model_types.specs.declared.Verdict.TheVariants.{Accepted}
+use Rattle.std.specs.Prelude.{Ok}
 use Rattle.model_types.specs.ModelStructLaws.{limits}
 use Rattle.model_slices.specs.HandedModels.{handed}
 use Rattle.model_slices.specs.HeldModels.{Room}
@@ -13,7 +13,7 @@ use Rattle.model_proposal.specs.SliceFormLaws.{form_products}
 use Rattle.model_quotient.specs.QuotientFormLaws.{second_factors, proposed_sound, first_refused, first_lies}
 use Rattle.model_quotient.specs.QuotientFormLaws.{second_refused, second_lies, quotient_answer}
 use Rattle.model_quotient.proofs.divided_slices.Goals as goal
-use Rattle.model_quotient.proofs.divided_slices.Goals.{After-defect-first, After-deviation-second, In-Accepted, Start}
+use Rattle.model_quotient.proofs.divided_slices.Goals.{After-defect-first, After-deviation-second, In-Ok, Start}
 
 -- ---- what is asked at the start
 module _ (s : Start) where
@@ -60,9 +60,9 @@ returns-in_default c =
     c.refused.ensures.refuses _ _ v ∙ first_refused c.requires.proposal c.defect-first.ensures _ _ v
 
 -- it is accepted
-module _ (c : In-Accepted) where
-  taken : c.defect-first.result.verdict ≡ Accepted
-  taken = c.in-Accepted.is
+module _ (c : In-Ok) where
+  taken : c.defect-first.result.verdict ≡ Ok tt
+  taken = c.in-Ok.is
 
 pub deviation-second-requires : goal.deviation-second-requires
 deviation-second-requires c =
@@ -99,18 +99,18 @@ pub returns-in_default-u : goal.returns-in_default-u
 returns-in_default-u c =
     let u = c.in_default-u.is in
     c.refused-in_default-u.ensures.refuses _ _ u
-    ∙ second_refused c.requires.proposal c.defect-first.ensures (taken (goal.at.returns-in_default-u c).In-Accepted)
+    ∙ second_refused c.requires.proposal c.defect-first.ensures (taken (goal.at.returns-in_default-u c).In-Ok)
     c.deviation-second.ensures _ _ u
 
 pub judged-requires : goal.judged-requires
 judged-requires c =
-    let u = c.in-Accepted-u.is in
+    let u = c.in-Ok-u.is in
     let s = c.requires in record {
       t = proposed_sound s.proposal;
       count_in_bounds = s.counth_in_bounds;
-      lies = first_lies s.proposal c.defect-first.ensures (taken (goal.at.judged-requires c).In-Accepted)
+      lies = first_lies s.proposal c.defect-first.ensures (taken (goal.at.judged-requires c).In-Ok)
           (first_room (goal.at.judged-requires c).After-defect-first);
-      lies_2 = second_lies s.proposal c.defect-first.ensures (taken (goal.at.judged-requires c).In-Accepted)
+      lies_2 = second_lies s.proposal c.defect-first.ensures (taken (goal.at.judged-requires c).In-Ok)
           c.deviation-second.ensures u (second_room (goal.at.judged-requires c).After-deviation-second);
     }
 
@@ -125,12 +125,12 @@ shape_of-sums c = c.deviation-second.auto.sums ∙ c.defect-first.auto.sums
 
 pub returns : goal.returns
 returns c =
-    let u = c.in-Accepted-u.is in
+    let u = c.in-Ok-u.is in
     let s = c.requires.proposal in
     let d = c.defect-first.ensures in
     let e = c.deviation-second.ensures in
-    quotient_answer s d (taken (goal.at.returns c).In-Accepted) e u
-    (c.judged.ensures (first_lies s d (taken (goal.at.returns c).In-Accepted)
+    quotient_answer s d (taken (goal.at.returns c).In-Ok) e u
+    (c.judged.ensures (first_lies s d (taken (goal.at.returns c).In-Ok)
     (first_room (goal.at.returns c).After-defect-first))
-    (second_lies s d (taken (goal.at.returns c).In-Accepted) e u
+    (second_lies s d (taken (goal.at.returns c).In-Ok) e u
     (second_room (goal.at.returns c).After-deviation-second)))

@@ -6,8 +6,8 @@ use borrow.Author.Rules.{rules}
 use Rattle.model_quotient.specs.QuotientFormLaws.{no_refusal, same_refusal}
 use Rattle.model_quotient.proofs.refused.Goals as goal
 
-pub returns-in-Accepted : goal.returns-in-Accepted
-returns-in-Accepted c = no_refusal c.in-Accepted.is
+pub returns-in-Ok : goal.returns-in-Ok
+returns-in-Ok c = no_refusal c.in-Ok.is
 
-pub returns-in-Refused : goal.returns-in-Refused
-returns-in-Refused c = same_refusal c.in-Refused.is c.refuse-in-Refused.ensures
+pub returns-in-Err : goal.returns-in-Err
+returns-in-Err c = same_refusal c.in-Err.is c.refuse-in-Err.ensures

@@ -1,6 +1,5 @@
 -- `fall` is 0 at key 0; where all exponents are even it goes by the sign; otherwise it is the size.
 use mathlib.Core.Path.{◌≡◌, refl, sym, ◌∙◌, ap}
-use borrow.Author.Rules.{rules}
 use borrow.Author.Tests.{eq-eqb, ne_eqb}
 use lib.IntN.{nat_abs}
 use mir.Facts.{to_z-of_z}
@@ -27,11 +26,11 @@ returns-then-all_even c =
     )
     (c.under.ensures ∙ ap even_fall (read_back (goal.at.returns-then-all_even c).Start))
 
-pub returns : goal.returns
+pub returns-else-all_even : goal.returns-else-all_even
 unfolding key_fall if_so
-returns c =
+returns-else-all_even c =
     rw (
       ne_eqb c.args.key 0 c.if-key-eq0.false,
       sym c.all_even.ensures ∙ c.if-all_even.false,
     )
-    (c.magnitude.ensures ∙ ap nat_abs (read_back (goal.at.returns c).Start))
+    (c.magnitude.ensures ∙ ap nat_abs (read_back (goal.at.returns-else-all_even c).Start))

@@ -1,7 +1,6 @@
 -- `in_box` compares the ends of the range with the unit.
 use mathlib.Core.Path.{◌≡◌, sym, ◌∙◌, ap, ap₂}
 use native.Mathlib.Omega.{arith}
-use borrow.Author.Rules.{rules}
 use lib.IntN.{pos, neg_ℤ}
 use lib.Signed.{le_z}
 use mir.Facts.{to_z-of_z}

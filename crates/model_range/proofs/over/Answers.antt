@@ -1,6 +1,5 @@
 -- `over` is the size of a coefficient above 0, and 0 of any other.
 use mathlib.Core.Path.{◌≡◌, refl, sym, ◌∙◌, ap}
-use borrow.Author.Rules.{rules}
 use lib.IntN.{pos, nat_abs}
 use lib.Signed.{le_z}
 use mir.Facts.{to_z-of_z}
@@ -19,8 +18,9 @@ unfolding even_rise if_so
 returns-then-coefficient-le0 c = rw (sym (ap (λ z. le_z z (pos 0))
     (read_back (goal.at.returns-then-coefficient-le0 c).Start)) ∙ c.if-coefficient-le0.true) refl
 
-pub returns : goal.returns
+pub returns-else-coefficient-le0 : goal.returns-else-coefficient-le0
 unfolding even_rise if_so
-returns c =
-    rw (sym (ap (λ z. le_z z (pos 0)) (read_back (goal.at.returns c).Start)) ∙ c.if-coefficient-le0.false)
-    (c.magnitude.ensures ∙ ap nat_abs (read_back (goal.at.returns c).Start))
+returns-else-coefficient-le0 c =
+    rw (sym (ap (λ z. le_z z (pos 0)) (read_back (goal.at.returns-else-coefficient-le0 c).Start))
+    ∙ c.if-coefficient-le0.false)
+    (c.magnitude.ensures ∙ ap nat_abs (read_back (goal.at.returns-else-coefficient-le0 c).Start))

@@ -13,11 +13,11 @@ use Rattle.model_range.proofs.range_of.Goals.{Start}
 room : (c : Start) → Room c.args.m.keys c.args.m.coefficients
 room c = record { keys = search rules; coefficients = search rules }
 
-pub range_arrays-requires : goal.range_arrays-requires
-range_arrays-requires c = own_lies _ (room (goal.at.range_arrays-requires c).Start) c.requires
+pub range_slices-requires : goal.range_slices-requires
+range_slices-requires c = own_lies _ (room (goal.at.range_slices-requires c).Start) c.requires
 
 pub returns : goal.returns
 returns c =
-    c.range_arrays.ensures (own_lies c.args.m (room (goal.at.returns c).Start) c.requires)
+    c.range_slices.ensures (own_lies c.args.m (room (goal.at.returns c).Start) c.requires)
     ∙ ap (λ m. bounds (done (range m))) (own_view c.args.m (room (goal.at.returns c).Start)
     (few _ (room (goal.at.returns c).Start) c.requires))

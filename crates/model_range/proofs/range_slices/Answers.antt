@@ -1,20 +1,18 @@
 -- `range_slices` counts the terms in one walk; all its sums are within the span.
 use mathlib.Core.Path.{◌≡◌, ◌∙◌, ap, ap₂}
-use Prim.Native.Nat.{◌+◌, ◌-◌, ◌≤◌, ◌<◌}
+use Prim.Native.Nat.{◌+◌, ◌<◌}
 use native.Mathlib.Omega.{arith}
-use borrow.Author.Rules.{rules}
 use lib.IntN.{ℤ, pos, ◌+ℤ◌, ◌-ℤ◌}
 use lib.ListN.{get_or}
 use mir.Facts.{to_z-of_z}
 use mir.Syntax.{w64}
 use mir.Val.{to_z, of_z}
 use Rattle.fixed.specs.MachineLaws.{answered}
-use Rattle.calculus.specs.Model.{Model, most_terms}
+use Rattle.calculus.specs.Model.{Model}
 use Rattle.calculus.specs.Operations.{constant_part, below, above, range}
 use Rattle.model_types.specs.ModelStruct.{view, bounds}
 use Rattle.model_slices.specs.HeldModels.{held}
 use Rattle.model_places.specs.LeftModels.{Lies}
-use Rattle.model_places.specs.LeftModelsLaws.{lies_few}
 use Rattle.model_range.specs.KeyRange.{key_steady, key_fall, key_rise}
 use Rattle.model_range.specs.RangeLoopLaws.{Counted}
 use Rattle.model_range.specs.RangePassLaws.{pass_first, pass_iteration, steady_room, fall_room, rise_room}
@@ -22,24 +20,8 @@ use Rattle.model_range.specs.RangePassLaws.{middle_end, below_end, above_end, be
 use Rattle.model_range.proofs.range_slices.Goals as goal
 use Rattle.model_range.proofs.range_slices.Goals.{After-c-1, After-fall-below, After-loop-i, After-rise-above, After-signed-down, After-signed-up, After-steady, Start}
 
-few : (s : Start) → s.args.count ≤ 64
-unfolding most_terms
-few s = lies_few s.requires
-
 pub loop-i-init : goal.loop-i-init
 loop-i-init c w = pass_first w
-
-pub offset_bounds-keys-i : goal.offset_bounds-keys-i
-offset_bounds-keys-i c = omega (arith, few (goal.at.offset_bounds-keys-i c).Start)
-
-pub bounds-keys-i : goal.bounds-keys-i
-bounds-keys-i c = omega (arith, c.requires.places.keys)
-
-pub offset_bounds-coefficients-i : goal.offset_bounds-coefficients-i
-offset_bounds-coefficients-i c = omega (arith, few (goal.at.offset_bounds-coefficients-i c).Start)
-
-pub bounds-coefficients-i : goal.bounds-coefficients-i
-bounds-coefficients-i c = omega (arith, c.requires.places.coefficients)
 
 -- ---- one iteration: the term at hand
 module _ (c : After-c-1) where
@@ -50,16 +32,13 @@ module _ (c : After-c-1) where
   sums = c.loop-i.invariant c.requires
 
   inside : c.loop-i.i < c.args.count
-  inside = c.loop-i-test.true
+  inside = omega arith
 
   abbrev coefficient : ℤ
   coefficient = get_or c.args.coefficients.now c.loop-i.i (pos 0)
 
   read_back : to_z w64 (of_z w64 coefficient) ≡ coefficient
   read_back = to_z-of_z {w = w64} (record { sfits = c.c-1.given })
-
-pub overflow_add-i : goal.overflow_add-i
-overflow_add-i c = omega (arith, few (goal.at.overflow_add-i c).Start, inside c)
 
 -- what the three functions give of it
 steady_is : (c : After-steady) → to_z w64 (of_z w64 c.steady.result)
@@ -98,9 +77,6 @@ overflow_add-above c =
           (inside (goal.at.overflow_add-above c).After-c-1),
     )
 
-pub loop-i-smaller : goal.loop-i-smaller
-loop-i-smaller c = omega arith
-
 pub loop-i-preserved : goal.loop-i-preserved
 loop-i-preserved c w =
     pass_iteration w (c.loop-i.invariant w) (inside (goal.at.loop-i-preserved c).After-c-1)
@@ -119,13 +95,13 @@ module _ (c : After-loop-i) where
         c.args.coefficients.now)
 
     middle_is : to_z w64 c.loop-i.middle-bits ≡ constant_part seen
-    middle_is = middle_end w (c.loop-i.invariant w) c.loop-i-test.false
+    middle_is = middle_end w (c.loop-i.invariant w) (omega arith)
 
     below_is : c.loop-i.below + c.args.radius ≡ below seen
-    below_is = below_end w (c.loop-i.invariant w) c.loop-i-test.false
+    below_is = below_end w (c.loop-i.invariant w) (omega arith)
 
     above_is : c.loop-i.above + c.args.radius ≡ above seen
-    above_is = above_end w (c.loop-i.invariant w) c.loop-i-test.false
+    above_is = above_end w (c.loop-i.invariant w) (omega arith)
 
 down_is : (c : After-signed-down)
     (w : Lies c.args.count c.args.radius c.args.keys.now

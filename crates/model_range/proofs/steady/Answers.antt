@@ -10,6 +10,6 @@ pub returns-then-key-eq0 : goal.returns-then-key-eq0
 unfolding key_steady if_so
 returns-then-key-eq0 c = rw (eq-eqb c.args.key 0 c.if-key-eq0.true) (to_z-of_z c.ranges.coefficient)
 
-pub returns : goal.returns
+pub returns-else-key-eq0 : goal.returns-else-key-eq0
 unfolding key_steady if_so
-returns c = rw (ne_eqb c.args.key 0 c.if-key-eq0.false) refl
+returns-else-key-eq0 c = rw (ne_eqb c.args.key 0 c.if-key-eq0.false) refl

@@ -1,6 +1,5 @@
 -- `under` is the size of a coefficient below 0, and 0 of any other.
 use mathlib.Core.Path.{◌≡◌, refl, sym, ◌∙◌, ap}
-use borrow.Author.Rules.{rules}
 use lib.IntN.{pos, nat_abs}
 use lib.Signed.{le_z}
 use mir.Facts.{to_z-of_z}
@@ -19,8 +18,9 @@ unfolding even_fall if_so
 returns-then-coefficient-ge0 c = rw (sym (ap (λ z. le_z (pos 0) z)
     (read_back (goal.at.returns-then-coefficient-ge0 c).Start)) ∙ c.if-coefficient-ge0.true) refl
 
-pub returns : goal.returns
+pub returns-else-coefficient-ge0 : goal.returns-else-coefficient-ge0
 unfolding even_fall if_so
-returns c =
-    rw (sym (ap (λ z. le_z (pos 0) z) (read_back (goal.at.returns c).Start)) ∙ c.if-coefficient-ge0.false)
-    (c.magnitude.ensures ∙ ap nat_abs (read_back (goal.at.returns c).Start))
+returns-else-coefficient-ge0 c =
+    rw (sym (ap (λ z. le_z (pos 0) z) (read_back (goal.at.returns-else-coefficient-ge0 c).Start))
+    ∙ c.if-coefficient-ge0.false)
+    (c.magnitude.ensures ∙ ap nat_abs (read_back (goal.at.returns-else-coefficient-ge0 c).Start))

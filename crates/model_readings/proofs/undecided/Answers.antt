@@ -1,13 +1,15 @@
--- `undecided` takes both enums apart.
-use borrow.Author.Rules.{rules}
-use Rattle.model_readings.specs.RowPassLaws.{at_reading, at_refusal, not_yet}
+-- `undecided` goes by what is found.
+use Rattle.model_readings.specs.RowIterations.{undecided}
 use Rattle.model_readings.proofs.undecided.Goals as goal
 
 pub returns-in_default : goal.returns-in_default
-returns-in_default c = at_reading _ c.in_default.is
+unfolding undecided
+returns-in_default c = rw c.in_default.is
 
-pub returns-in_default-v : goal.returns-in_default-v
-returns-in_default-v c = at_refusal _ c.in-None.is c.in_default-v.is
+pub returns-in_default-found : goal.returns-in_default-found
+unfolding undecided
+returns-in_default-found c = rw c.in-Ok.is (rw c.in_default-found.is)
 
 pub returns : goal.returns
-returns c = not_yet _ c.in-None.is c.in-Accepted.is
+unfolding undecided
+returns c = rw c.in-Ok.is (rw c.in-None.is)

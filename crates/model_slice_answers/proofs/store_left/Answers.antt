@@ -17,12 +17,12 @@ unfolding most_terms
 copy_coefficients-requires c =
     (omega (arith, c.requires.room.coefficients), c.requires.most_terms_in_bounds.1)
 
-pub returns-in-Accepted : goal.returns-in-Accepted
+pub returns-in-Ok : goal.returns-in-Ok
 unfolding most_terms
-returns-in-Accepted c =
-    left_stored _ _ _ _ c.requires.room c.in-Accepted.is c.copy_keys.ensures c.copy_coefficients.ensures
+returns-in-Ok c =
+    left_stored _ _ _ _ c.requires.room c.in-Ok.is c.copy_keys.ensures c.copy_coefficients.ensures
     c.store_numbers.ensures
 
-pub returns-in-Refused : goal.returns-in-Refused
-returns-in-Refused c =
-    stored_same (sym (left_refused _ _ _ _ _ _ c.in-Refused.is)) c.store_refused.ensures
+pub returns-in-Err : goal.returns-in-Err
+returns-in-Err c =
+    stored_same (sym (left_refused _ _ _ _ _ _ c.in-Err.is)) c.store_refused.ensures

@@ -4,11 +4,11 @@ use native.Mathlib.Omega.{arith}
 use borrow.Author.Rules.{rules}
 use lib.Dec.{lit≤}
 use Rattle.calculus.specs.Model.{most_terms}
-use Rattle.model_types.specs.declared.Verdict.TheVariants.{Accepted}
+use Rattle.std.specs.Prelude.{Ok}
 use Rattle.model_horner_product.specs.SliceProductLaws.{product_stops, product_stored}
 use Rattle.model_slice_results.specs.LeftProductLaws.{kept_left}
 use Rattle.model_slice_results.proofs.product.Goals as goal
-use Rattle.model_slice_results.proofs.product.Goals.{In-Accepted}
+use Rattle.model_slice_results.proofs.product.Goals.{In-Ok}
 
 pub multiplied_slices-k-requires : goal.multiplied_slices-k-requires
 unfolding most_terms
@@ -28,14 +28,14 @@ returns-in_default c =
     c.in_default.is _ _)
 
 -- it is accepted
-module _ (c : In-Accepted) where
-  taken : c.multiplied_slices-k.result.verdict ≡ Accepted
-  taken = c.in-Accepted.is
+module _ (c : In-Ok) where
+  taken : c.multiplied_slices-k.result.verdict ≡ Ok tt
+  taken = c.in-Ok.is
 
 pub store_first-requires : goal.store_first-requires
 unfolding most_terms
 store_first-requires c =
-    let r = c.multiplied_slices-k.ensures.ready.ready (taken (goal.at.store_first-requires c).In-Accepted) in
+    let r = c.multiplied_slices-k.ensures.ready.ready (taken (goal.at.store_first-requires c).In-Ok) in
     let room = c.requires.room in
     record {
       pack_ready = r;
@@ -46,5 +46,5 @@ pub returns : goal.returns
 returns c =
     kept_left _ _
     (product_stored c.args.n c.multiplied_slices-k.ensures.ready c.multiplied_slices-k.ensures.exact
-    (taken (goal.at.returns c).In-Accepted)
+    (taken (goal.at.returns c).In-Ok)
     _ _ c.store_first.ensures.0 c.store_first.ensures.1)

@@ -12,17 +12,17 @@ use Rattle.model_slices.specs.HandedModels.{handed}
 use Rattle.model_call_tests.specs.Admission.{sweeping}
 use Rattle.model_slice_tests.specs.SliceTestLaws.{sweeping_refused, by_threshold}
 use Rattle.model_slice_tests.proofs.sweeping.Goals as goal
-use Rattle.model_slice_tests.proofs.sweeping.Goals.{After-threshold_within_limits, In-Accepted, Start}
+use Rattle.model_slice_tests.proofs.sweeping.Goals.{After-threshold_within_limits, In-Ok, Start}
 
 abbrev handed-model : Start → Model
 handed-model s =
     view (handed s.args.n s.args.count s.args.radius s.args.keys.now s.args.coefficients.now)
 
 -- the test of the model has passed: the threshold decides
-module _ (c : In-Accepted) where
+module _ (c : In-Ok) where
   decided : sweeping c.args.t (handed-model c.before.before.before.before)
       ≡ require_at 0 (threshold_sound c.args.t) bad_step (done tt)
-  decided = by_threshold _ _ (sym c.single_model-v.ensures ∙ c.in-Accepted.is)
+  decided = by_threshold _ _ (sym c.single_model-v.ensures ∙ c.in-Ok.is)
 
 pub returns-in_default : goal.returns-in_default
 returns-in_default c =
@@ -40,7 +40,7 @@ pub returns-then-not-threshold_within_limits : goal.returns-then-not-threshold_w
 unfolding require_at refusal verdict
 returns-then-not-threshold_within_limits c =
     rw (
-      decided (goal.at.returns-then-not-threshold_within_limits c).In-Accepted,
+      decided (goal.at.returns-then-not-threshold_within_limits c).In-Ok,
       tested (goal.at.returns-then-not-threshold_within_limits c).After-threshold_within_limits false
           (c.if-not-threshold_within_limits.true),
     )
@@ -49,7 +49,7 @@ pub returns : goal.returns
 unfolding require_at verdict
 returns c =
     rw (
-      decided (goal.at.returns c).In-Accepted,
+      decided (goal.at.returns c).In-Ok,
       tested (goal.at.returns c).After-threshold_within_limits true
           (c.if-not-threshold_within_limits.false),
     )

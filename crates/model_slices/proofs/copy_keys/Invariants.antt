@@ -11,6 +11,3 @@ use Rattle.model_slices.proofs.copy_keys.Given as goal
 abbrev pub invariant-loop-i : goal.invariant-loop-i
 invariant-loop-i l =
     (l.i ≤ l.count) × (length l.out ≡ length l.initial.out) × (l.out ≡ over (take l.i l.keys) l.initial.out)
-
-abbrev pub decreases-loop-i : goal.decreases-loop-i
-decreases-loop-i l = l.count - l.i

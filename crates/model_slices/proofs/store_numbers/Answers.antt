@@ -1,5 +1,4 @@
 -- `store_numbers` stores four numbers.
-use borrow.Author.Rules.{rules}
 use native.Mathlib.Omega.{arith}
 use lib.ListN.{length-set}
 use Rattle.model_slices.specs.HandedModels.{stored_numbers}

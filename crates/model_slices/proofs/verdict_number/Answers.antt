@@ -1,12 +1,11 @@
 -- `verdict_number` reads the number of a refusal.
-use borrow.Author.Rules.{rules}
 use Rattle.model_types.specs.ModelStruct.{verdict_number}
 use Rattle.model_slices.proofs.verdict_number.Goals as goal
 
-pub returns-in-Accepted : goal.returns-in-Accepted
+pub returns-in-Ok : goal.returns-in-Ok
 unfolding verdict_number
-returns-in-Accepted c = rw c.in-Accepted.is
+returns-in-Ok c = rw c.in-Ok.is
 
-pub returns-in-Refused : goal.returns-in-Refused
+pub returns-in-Err : goal.returns-in-Err
 unfolding verdict_number
-returns-in-Refused c = rw c.in-Refused.is c.number.ensures
+returns-in-Err c = rw c.in-Err.is c.number.ensures

@@ -17,13 +17,13 @@ module _ (c : Start) where
   unfolding most_terms
   coefficients_whole = search rules
 
-pub sound_arrays-requires : goal.sound_arrays-requires
-sound_arrays-requires c =
-    borrowed_own _ _ _ (keys_whole (goal.at.sound_arrays-requires c).Start)
-    (coefficients_whole (goal.at.sound_arrays-requires c).Start)
+pub sound_slices-requires : goal.sound_slices-requires
+sound_slices-requires c =
+    borrowed_own _ _ _ (keys_whole (goal.at.sound_slices-requires c).Start)
+    (coefficients_whole (goal.at.sound_slices-requires c).Start)
 
 pub returns : goal.returns
 returns c =
-    c.sound_arrays.ensures
+    c.sound_slices.ensures
     ∙ ap (λ m. sound c.args.d (view m))
     (handed_own c.args.m (keys_whole (goal.at.returns c).Start) (coefficients_whole (goal.at.returns c).Start))

@@ -2,10 +2,8 @@
 -- the cap.
 use mathlib.Core.Path.{◌≡◌, sym, ◌∙◌, ap}
 use mathlib.Core.Bool.{true}
-use Prim.Native.Nat.{ℕ, ◌≤◌, ◌<◌, ◌+◌, ◌-◌}
+use Prim.Native.Nat.{ℕ, ◌≤◌, ◌<◌, ◌+◌}
 use native.Mathlib.Omega.{arith}
-use borrow.Author.Rules.{rules}
-use borrow.Author.Tests.{not-true, not-false}
 use lib.IntN.{ℤ, pos, nat_abs}
 use lib.ListN.{length, get_or}
 use mir.Facts.{to_z-of_z}
@@ -18,8 +16,6 @@ use Rattle.calculus.specs.Model.{most_terms}
 use Rattle.calculus.specs.Tests.{vars_sound}
 use Rattle.model_types.specs.ModelStruct.{term_sound}
 use Rattle.model_types.specs.ModelStructLaws.{vars_range}
-use Rattle.model_slices.specs.HandedModels.{handed}
-use Rattle.model_soundness.specs.SoundPassLaws.{Passed}
 use Rattle.model_soundness.specs.SliceSoundLaws.{borrowed_places, slices_vars_not, slices_many_not, slices_first}
 use Rattle.model_soundness.specs.SliceSoundLaws.{slices_end, slices_iteration, slices_not}
 use Rattle.model_soundness.proofs.sound_slices.Goals as goal
@@ -37,10 +33,6 @@ module _ (c : Else-count-gt-MOST_TERMS) where
   long : (c.args.count ≤ length c.args.keys.now)
       × (c.args.count ≤ length c.args.coefficients.now)
   long = borrowed_places _ _ _ c.requires few
-
--- the count in a word
-few_places : (c : Else-count-gt-MOST_TERMS) → c.args.count ≤ 64
-few_places c = c.if-count-gt-MOST_TERMS.false
 
 -- and of the term at hand
 module _ (c : After-c-1) where
@@ -89,18 +81,8 @@ returns-then-count-gt-MOST_TERMS c = sym (slices_many_not _ _ _ _ _ _ c.if-count
 pub loop-i-init : goal.loop-i-init
 loop-i-init c = slices_first _ _ _ _ _ _ (vars_hold c) (few c)
 
-pub offset_bounds-keys-i : goal.offset_bounds-keys-i
-offset_bounds-keys-i c = omega (arith, few_places (goal.at.offset_bounds-keys-i c).Else-count-gt-MOST_TERMS)
-
 pub bounds-keys-i : goal.bounds-keys-i
 bounds-keys-i c = omega (arith, (long (goal.at.bounds-keys-i c).Else-count-gt-MOST_TERMS).0)
-
-pub offset_bounds-coefficients-i : goal.offset_bounds-coefficients-i
-offset_bounds-coefficients-i c = omega (
-  arith,
-  few_places
-      (goal.at.offset_bounds-coefficients-i c).Else-count-gt-MOST_TERMS,
-)
 
 pub bounds-coefficients-i : goal.bounds-coefficients-i
 bounds-coefficients-i c = omega (arith, (long (goal.at.bounds-coefficients-i c).Else-count-gt-MOST_TERMS).1)
@@ -113,36 +95,17 @@ returns-then-not-term_sound c =
     sym
     (slices_not _ _ _ _ _ _ (vars_hold (goal.at.returns-then-not-term_sound c).Else-count-gt-MOST_TERMS)
     (few (goal.at.returns-then-not-term_sound c).Else-count-gt-MOST_TERMS) _ _ _ c.loop-i.invariant
-    c.loop-i-test.true
+    (omega arith)
     (long (goal.at.returns-then-not-term_sound c).Else-count-gt-MOST_TERMS).0
     (long (goal.at.returns-then-not-term_sound c).Else-count-gt-MOST_TERMS).1
     (key_small (goal.at.returns-then-not-term_sound c).After-c-1)
     (tested (goal.at.returns-then-not-term_sound c).After-term_sound ∙ c.if-not-term_sound.true))
 
--- a key fits twice the bits, and so does the number after it
-key_fits : (z : ℕ) → Fits w32 z → Fits w64 z
-key_fits z h = omega arith
-
-next_fits : (z : ℕ) → Fits w32 z → Fits w64 (z + 1)
-next_fits z h = omega arith
-
-pub overflow_cast-least : goal.overflow_cast-least
-overflow_cast-least c = key_fits _ (key_word (goal.at.overflow_cast-least c).After-c-1)
-
-pub overflow_add-least : goal.overflow_add-least
-overflow_add-least c = next_fits _ (key_word (goal.at.overflow_add-least c).After-c-1)
-
-pub overflow_add-i : goal.overflow_add-i
-overflow_add-i c = omega (arith, few_places (goal.at.overflow_add-i c).Else-count-gt-MOST_TERMS)
-
-pub loop-i-smaller : goal.loop-i-smaller
-loop-i-smaller c = omega arith
-
 pub loop-i-preserved : goal.loop-i-preserved
 loop-i-preserved c =
     slices_iteration _ _ _ _ _ _ (vars_hold (goal.at.loop-i-preserved c).Else-count-gt-MOST_TERMS)
     (few (goal.at.loop-i-preserved c).Else-count-gt-MOST_TERMS) _ _ _ c.loop-i.invariant
-    c.loop-i-test.true
+    (omega arith)
     (long (goal.at.loop-i-preserved c).Else-count-gt-MOST_TERMS).0
     (long (goal.at.loop-i-preserved c).Else-count-gt-MOST_TERMS).1
     (key_small (goal.at.loop-i-preserved c).After-c-1) (tested (goal.at.loop-i-preserved c).After-term_sound
@@ -156,4 +119,4 @@ pub returns : goal.returns
 returns c =
     c.within_span.ensures
     ∙ slices_end _ _ _ _ _ _ (vars_hold (goal.at.returns c).Else-count-gt-MOST_TERMS)
-    (few (goal.at.returns c).Else-count-gt-MOST_TERMS) _ _ _ c.loop-i.invariant c.loop-i-test.false
+    (few (goal.at.returns c).Else-count-gt-MOST_TERMS) _ _ _ c.loop-i.invariant (omega arith)

@@ -1,38 +1,47 @@
 -- `term_sound` makes a term's tests one after the other.
-use borrow.Author.Rules.{rules}
-use borrow.Author.Tests.{le-leb, lt-leb}
+use mathlib.Core.Path.{◌≡◌, sym, ◌∙◌, ap}
+use mathlib.Core.Bool.{true, false, not, ◌&&◌}
+use borrow.Author.Tests.{eq-eqb}
+use Rattle.std.proofs.Common.{leb}
+use Rattle.calculus.specs.Terms.{is_nonzero}
 use Rattle.model_types.specs.ModelStruct.{term_sound}
 use Rattle.model_types.specs.ZeroTestLaws.{zero_bits, nonzero_bits}
 use Rattle.model_soundness.proofs.term_sound.Goals as goal
-
-pub returns-then-coefficient-eq0 : goal.returns-then-coefficient-eq0
-unfolding term_sound
-returns-then-coefficient-eq0 c = rw (zero_bits c.ranges.coefficient c.if-coefficient-eq0.true)
-
-pub returns-then-key-least : goal.returns-then-key-least
-unfolding term_sound
-returns-then-key-least c = rw (nonzero_bits _ c.if-coefficient-eq0.false, lt-leb _ _ c.if-key-least.true)
-
-pub key_fits-requires : goal.key_fits-requires
-key_fits-requires c = let p = c.requires in record { first = p.0; last = p.1 }
+use Rattle.model_soundness.proofs.term_sound.Goals.{then-coefficient-ne0, else-coefficient-ne0, then-least-key, else-least-key}
 
 pub returns-then-key_fits : goal.returns-then-key_fits
 unfolding term_sound
 returns-then-key_fits c =
-    rw (
-      nonzero_bits _ c.if-coefficient-eq0.false,
-      le-leb _ _ c.if-key-least.false,
-      ← c.key_fits.ensures,
-      c.if-key_fits.true,
-      c.degree.ensures,
-    )
+    let first : c.if-coefficient-ne0.value ≡ (is_nonzero c.args.coefficient && leb c.args.least c.args.key) =
+    elim c.if-coefficient-ne0.branch [
+      | then-coefficient-ne0 u ↦ rw (nonzero_bits _ u.if-coefficient-ne0.true) u.value-is
+      | else-coefficient-ne0 u ↦ rw (zero_bits c.ranges.coefficient u.if-coefficient-ne0.false)
+          (u.value-is ∙ ap not (eq-eqb _ 0 u.if-coefficient-ne0.false))
+    ] in
+    elim c.if-least-key.branch [
+      | then-least-key w ↦
+          let e : (is_nonzero c.args.coefficient && leb c.args.least c.args.key) ≡ true = sym first
+          ∙ w.if-least-key.true in
+          rw (e, sym w.key_fits.ensures ∙ sym w.value-is ∙ c.if-key_fits.true, c.degree.ensures)
+      | else-least-key w ↦ cc
+    ]
 
 pub returns-else-key_fits : goal.returns-else-key_fits
 unfolding term_sound
 returns-else-key_fits c =
-    rw (
-      nonzero_bits _ c.if-coefficient-eq0.false,
-      le-leb _ _ c.if-key-least.false,
-      ← c.key_fits.ensures,
-      c.if-key_fits.false,
-    )
+    let first : c.if-coefficient-ne0.value ≡ (is_nonzero c.args.coefficient && leb c.args.least c.args.key) =
+    elim c.if-coefficient-ne0.branch [
+      | then-coefficient-ne0 u ↦ rw (nonzero_bits _ u.if-coefficient-ne0.true) u.value-is
+      | else-coefficient-ne0 u ↦ rw (zero_bits c.ranges.coefficient u.if-coefficient-ne0.false)
+          (u.value-is ∙ ap not (eq-eqb _ 0 u.if-coefficient-ne0.false))
+    ] in
+    elim c.if-least-key.branch [
+      | then-least-key w ↦
+          let e : (is_nonzero c.args.coefficient && leb c.args.least c.args.key) ≡ true = sym first
+          ∙ w.if-least-key.true in
+          rw (e, sym w.key_fits.ensures ∙ sym w.value-is ∙ c.if-key_fits.false) c.if-key_fits.false
+      | else-least-key w ↦
+          let e : (is_nonzero c.args.coefficient && leb c.args.least c.args.key) ≡ false = sym first
+          ∙ w.if-least-key.false in
+          rw e c.if-key_fits.false
+    ]

@@ -59,9 +59,6 @@ start
     l =
     l.before.before.before.before.before.before.before.before.before.before.before.before.before.before.before.before
 
-pub overflow_sub-k : goal.overflow_sub-k
-overflow_sub-k c = omega arith
-
 pub part-t-requires : goal.part-t-requires
 part-t-requires c =
     let q = c.by_powers-p.ensures.chained in
@@ -238,9 +235,6 @@ returns-in_default c =
     c.iterated-r.ensures
     c.in_default.is
 
-pub loop-k-smaller : goal.loop-k-smaller
-loop-k-smaller c = omega (arith, some (goal.at.loop-k-smaller c).After-part-t)
-
 pub loop-k-preserved : goal.loop-k-preserved
 loop-k-preserved c = (
   left_room (goal.at.loop-k-preserved c).After-iterated-r,
@@ -252,7 +246,7 @@ loop-k-preserved c = (
   put_goes_on (start (goal.at.loop-k-preserved c).At-loop-k).requires.substitution_of _ _ _ _ c.loop-k.invariant.6 _ _ _
       (next_is (goal.at.loop-k-preserved c).After-part-t) (some (goal.at.loop-k-preserved c).After-part-t) _ _
       c.iterated-r.ensures
-      c.in-Accepted.is,
+      c.in-Ok.is,
   omega (arith, c.loop-k.invariant.7),
 )
 

@@ -30,6 +30,3 @@ invariant-loop-k l =
     (held l.n l.count2 l.radius2 l.keys2 l.coefficients2) l.k
     (held l.n l.c l.e l.remaining l.rest) l.last
     × (l.k < exponents)
-
-abbrev pub decreases-loop-k : goal.decreases-loop-k
-decreases-loop-k l = l.k

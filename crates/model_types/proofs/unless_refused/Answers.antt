@@ -11,4 +11,4 @@ returns-in_default c = rw c.in_default.is
 
 pub returns : goal.returns
 unfolding unless_refused
-returns c = rw c.in-Accepted.is
+returns c = rw c.in-Ok.is

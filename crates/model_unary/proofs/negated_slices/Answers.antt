@@ -1,7 +1,6 @@
 -- `negated_slices` copies the keys, and the coefficients with their signs turned.
 use mathlib.Core.Path.{refl}
 use native.Mathlib.Omega.{arith}
-use borrow.Author.Rules.{rules}
 use Rattle.calculus.specs.Model.{most_terms}
 use Rattle.model_places.specs.LeftModelsLaws.{lies_few, lies_small, left_accepted, zeros_room}
 use Rattle.model_unary.specs.NegateLaws.{turned_struct}

@@ -1,7 +1,6 @@
 -- `swept_accounted` reports the old radius as carried, and what it grew by as swept.
 use mathlib.Core.Path.{◌∙◌, ap}
 use native.Mathlib.Omega.{arith}
-use borrow.Author.Rules.{rules}
 use Rattle.model_types.specs.SharesStruct.{stored_shares}
 use Rattle.model_types.specs.SharesStructLaws.{accounted_accepted}
 use Rattle.model_unary.specs.SweepShareLaws.{radius_grows, growth_fits, growth_shares}

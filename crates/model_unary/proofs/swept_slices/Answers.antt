@@ -1,12 +1,12 @@
 -- `swept_slices` keeps the terms that are not small, in order, and adds the others to the radius.
-use mathlib.Core.Path.{◌≡◌, refl, sym, ◌∙◌, ap, ap₂, subst}
+use mathlib.Core.Path.{◌≡◌, refl, sym, ◌∙◌, ap, subst}
 use mathlib.Core.Bool.{not, ◌&&◌}
-use Prim.Native.Nat.{◌≤◌, ◌<◌, ◌+◌, ◌*◌, ◌-◌, ◌^◌}
+use Prim.Native.Nat.{ℕ, ◌≤◌, ◌<◌, ◌+◌, ◌*◌, ◌^◌}
 use native.Mathlib.Omega.{arith}
 use borrow.Author.Rules.{rules}
 use lib.Dec.{eqb, leb}
-use lib.IntN.{ℤ, pos, nat_abs}
-use lib.ListN.{length, get_or}
+use lib.IntN.{pos, nat_abs}
+use lib.ListN.{get_or}
 use mir.Facts.{to_z-of_z}
 use mir.Syntax.{w64}
 use mir.Val.{to_z, of_z}
@@ -18,8 +18,8 @@ use Rattle.calculus.specs.Model.{most_terms}
 use Rattle.model_types.specs.declared.Term.{Term}
 use Rattle.model_types.specs.declared.Model.{Model}
 use Rattle.model_types.specs.ModelStruct.{zero_term, paired, listed}
-use Rattle.model_types.specs.PairedLaws.{Listed, listed_own, listed_put, listed_struct}
-use Rattle.model_slices.specs.HeldModels.{held, Room}
+use Rattle.model_types.specs.PairedLaws.{listed_own, listed_put, listed_struct}
+use Rattle.model_slices.specs.HeldModels.{held}
 use Rattle.model_slices.specs.HeldModelsLaws.{pair, room_still}
 use Rattle.model_places.specs.SlicePlacesLaws.{places_at}
 use Rattle.model_places.specs.LeftModels.{Lies}
@@ -27,7 +27,7 @@ use Rattle.model_places.specs.LeftModelsLaws.{lies_limits, lies_few, lies_long, 
 use Rattle.model_unary.specs.SweepLaws.{Swept, swept_zeros, swept_room, swept_end, swept_within}
 use Rattle.model_unary.specs.SweepLaws.{swept_drop, swept_keep}
 use Rattle.model_unary.proofs.swept_slices.Goals as goal
-use Rattle.model_unary.proofs.swept_slices.Goals.{After-c-1, After-is_small, After-magnitude-size, Start}
+use Rattle.model_unary.proofs.swept_slices.Goals.{then-is_small, else-is_small, After-c-1, Start}
 
 few : (s : Start) → s.args.total ≤ 64
 unfolding most_terms
@@ -38,22 +38,10 @@ unfolding held
 loop-i-init c =
     (zeros_room c.requires.zeros, λ w. swept_zeros _ _ c.requires.zeros)
 
-pub offset_bounds-keys-i : goal.offset_bounds-keys-i
-offset_bounds-keys-i c = omega (arith, few (goal.at.offset_bounds-keys-i c).Start)
-
-pub bounds-keys-i : goal.bounds-keys-i
-bounds-keys-i c = omega (arith, c.requires.lies.places.keys)
-
-pub offset_bounds-coefficients-i : goal.offset_bounds-coefficients-i
-offset_bounds-coefficients-i c = omega (arith, few (goal.at.offset_bounds-coefficients-i c).Start)
-
-pub bounds-coefficients-i : goal.bounds-coefficients-i
-bounds-coefficients-i c = omega (arith, c.requires.lies.places.coefficients)
-
 -- the term at hand
 module _ (c : After-c-1) where
   inside : c.loop-i.i < c.args.total
-  inside = c.loop-i-test.true
+  inside = omega arith
 
   abbrev at : Term
   at = pair (get_or c.args.keys.now c.loop-i.i 0)
@@ -100,71 +88,23 @@ module _ (c : After-c-1) where
         swept_within _ _ (lies_long w) _ _ _ _ (c.loop-i.invariant.1 w) inside (lies_limits w).width (small_here w),
       )
 
--- its size and its test
-size_is : (c : After-magnitude-size) → c.magnitude-size.result ≡ nat_abs
-    (at (goal.at.overflow_add-i c).After-c-1).coefficient
-size_is c = c.magnitude-size.ensures ∙ ap nat_abs (read_back (goal.at.overflow_add-i c).After-c-1)
-
-module _ (c : After-is_small) where
-  tested : (w : Lies c.args.total c.args.start c.args.keys.now
-      c.args.coefficients.now)
-      → not (eqb (get_or (listed (model (record {
-        before = c.before.before.before;
-        type_inv = record
-            { keys = c.shared_slice_known-in-loop-i-1.given };
-      }) w)) c.loop-i.i zero_term).key 0)
-      && leb (nat_abs (get_or (listed (model (record
-      { before = c.before.before.before; type_inv = record { keys = c.shared_slice_known-in-loop-i-1.given } }) w))
-      c.loop-i.i zero_term).coefficient)
-      c.args.threshold
-      ≡ c.is_small.result
-  tested w =
-      ap (λ (t : Term). not (eqb t.key 0) && leb (nat_abs t.coefficient) c.args.threshold)
-      (here (record {
-        before = c.before.before.before;
-        type_inv = record
-            { keys = c.shared_slice_known-in-loop-i-1.given };
-      }) w)
-      ∙ sym (c.is_small.ensures
-      ∙ ap (λ z. not (eqb (at (record {
-        before = c.before.before.before;
-        type_inv = record
-            { keys = c.shared_slice_known-in-loop-i-1.given };
-      })).key 0) && leb z c.args.threshold)
-      (size_is (record {
-        before = c.before.before;
-        type_inv = record
-            { keys = c.shared_slice_known-in-loop-i-1.given };
-      })))
-
-pub overflow_add-i : goal.overflow_add-i
-overflow_add-i c = omega (arith, few (goal.at.overflow_add-i c).Start, inside (goal.at.overflow_add-i c).After-c-1)
+-- its test
+module _ (c : After-c-1) where
+  tested : (w : Lies c.args.total c.args.start c.args.keys.now c.args.coefficients.now)
+      → (size : ℕ) → size ≡ nat_abs (at c).coefficient
+      → (not (eqb (get_or (listed (model c w)) c.loop-i.i zero_term).key 0)
+      && leb (nat_abs (get_or (listed (model c w)) c.loop-i.i zero_term).coefficient) c.args.threshold)
+      ≡ (not (eqb (at c).key 0) && leb size c.args.threshold)
+  tested w size e =
+      ap (λ (t : Term). not (eqb t.key 0) && leb (nat_abs t.coefficient) c.args.threshold) (here c w)
+      ∙ ap (λ z. not (eqb (at c).key 0) && leb z c.args.threshold) (sym e)
 
 pub overflow_add-radius : goal.overflow_add-radius
 overflow_add-radius c = omega (
   arith,
   span_fits,
-  size_is (goal.at.overflow_add-radius c).After-magnitude-size,
+  c.magnitude-size.ensures ∙ ap nat_abs (read_back (goal.at.overflow_add-radius c).After-c-1),
   within (goal.at.overflow_add-radius c).After-c-1,
-)
-
-pub loop-i-smaller-then-is_small : goal.loop-i-smaller-then-is_small
-loop-i-smaller-then-is_small c = omega (arith, inside (goal.at.loop-i-smaller-then-is_small c).After-c-1)
-
-pub loop-i-preserved-then-is_small : goal.loop-i-preserved-then-is_small
-unfolding held
-loop-i-preserved-then-is_small c = (
-  c.loop-i.invariant.0,
-  λ w. subst
-      (λ r. Swept c.args.threshold (model (goal.at.loop-i-preserved-then-is_small c).After-c-1 w)
-      (paired c.loop-i.stored c.loop-i.out)
-      c.loop-i.count (c.loop-i.radius + r) (c.loop-i.i + 1))
-      (ap (λ (c : Term). nat_abs c.coefficient) (here (goal.at.loop-i-preserved-then-is_small c).After-c-1 w)
-      ∙ sym (size_is (goal.at.loop-i-preserved-then-is_small c).After-magnitude-size))
-      (swept_drop _ _ (lies_long w) _ _ _ _ (c.loop-i.invariant.1 w)
-      (inside (goal.at.loop-i-preserved-then-is_small c).After-c-1) (lies_limits w).width
-      (small_here (goal.at.loop-i-preserved-then-is_small c).After-c-1 w)
-      (tested (goal.at.loop-i-preserved-then-is_small c).After-is_small w ∙ c.if-is_small.true)),
 )
 
 pub offset_bounds-stored-count : goal.offset_bounds-stored-count
@@ -184,28 +124,37 @@ bounds-out-count c =
 pub overflow_add-count : goal.overflow_add-count
 overflow_add-count c = omega (arith, room (goal.at.overflow_add-count c).After-c-1)
 
-pub loop-i-smaller : goal.loop-i-smaller
-loop-i-smaller c = omega (arith, inside (goal.at.loop-i-smaller c).After-c-1)
-
 pub loop-i-preserved : goal.loop-i-preserved
 unfolding held most_terms
 loop-i-preserved c =
-    let r = c.loop-i.invariant.0 in (
-      room_still _ _ _ r,
-      λ w.
-          let put = listed_put (listed_own _ _ (r.keys ∙ sym r.coefficients)) c.loop-i.count
-          (get_or (listed (model (goal.at.loop-i-preserved c).After-c-1 w)) c.loop-i.i zero_term)
-          (sym (ap (λ (c : Term). c.key) (here (goal.at.loop-i-preserved c).After-c-1 w)))
-          (read_back (goal.at.loop-i-preserved c).After-c-1
-          ∙ sym (ap (λ (c : Term). c.coefficient) (here (goal.at.loop-i-preserved c).After-c-1 w))) in
-          subst (λ l. Swept c.args.threshold (model (goal.at.loop-i-preserved c).After-c-1 w) l (c.loop-i.count + 1)
-          c.loop-i.radius
-          (c.loop-i.i + 1)) (sym put.1)
-          (swept_keep _ _ (lies_long w) _ _ _ _ (c.loop-i.invariant.1 w) (inside (goal.at.loop-i-preserved c).After-c-1)
-          (lies_limits w).width (small_here (goal.at.loop-i-preserved c).After-c-1 w)
-          (tested (goal.at.loop-i-preserved c).After-is_small w ∙ c.if-is_small.false)
-          (omega (arith, few (goal.at.loop-i-preserved c).Start, inside (goal.at.loop-i-preserved c).After-c-1))),
-    )
+    let p = (goal.at.loop-i-preserved c).After-c-1 in
+    let size : c.magnitude-size.result ≡ nat_abs (at p).coefficient = c.magnitude-size.ensures
+    ∙ ap nat_abs (read_back p) in
+    let r = c.loop-i.invariant.0 in
+    elim c.if-is_small.branch [
+      | then-is_small u ↦ rw (u.stored-is, u.out-is, u.count-is, u.radius-is) (
+        r,
+        λ w. subst
+            (λ r. Swept c.args.threshold (model p w) (paired c.loop-i.stored c.loop-i.out)
+            c.loop-i.count (c.loop-i.radius + r) (c.loop-i.i + 1))
+            (ap (λ (c : Term). nat_abs c.coefficient) (here p w) ∙ sym size)
+            (swept_drop _ _ (lies_long w) _ _ _ _ (c.loop-i.invariant.1 w) (inside p) (lies_limits w).width
+            (small_here p w) (tested p w _ size ∙ sym c.is_small.ensures ∙ u.if-is_small.true)),
+      )
+      | else-is_small u ↦ rw (u.stored-is, u.out-is, u.count-is, u.radius-is) (
+        room_still _ _ _ r,
+        λ w.
+            let put = listed_put (listed_own _ _ (r.keys ∙ sym r.coefficients)) c.loop-i.count
+            (get_or (listed (model p w)) c.loop-i.i zero_term)
+            (sym (ap (λ (c : Term). c.key) (here p w)))
+            (read_back p ∙ sym (ap (λ (c : Term). c.coefficient) (here p w))) in
+            subst (λ l. Swept c.args.threshold (model p w) l (c.loop-i.count + 1) c.loop-i.radius (c.loop-i.i + 1))
+            (sym put.1)
+            (swept_keep _ _ (lies_long w) _ _ _ _ (c.loop-i.invariant.1 w) (inside p) (lies_limits w).width
+            (small_here p w) (tested p w _ size ∙ sym c.is_small.ensures ∙ u.if-is_small.false)
+            (omega (arith, few (goal.at.loop-i-preserved c).Start, inside p))),
+      )
+    ]
 
 pub shape_of-stored : goal.shape_of-stored
 shape_of-stored c =
@@ -223,4 +172,4 @@ returns c w =
     let i = c.loop-i.invariant in
     left_accepted _ _ _ _ refl _
     (listed_struct (listed_own _ _ (i.0.keys ∙ sym i.0.coefficients)) _ _ _
-    ∙ swept_end _ _ (lies_long w) _ _ _ _ (i.1 w) c.loop-i-test.false)
+    ∙ swept_end _ _ (lies_long w) _ _ _ _ (i.1 w) (omega arith))

@@ -1,7 +1,6 @@
 -- `pack` has the terms stored in two arrays of zeros.
 use mathlib.Core.Path.{◌∙◌}
 use native.Mathlib.Omega.{arith}
-use borrow.Author.Rules.{rules}
 use Rattle.calculus.specs.Model.{most_terms}
 use Rattle.model_types.specs.PairedLaws.{listed_struct}
 use Rattle.product_sums.specs.TermArrayLaws.{terms_length}

@@ -1,6 +1,5 @@
 -- `packed_kept` puts the shares beside the answer.
 use mathlib.Core.Path.{ap}
-use borrow.Author.Rules.{rules}
 use Rattle.product_answer.specs.KeptProduct.{kept_accounted}
 use Rattle.product_answer.proofs.packed_kept.Goals as goal
 

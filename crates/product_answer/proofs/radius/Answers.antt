@@ -1,5 +1,4 @@
 -- `radius` sums E and rounds it up.
-use borrow.Author.Rules.{rules}
 use Rattle.product_answer.proofs.radius.Goals as goal
 
 pub returns : goal.returns

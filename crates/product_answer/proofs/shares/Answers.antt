@@ -1,7 +1,6 @@
 -- `shares` is what is summed, and the rest of U times the radius.
 use mathlib.Core.Path.{◌≡◌, ◌∙◌, ap}
 use Prim.Native.Nat.{ℕ, ◌+◌, ◌-◌, ◌*◌}
-use borrow.Author.Rules.{rules}
 use native.Mathlib.Omega.{arith}
 use Rattle.numbers.specs.Fixed.{U, round_up}
 use Rattle.numbers.proofs.FixedLaws.{round_up_ok}

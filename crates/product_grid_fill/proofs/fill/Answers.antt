@@ -1,27 +1,21 @@
 -- `fill` adds one row of products after the other.
 use mathlib.Core.Path.{◌≡◌, refl, ◌∙◌}
-use mathlib.Core.List.{List, []}
-use Prim.Native.Nat.{ℕ, ◌-◌, ◌≤◌, ◌<◌}
+use Prim.Native.Nat.{◌<◌}
 use native.Mathlib.Numerals.{add-one}
 use native.Mathlib.Omega.{arith}
-use borrow.Author.Rules.{rules}
 use lib.IntN.{ℤ, pos}
-use lib.ListN.{length, get_or, take}
+use lib.ListN.{get_or, take}
 use lib.Seq.{take_all}
 use mir.Facts.{to_z-of_z}
 use mir.Syntax.{w64}
 use mir.Val.{to_z, of_z}
-use Rattle.algebra.specs.IntegerRing.{ℤR}
 use Rattle.polynomial.specs.Polynomial.{product}
 use Rattle.product_sums.specs.TermArrays.{at_key, terms}
 use Rattle.product_sums.specs.TermArrayLaws.{terms_length}
-use Rattle.product_grid_fill.specs.Filling.{Filled, AllFit}
+use Rattle.product_grid_fill.specs.Filling.{AllFit}
 use Rattle.product_grid_fill.specs.FillingLaws.{filled_first, filled_after, filled_last, products_more}
 use Rattle.product_grid_fill.specs.FillingLaws.{next_first}
 use Rattle.product_grid_fill.specs.FillingLaws.{row_fits}
-use Rattle.product_grid_fill.proofs.fill.Reads as reads
-use Rattle.product_grid_fill.proofs.fill.Lts as lts
-use Rattle.product_grid_fill.proofs.row.Reads as row_reads
 use Rattle.product_grid_fill.proofs.fill.Goals as goal
 use Rattle.product_grid_fill.proofs.fill.Goals.{After-c-1}
 

@@ -1,7 +1,7 @@
 -- `row` adds the products of one term with each of a list.
 use mathlib.Core.Path.{◌≡◌, refl, ◌∙◌, ap}
-use mathlib.Core.List.{List, [], ◌∷◌, ◌++◌}
-use Prim.Native.Nat.{ℕ, suc, ◌+◌, ◌-◌, ◌*◌, ◌/◌, ◌%◌, ◌^◌, ◌≤◌, ◌<◌}
+use mathlib.Core.List.{[], ◌∷◌, ◌++◌}
+use Prim.Native.Nat.{ℕ, suc, ◌+◌, ◌/◌, ◌%◌, ◌^◌, ◌<◌}
 use native.Mathlib.Numerals.{add-one}
 use native.Mathlib.Omega.{arith}
 use borrow.Author.Rules.{rules}
@@ -15,7 +15,7 @@ use Rattle.algebra.specs.Integer.{natAbs_add, nat_abs_mul}
 use Rattle.algebra.specs.IntegerRing.{ℤR}
 use Rattle.polynomial.specs.Polynomial.{add_exponents, times}
 use Rattle.fixed.specs.MachineLaws.{fits_size}
-use Rattle.calculus.specs.Terms.{Terms, size}
+use Rattle.calculus.specs.Terms.{Terms}
 use Rattle.model_keys.specs.Keys.{wide_degree}
 use Rattle.product_sums.specs.TermArrays.{at_key, none, terms}
 use Rattle.product_sums.specs.TermArrayLaws.{terms_length, terms_at}
@@ -23,10 +23,6 @@ use Rattle.product_grid_index.specs.Grid.{place}
 use Rattle.product_grid_index.specs.DegreeLaws.{word_place, word_degree}
 use Rattle.product_grid_fill.specs.Filling.{RowFits, Filled}
 use Rattle.product_grid_fill.specs.FillingLaws.{filled_none, filled_more, times_more, times_most}
-use Rattle.product_grid_fill.proofs.row.Reads as reads
-use Rattle.product_grid_fill.proofs.row.Lts as lts
-use Rattle.fixed.proofs.product.Reads as product-reads
-use Rattle.fixed.proofs.sum.Reads as sum-reads
 use Rattle.product_grid_fill.proofs.row.Goals as goal
 use Rattle.product_grid_fill.proofs.row.Goals.{After-old-1, After-product-z, After-y-1}
 

@@ -1,36 +1,28 @@
 -- `degree_of` takes the larger of the largest so far and one more key's.
-use mathlib.Core.Path.{◌≡◌}
-use Prim.Native.Nat.{◌-◌, ◌≤◌}
-use native.Mathlib.Omega.{arith}
-use borrow.Author.Rules.{rules}
-use lib.ListN.{get_or}
-use Rattle.product_grid_index.specs.Degrees.{TopDegree}
-use Rattle.product_grid_index.specs.DegreeLaws.{degree_byte, top_none, top_more, top_byte}
-use Rattle.product_grid_index.proofs.degree_of.Reads as reads
-use Rattle.product_grid_index.proofs.degree_of.Lts as lts
-use Rattle.model_keys.proofs.wide_degree.Reads as wide-degree-reads
-use Rattle.product_grid_index.proofs.larger.Reads as larger-reads
+use Rattle.std.proofs.Common.{◌≡◌, max, arith, rules, get_or, ap, ◌∙◌}
+use Rattle.std.proofs.lemmas.List.{get_or-take, length-take-le}
+use Rattle.model_keys.specs.Keys.{wide_degree}
+use Rattle.product_grid_index.specs.DegreeLaws.{degree_byte, top_more}
 use Rattle.product_grid_index.proofs.degree_of.Goals as goal
+use Rattle.product_grid_index.proofs.degree_of.Goals.{After-wide_degree-degree}
 
-pub loop-i-init : goal.loop-i-init
-loop-i-init c = (omega arith, top_none _)
+degree_is : (d : After-wide_degree-degree)
+    → d.wide_degree-degree.result ≡ wide_degree (get_or d.args.keys.now d.loop-key.key-index 0)
+degree_is d =
+    d.wide_degree-degree.ensures
+    ∙ ap wide_degree (get_or-take d.args.count d.args.keys.now d.loop-key.key-index 0
+    (omega (arith, length-take-le d.args.count d.args.keys.now d.requires)))
 
 pub overflow_cast-degree : goal.overflow_cast-degree
 overflow_cast-degree c =
-    let k = get_or c.args.keys.now c.loop-i.i 0 in
-    omega (arith, c.wide_degree-degree.ensures, degree_byte k)
+    omega (
+      arith,
+      degree_is (goal.at.overflow_cast-degree c).After-wide_degree-degree,
+      degree_byte (get_or c.args.keys.now c.loop-key.key-index 0),
+    )
 
-pub loop-i-preserved : goal.loop-i-preserved
-loop-i-preserved c = (
-  omega (arith, c.loop-i-test.true),
-  rw c.larger-most.ensures
-      (top_more _ _ _ _ c.loop-i.invariant.1 c.wide_degree-degree.ensures),
-)
-
-pub overflow_cast-result : goal.overflow_cast-result
-overflow_cast-result c = omega (arith, top_byte c.loop-i.invariant.1)
-
-pub returns : goal.returns
-returns c =
-    let e : c.loop-i.i ≡ c.args.count = omega (arith, c.loop-i.invariant.0, c.loop-i-test.false) in
-    rw e at c.loop-i.invariant.1
+pub loop-key-preserved : goal.loop-key-preserved
+loop-key-preserved c =
+    let larger : c.max-most.result ≡ max c.loop-key.most c.wide_degree-degree.result = search rules in
+    rw larger
+    (top_more _ _ _ _ c.loop-key.invariant (degree_is (goal.at.loop-key-preserved c).After-wide_degree-degree))

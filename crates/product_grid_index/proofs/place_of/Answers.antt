@@ -1,29 +1,23 @@
 -- `place_of` computes the place, without overflow.
-use mathlib.Core.Path.{◌≡◌, refl}
+use mathlib.Core.Path.{refl}
 use native.Mathlib.Omega.{arith}
-use borrow.Author.Rules.{rules}
 use Rattle.product_grid_index.specs.Grid.{place_by}
 use Rattle.product_grid_index.specs.GridLaws.{Placing, placing}
-use Rattle.product_grid_index.proofs.place_of.Reads as reads
-use Rattle.product_grid_index.proofs.place_of.Lts as lts
-use Rattle.product_grid_index.proofs.first_of.Reads as first-of-reads
-use Rattle.product_grid_index.proofs.fourth_of.Reads as fourth-of-reads
-use Rattle.product_grid_index.proofs.second_of.Reads as second-of-reads
-use Rattle.product_grid_index.proofs.third_of.Reads as third-of-reads
+use Rattle.product_grid_index.specs.DigitLaws.{first_digit}
 use Rattle.product_grid_index.proofs.place_of.Goals as goal
-use Rattle.product_grid_index.proofs.place_of.Goals.{After-fourth_of-d, Start}
+use Rattle.product_grid_index.proofs.place_of.Goals.{After-exponent-d, Start}
 
 -- how large the parts are
-module _ (c : After-fourth_of-d) where
+module _ (c : After-exponent-d) where
   abbrev s : Start
   s = c.before.before.before.before
 
-  small : Placing c.first_of-a.result c.second_of-b.result
-      c.third_of-c.result c.fourth_of-d.result s.args.second s.args.third s.args.fourth
+  small : Placing c.exponent-a.result c.exponent-b.result
+      c.exponent-c.result c.exponent-d.result s.args.second s.args.third s.args.fourth
   small =
-      placing _ _ _ _ _ _ _ (rw c.first_of-a.ensures (omega arith))
-      (rw c.second_of-b.ensures (omega arith)) (rw c.third_of-c.ensures (omega arith))
-      (rw c.fourth_of-d.ensures (omega arith)) s.requires
+      placing _ _ _ _ _ _ _ (rw c.exponent-a.ensures (omega arith))
+      (rw c.exponent-b.ensures (omega arith)) (rw c.exponent-c.ensures (omega arith))
+      (rw c.exponent-d.ensures (omega arith)) s.requires
 
 pub overflow_mul-line : goal.overflow_mul-line
 overflow_mul-line c = record { fits = omega (arith, (small c).line) }
@@ -47,9 +41,10 @@ pub returns : goal.returns
 unfolding place_by
 returns c =
     rw (
-      c.first_of-a.ensures,
-      c.second_of-b.ensures,
-      c.third_of-c.ensures,
-      c.fourth_of-d.ensures,
+      c.exponent-a.ensures,
+      first_digit c.args.key c.ranges.key.fits,
+      c.exponent-b.ensures,
+      c.exponent-c.ensures,
+      c.exponent-d.ensures,
     )
     refl

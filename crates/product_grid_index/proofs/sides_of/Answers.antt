@@ -1,11 +1,8 @@
 -- `sides_of` computes the grid, without overflow.
 use mathlib.Core.Path.{refl}
 use native.Mathlib.Omega.{arith}
-use borrow.Author.Rules.{rules}
 use Rattle.product_grid_index.specs.Grid.{sides_for}
 use Rattle.product_grid_index.specs.GridLaws.{plane_fits, cube_fits, size_fits, others_fit}
-use Rattle.product_grid_index.proofs.sides_of.Reads as reads
-use Rattle.product_grid_index.proofs.sides_of.Lts as lts
 use Rattle.product_grid_index.proofs.sides_of.Goals as goal
 
 pub overflow_mul-plane : goal.overflow_mul-plane

@@ -1,16 +1,10 @@
 -- `word_of` puts the degree after the place, without overflow.
-use mathlib.Core.Path.{◌≡◌, refl}
+use mathlib.Core.Path.{refl}
 use Prim.Native.Nat.{◌<◌, ◌≤◌, ◌^◌}
 use native.Mathlib.Omega.{arith}
-use borrow.Author.Rules.{rules}
-use Rattle.model_keys.specs.Keys.{wide_degree}
 use Rattle.product_grid_index.specs.Grid.{word_by}
 use Rattle.product_grid_index.specs.GridLaws.{place_fits}
 use Rattle.product_grid_index.specs.DegreeLaws.{degree_byte}
-use Rattle.product_grid_index.proofs.word_of.Reads as reads
-use Rattle.product_grid_index.proofs.word_of.Lts as lts
-use Rattle.model_keys.proofs.wide_degree.Reads as wide-degree-reads
-use Rattle.product_grid_index.proofs.place_of.Reads as place-of-reads
 use Rattle.product_grid_index.proofs.word_of.Goals as goal
 use Rattle.product_grid_index.proofs.word_of.Goals.{After-wide_degree-degree, Start}
 

@@ -6,13 +6,9 @@ use borrow.Author.Rules.{rules}
 use Rattle.calculus.specs.Terms.{Terms}
 use Rattle.product_rising.specs.Rising.{Part}
 use Rattle.product_grid_scan.specs.GridTerms.{steps_within, third_step, row_terms, RowReady}
-use Rattle.product_rising.specs.RisingLaws.{Held, held_none, held_more, held_room}
+use Rattle.product_rising.specs.RisingLaws.{held_none, held_more, held_room}
 use Rattle.product_grid_scan.specs.GridTermsLaws.{row_ready}
 use Rattle.product_rising.specs.RisingLaws.{held_rounding, held_swept}
-use Rattle.product_grid_scan.proofs.line.Reads as reads
-use Rattle.product_grid_scan.proofs.line.Lts as lts
-use Rattle.product_grid_scan.proofs.row.Reads as row_reads
-use Rattle.product_grid_scan.proofs.steps.Reads as steps-reads
 use Rattle.product_grid_scan.proofs.line.Goals as goal
 use Rattle.product_grid_scan.proofs.line.Goals.{After-row-p, After-steps-m}
 

@@ -6,13 +6,9 @@ use borrow.Author.Rules.{rules}
 use Rattle.calculus.specs.Terms.{Terms}
 use Rattle.product_rising.specs.Rising.{Part}
 use Rattle.product_grid_scan.specs.GridTerms.{steps_within, second_step, line_terms, LineReady}
-use Rattle.product_rising.specs.RisingLaws.{Held, held_none, held_more, held_room}
+use Rattle.product_rising.specs.RisingLaws.{held_none, held_more, held_room}
 use Rattle.product_grid_scan.specs.GridTermsLaws.{line_ready}
 use Rattle.product_rising.specs.RisingLaws.{held_rounding, held_swept}
-use Rattle.product_grid_scan.proofs.plane.Reads as reads
-use Rattle.product_grid_scan.proofs.plane.Lts as lts
-use Rattle.product_grid_scan.proofs.line.Reads as line_reads_lem
-use Rattle.product_grid_scan.proofs.steps.Reads as steps-reads
 use Rattle.product_grid_scan.proofs.plane.Goals as goal
 use Rattle.product_grid_scan.proofs.plane.Goals.{After-line-p, After-steps-m}
 

@@ -1,9 +1,8 @@
 -- `row` keeps what order d keeps of the sums in a row, one after the other.
 use mathlib.Core.Path.{◌≡◌, sym}
 use mathlib.Core.List.{[], ◌∷◌}
-use Prim.Native.Nat.{ℕ, ◌+◌, ◌-◌, ◌*◌, ◌^◌, ◌<◌}
+use Prim.Native.Nat.{ℕ, ◌+◌, ◌*◌, ◌^◌, ◌<◌}
 use native.Mathlib.Omega.{arith}
-use borrow.Author.Rules.{rules}
 use lib.IntN.{pos}
 use lib.ListN.{get_or}
 use mir.Facts.{to_z-of_z}
@@ -12,10 +11,7 @@ use Rattle.product_sums.specs.TermArrays.{at_key}
 use Rattle.product_rising.specs.Rising.{Part}
 use Rattle.product_grid_scan.specs.GridTerms.{fourth_step, Bare}
 use Rattle.product_grid_scan.specs.GridTermsLaws.{byte_fits, own_degree, own_key}
-use Rattle.product_rising.specs.RisingLaws.{Held, held_none, held_more, held_room, held_rounding, held_swept}
-use Rattle.product_grid_scan.proofs.row.Reads as reads
-use Rattle.product_grid_scan.proofs.row.Lts as lts
-use Rattle.product_rising.proofs.push.Reads as push-reads
+use Rattle.product_rising.specs.RisingLaws.{held_none, held_more, held_room, held_rounding, held_swept}
 use mir.Syntax.{w64}
 use Rattle.product_grid_scan.proofs.row.Goals as goal
 use Rattle.product_grid_scan.proofs.row.Goals.{After-push-p, After-shared_slice_known-in-loop-i-1}

@@ -9,13 +9,9 @@ use Rattle.product_rising.specs.Rising.{in_turn}
 use Rattle.product_grid_scan.specs.GridTerms.{steps_within, first_step, plane_terms, grid_terms}
 use Rattle.product_rising.specs.Rising.{Part}
 use Rattle.product_grid_scan.specs.GridTerms.{PlaneReady}
-use Rattle.product_rising.specs.RisingLaws.{Held, held_none, held_more, held_room}
+use Rattle.product_rising.specs.RisingLaws.{held_none, held_more, held_room}
 use Rattle.product_grid_scan.specs.GridTermsLaws.{steps_left, plane_ready}
 use Rattle.product_rising.specs.RisingLaws.{held_rounding, held_swept, scanned_many, scanned_few}
-use Rattle.product_grid_scan.proofs.scan.Reads as reads
-use Rattle.product_grid_scan.proofs.scan.Lts as lts
-use Rattle.product_grid_scan.proofs.plane.Reads as plane-reads
-use Rattle.product_grid_scan.proofs.steps.Reads as steps-reads
 use Rattle.product_grid_scan.proofs.scan.Goals as goal
 use Rattle.product_grid_scan.proofs.scan.Goals.{After-loop-i, After-plane-p, At-loop-i}
 

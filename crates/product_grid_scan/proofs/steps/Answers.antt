@@ -1,9 +1,6 @@
 -- `steps` takes the smaller of the side and one more than what is left.
 use native.Mathlib.Omega.{arith}
 use Rattle.product_grid_scan.specs.GridTermsLaws.{steps_short, steps_whole}
-use borrow.Author.Rules.{rules}
-use Rattle.product_grid_scan.proofs.steps.Reads as reads
-use Rattle.product_grid_scan.proofs.steps.Lts as lts
 use Rattle.product_grid_scan.proofs.steps.Goals as goal
 
 pub returns-then-left-side : goal.returns-then-left-side

@@ -1,15 +1,10 @@
 -- `find` ends at the home slot, or goes on below the entry that it leads to.
-use mathlib.Core.Path.{◌≡◌, sym, ◌∙◌, ap}
-use Prim.Native.Nat.{ℕ, ◌<◌}
+use mathlib.Core.Path.{◌≡◌, ◌∙◌, ap}
+use Prim.Native.Nat.{◌<◌}
 use lib.ListN.{length, get_or}
 use Rattle.product_hash_slots.specs.Slots.{home_slot}
 use Rattle.product_hash_slots.specs.SlotsLaws.{walking_first, walking_found}
 use borrow.Author.Rules.{rules}
-use Rattle.product_hash_slots.proofs.find.Reads as reads
-use Rattle.product_hash_slots.proofs.find.Lts as lts
-use Rattle.product_hash_slots.proofs.entry_number.Reads as entry-number-reads
-use Rattle.product_hash_slots.proofs.find_below.Reads as find-below-reads
-use Rattle.product_hash_slots.proofs.home_slot.Reads as home-slot-reads
 use Rattle.product_hash_slots.proofs.find.Goals as goal
 use Rattle.product_hash_slots.proofs.find.Goals.{After-entry_number-x}
 

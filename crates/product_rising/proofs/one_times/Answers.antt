@@ -1,8 +1,7 @@
 -- `one_times` keeps what order d keeps of the products of one term with others, one after the other.
 use mathlib.Core.Path.{◌≡◌}
-use Prim.Native.Nat.{ℕ, ◌-◌, ◌*◌, ◌^◌, ◌<◌}
+use Prim.Native.Nat.{ℕ, ◌*◌, ◌^◌, ◌<◌}
 use native.Mathlib.Omega.{arith}
-use borrow.Author.Rules.{rules}
 use lib.IntN.{ℤ, pos, nat_abs, ◌*ℤ◌}
 use lib.ListN.{get_or}
 use mir.Facts.{to_z-of_z}
@@ -15,11 +14,6 @@ use Rattle.product_rising.specs.Rising.{OneReady, Part}
 use Rattle.product_rising.specs.RisingLaws.{Held, held_none, held_more, held_room, held_rounding, held_swept}
 use Rattle.product_rising.specs.RisingLaws.{held_end}
 use Rattle.product_rising.specs.OneTermLaws.{one_part, all_small, one_small, one_gathered}
-use Rattle.product_rising.proofs.one_times.Reads as reads
-use Rattle.product_rising.proofs.one_times.Lts as lts
-use Rattle.fixed.proofs.product.Reads as product-reads
-use Rattle.model_keys.proofs.wide_degree.Reads as wide-degree-reads
-use Rattle.product_rising.proofs.push.Reads as push-reads
 use Rattle.product_rising.proofs.one_times.Goals as goal
 use Rattle.product_rising.proofs.one_times.Goals.{After-product-z, After-push-pushed, After-y-1, At-loop-i}
 

@@ -16,11 +16,6 @@ use Rattle.product_sums.specs.TermArrays.{at_key}
 use Rattle.product_sums.specs.KeptTermLaws.{low_rounding, low_swept, low_zero, low_nonzero}
 use Rattle.product_sums.specs.KeptTermLaws.{high_rounding, high_swept, high_kept}
 use Rattle.product_rising.specs.RisingLaws.{part_nothing, part_late, part_put}
-use borrow.Author.Rules.{rules}
-use Rattle.product_rising.proofs.push.Reads as reads
-use Rattle.product_rising.proofs.push.Lts as lts
-use Rattle.fixed.proofs.magnitude.Reads as magnitude-reads
-use Rattle.fixed.proofs.round.Reads as round-reads
 use Rattle.product_rising.proofs.push.Goals as goal
 use Rattle.product_rising.proofs.push.Goals.{After-round-rounded, After-struct_told-1}
 

@@ -9,4 +9,4 @@ returns-in_default c = rw c.in_default.is
 
 pub returns : goal.returns
 unfolding kept_count
-returns c = rw c.in-Accepted.is
+returns c = rw c.in-Ok.is

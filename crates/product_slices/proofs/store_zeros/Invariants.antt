@@ -16,6 +16,3 @@ invariant-loop-i l =
     × (length l.coefficients ≡ length l.initial.coefficients)
     × (l.keys ≡ zeroed 0 l.from l.i l.initial.keys)
     × (l.coefficients ≡ zeroed (pos 0) l.from l.i l.initial.coefficients)
-
-abbrev pub decreases-loop-i : goal.decreases-loop-i
-decreases-loop-i l = 64 - l.i

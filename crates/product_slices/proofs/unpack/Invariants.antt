@@ -20,6 +20,3 @@ invariant-loop-i l =
     (l.i ≤ l.count) × (length l.wide ≡ length l.initial.wide)
     × ((w : Handed l.count l.keys l.coefficients)
     → Unpacking (handed w.vars l.count w.radius l.keys l.coefficients) l.coefficients l.wide l.total l.i)
-
-abbrev pub decreases-loop-i : goal.decreases-loop-i
-decreases-loop-i l = l.count - l.i

@@ -1,11 +1,6 @@
 -- `kept_alone` chooses between one pass and sums.
-use native.Mathlib.Omega.{arith}
-use borrow.Author.Rules.{rules}
 use Rattle.product_own_room.specs.product_room.ProductTermsLaws.{first_one, second_one, none_kept}
 use Rattle.product_rising.specs.OneTermLaws.{turned_gathered}
-use Rattle.product_terms.proofs.kept_alone.Reads as reads
-use Rattle.product_terms.proofs.kept_alone.Lts as lts
-use Rattle.product_rising.proofs.one_times.Reads as one-times-reads
 use Rattle.product_terms.proofs.kept_alone.Goals as goal
 
 -- where the first or the second factor is one term

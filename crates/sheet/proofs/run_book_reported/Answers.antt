@@ -15,10 +15,10 @@ returns-in_default c =
     record { exact = e; encloses = exact_encloses_book _ _ (reported_answer _ _ e) }
 
 pub run_passed-requires : goal.run_passed-requires
-run_passed-requires c = verdict_accepted _ (sym c.tested-v.ensures ∙ c.in-Accepted.is)
+run_passed-requires c = verdict_accepted _ (sym c.tested-v.ensures ∙ c.in-Ok.is)
 
 pub returns : goal.returns
 returns c =
-    let a = sym c.tested-v.ensures ∙ c.in-Accepted.is in
+    let a = sym c.tested-v.ensures ∙ c.in-Ok.is in
     let e = c.run_passed.ensures ∙ ap₂ report (ap run_answer (tested_accepted _ a)) (tested_rows _ a) in
     record { exact = e; encloses = exact_encloses_book _ _ (reported_answer _ _ e) }

@@ -1,5 +1,4 @@
 -- `earlier` is the test that a value is from 0 to i - 1.
-use borrow.Author.Rules.{rules}
 use mir.Facts.{to_z-of_z}
 use Rattle.fixed.specs.MachineLaws.{from_zero}
 use Rattle.format.specs.Fields.{earlier}

@@ -1,34 +1,21 @@
 -- `limit_b` is the limit by the code.
-use borrow.Author.Tests.{le-leb, lt-leb, ne_eqb}
+use Rattle.std.proofs.Common.{arith}
+use Rattle.std.proofs.lemmas.Bool.Decides.{nat_tests}
 use Rattle.format.specs.Fields.{limit_b}
 use Rattle.sheet_book.proofs.limit_b.Goals as goal
 
-pub returns-then-code-eq9 : goal.returns-then-code-eq9
+pub returns-in-4-to-7 : goal.returns-in-4-to-7
 unfolding limit_b
-returns-then-code-eq9 c = rw c.if-code-eq9.true
+returns-in-4-to-7 c = grind (arith, nat_tests)
 
-pub returns-then-code-lt4 : goal.returns-then-code-lt4
+pub returns-in-4-to-7-2 : goal.returns-in-4-to-7-2
 unfolding limit_b
-returns-then-code-lt4 c =
-    let code = c.args.code in
-    rw (ne_eqb code 9 c.if-code-eq9.false, lt-leb 4 code c.if-code-lt4.true)
+returns-in-4-to-7-2 c = grind (arith, nat_tests)
 
-pub returns-then-code-gt7 : goal.returns-then-code-gt7
+pub returns-in_default : goal.returns-in_default
 unfolding limit_b
-returns-then-code-gt7 c =
-    let code = c.args.code in
-    rw (
-      ne_eqb code 9 c.if-code-eq9.false,
-      le-leb 4 code c.if-code-lt4.false,
-      lt-leb code 7 c.if-code-gt7.true,
-    )
+returns-in_default c = grind (arith, nat_tests)
 
-pub returns : goal.returns
+pub returns-in_default-2 : goal.returns-in_default-2
 unfolding limit_b
-returns c =
-    let code = c.args.code in
-    rw (
-      ne_eqb code 9 c.if-code-eq9.false,
-      le-leb 4 code c.if-code-lt4.false,
-      le-leb code 7 c.if-code-gt7.false,
-    )
+returns-in_default-2 c = grind (arith, nat_tests)

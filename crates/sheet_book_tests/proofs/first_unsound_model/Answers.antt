@@ -1,5 +1,5 @@
 -- `first_unsound_model` walks forward, model after model, and stops at the first fault.
-use mathlib.Core.Path.{◌≡◌, sym, ◌∙◌}
+use mathlib.Core.Path.{◌≡◌, refl, sym, ◌∙◌}
 use Prim.Native.Nat.{◌-◌, ◌≤◌, ◌<◌}
 use native.Mathlib.Omega.{arith}
 use borrow.Author.Rules.{rules}
@@ -25,7 +25,7 @@ unfolding most_models
 inside c = omega (arith, c.models-test.true, c.requires)
 
 pub models-init : goal.models-init
-models-init c = walked_first _ _
+models-init c = record { walked = walked_first _ _; placed = refl }
 
 pub offset_bounds-b-k : goal.offset_bounds-b-k
 offset_bounds-b-k c = omega (arith, inside c)
@@ -33,22 +33,20 @@ offset_bounds-b-k c = omega (arith, inside c)
 pub bounds-b-k : goal.bounds-b-k
 bounds-b-k c = inside c
 
-pub overflow_add-k : goal.overflow_add-k
-overflow_add-k c = omega (arith, inside (goal.at.overflow_add-k c).In-models)
-
-pub models-smaller : goal.models-smaller
-models-smaller c = let t = c.models-test.true in omega arith
-
 pub models-preserved : goal.models-preserved
-models-preserved c =
-    models_iteration c.args.b c.models.k (long (goal.at.models-preserved c).Start) c.models.invariant
-    c.models-test.true _ (sym c.model_sound.ensures ∙ c.if-not-model_sound.false)
+models-preserved c = record {
+  walked = models_iteration c.args.b c.models.k (long (goal.at.models-preserved c).Start) c.models.invariant.walked
+      c.models-test.true _ (sym c.model_sound.ensures ∙ c.if-not-model_sound.false);
+  placed = c.models.invariant.placed;
+}
 
 pub returns-after-models : goal.returns-after-models
-returns-after-models c = models_end _ _ (long (goal.at.returns-after-models c).Start) c.models.invariant
-    c.models-test.false
+returns-after-models c =
+    let h = c.models.invariant in
+    let e : c.models.place ≡ c.models.k = omega (arith, h.placed, c.models-test.false, c.models.auto.k-end) in
+    e ∙ models_end _ _ (long (goal.at.returns-after-models c).Start) h.walked c.models-test.false
 
 pub returns-then-not-model_sound : goal.returns-then-not-model_sound
 returns-then-not-model_sound c =
-    models_unsound c.args.b c.models.k (long (goal.at.returns-then-not-model_sound c).Start) c.models.invariant
+    models_unsound c.args.b c.models.k (long (goal.at.returns-then-not-model_sound c).Start) c.models.invariant.walked
     c.models-test.true _ (sym c.model_sound.ensures ∙ c.if-not-model_sound.true)

@@ -11,7 +11,4 @@ use Rattle.sheet_book_tests.specs.WalkLaws.{ModelsWalked, models_unsound, models
 use Rattle.sheet_book_tests.proofs.first_unsound_model.Given as goal
 
 abbrev pub invariant-models : goal.invariant-models
-invariant-models l = ModelsWalked l.b l.k
-
-abbrev pub decreases-models : goal.decreases-models
-decreases-models l = l.count - l.k
+invariant-models l = record { walked : ModelsWalked l.b l.k; placed : l.place ≡ l.count }

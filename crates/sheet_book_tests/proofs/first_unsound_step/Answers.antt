@@ -1,5 +1,5 @@
 -- `first_unsound_step` walks forward: steps before number i pass, and the loop is left at the first that does not.
-use mathlib.Core.Path.{◌≡◌}
+use mathlib.Core.Path.{◌≡◌, refl, ◌∙◌}
 use Prim.Native.Nat.{◌-◌, ◌≤◌, ◌<◌}
 use native.Mathlib.Omega.{arith}
 use borrow.Author.Rules.{rules}
@@ -24,7 +24,7 @@ unfolding most_steps
 inside c = omega (arith, c.steps-test.true, c.requires)
 
 pub steps-init : goal.steps-init
-steps-init c = walked_first _ _
+steps-init c = record { walked = walked_first _ _; placed = refl }
 
 pub offset_bounds-b-i : goal.offset_bounds-b-i
 offset_bounds-b-i c = omega (arith, inside c)
@@ -32,21 +32,20 @@ offset_bounds-b-i c = omega (arith, inside c)
 pub bounds-b-i : goal.bounds-b-i
 bounds-b-i c = inside c
 
-pub overflow_add-i : goal.overflow_add-i
-overflow_add-i c = omega (arith, inside (goal.at.overflow_add-i c).In-steps)
-
-pub steps-smaller : goal.steps-smaller
-steps-smaller c = let t = c.steps-test.true in omega arith
-
 pub steps-preserved : goal.steps-preserved
-steps-preserved c =
-    steps_iteration c.args.b c.steps.i (long (goal.at.steps-preserved c).Start) c.steps.invariant
-    c.steps-test.true _ _ c.step_sound.ensures (c.if-not-step_sound.false)
+steps-preserved c = record {
+  walked = steps_iteration c.args.b c.steps.i (long (goal.at.steps-preserved c).Start) c.steps.invariant.walked
+      c.steps-test.true _ _ c.step_sound.ensures c.if-not-step_sound.false;
+  placed = c.steps.invariant.placed;
+}
 
 pub returns-after-steps : goal.returns-after-steps
-returns-after-steps c = steps_end _ _ (long (goal.at.returns-after-steps c).Start) c.steps.invariant c.steps-test.false
+returns-after-steps c =
+    let h = c.steps.invariant in
+    let e : c.steps.place ≡ c.steps.i = omega (arith, h.placed, c.steps-test.false, c.steps.auto.i-end) in
+    e ∙ steps_end _ _ (long (goal.at.returns-after-steps c).Start) h.walked c.steps-test.false
 
 pub returns-then-not-step_sound : goal.returns-then-not-step_sound
 returns-then-not-step_sound c =
-    steps_bad c.args.b c.steps.i (long (goal.at.returns-then-not-step_sound c).Start) c.steps.invariant
+    steps_bad c.args.b c.steps.i (long (goal.at.returns-then-not-step_sound c).Start) c.steps.invariant.walked
     c.steps-test.true _ _ c.step_sound.ensures (c.if-not-step_sound.true)

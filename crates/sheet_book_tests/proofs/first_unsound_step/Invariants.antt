@@ -11,7 +11,4 @@ use Rattle.sheet_book_tests.specs.WalkLaws.{StepsWalked, steps_iteration, steps_
 use Rattle.sheet_book_tests.proofs.first_unsound_step.Given as goal
 
 abbrev pub invariant-steps : goal.invariant-steps
-invariant-steps l = StepsWalked l.b l.i
-
-abbrev pub decreases-steps : goal.decreases-steps
-decreases-steps l = l.count - l.i
+invariant-steps l = record { walked : StepsWalked l.b l.i; placed : l.place ≡ l.count }

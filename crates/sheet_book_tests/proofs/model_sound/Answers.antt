@@ -24,14 +24,14 @@ returns-then-m-n c =
     let given = c.args in
     rw (ne_eqb given.m.n given.n (λ e. omega (arith, c.if-m-n.true)))
 
-pub sound_arrays-requires : goal.sound_arrays-requires
-sound_arrays-requires c =
-    borrowed_own _ _ _ (keys_whole (goal.at.sound_arrays-requires c).Start)
-    (coefficients_whole (goal.at.sound_arrays-requires c).Start)
+pub sound_slices-requires : goal.sound_slices-requires
+sound_slices-requires c =
+    borrowed_own _ _ _ (keys_whole (goal.at.sound_slices-requires c).Start)
+    (coefficients_whole (goal.at.sound_slices-requires c).Start)
 
 pub returns : goal.returns
 returns c =
     rw (eq-eqb c.args.m.n c.args.n c.if-m-n.false)
-    (c.sound_arrays.ensures
+    (c.sound_slices.ensures
     ∙ ap (λ m. sound c.args.d (view m))
     (handed_own c.args.m (keys_whole (goal.at.returns c).Start) (coefficients_whole (goal.at.returns c).Start)))

@@ -7,7 +7,8 @@ use borrow.Author.Tests.{not-true, not-false}
 use lib.Dec.{T}
 use Rattle.calculus.specs.Book.{most_models, most_steps, limits_sound}
 use Rattle.model_types.specs.declared.Refusal.TheVariants.{BadModel, BadStep}
-use Rattle.model_types.specs.declared.Verdict.TheVariants.{Refused}
+use Rattle.std.specs.Prelude.{Err}
+use Rattle.model_types.specs.ModelStruct.{refused_at}
 use Rattle.format.specs.HeldBook.{outline}
 use Rattle.format.specs.HeldBookLaws.{InLimits, in_limits}
 use Rattle.sheet_book.specs.declared.Book.{Book}
@@ -42,7 +43,7 @@ first_unsound_model-model-requires c = (in_range c).models
 pub returns-then-model-models : goal.returns-then-model-models
 returns-then-model-models c =
     let e = c.first_unsound_model-model.ensures in
-    ap (Refused BadModel) e
+    ap (λ i. Err (refused_at BadModel i)) e
     ∙ model_verdict _ (within (goal.at.returns-then-model-models c).Else-not-limits_sound)
     (subst (λ i. i < (book (goal.at.returns-then-model-models c).Else-not-limits_sound).model_count) e
     c.if-model-models.true)
@@ -55,7 +56,7 @@ first_unsound_step-step-requires c = (in_range (goal.at.first_unsound_step-step-
 pub returns-then-step-steps : goal.returns-then-step-steps
 returns-then-step-steps c =
     let e = c.first_unsound_step-step.ensures in
-    ap (Refused BadStep) e
+    ap (λ i. Err (refused_at BadStep i)) e
     ∙ step_verdict _ (within (goal.at.returns-then-step-steps c).Else-not-limits_sound)
     (models_pass (goal.at.returns-then-step-steps c).Else-model-models)
     (subst (λ i. i < (book (goal.at.returns-then-step-steps c).Else-not-limits_sound).step_count) e

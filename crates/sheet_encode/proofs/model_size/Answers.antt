@@ -1,12 +1,11 @@
 -- `model_size` is the length of the record.
-use mathlib.Core.Path.{◌≡◌, sym, ◌∙◌, ap, subst}
+use mathlib.Core.Path.{sym, ◌∙◌, ap, subst}
 use Prim.Native.Nat.{◌+◌, ◌*◌, ◌≤◌}
 use native.Mathlib.Nat as NatL
 use native.Mathlib.Omega.{arith}
 use Rattle.calculus.specs.Model.{most_terms}
 use Rattle.format.proofs.KeyBytesLaws.{term_most}
 use Rattle.sheet_encode.specs.FittingLaws.{count_terms, length_record}
-use borrow.Author.Rules.{rules}
 use Rattle.sheet_encode.proofs.model_size.Goals as goal
 use Rattle.sheet_encode.proofs.model_size.Goals.{After-term_bytes}
 

@@ -1,10 +1,9 @@
 -- `models_size` sums the lengths of the records.
 use mathlib.Core.Path.{◌≡◌, sym, ◌∙◌, ap}
 use mathlib.Core.List.{[]}
-use Prim.Native.Nat.{◌+◌, ◌-◌, ◌<◌, ◌≤◌}
+use Prim.Native.Nat.{◌+◌, ◌<◌, ◌≤◌}
 use native.Mathlib.Omega.{arith}
-use borrow.Author.Rules.{rules}
-use lib.ListN.{length, length-map}
+use lib.ListN.{length}
 use Rattle.model_types.specs.declared.Model.{Model}
 use Rattle.model_types.specs.ModelStruct.{of_terms}
 use Rattle.format.specs.Format.{model_bytes}
@@ -24,7 +23,7 @@ module _ (c : Start) where
   few = (book_limits c.args.b c.requires).models
 
 pub loop-k-init : goal.loop-k-init
-loop-k-init c = (omega arith, sym (ap length (front_none model_bytes (held_book c.args.b).models)))
+loop-k-init c = sym (ap length (front_none model_bytes (held_book c.args.b).models))
 
 pub offset_bounds-b-k : goal.offset_bounds-b-k
 offset_bounds-b-k c = omega (arith, few (goal.at.offset_bounds-b-k c).Start)
@@ -52,7 +51,7 @@ module _ (c : After-model_size-size) where
       let y = held_model x in
       omega (
         arith,
-        c.loop-k.invariant.1,
+        c.loop-k.invariant,
         c.model_size-size.ensures,
         length_more model_bytes (held_book b).models k y (omega (arith, count_models b)),
         ap (λ m. length (model_bytes m)) (model_at b k x i
@@ -73,15 +72,12 @@ module _ (c : After-model_size-size) where
 pub overflow_add-size : goal.overflow_add-size
 overflow_add-size c = omega (arith, small c)
 
-pub overflow_add-k : goal.overflow_add-k
-overflow_add-k c = omega (arith, few (goal.at.overflow_add-k c).Start)
-
 pub loop-k-preserved : goal.loop-k-preserved
-loop-k-preserved c = (omega arith, more c)
+loop-k-preserved c = more c
 
 pub returns : goal.returns
 returns c =
     let b = c.args.b in
-    c.loop-k.invariant.1
+    c.loop-k.invariant
     ∙ ap length
     (front_all model_bytes (held_book b).models c.loop-k.k (omega (arith, count_models b)) ∙ models_joined b)

@@ -1,9 +1,8 @@
 -- `put_key` puts two bytes or four.
-use mathlib.Core.Path.{◌≡◌, ◌∙◌, ap}
+use mathlib.Core.Path.{◌∙◌, ap}
 use native.Mathlib.Omega.{arith}
 use lib.Seq.{sets}
 use Rattle.format.proofs.KeyBytesLaws.{key_length_short, key_length_long, key_bytes_short, key_bytes_long}
-use borrow.Author.Rules.{rules}
 use Rattle.sheet_encode.proofs.put_key.Goals as goal
 
 pub put_u16-requires : goal.put_u16-requires

@@ -1,7 +1,7 @@
 -- `put_model` puts the radius and the count, and the terms after them.
 use mathlib.Core.Path.{◌≡◌, sym, ◌∙◌, ap, ap₂}
 use mathlib.Core.List.{map}
-use Prim.Native.Nat.{◌+◌, ◌*◌, ◌-◌, ◌<◌, ◌≤◌}
+use Prim.Native.Nat.{◌+◌, ◌*◌, ◌<◌, ◌≤◌}
 use native.Mathlib.Omega.{arith}
 use borrow.Author.Rules.{rules}
 use lib.IntN.{pos}
@@ -20,7 +20,7 @@ use Rattle.format.specs.Bytes.{join}
 use Rattle.format.specs.Format.{head_length, term_length, term_bytes}
 use Rattle.format.proofs.ReadBackLaws.{length_term, length_terms}
 use Rattle.sheet_book.specs.BookStruct.{held_term, held_model}
-use Rattle.sheet_encode.specs.RecordLoopLaws.{Put, put_first, put_length, put_room, put_iteration, put_end}
+use Rattle.sheet_encode.specs.RecordLoopLaws.{put_first, put_length, put_room, put_iteration, put_end}
 use Rattle.sheet_encode.specs.StoreLaws.{model_stores}
 use Rattle.sheet_encode.specs.FittingLaws.{count_terms, length_record, term_at, coefficient_at}
 use Rattle.sheet_encode.proofs.put_model.Goals as goal
@@ -149,9 +149,6 @@ overflow_add-place-in-loop-i c =
       long (goal.at.overflow_add-place-in-loop-i c).At-loop-i,
       c.ranges,
     )
-
-pub overflow_add-i : goal.overflow_add-i
-overflow_add-i c = omega (arith, few (goal.at.overflow_add-i c).Start)
 
 pub loop-i-preserved : goal.loop-i-preserved
 unfolding held_term

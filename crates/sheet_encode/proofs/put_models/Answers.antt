@@ -1,10 +1,9 @@
 -- `put_models` puts the models one after the other.
 use mathlib.Core.Path.{◌≡◌, ◌∙◌, ap}
 use mathlib.Core.List.{[], map}
-use Prim.Native.Nat.{◌+◌, ◌-◌, ◌<◌, ◌≤◌}
+use Prim.Native.Nat.{◌+◌, ◌<◌, ◌≤◌}
 use native.Mathlib.Omega.{arith}
-use borrow.Author.Rules.{rules}
-use lib.ListN.{length, get_or, length-map}
+use lib.ListN.{length, get_or}
 use lib.Seq.{sets}
 use Rattle.model_types.specs.declared.Model.{Model}
 use Rattle.model_types.specs.ModelStruct.{of_terms}
@@ -14,7 +13,7 @@ use Rattle.sheet_book.specs.declared.Book.{Book}
 use Rattle.sheet_book.specs.BookStruct.{held_model, held_book}
 use Rattle.sheet_book.specs.FailingLaws.{count_models}
 use Rattle.sheet_encode.specs.Fitting.{ModelFits}
-use Rattle.sheet_encode.specs.RecordLoopLaws.{Put, put_first, put_length, put_room, put_iteration, put_end}
+use Rattle.sheet_encode.specs.RecordLoopLaws.{put_first, put_length, put_room, put_iteration, put_end}
 use Rattle.sheet_encode.specs.SectionFittingLaws.{models_joined, book_limits, model_at, model_at_fits}
 use Rattle.sheet_encode.proofs.put_models.Goals as goal
 use Rattle.sheet_encode.proofs.put_models.Goals.{After-m-1, Start}
@@ -82,9 +81,6 @@ pub overflow_add-place : goal.overflow_add-place
 overflow_add-place c =
     let e = put_length model_bytes _ _ _ c.loop-k.invariant in
     omega (arith, fits (goal.at.overflow_add-place c).After-m-1, e, c.model_size-place.ensures, c.well_formed)
-
-pub overflow_add-k : goal.overflow_add-k
-overflow_add-k c = omega (arith, few (goal.at.overflow_add-k c).Start)
 
 pub loop-k-preserved : goal.loop-k-preserved
 loop-k-preserved c =

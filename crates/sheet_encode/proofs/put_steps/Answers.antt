@@ -1,10 +1,9 @@
 -- `put_steps` puts the steps one after the other.
 use mathlib.Core.Path.{◌≡◌, sym, ap}
 use mathlib.Core.List.{map}
-use Prim.Native.Nat.{◌+◌, ◌-◌, ◌<◌, ◌≤◌}
+use Prim.Native.Nat.{◌+◌, ◌<◌, ◌≤◌}
 use native.Mathlib.Omega.{arith}
-use borrow.Author.Rules.{rules}
-use lib.ListN.{length, get_or, length-map}
+use lib.ListN.{length, get_or}
 use Rattle.format.specs.Bytes.{join}
 use Rattle.format.specs.Format.{step_length, step_bytes}
 use Rattle.format.proofs.ReadBackLaws.{length_step, length_steps}
@@ -12,7 +11,7 @@ use Rattle.sheet_book.specs.declared.Step.{Step}
 use Rattle.sheet_book.specs.declared.Book.{Book}
 use Rattle.sheet_book.specs.BookStruct.{no_step, held_step, held_book}
 use Rattle.sheet_book.specs.FailingLaws.{count_steps}
-use Rattle.sheet_encode.specs.RecordLoopLaws.{Put, put_first, put_length, put_room, put_iteration, put_end}
+use Rattle.sheet_encode.specs.RecordLoopLaws.{put_first, put_length, put_room, put_iteration, put_end}
 use Rattle.sheet_encode.specs.SectionFittingLaws.{book_limits, step_at, step_at_fits}
 use Rattle.sheet_encode.proofs.put_steps.Goals as goal
 use Rattle.sheet_encode.proofs.put_steps.Goals.{After-s-1, Start}
@@ -76,9 +75,6 @@ pub overflow_add-place : goal.overflow_add-place
 overflow_add-place c =
     let e = put_length step_bytes _ _ _ c.loop-k.invariant in
     omega (arith, fits (goal.at.overflow_add-place c).After-s-1, e, c.ranges)
-
-pub overflow_add-k : goal.overflow_add-k
-overflow_add-k c = omega (arith, few (goal.at.overflow_add-k c).Start)
 
 pub loop-k-preserved : goal.loop-k-preserved
 loop-k-preserved c =

@@ -1,5 +1,5 @@
 -- `put_term` puts the key and after it the coefficient.
-use mathlib.Core.Path.{◌≡◌, ◌∙◌, ap, ap₂}
+use mathlib.Core.Path.{◌∙◌, ap₂}
 use Prim.Native.Nat.{◌+◌, ◌-◌}
 use native.Mathlib.Omega.{arith}
 use lib.Seq.{sets}
@@ -7,7 +7,6 @@ use mir.Facts.{to_z-of_z}
 use Rattle.format.specs.Bytes.{u32_bytes, bits}
 use Rattle.format.proofs.KeyBytesLaws.{term_parts, term_least}
 use Rattle.sheet_encode.specs.StoreLaws.{term_stores}
-use borrow.Author.Rules.{rules}
 use Rattle.sheet_encode.proofs.put_term.Goals as goal
 
 pub put_key-requires : goal.put_key-requires

@@ -1,7 +1,6 @@
 -- `put_trailer` puts the fields one after the other.
 use mathlib.Core.Path.{◌≡◌, sym, ◌∙◌}
 use native.Mathlib.Omega.{arith}
-use borrow.Author.Rules.{rules}
 use lib.ListN.{length, length-set}
 use Rattle.format.proofs.ReadBackLaws.{models_short}
 use Rattle.sheet_book.specs.BookStruct.{held_book}

@@ -3,12 +3,13 @@ use mathlib.Core.Path.{◌≡◌, sym}
 use Prim.Native.Nat.{ℕ, ◌≤◌, ◌<◌}
 use borrow.Author.Tests.{le-leb, lt-leb}
 use Rattle.model_types.specs.declared.Refusal.TheVariants.{BadModel}
-use Rattle.model_types.specs.declared.Verdict.TheVariants.{Refused}
+use Rattle.std.specs.Prelude.{Err}
+use Rattle.model_types.specs.ModelStruct.{refused_at}
 use Rattle.sheet_loading.specs.Loading.{fault_of}
 use Rattle.sheet_loading.proofs.fault_of.Goals as goal
 
 -- all models pass, and bytes are left
-left_over : (p c e o f t : ℕ) → c ≤ p → e < o → fault_of p c e o f t ≡ Refused BadModel c
+left_over : (p c e o f t : ℕ) → c ≤ p → e < o → fault_of p c e o f t ≡ Err (refused_at BadModel c)
 unfolding fault_of
 left_over p c e o f t h l = rw (le-leb c p h, lt-leb o e l)
 

@@ -15,9 +15,9 @@ use Rattle.sheet_loading.specs.LoadLaws.{keys_inside, coefficients_inside, count
 use Rattle.sheet_loading.proofs.load_models.Given as goal
 
 abbrev pub invariant-models : goal.invariant-models
-invariant-models l =
-    Loading l.s l.n l.d l.count (results l.initial.keys l.initial.coefficients l.initial.counts l.initial.radii)
-    (results l.keys l.coefficients l.counts l.radii) l.at l.k
-
-abbrev pub decreases-models : goal.decreases-models
-decreases-models l = l.count - l.k
+invariant-models l = record {
+  loading : Loading l.s l.n l.d l.count
+      (results l.initial.keys l.initial.coefficients l.initial.counts l.initial.radii)
+      (results l.keys l.coefficients l.counts l.radii) l.at l.k;
+  placed : l.place ≡ l.count;
+}

@@ -17,15 +17,13 @@ returns-then-count-i c =
 pub loop-k-init : goal.loop-k-init
 loop-k-init c =
     let n = c.record_count-count.ensures in
-    (first_place c.args.sheet.now (omega arith), omega arith)
+    first_place c.args.sheet.now (omega arith)
 
 pub loop-k-preserved : goal.loop-k-preserved
 loop-k-preserved c =
     let s = c.args.sheet.now in
-    let l = c.loop-k in (
-      place_more s l.k l.at _ l.invariant.0 c.next_at-at.ensures,
-      omega (arith, c.loop-k-test.true),
-    )
+    let l = c.loop-k in
+    place_more s l._k l.at _ l.invariant c.next_at-at.ensures
 
 pub returns : goal.returns
 unfolding asked
@@ -34,6 +32,6 @@ returns c =
     let s = a.sheet.now in
     let l = c.loop-k in
     let known = c.shared_slice_known-1.given in
-    let e : l.k ≡ a.i = omega (arith, c.loop-k-test.false, l.invariant.1) in
-    c.bytes_at.ensures ∙ ap (bytes_at s) l.invariant.0 ∙ ap (asked s) e
+    let e : l._k ≡ a.i = omega (arith, c.loop-k-test.false, l.auto._k-end) in
+    c.bytes_at.ensures ∙ ap (bytes_at s) l.invariant ∙ ap (asked s) e
     ∙ asked_bytes s (record { below = λ i. (known i).fits }) a.i

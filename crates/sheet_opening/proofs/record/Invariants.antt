@@ -9,7 +9,4 @@ use borrow.Author.Rules.{rules}
 use Rattle.sheet_opening.proofs.record.Given as goal
 
 abbrev pub invariant-loop-k : goal.invariant-loop-k
-invariant-loop-k l = (l.at ≡ place_after l.sheet l.k) × (l.k ≤ l.i)
-
-abbrev pub decreases-loop-k : goal.decreases-loop-k
-decreases-loop-k l = l.i - l.k
+invariant-loop-k l = l.at ≡ place_after l.sheet l._k

@@ -1,5 +1,5 @@
 -- `read_models` reads and tests model after model, and stops at the first fault.
-use mathlib.Core.Path.{◌≡◌, refl}
+use mathlib.Core.Path.{◌≡◌, refl, ◌∙◌, ap}
 use mathlib.Core.List.{[], ◌∷◌, ◌++◌}
 use Prim.Native.Nat.{◌+◌, ◌-◌, ◌≤◌}
 use native.Mathlib.Omega.{arith}
@@ -14,30 +14,28 @@ use Rattle.sheet_walk.specs.ModelWalkLaws.{ModelsSoFar, models_iteration, models
 use Rattle.sheet_walk.specs.ModelWalkLaws.{struct_read}
 use Rattle.sheet_read_walk.specs.KeptLaws.{ModelsKept, models_none, models_more, models_answer}
 use Rattle.sheet_read_walk.proofs.read_models.Goals as goal
-use Rattle.sheet_read_walk.proofs.read_models.Goals.{After-record_at-taken}
+use Rattle.sheet_read_walk.proofs.read_models.Goals.{In-Some}
 
 -- ---- an iteration
-module _ (c : After-record_at-taken) where
+module _ (c : In-Some) where
   abbrev so_far : ModelsKept c.args.s.now c.args.n c.args.d c.args.count
       c.models.models c.models.at c.models.k
-  so_far = c.models.invariant
+  so_far = c.models.invariant.kept
 
   short : Fits w64 (length c.args.s.now)
   short = omega arith
 
-  head : (c.record_at-taken.result ≡ 0 → ⊥) → c.models.at + 5 ≤ length c.args.s.now
-  head z = head_inside _ _ _ _ c.record_at-taken.ensures z so_far.so_far.within
+  head : c.models.at + 5 ≤ length c.args.s.now
+  head = head_inside _ _ _ _ c.in-Some.ensures so_far.so_far.within
 
-  next : (c.record_at-taken.result ≡ 0 → ⊥)
-      → ModelsSoFar c.args.s.now c.args.n c.args.d c.args.count
+  next : ModelsSoFar c.args.s.now c.args.n c.args.d c.args.count
       (so_far.before ++ (read_model c.args.n (drop c.models.at c.args.s.now) ∷ []))
-      (c.models.at + c.record_at-taken.result) (c.models.k + 1)
-  next z = models_iteration _ _ _ _ _ _ _ so_far.so_far c.models-test.true _
-      c.record_at-taken.ensures.taken_is z
+      (c.models.at + c.in-Some.taken) (c.models.k + 1)
+  next = models_iteration _ _ _ _ _ _ _ so_far.so_far c.models-test.true _ c.in-Some.ensures.taken_is
 
 pub models-init : goal.models-init
 unfolding most_models
-models-init c = models_none _ _ _ _ _ c.without_terms-none.ensures
+models-init c = record { kept = models_none _ _ _ _ _ c.without_terms-none.ensures; placed = refl }
 
 pub slice_bounds-record_at-end : goal.slice_bounds-record_at-end
 slice_bounds-record_at-end c = refl
@@ -45,10 +43,10 @@ slice_bounds-record_at-end c = refl
 pub slice_bounds-record_at-end-in-models : goal.slice_bounds-record_at-end-in-models
 slice_bounds-record_at-end-in-models c = refl
 
-pub record_at-taken-requires : goal.record_at-taken-requires
+pub record_at-requires : goal.record_at-requires
 unfolding most_terms
-record_at-taken-requires c = record {
-  at_in_bounds = c.models.invariant.so_far.within;
+record_at-requires c = record {
+  at_in_bounds = c.models.invariant.kept.so_far.within;
   most_terms_in_bounds = (omega arith, omega arith);
 }
 
@@ -56,20 +54,19 @@ pub overflow_add-at : goal.overflow_add-at
 overflow_add-at c =
     omega (
       arith,
-      head (goal.at.overflow_add-at c).After-record_at-taken c.if-taken-eq0.false,
-      short (goal.at.overflow_add-at c).After-record_at-taken,
+      head (goal.at.overflow_add-at c).In-Some,
+      short (goal.at.overflow_add-at c).In-Some,
     )
 
 pub byte_at-total-requires : goal.byte_at-total-requires
 byte_at-total-requires c = omega (
   arith,
-  head (goal.at.byte_at-total-requires c).After-record_at-taken
-      c.if-taken-eq0.false,
+  head (goal.at.byte_at-total-requires c).In-Some,
 )
 
 pub u32_at-radius-requires : goal.u32_at-radius-requires
 u32_at-radius-requires c =
-    omega (arith, head (goal.at.u32_at-radius-requires c).After-record_at-taken c.if-taken-eq0.false)
+    omega (arith, head (goal.at.u32_at-radius-requires c).In-Some)
 
 pub offset_bounds-models-k : goal.offset_bounds-models-k
 unfolding most_models
@@ -83,27 +80,29 @@ pub overflow_add-at-in-models : goal.overflow_add-at-in-models
 overflow_add-at-in-models c =
     omega (
       arith,
-      (next (goal.at.overflow_add-at-in-models c).After-record_at-taken c.if-taken-eq0.false).within,
-      short (goal.at.overflow_add-at-in-models c).After-record_at-taken,
+      (next (goal.at.overflow_add-at-in-models c).In-Some).within,
+      short (goal.at.overflow_add-at-in-models c).In-Some,
     )
 
 pub models-preserved : goal.models-preserved
 unfolding most_terms
-models-preserved c =
-    models_more _ _ _ _ _ _ _ (so_far (goal.at.models-preserved c).After-record_at-taken) c.models-test.true
-    c.requires.2 _
-    (next (goal.at.models-preserved c).After-record_at-taken c.if-taken-eq0.false) _
-    (struct_read _ _ c.models.at c.args.s.now c.record_at-taken.ensures c.if-taken-eq0.false refl refl _ _
-    c.byte_at-total.ensures
-    c.u32_at-radius.ensures)
+models-preserved c = record {
+  kept = models_more _ _ _ _ _ _ _ (so_far (goal.at.models-preserved c).In-Some) c.models-test.true c.requires.2 _
+      (next (goal.at.models-preserved c).In-Some) _
+      (struct_read _ _ c.models.at c.args.s.now c.in-Some.ensures refl refl _ _ c.byte_at-total.ensures
+      c.u32_at-radius.ensures);
+  placed = c.models.invariant.placed;
+}
 
 pub returns-after-models : goal.returns-after-models
 returns-after-models c =
-    let h = c.models.invariant in
-    models_answer _ _ _ _ _ _ _ h (models_end _ _ _ _ _ _ _ h.so_far c.models-test.false)
+    let h = c.models.invariant.kept in
+    let e : c.models.place ≡ c.models.k =
+    omega (arith, c.models.invariant.placed, c.models-test.false, c.models.auto.k-end) in
+    ap (λ k. record { place = k; end = c.models.at; models = c.models.models }) e
+    ∙ models_answer _ _ _ _ _ _ _ h (models_end _ _ _ _ _ _ _ h.so_far c.models-test.false)
 
-pub returns-then-taken-eq0 : goal.returns-then-taken-eq0
-returns-then-taken-eq0 c =
-    let h = so_far (goal.at.returns-then-taken-eq0 c).After-record_at-taken in
-    models_answer _ _ _ _ _ _ _ h
-    (models_fault _ _ _ _ _ _ _ h.so_far _ c.record_at-taken.ensures.taken_is c.if-taken-eq0.true)
+pub returns-in_default : goal.returns-in_default
+returns-in_default c =
+    let h = c.models.invariant.kept in
+    models_answer _ _ _ _ _ _ _ h (models_fault _ _ _ _ _ _ _ h.so_far c.in_default.ensures.taken_is)

@@ -16,7 +16,7 @@ use Rattle.sheet_read_walk.specs.KeptLaws.{ModelsKept, models_none, models_more,
 use Rattle.sheet_read_walk.proofs.read_models.Given as goal
 
 abbrev pub invariant-models : goal.invariant-models
-invariant-models l = ModelsKept l.s l.n l.d l.count l.models l.at l.k
-
-abbrev pub decreases-models : goal.decreases-models
-decreases-models l = l.count - l.k
+invariant-models l = record {
+  kept : ModelsKept l.s l.n l.d l.count l.models l.at l.k;
+  placed : l.place ≡ l.count;
+}

@@ -1,6 +1,7 @@
 -- `read_steps` reads step after step, and stops at the first fault.
-use mathlib.Core.Path.{sym, ◌∙◌}
+use mathlib.Core.Path.{◌≡◌, refl, sym, ◌∙◌, ap}
 use Prim.Native.Nat.{◌-◌}
+use native.Mathlib.Omega.{arith}
 use borrow.Author.Rules.{rules}
 use borrow.Author.Tests.{not-true, not-false}
 use Rattle.calculus.specs.Book.{most_steps}
@@ -10,7 +11,7 @@ use Rattle.sheet_read_walk.proofs.read_steps.Goals as goal
 
 pub steps-init : goal.steps-init
 unfolding most_steps
-steps-init c = steps_none _ _ _ _ _
+steps-init c = record { kept = steps_none _ _ _ _ _; placed = refl }
 
 pub offset_bounds-steps-k : goal.offset_bounds-steps-k
 unfolding most_steps
@@ -22,21 +23,26 @@ bounds-steps-k c = search rules
 
 pub steps-preserved : goal.steps-preserved
 steps-preserved c =
-    let h = c.steps.invariant in
+    let h = c.steps.invariant.kept in
     let k = c.steps-test.true in
     let e = c.step_at-step.ensures in
-    steps_more _ _ _ _ _ _ _ _ h k c.requires.0 _ e
-    (steps_iteration _ _ _ _ _ _ _ h.so_far k _ e
-    (sym c.step_sound.ensures ∙ c.if-not-step_sound.false))
+    record {
+      kept = steps_more _ _ _ _ _ _ _ _ h k c.requires.0 _ e
+          (steps_iteration _ _ _ _ _ _ _ h.so_far k _ e (sym c.step_sound.ensures ∙ c.if-not-step_sound.false));
+      placed = c.steps.invariant.placed;
+    }
 
 pub returns-after-steps : goal.returns-after-steps
 returns-after-steps c =
-    let h = c.steps.invariant in
-    steps_answer _ _ _ _ _ _ _ _ h (steps_end _ _ _ _ _ _ _ h.so_far c.steps-test.false)
+    let h = c.steps.invariant.kept in
+    let e : c.steps.place ≡ c.steps.k =
+    omega (arith, c.steps.invariant.placed, c.steps-test.false, c.steps.auto.k-end) in
+    ap (λ k. record { place = k; steps = c.steps.steps }) e
+    ∙ steps_answer _ _ _ _ _ _ _ _ h (steps_end _ _ _ _ _ _ _ h.so_far c.steps-test.false)
 
 pub returns-then-not-step_sound : goal.returns-then-not-step_sound
 returns-then-not-step_sound c =
-    let h = c.steps.invariant in
+    let h = c.steps.invariant.kept in
     steps_answer _ _ _ _ _ _ _ _ h
     (steps_bad _ _ _ _ _ _ _ h.so_far c.steps-test.true _ c.step_at-step.ensures
     (sym c.step_sound.ensures ∙ c.if-not-step_sound.true))

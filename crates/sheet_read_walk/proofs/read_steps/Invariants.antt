@@ -1,5 +1,5 @@
 -- `read_steps` reads step after step, and stops at the first fault.
-use mathlib.Core.Path.{sym, ◌∙◌}
+use mathlib.Core.Path.{◌≡◌, sym, ◌∙◌}
 use Prim.Native.Nat.{◌-◌}
 use borrow.Author.Rules.{rules}
 use borrow.Author.Tests.{not-true, not-false}
@@ -9,7 +9,7 @@ use Rattle.sheet_read_walk.specs.KeptLaws.{StepsKept, steps_none, steps_more, st
 use Rattle.sheet_read_walk.proofs.read_steps.Given as goal
 
 abbrev pub invariant-steps : goal.invariant-steps
-invariant-steps l = StepsKept l.s l.offset l.n l.models l.count l.steps l.at l.k
-
-abbrev pub decreases-steps : goal.decreases-steps
-decreases-steps l = l.count - l.k
+invariant-steps l = record {
+  kept : StepsKept l.s l.offset l.n l.models l.count l.steps l.at l.k;
+  placed : l.place ≡ l.count;
+}

@@ -2,21 +2,21 @@
 use mathlib.Core.Path.{◌≡◌, sym, ◌∙◌, ap}
 use native.Mathlib.Omega.{arith}
 use borrow.Author.Rules.{rules}
-use Rattle.model_types.specs.declared.Verdict.TheVariants.{Accepted}
+use Rattle.std.specs.Prelude.{Ok}
 use Rattle.model_types.specs.ModelStruct.{verdict}
 use Rattle.sheet_book.specs.BookStruct.{read_answer}
 use Rattle.sheet_tests.specs.Headed.{headed}
 use Rattle.sheet_tests.specs.HeadedLaws.{HeadPasses, head_long, head_passes, head_refused}
 use Rattle.sheet_reader.proofs.read.Goals as goal
-use Rattle.sheet_reader.proofs.read.Goals.{After-trailer_at-t, In-Accepted}
+use Rattle.sheet_reader.proofs.read.Goals.{After-trailer_at-t, In-Ok}
 
 -- ---- what is known where tests 1 to 4 pass
-accepted : (c : In-Accepted) → verdict (headed c.args.sheet.now) ≡ Accepted
-accepted c = sym c.head_tested-v.ensures ∙ c.in-Accepted.is
+accepted : (c : In-Ok) → verdict (headed c.args.sheet.now) ≡ Ok tt
+accepted c = sym c.head_tested-v.ensures ∙ c.in-Ok.is
 
 passed : (c : After-trailer_at-t)
     → HeadPasses c.args.sheet.now c.trailer_at-t.result
-passed c = head_passes _ (accepted (goal.at.read_records-requires c).In-Accepted) _ c.trailer_at-t.ensures
+passed c = head_passes _ (accepted (goal.at.read_records-requires c).In-Ok) _ c.trailer_at-t.ensures
 
 pub overflow_sub-sheet : goal.overflow_sub-sheet
 overflow_sub-sheet c = omega (arith, head_long _ (accepted c))
@@ -30,12 +30,12 @@ read_records-requires c = record {
   trailer_length_value = (passed c).fits;
 }
 
-pub returns-in-Accepted : goal.returns-in-Accepted
-returns-in-Accepted c = c.read_records.ensures ∙ ap read_answer
-    (sym (passed (goal.at.returns-in-Accepted c).After-trailer_at-t).goes_on)
+pub returns-in-Ok : goal.returns-in-Ok
+returns-in-Ok c = c.read_records.ensures ∙ ap read_answer
+    (sym (passed (goal.at.returns-in-Ok c).After-trailer_at-t).goes_on)
 
-pub returns-in-Refused : goal.returns-in-Refused
-returns-in-Refused c =
+pub returns-in-Err : goal.returns-in-Err
+returns-in-Err c =
     c.refuse.ensures
     ∙ ap read_answer
-    (sym (head_refused _ _ _ (sym c.head_tested-v.ensures ∙ c.in-Refused.is)))
+    (sym (head_refused _ _ _ (sym c.head_tested-v.ensures ∙ c.in-Err.is)))

@@ -14,10 +14,6 @@ pub returns-then-end-at : goal.returns-then-end-at
 unfolding length_at
 returns-then-end-at c = omega arith
 
-pub returns-then-left-size : goal.returns-then-left-size
-unfolding length_at
-returns-then-left-size c = omega (arith, c.size_at-size.ensures)
-
 pub returns : goal.returns
 unfolding length_at
-returns c = omega (arith, c.size_at-size.ensures)
+returns c = omega (arith, c.size_at.ensures, c.min.ensures)

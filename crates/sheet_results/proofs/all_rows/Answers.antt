@@ -1,8 +1,6 @@
 -- `all_rows` builds one row after the other.
 use mathlib.Core.Path.{◌≡◌, refl, ◌∙◌, ap}
-use Prim.Native.Nat.{◌≤◌, ◌-◌}
 use native.Mathlib.Omega.{arith}
-use borrow.Author.Rules.{rules}
 use lib.ListN.{set}
 use Rattle.model_types.specs.Arrays.{padded}
 use Rattle.calculus.specs.Book.{most_steps}
@@ -14,19 +12,17 @@ use Rattle.sheet_results.proofs.all_rows.Goals as goal
 
 pub loop-i-init : goal.loop-i-init
 unfolding padded first_rows stored_shares no_shares
-loop-i-init c = (omega arith, refl)
+loop-i-init c = refl
 
 pub loop-i-preserved : goal.loop-i-preserved
 unfolding row_at
-loop-i-preserved c = (
-  omega arith,
-  ap (λ r. set r c.loop-i.i (row_at c.args.flat.now c.loop-i.i)) c.loop-i.invariant.1
-      ∙ rows_more (stored_shares no_shares) c.args.flat.now c.loop-i.i (omega arith),
-)
+loop-i-preserved c =
+    ap (λ r. set r c.loop-i.i (row_at c.args.flat.now c.loop-i.i)) c.loop-i.invariant
+    ∙ rows_more (stored_shares no_shares) c.args.flat.now c.loop-i.i (omega arith)
 
 pub returns : goal.returns
 unfolding most_steps
 returns c =
     let e : c.loop-i.i ≡ 64 = omega arith in
-    c.loop-i.invariant.1 ∙ ap (λ i. padded (stored_shares no_shares) 64 (first_rows c.args.flat.now i)) e
+    c.loop-i.invariant ∙ ap (λ i. padded (stored_shares no_shares) 64 (first_rows c.args.flat.now i)) e
     ∙ rows_end (stored_shares no_shares) c.args.flat.now

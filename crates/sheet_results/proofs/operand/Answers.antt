@@ -1,7 +1,6 @@
 -- `operand` takes the result that is named, or the zero model.
-use mathlib.Core.Path.{◌≡◌, refl, sym, ◌∙◌, ap}
+use mathlib.Core.Path.{sym, ◌∙◌, ap}
 use mathlib.Core.Bool.{cond}
-use borrow.Author.Rules.{rules}
 use Rattle.calculus.specs.Model as C
 use Rattle.calculus.specs.Model.{zero_model}
 use Rattle.model_types.specs.ModelStruct.{view}

@@ -2,7 +2,7 @@
 use mathlib.Core.Path.{◌≡◌, refl, sym, ◌∙◌}
 use Prim.Native.Nat.{◌+◌}
 use Rattle.calculus.specs.Book.{most_models, most_steps}
-use Rattle.model_types.specs.declared.Verdict.TheVariants.{Accepted}
+use Rattle.std.specs.Prelude.{Ok}
 use Rattle.sheet_results.specs.Results.{Results, results}
 use Rattle.sheet_results.specs.ResultsLaws.{settled_put, settled_row, settled_kept, settled_row_kept}
 use borrow.Author.Rules.{rules}
@@ -41,7 +41,7 @@ pub returns : goal.returns
 unfolding most_models
 returns c =
     let a = c.args in
-    let e : a.c.answer.verdict ≡ Accepted = c.in-Accepted.is in (
+    let e : a.c.answer.verdict ≡ Ok tt = c.in-Ok.is in (
       refl,
       c.put_model.ensures.radii_after ∙
           sym (settled_put a.c (16 + a.i) (memory (goal.at.returns c).Start) a.rows.now e),

@@ -12,4 +12,4 @@ returns-in_default c =
     steps_ran c.requires.head_passes c.load_records-p.ensures c.in_default.is c.requires.roomy c.run_steps.ensures
 
 pub returns : goal.returns
-returns c = c.refused.ensures ∙ records_ran c.requires.head_passes c.load_records-p.ensures c.in-Refused.is
+returns c = c.refused.ensures ∙ records_ran c.requires.head_passes c.load_records-p.ensures c.in-Err.is

@@ -1,28 +1,26 @@
 -- `steps` makes one step after the other: what is known of the results so far is known after each.
-use mathlib.Core.Path.{◌≡◌, refl, ◌∙◌}
-use Prim.Native.Nat.{◌-◌, ◌<◌}
+use mathlib.Core.Path.{◌≡◌, refl, subst}
+use Prim.Native.Nat.{◌<◌}
 use native.Mathlib.Omega.{arith}
-use borrow.Author.Rules.{rules}
-use borrow.Author.Tests.{not-true, not-false}
-use lib.ListN.{length, get_or, length-map}
+use lib.ListN.{length, get_or}
 use Rattle.calculus.specs.Book.{most_steps}
 use Rattle.sheet_book.specs.declared.Step.{Step}
 use Rattle.sheet_book.specs.BookStruct.{no_step, held_step}
 use Rattle.sheet_results.specs.Results.{results}
 use Rattle.sheet_run_room.specs.sheet_run_laws.declared.StepList.{StepList}
-use Rattle.sheet_run_room.specs.sheet_run_laws.Run.{Iteration, Begun, Part, ScratchRoom}
+use Rattle.sheet_run_room.specs.sheet_run_laws.Run.{Iteration, Begun, Part}
 use Rattle.sheet_run_room.specs.sheet_run_laws.RunIterationLaws.{iteration_counted, fit_served, free_room}
 use Rattle.sheet_run_room.specs.sheet_run_laws.RunIterationLaws.{stopped_short, stopped_whole, stopped_refused}
 use Rattle.sheet_run_room.specs.sheet_run_laws.RunIterationLaws.{true_false}
 use Rattle.sheet_run_room.specs.sheet_run_laws.MemoryLaws.{few_steps, step_here}
 use Rattle.sheet_run_loop.proofs.steps.Goals as goal
-use Rattle.sheet_run_loop.proofs.steps.Goals.{In-loop-i, Start}
-
-steps_long : (c : Start) → length c.args.l.steps ≡ most_steps
-unfolding most_steps
-steps_long c = c.well_formed.0.1.1.1.1.1.0.1.0.1
+use Rattle.sheet_run_loop.proofs.steps.Goals.{In-loop-i}
 
 module _ (c : In-loop-i) where
+  steps_long : length c.args.l.steps ≡ most_steps
+  unfolding most_steps
+  steps_long = c.well_formed.0.1.1.1.1.1.0.1.0.1
+
   abbrev list : StepList
   list = c.args.l
 
@@ -49,7 +47,7 @@ module _ (c : In-loop-i) where
       passes = begun.passes;
       vars = begun.same.vars;
       order = begun.same.order;
-      at = step_here begun.same begun.passes (steps_long c.before.before.before.before.before.before.before.before)
+      at = step_here begun.same begun.passes steps_long
           c.loop-i.i inside;
       so_far = begun.so_far;
     }
@@ -61,8 +59,7 @@ module _ (c : In-loop-i) where
       omega (arith, inside, few_steps b.same b.passes)
 
 pub loop-i-init : goal.loop-i-init
-loop-i-init c =
-    (λ t. t.begun, c.requires.scratch_room, refl, refl, refl, refl, refl, refl, refl, refl)
+loop-i-init c = (λ t. t.begun, c.requires.scratch_room)
 
 pub offset_bounds-l-i : goal.offset_bounds-l-i
 offset_bounds-l-i c = omega (arith, small c)
@@ -73,30 +70,6 @@ bounds-l-i c = omega (arith, small c)
 -- ---- a step that asks more room
 pub fits-served-requires : goal.fits-served-requires
 fits-served-requires c = iteration_counted (here (goal.at.fits-served-requires c).In-loop-i c.requires.part)
-
-pub shape_of-keys-then-not-served : goal.shape_of-keys-then-not-served
-shape_of-keys-then-not-served c = c.loop-i.invariant.2
-
-pub shape_of-coefficients-then-not-served : goal.shape_of-coefficients-then-not-served
-shape_of-coefficients-then-not-served c = c.loop-i.invariant.3
-
-pub shape_of-counts-then-not-served : goal.shape_of-counts-then-not-served
-shape_of-counts-then-not-served c = c.loop-i.invariant.4
-
-pub shape_of-radii-then-not-served : goal.shape_of-radii-then-not-served
-shape_of-radii-then-not-served c = c.loop-i.invariant.5
-
-pub shape_of-rows-then-not-served : goal.shape_of-rows-then-not-served
-shape_of-rows-then-not-served c = c.loop-i.invariant.6
-
-pub shape_of-slots-then-not-served : goal.shape_of-slots-then-not-served
-shape_of-slots-then-not-served c = c.loop-i.invariant.7
-
-pub shape_of-places-then-not-served : goal.shape_of-places-then-not-served
-shape_of-places-then-not-served c = c.loop-i.invariant.8
-
-pub shape_of-sums-then-not-served : goal.shape_of-sums-then-not-served
-shape_of-sums-then-not-served c = c.loop-i.invariant.9
 
 pub returns-then-not-served : goal.returns-then-not-served
 returns-then-not-served c = λ t.
@@ -113,53 +86,9 @@ step-v-requires c =
           c.loop-i.invariant.1;
     }
 
-pub shape_of-keys-in_default : goal.shape_of-keys-in_default
-shape_of-keys-in_default c = c.step-v.auto.keys
-    ∙ c.loop-i.invariant.2
-
-pub shape_of-coefficients-in_default : goal.shape_of-coefficients-in_default
-shape_of-coefficients-in_default c = c.step-v.auto.coefficients
-    ∙ c.loop-i.invariant.3
-
-pub shape_of-counts-in_default : goal.shape_of-counts-in_default
-shape_of-counts-in_default c = c.step-v.auto.counts
-    ∙ c.loop-i.invariant.4
-
-pub shape_of-radii-in_default : goal.shape_of-radii-in_default
-shape_of-radii-in_default c = c.step-v.auto.radii
-    ∙ c.loop-i.invariant.5
-
-pub shape_of-rows-in_default : goal.shape_of-rows-in_default
-shape_of-rows-in_default c = c.step-v.auto.rows
-    ∙ c.loop-i.invariant.6
-
-pub shape_of-slots-in_default : goal.shape_of-slots-in_default
-shape_of-slots-in_default c = c.step-v.auto.slots
-    ∙ c.loop-i.invariant.7
-
-pub shape_of-places-in_default : goal.shape_of-places-in_default
-shape_of-places-in_default c = c.step-v.auto.places
-    ∙ c.loop-i.invariant.8
-
-pub shape_of-sums-in_default : goal.shape_of-sums-in_default
-shape_of-sums-in_default c = c.step-v.auto.sums
-    ∙ c.loop-i.invariant.9
-
 pub returns-in_default : goal.returns-in_default
 returns-in_default c = λ t.
     stopped_refused c.in_default.is (c.step-v.ensures (here (goal.at.returns-in_default c).In-loop-i t)).ended
-
-pub overflow_add-i : goal.overflow_add-i
-overflow_add-i c = omega (
-  arith,
-  small (goal.at.overflow_add-i c).In-loop-i,
-)
-
-pub loop-i-smaller : goal.loop-i-smaller
-loop-i-smaller c = omega (
-  arith,
-  inside (goal.at.loop-i-smaller c).In-loop-i,
-)
 
 pub loop-i-preserved : goal.loop-i-preserved
 loop-i-preserved c =
@@ -171,46 +100,16 @@ loop-i-preserved c =
       λ t. record {
         passes = (begun (goal.at.loop-i-preserved c).In-loop-i t).passes;
         same = (begun (goal.at.loop-i-preserved c).In-loop-i t).same;
-        so_far = (k.ensures (here (goal.at.loop-i-preserved c).In-loop-i t)).going c.in-Accepted.is;
+        so_far = (k.ensures (here (goal.at.loop-i-preserved c).In-loop-i t)).going c.in-Ok.is;
         within = omega (arith, inside (goal.at.loop-i-preserved c).In-loop-i);
       },
       free_room l.1 x y z,
-      k.auto.keys ∙ l.2,
-      k.auto.coefficients ∙ l.3,
-      k.auto.counts ∙ l.4,
-      k.auto.radii ∙ l.5,
-      k.auto.rows ∙ l.6,
-      x ∙ l.7,
-      y ∙ l.8,
-      z ∙ l.9,
     )
-
--- ---- after the loop
-pub shape_of-keys : goal.shape_of-keys
-shape_of-keys c = c.loop-i.invariant.2
-
-pub shape_of-coefficients : goal.shape_of-coefficients
-shape_of-coefficients c = c.loop-i.invariant.3
-
-pub shape_of-counts : goal.shape_of-counts
-shape_of-counts c = c.loop-i.invariant.4
-
-pub shape_of-radii : goal.shape_of-radii
-shape_of-radii c = c.loop-i.invariant.5
-
-pub shape_of-rows : goal.shape_of-rows
-shape_of-rows c = c.loop-i.invariant.6
-
-pub shape_of-slots : goal.shape_of-slots
-shape_of-slots c = c.loop-i.invariant.7
-
-pub shape_of-places : goal.shape_of-places
-shape_of-places c = c.loop-i.invariant.8
-
-pub shape_of-sums : goal.shape_of-sums
-shape_of-sums c = c.loop-i.invariant.9
 
 pub returns : goal.returns
 returns c = λ t.
     let b = c.loop-i.invariant.0 t in
-    stopped_whole b (omega (arith, b.within, c.loop-i-test.false))
+    let e : c.loop-i.i ≡ c.args.l.count = omega (arith, b.within, c.loop-i-test.false) in
+    stopped_whole
+    (subst (λ i. Begun t.held c.args.l i
+    (results c.loop-i.keys c.loop-i.coefficients c.loop-i.counts c.loop-i.radii) c.loop-i.rows) e b) refl

@@ -20,8 +20,7 @@ use Rattle.sheet_run_models.proofs.load.Goals as goal
 use Rattle.sheet_run_models.proofs.load.Goals.{In-loop-k}
 
 pub loop-k-init : goal.loop-k-init
-loop-k-init c =
-    (omega arith, c.requires.roomy, λ a l. absurd (omega (arith, l)), refl, refl, refl, refl)
+loop-k-init c = (c.requires.roomy, λ a l. absurd (omega (arith, l)))
 
 -- ---- the model at hand
 -- a place past the end of the models
@@ -70,19 +69,7 @@ bounds-b-k c = small c
 
 pub put_model-requires : goal.put_model-requires
 put_model-requires c =
-    roomy_less c.loop-k.invariant.1 (omega (arith, place (goal.at.put_model-requires c).In-loop-k))
-
-pub overflow_add-k : goal.overflow_add-k
-overflow_add-k c = omega (
-  arith,
-  small (goal.at.overflow_add-k c).In-loop-k,
-)
-
-pub loop-k-smaller : goal.loop-k-smaller
-loop-k-smaller c = omega (
-  arith,
-  inside (goal.at.loop-k-smaller c).In-loop-k,
-)
+    roomy_less c.loop-k.invariant.0 (omega (arith, place (goal.at.put_model-requires c).In-loop-k))
 
 pub loop-k-preserved : goal.loop-k-preserved
 loop-k-preserved c =
@@ -91,34 +78,16 @@ loop-k-preserved c =
     let x = taken (goal.at.loop-k-preserved c).In-loop-k in
     let u = p.ensures.whole.0 in
     let v = p.ensures.whole.1 in (
-      omega (arith, inside (goal.at.loop-k-preserved c).In-loop-k),
       subst (Roomy (most_models + (book (goal.at.loop-k-preserved c).In-loop-k).step_count)) (sym p.ensures.radii_after)
-          (load_room c.requires.held_passes l.1 (place (goal.at.loop-k-preserved c).In-loop-k) x u v
+          (load_room c.requires.held_passes l.0 (place (goal.at.loop-k-preserved c).In-loop-k) x u v
           (held (goal.at.loop-k-preserved c).In-loop-k) (is_model (goal.at.loop-k-preserved c).In-loop-k)),
       subst (LoadedFirst (held_book (book (goal.at.loop-k-preserved c).In-loop-k)) (c.loop-k.k + 1))
           (sym p.ensures.radii_after)
-          (load_more c.requires.held_passes l.1 (place (goal.at.loop-k-preserved c).In-loop-k) x u v
-          (held (goal.at.loop-k-preserved c).In-loop-k) (is_model (goal.at.loop-k-preserved c).In-loop-k) l.2),
-      p.auto.keys ∙ l.3,
-      p.auto.coefficients ∙ l.4,
-      p.auto.counts ∙ l.5,
-      p.auto.radii ∙ l.6,
+          (load_more c.requires.held_passes l.0 (place (goal.at.loop-k-preserved c).In-loop-k) x u v
+          (held (goal.at.loop-k-preserved c).In-loop-k) (is_model (goal.at.loop-k-preserved c).In-loop-k) l.1),
     )
-
--- ---- after the loop
-pub shape_of-keys : goal.shape_of-keys
-shape_of-keys c = c.loop-k.invariant.3
-
-pub shape_of-coefficients : goal.shape_of-coefficients
-shape_of-coefficients c = c.loop-k.invariant.4
-
-pub shape_of-counts : goal.shape_of-counts
-shape_of-counts c = c.loop-k.invariant.5
-
-pub shape_of-radii : goal.shape_of-radii
-shape_of-radii c = c.loop-k.invariant.6
 
 pub returns : goal.returns
 returns c =
     let b = c.args.b in
-    (own_steps b, load_end b c.loop-k.invariant.2 (omega (arith, c.loop-k-test.false)), c.loop-k.invariant.1)
+    (own_steps b, load_end b c.loop-k.invariant.1 (omega (arith, c.loop-k-test.false)), c.loop-k.invariant.0)

@@ -20,11 +20,5 @@ use Rattle.sheet_run_models.proofs.load.Given as goal
 
 abbrev pub invariant-loop-k : goal.invariant-loop-k
 invariant-loop-k l =
-    (l.k ≤ l.b.model_count) × Roomy (most_models + l.b.step_count) (results l.keys l.coefficients l.counts l.radii)
+    Roomy (most_models + l.b.step_count) (results l.keys l.coefficients l.counts l.radii)
     × LoadedFirst (held_book l.b) l.k (results l.keys l.coefficients l.counts l.radii)
-    × (length l.keys ≡ length l.initial.keys) × (length l.coefficients ≡ length l.initial.coefficients)
-    × (length l.counts ≡ length l.initial.counts)
-    × (length l.radii ≡ length l.initial.radii)
-
-abbrev pub decreases-loop-k : goal.decreases-loop-k
-decreases-loop-k l = l.b.model_count - l.k

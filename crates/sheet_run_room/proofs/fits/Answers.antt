@@ -17,7 +17,7 @@ use Rattle.sheet_run_laws.specs.Run.{multiply_code, substitute_code, quotient_co
 use Rattle.sheet_run_laws.specs.RunIterationLaws.{products_few}
 use borrow.Author.Rules.{rules}
 use Rattle.sheet_run_room.proofs.fits.Goals as goal
-use Rattle.sheet_run_room.proofs.fits.Goals.{After-magnitude, After-struct_known-then-code-eq-SUBSTITUTE-1, Start}
+use Rattle.sheet_run_room.proofs.fits.Goals.{After-magnitude, After-struct_known-in-7-1, Start}
 
 -- the counts of a product's factors
 module _ (s : Start) (e : s.args.s.code ≡ multiply_code) where
@@ -34,40 +34,40 @@ module _ (s : Start) (e : s.args.s.code ≡ multiply_code) where
   few = products_few _ _ (s.requires.few (16 + s.args.s.a)) (s.requires.few (16 + s.args.s.b))
 
 pub offset_bounds-counts-a : goal.offset_bounds-counts-a
-offset_bounds-counts-a c = let h = first_there (goal.at.offset_bounds-counts-a c).Start c.if-code-eq-MULTIPLY.true
+offset_bounds-counts-a c = let h = first_there (goal.at.offset_bounds-counts-a c).Start c.in-6.is
     in search rules
 
 pub bounds-counts-a : goal.bounds-counts-a
 bounds-counts-a c =
-    let h = first_there (goal.at.bounds-counts-a c).Start c.if-code-eq-MULTIPLY.true in
+    let h = first_there (goal.at.bounds-counts-a c).Start c.in-6.is in
     search rules
 
 pub offset_bounds-counts-b : goal.offset_bounds-counts-b
-offset_bounds-counts-b c = let h = second_there (goal.at.offset_bounds-counts-b c).Start c.if-code-eq-MULTIPLY.true in
+offset_bounds-counts-b c = let h = second_there (goal.at.offset_bounds-counts-b c).Start c.in-6.is in
     search rules
 
 pub bounds-counts-b : goal.bounds-counts-b
 bounds-counts-b c =
     let h = second_there (goal.at.bounds-counts-b c).Start
-    c.if-code-eq-MULTIPLY.true in
+    c.in-6.is in
     search rules
 
 pub overflow_mul-products : goal.overflow_mul-products
 overflow_mul-products c =
-    let p = few (goal.at.overflow_mul-products c).Start c.if-code-eq-MULTIPLY.true in
+    let p = few (goal.at.overflow_mul-products c).Start c.in-6.is in
     search rules
 
-pub returns-then-code-eq-MULTIPLY : goal.returns-then-code-eq-MULTIPLY
+pub returns-in-6 : goal.returns-in-6
 unfolding held_step most_models
-returns-then-code-eq-MULTIPLY c =
-    let e = c.if-code-eq-MULTIPLY.true in (
+returns-in-6 c =
+    let e = c.in-6.is in (
       λ t. record {
         product = λ q. leb-true _ _ t;
         substitution = λ q. absurd (omega (arith, q, e));
         quotient = λ q. absurd (omega (arith, q, e));
       },
       λ h. le-leb (get_or c.args.counts.now (16 + c.args.s.a) 0 * get_or c.args.counts.now (16 + c.args.s.b)
-          0) c.args.room (omega (arith, h, few (goal.at.returns-then-code-eq-MULTIPLY c).Start e)),
+          0) c.args.room (omega (arith, h, few (goal.at.returns-in-6 c).Start e)),
     )
 
 -- ---- a substitution
@@ -82,31 +82,31 @@ module _ (s : Start) (e : s.args.s.code ≡ substitute_code) where
   inner_few = let p = s.requires.few (16 + s.args.s.b) in omega (arith, p)
 
 -- where it is read
-module _ (c : After-struct_known-then-code-eq-SUBSTITUTE-1) where
+module _ (c : After-struct_known-in-7-1) where
   is_substitution : c.args.s.code ≡ substitute_code
-  is_substitution = c.if-code-eq-SUBSTITUTE.true
+  is_substitution = c.in-7.is
 
-pub offset_bounds-counts-b-then-code-eq-SUBSTITUTE : goal.offset_bounds-counts-b-then-code-eq-SUBSTITUTE
-offset_bounds-counts-b-then-code-eq-SUBSTITUTE c = let h = inner_there
-    (goal.at.offset_bounds-counts-b-then-code-eq-SUBSTITUTE c).Start (is_substitution c) in search rules
+pub offset_bounds-counts-b-in-7 : goal.offset_bounds-counts-b-in-7
+offset_bounds-counts-b-in-7 c = let h = inner_there
+    (goal.at.offset_bounds-counts-b-in-7 c).Start (is_substitution c) in search rules
 
-pub bounds-counts-b-then-code-eq-SUBSTITUTE : goal.bounds-counts-b-then-code-eq-SUBSTITUTE
-bounds-counts-b-then-code-eq-SUBSTITUTE c =
-    let h = inner_there (goal.at.bounds-counts-b-then-code-eq-SUBSTITUTE c).Start
-    (is_substitution (goal.at.bounds-counts-b-then-code-eq-SUBSTITUTE
-    c).After-struct_known-then-code-eq-SUBSTITUTE-1) in
+pub bounds-counts-b-in-7 : goal.bounds-counts-b-in-7
+bounds-counts-b-in-7 c =
+    let h = inner_there (goal.at.bounds-counts-b-in-7 c).Start
+    (is_substitution (goal.at.bounds-counts-b-in-7
+    c).After-struct_known-in-7-1) in
     search rules
 
 pub overflow_mul-most : goal.overflow_mul-most
 overflow_mul-most c =
     let p = inner_few (goal.at.overflow_mul-most c).Start
-    (is_substitution (goal.at.overflow_mul-most c).After-struct_known-then-code-eq-SUBSTITUTE-1) in
+    (is_substitution (goal.at.overflow_mul-most c).After-struct_known-in-7-1) in
     search rules
 
-pub returns-then-code-eq-SUBSTITUTE : goal.returns-then-code-eq-SUBSTITUTE
+pub returns-in-7 : goal.returns-in-7
 unfolding held_step most_models most_terms
-returns-then-code-eq-SUBSTITUTE c =
-    let e = is_substitution (goal.at.returns-then-code-eq-SUBSTITUTE c).After-struct_known-then-code-eq-SUBSTITUTE-1 in
+returns-in-7 c =
+    let e = is_substitution (goal.at.returns-in-7 c).After-struct_known-in-7-1 in
     let g = get_or c.args.counts.now (16 + c.args.s.b) 0 in (
       λ t. record {
         product = λ q. absurd (omega (arith, q, e));
@@ -116,7 +116,7 @@ returns-then-code-eq-SUBSTITUTE c =
       λ h. le-leb (64 * g) c.args.room (omega (
         arith,
         h,
-        inner_few (goal.at.returns-then-code-eq-SUBSTITUTE c).Start e,
+        inner_few (goal.at.returns-in-7 c).Start e,
       )),
     )
 
@@ -131,14 +131,10 @@ module _ (s : Start) (e : s.args.s.code ≡ quotient_code) where
   unfolding held_step most_models
   proposed_there = s.requires.proposed e
 
-  inverse_there : 16 + nat_abs s.args.s.value < length s.args.counts.now
-  unfolding held_step most_models
-  inverse_there = s.requires.inverse e
-
 -- the number that is the last operand
 module _ (c : After-magnitude) where
   is_quotient : c.args.s.code ≡ quotient_code
-  is_quotient = c.if-code-eq-QUOTIENT.true
+  is_quotient = c.in-9.is
 
   value_place : c.magnitude.result ≡ nat_abs c.args.s.value
   value_place = c.magnitude.ensures ∙ ap nat_abs read_back
@@ -146,24 +142,27 @@ module _ (c : After-magnitude) where
       read_back : to_z w64 (of_z w64 c.args.s.value) ≡ c.args.s.value
       read_back = to_z-of_z {w = w64} (record { sfits = c.struct_told-1.given.1.1.1.1.0.1 })
 
+  inverse_there : 16 + nat_abs c.args.s.value < length c.args.counts.now
+  unfolding held_step most_models
+  inverse_there = c.requires.inverse is_quotient
+
   last_there : 16 + c.magnitude.result < length c.args.counts.now
   last_there = omega (
     arith,
     value_place,
-    inverse_there c.before.before.before.before.before.before.before.before.before
-        is_quotient,
+    inverse_there,
   )
 
 pub overflow_add-last : goal.overflow_add-last
 overflow_add-last c = let h = last_there c in search rules
 
-pub offset_bounds-counts-b-then-code-eq-QUOTIENT : goal.offset_bounds-counts-b-then-code-eq-QUOTIENT
-offset_bounds-counts-b-then-code-eq-QUOTIENT c = let h = divisor_there
-    (goal.at.offset_bounds-counts-b-then-code-eq-QUOTIENT c).Start (is_quotient c) in search rules
+pub offset_bounds-counts-b-in-9 : goal.offset_bounds-counts-b-in-9
+offset_bounds-counts-b-in-9 c = let h = divisor_there
+    (goal.at.offset_bounds-counts-b-in-9 c).Start (is_quotient c) in search rules
 
-pub bounds-counts-b-then-code-eq-QUOTIENT : goal.bounds-counts-b-then-code-eq-QUOTIENT
-bounds-counts-b-then-code-eq-QUOTIENT c = let h = divisor_there (goal.at.bounds-counts-b-then-code-eq-QUOTIENT c).Start
-    (is_quotient (goal.at.bounds-counts-b-then-code-eq-QUOTIENT c).After-magnitude) in search rules
+pub bounds-counts-b-in-9 : goal.bounds-counts-b-in-9
+bounds-counts-b-in-9 c = let h = divisor_there (goal.at.bounds-counts-b-in-9 c).Start
+    (is_quotient (goal.at.bounds-counts-b-in-9 c).After-magnitude) in search rules
 
 pub offset_bounds-counts-v : goal.offset_bounds-counts-v
 offset_bounds-counts-v c = let h = proposed_there (goal.at.offset_bounds-counts-v c).Start
@@ -184,10 +183,10 @@ quotient_fits-requires c =
     let few = c.requires.few in
     (few (16 + c.args.s.b), few (16 + c.args.s.v), few (16 + c.magnitude.result))
 
-pub returns-then-code-eq-QUOTIENT : goal.returns-then-code-eq-QUOTIENT
+pub returns-in-9 : goal.returns-in-9
 unfolding held_step most_models
-returns-then-code-eq-QUOTIENT c =
-    let e = is_quotient (goal.at.returns-then-code-eq-QUOTIENT c).After-magnitude in
+returns-in-9 c =
+    let e = is_quotient (goal.at.returns-in-9 c).After-magnitude in
     let few = c.requires.few in
     let g = get_or c.args.counts.now (16 + c.args.s.b) 0 in
     let h = get_or c.args.counts.now (16 + c.args.s.v) 0 in
@@ -196,7 +195,7 @@ returns-then-code-eq-QUOTIENT c =
         product = λ q. absurd (omega (arith, q, e));
         substitution = λ q. absurd (omega (arith, q, e));
         quotient = λ q. subst (λ j. quotient_products g h (get_or c.args.counts.now (16 + j) 0) ≤ c.args.room)
-            (value_place (goal.at.returns-then-code-eq-QUOTIENT c).After-magnitude)
+            (value_place (goal.at.returns-in-9 c).After-magnitude)
             (leb-true (quotient_products g h w) c.args.room (sym c.quotient_fits.ensures ∙ t));
       },
       λ k. c.quotient_fits.ensures
@@ -209,13 +208,13 @@ returns-then-code-eq-QUOTIENT c =
           )),
     )
 
-pub returns : goal.returns
+pub returns-in_default : goal.returns-in_default
 unfolding held_step
-returns c = (
+returns-in_default c = (
   λ t. record {
-    product = λ q. absurd (c.if-code-eq-MULTIPLY.false q);
-    substitution = λ q. absurd (c.if-code-eq-SUBSTITUTE.false q);
-    quotient = λ q. absurd (c.if-code-eq-QUOTIENT.false q);
+    product = λ q. absurd (omega (arith, q));
+    substitution = λ q. absurd (omega (arith, q));
+    quotient = λ q. absurd (omega (arith, q));
   },
   λ h. refl,
 )

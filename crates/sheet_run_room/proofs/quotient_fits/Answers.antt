@@ -7,6 +7,7 @@ use native.Mathlib.Decide.{dec_le}
 use native.Mathlib.Omega.{arith}
 use native.Mathlib.Nat as NatL
 use lib.Dec.{leb}
+use Rattle.std.proofs.lemmas.Bool.Decides.{nat_tests}
 use Rattle.calculus.specs.Model.{most_terms}
 use Rattle.sheet_run_laws.specs.model.OperationContracts.{quotient_products}
 use Rattle.sheet_run_room.proofs.quotient_fits.Goals as goal
@@ -30,14 +31,12 @@ overflow_mul-others c =
     let p = c.requires.2 in
     search rules
 
-pub returns-then-room-products : goal.returns-then-room-products
+pub returns-then-products-room : goal.returns-then-products-room
 unfolding quotient_products most_terms
-returns-then-room-products c =
+returns-then-products-room c =
     let s = c.args in
-    sym (lt-leb (max (s.g * s.h) (64 * s.w)) s.room (omega (arith, c.if-room-products.true)))
+    sym (larger_within (s.g * s.h) (64 * s.w) s.room (omega (arith, c.if-products-room.true)))
 
-pub returns : goal.returns
+pub returns-else-products-room : goal.returns-else-products-room
 unfolding quotient_products most_terms
-returns c =
-    let s = c.args in
-    sym (larger_within (s.g * s.h) (64 * s.w) s.room (omega (arith, c.if-room-products.false)))
+returns-else-products-room c = grind (arith, nat_tests)

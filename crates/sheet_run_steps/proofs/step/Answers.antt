@@ -1,21 +1,21 @@
 -- `step` goes by the code.
+use native.Mathlib.Omega.{arith}
 use Rattle.sheet_book.specs.BookStruct.{held_step}
-use borrow.Author.Rules.{rules}
 use Rattle.sheet_run_steps.proofs.step.Goals as goal
 
 pub input_step-requires : goal.input_step-requires
 unfolding held_step
 input_step-requires c =
-    record { order = c.args.d; iteration = c.requires.iteration; code = c.if-code-eq-INPUT.true }
+    record { order = c.args.d; iteration = c.requires.iteration; code = c.in-0.is }
 
-pub returns-then-code-eq-INPUT : goal.returns-then-code-eq-INPUT
+pub returns-in-0 : goal.returns-in-0
 unfolding held_step
-returns-then-code-eq-INPUT c = λ t.
+returns-in-0 c = λ t.
     c.input_step.ensures
     (record {
       order = c.args.d;
       iteration = t;
-      code = c.if-code-eq-INPUT.true;
+      code = c.in-0.is;
     })
 
 pub product_step-requires : goal.product_step-requires
@@ -24,7 +24,7 @@ product_step-requires c =
     record {
       iteration = c.requires.iteration;
       served = c.requires.served;
-      s_value = c.if-code-eq-MULTIPLY.true;
+      s_value = c.in-6.is;
     }
 
 pub quotient_step-requires : goal.quotient_step-requires
@@ -33,7 +33,7 @@ quotient_step-requires c =
     record {
       iteration = c.requires.iteration;
       served = c.requires.served;
-      s_value = c.if-code-eq-QUOTIENT.true;
+      s_value = c.in-9.is;
     }
 
 pub other_step-requires : goal.other_step-requires
@@ -42,9 +42,5 @@ other_step-requires c =
     record {
       iteration = c.requires.iteration;
       served = c.requires.served;
-      fact = (
-        c.if-code-eq-INPUT.false,
-        c.if-code-eq-MULTIPLY.false,
-        c.if-code-eq-QUOTIENT.false,
-      );
+      fact = (λ e. omega (arith, e), λ e. omega (arith, e), λ e. omega (arith, e));
     }

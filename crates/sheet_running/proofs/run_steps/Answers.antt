@@ -40,6 +40,6 @@ returns-in_default c = λ t.
 
 pub returns : goal.returns
 returns c = λ t.
-    let v = c.in-Refused in
-    let place : c.refuse.result ≡ answer (stopped (cause v.refusal) c.run-t.result.at) = c.refuse.ensures in
-    ended_ran ((c.run-t.ensures (part_first t)).ended v.refusal v.field-1 v.is) place c.all_rows-shares.ensures
+    let v = c.in-Err in
+    let place : c.refuse.result ≡ answer (stopped (cause v.field-0.0) c.run-t.result.at) = c.refuse.ensures in
+    ended_ran ((c.run-t.ensures (part_first t)).ended v.field-0.0 v.field-0.1 v.is) place c.all_rows-shares.ensures

@@ -11,7 +11,7 @@ use Rattle.model_types.specs.ModelStruct.{bounds, integral_answer}
 use Rattle.model_types.specs.declared.Bounds.{Bounds}
 use Rattle.model_types.specs.declared.Integral.{Integral}
 use Rattle.model_types.specs.declared.Model.{Model}
-use Rattle.model_types.specs.declared.Verdict.TheVariants.{Accepted}
+use Rattle.std.specs.Prelude.{Ok}
 use Rattle.sheet_book.specs.declared.Ends.{Ends}
 use Rattle.sheet_book.specs.declared.Exact.{Exact}
 use Rattle.sheet_book.specs.declared.Summary.{Summary}
@@ -32,7 +32,7 @@ abbrev exact : ℤ → ℕ → Exact
 exact q r = record { quotient = q; remainder = r }
 
 abbrev beside : Model → Ends → Ends → Exact → Summary
-beside m r i x = record { model = m; range = r; integral = i; exact = x; verdict = Accepted }
+beside m r i x = record { model = m; range = r; integral = i; exact = x; verdict = Ok tt }
 
 beside_is : {m k : Model} {r s i j : Ends} {x y : Exact} → m ≡ k → r ≡ s → i ≡ j → x ≡ y
     → beside m r i x ≡ beside k s j y

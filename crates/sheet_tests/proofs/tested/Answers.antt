@@ -2,20 +2,20 @@
 use mathlib.Core.Path.{◌≡◌, sym, ◌∙◌, ap}
 use native.Mathlib.Omega.{arith}
 use borrow.Author.Rules.{rules}
-use Rattle.model_types.specs.declared.Verdict.TheVariants.{Accepted}
+use Rattle.std.specs.Prelude.{Ok}
 use Rattle.model_types.specs.ModelStruct.{verdict}
 use Rattle.sheet_tests.specs.Headed.{headed}
 use Rattle.sheet_tests.specs.HeadedLaws.{HeadPasses, head_long, head_passes, same_refusal}
 use Rattle.sheet_tests.proofs.tested.Goals as goal
-use Rattle.sheet_tests.proofs.tested.Goals.{After-trailer_at-t, In-Accepted}
+use Rattle.sheet_tests.proofs.tested.Goals.{After-trailer_at-t, In-Ok}
 
 -- ---- what is known where tests 1 to 4 pass
-accepted : (c : In-Accepted) → verdict (headed c.args.sheet.now) ≡ Accepted
-accepted c = sym c.head_tested-v.ensures ∙ c.in-Accepted.is
+accepted : (c : In-Ok) → verdict (headed c.args.sheet.now) ≡ Ok tt
+accepted c = sym c.head_tested-v.ensures ∙ c.in-Ok.is
 
 passed : (c : After-trailer_at-t)
     → HeadPasses c.args.sheet.now c.trailer_at-t.result
-passed c = head_passes _ (accepted (goal.at.records_tested-requires c).In-Accepted) _ c.trailer_at-t.ensures
+passed c = head_passes _ (accepted (goal.at.records_tested-requires c).In-Ok) _ c.trailer_at-t.ensures
 
 pub returns-in_default : goal.returns-in_default
 returns-in_default c =

@@ -1,10 +1,9 @@
 -- `trailer_sound` is test 3.
 use mathlib.Core.Path.{◌≡◌, sym, ◌∙◌, ap, ap₂}
-use mathlib.Core.Bool.{Bool, true, false, ◌&&◌}
+use mathlib.Core.Bool.{Bool, false, ◌&&◌}
 use lib.Dec.{eqb}
 use Rattle.format.specs.Format.{trailer_sound}
 use Rattle.sheet_decode.specs.Trailer.{held_trailer}
-use borrow.Author.Rules.{rules}
 use Rattle.sheet_tests.proofs.trailer_sound.Goals as goal
 
 pub returns-then-limits_sound : goal.returns-then-limits_sound
@@ -15,6 +14,7 @@ returns-then-limits_sound c =
 refused : (a b : Bool) → a ≡ false → false ≡ (a && b)
 refused a b e = ap (λ x. x && b) (sym e)
 
-pub returns : goal.returns
+pub returns-else-limits_sound : goal.returns-else-limits_sound
 unfolding trailer_sound held_trailer
-returns c = refused _ _ (sym c.limits_sound.ensures ∙ c.if-limits_sound.false)
+returns-else-limits_sound c =
+    c.if-limits_sound.false ∙ refused _ _ (sym c.limits_sound.ensures ∙ c.if-limits_sound.false)

@@ -75,9 +75,6 @@ overflow_add-place c = omega (
   short (goal.at.overflow_add-place c).At-loop-i,
 )
 
-pub loop-i-smaller : goal.loop-i-smaller
-loop-i-smaller c = omega (arith, counts (goal.at.loop-i-smaller c).In-loop-i)
-
 pub loop-i-preserved : goal.loop-i-preserved
 loop-i-preserved c =
     terms_iteration _ _ _ _ _ _ c.loop-i.invariant (counts (goal.at.loop-i-preserved c).In-loop-i) _ c.term_at-t.ensures

@@ -14,6 +14,3 @@ use Rattle.sheet_walk.proofs.terms_at.Given as goal
 abbrev pub invariant-loop-i : goal.invariant-loop-i
 invariant-loop-i l =
     TermsSoFar l.s l.n l.from l.count l.initial.keys l.initial.coefficients l.keys l.coefficients l.place l.i
-
-abbrev pub decreases-loop-i : goal.decreases-loop-i
-decreases-loop-i l = l.count - l.i

@@ -14,8 +14,7 @@ use Rattle.sheet_walk.specs.ModelWalkLaws.{ModelsSoFar, models_fault, models_end
 use Rattle.sheet_walk.proofs.walk_models.Given as goal
 
 abbrev pub invariant-models : goal.invariant-models
-invariant-models l =
-    ModelsPassed l.s l.n l.d l.count l.keys l.coefficients l.at l.k
-
-abbrev pub decreases-models : goal.decreases-models
-decreases-models l = l.count - l.k
+invariant-models l = record {
+  passed : ModelsPassed l.s l.n l.d l.count l.keys l.coefficients l.at l.k;
+  placed : l.place ≡ l.count;
+}

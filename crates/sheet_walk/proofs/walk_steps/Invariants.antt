@@ -1,5 +1,5 @@
 -- `walk_steps` tests step after step, and stops at the first fault.
-use mathlib.Core.Path.{sym, ◌∙◌}
+use mathlib.Core.Path.{◌≡◌, sym, ◌∙◌}
 use Prim.Native.Nat.{◌-◌}
 use borrow.Author.Rules.{rules}
 use borrow.Author.Tests.{not-true, not-false}
@@ -7,7 +7,7 @@ use Rattle.sheet_walk.specs.StepWalkLaws.{StepsSoFar, steps_first, steps_iterati
 use Rattle.sheet_walk.proofs.walk_steps.Given as goal
 
 abbrev pub invariant-steps : goal.invariant-steps
-invariant-steps l = StepsSoFar l.s l.offset l.n l.models l.count l.at l.k
-
-abbrev pub decreases-steps : goal.decreases-steps
-decreases-steps l = l.count - l.k
+invariant-steps l = record {
+  so_far : StepsSoFar l.s l.offset l.n l.models l.count l.at l.k;
+  placed : l.place ≡ l.count;
+}

@@ -23,11 +23,11 @@ accepted_at : (c : In_default)
 accepted_at c = accepts _ _ c.run-summary.ensures.exact c.in_default.is
 
 refused_at : (c : After-number)
-    → refusal_line c.number.result c.in-Refused.place
+    → refusal_line c.number.result c.in-Err.field-0.1
     ≡ printed c.args.sheet.now
 refused_at c =
-    ap (λ n. refusal_line n c.in-Refused.place) c.number.ensures
-    ∙ refuses _ c.run-summary.result c.run-summary.ensures.exact c.in-Refused.refusal _ c.in-Refused.is
+    ap (λ n. refusal_line n c.in-Err.field-0.1) c.number.ensures
+    ∙ refuses _ c.run-summary.result c.run-summary.ensures.exact c.in-Err.field-0.0 _ c.in-Err.is
 
 pub put_summary-requires : goal.put_summary-requires
 put_summary-requires c =

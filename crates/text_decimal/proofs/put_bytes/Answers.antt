@@ -8,30 +8,30 @@ use Rattle.text_decimal.specs.Put.{Put}
 use Rattle.text_decimal.specs.PutLaws.{put_nothing, put_as, put_next, put_length}
 use Rattle.text_decimal.proofs.put_bytes.Goals as goal
 
-pub loop-i-init : goal.loop-i-init
-loop-i-init c = (omega arith, put_nothing)
+pub loop-byte-init : goal.loop-byte-init
+loop-byte-init c = (omega arith, put_nothing)
 
 -- the place counts the bytes put so far
 pub put_byte-next-requires : goal.put_byte-next-requires
 put_byte-next-requires c =
     omega (
       arith,
-      c.loop-i.invariant.1.counted,
-      length-take-le c.loop-i.i c.args.bytes.now c.loop-i.invariant.0,
+      c.loop-byte.invariant.1.counted,
+      length-take-le c.loop-byte.byte-index c.args.bytes.now c.loop-byte.invariant.0,
       c.requires,
     )
 
-pub loop-i-preserved : goal.loop-i-preserved
-loop-i-preserved c =
+pub loop-byte-preserved : goal.loop-byte-preserved
+loop-byte-preserved c =
     let bytes = c.args.bytes.now in
-    let h : c.loop-i.i < length bytes = omega arith in (
+    let h : c.loop-byte.byte-index < length bytes = omega arith in (
       omega arith,
-      put_next bytes c.loop-i.i h c.loop-i.invariant.1 c.put_byte-next.ensures,
+      put_next bytes c.loop-byte.byte-index h c.loop-byte.invariant.1 c.put_byte-next.ensures,
     )
 
 pub shape_of-out : goal.shape_of-out
-shape_of-out c = put_length c.loop-i.invariant.1
+shape_of-out c = put_length c.loop-byte.invariant.1
 
 pub returns : goal.returns
 returns c =
-    put_as (take_all c.loop-i.i c.args.bytes.now (omega arith)) c.loop-i.invariant.1
+    put_as (take_all c.loop-byte.byte-index c.args.bytes.now (omega arith)) c.loop-byte.invariant.1

@@ -8,8 +8,6 @@ use Rattle.text_decimal.specs.Put.{Put}
 use Rattle.text_decimal.specs.PutLaws.{put_nothing, put_as, put_next, put_length}
 use Rattle.text_decimal.proofs.put_bytes.Given as goal
 
-abbrev pub invariant-loop-i : goal.invariant-loop-i
-invariant-loop-i l = (l.i ≤ length l.bytes) × Put l.initial.out l.at (take l.i l.bytes) l.out l.next
-
-abbrev pub decreases-loop-i : goal.decreases-loop-i
-decreases-loop-i l = length l.bytes - l.i
+abbrev pub invariant-loop-byte : goal.invariant-loop-byte
+invariant-loop-byte l =
+    (l.byte-index ≤ length l.bytes) × Put l.initial.out l.at (take l.byte-index l.bytes) l.out l.next

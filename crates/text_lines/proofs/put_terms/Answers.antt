@@ -105,9 +105,6 @@ put_term-next-requires d =
           d.requires.1);
     }
 
-pub overflow_add-i : goal.overflow_add-i
-overflow_add-i c = omega (arith, few (goal.at.overflow_add-i c).Start)
-
 pub loop-i-preserved : goal.loop-i-preserved
 loop-i-preserved c =
     listed_more term_line _ c.loop-i.invariant _ (in_view (goal.at.loop-i-preserved c).After-c-1)
