@@ -18,10 +18,7 @@ const NUMBERS: usize = 2;
 pub fn store_fits(count: usize, keys: usize, coefficients: usize, numbers: usize) -> bool
     ensures { result ≡ store_fits count keys coefficients numbers }
 {
-    if !model_slices::borrowed(count, keys, coefficients) {
-        return false;
-    }
-    NUMBERS <= numbers
+    model_slices::borrowed(count, keys, coefficients) && NUMBERS <= numbers
 }
 
 // The place of a refused store and the length go into a slice; the refusal's number.

@@ -25,7 +25,8 @@ const ENDS: usize = 4;
 const COORDINATES: usize = model_types::MOST_VARS as usize;
 
 // The codes of calls that answer with a model are those of a sheet's steps. Code 9, the quotient, is none of them: it
-// takes four models.
+// takes four models. (Codes are numbers and no enum: C hands them over, any byte may come, and what is none of these is
+// refused.)
 const CONSTANT: u8 = 1;
 
 const VARIABLE: u8 = 2;

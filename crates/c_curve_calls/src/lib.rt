@@ -1,5 +1,5 @@
 // Calls on curves in Chebyshev polynomials that are handed over, and their conversion to and from powers: each tests
-// the slices, makes the call and stores its answer.
+// the slices, makes the call and stores its answer. The code of a call is a number, as C hands it over.
 #![tactic(auto)]
 
 ghost use Rattle.std.specs.Prelude.{◌≡◌, length};

@@ -12,7 +12,8 @@ ghost use Rattle.c_curves.specs.HandedCurves.{to_powers_fits, from_powers_fits};
 
 use model_curves::{Bounds, Curve, CurveAnswer};
 
-// The codes of calls that answer with a curve, those of a sheet's steps for models.
+// The codes of calls that answer with a curve, those of a sheet's steps for models: numbers and no enum, as C hands
+// them over.
 const NEGATE: u8 = 3;
 
 const ADD: u8 = 4;

@@ -18,13 +18,7 @@ const NUMBERS: usize = 1;
 pub fn cut_fits(count: usize, keys: usize, coefficients: usize, ends: usize, numbers: usize) -> bool
     ensures { result ≡ cut_fits count keys coefficients ends numbers }
 {
-    if !model_slices::borrowed(count, keys, coefficients) {
-        return false;
-    }
-    if ends < ENDS {
-        return false;
-    }
-    NUMBERS <= numbers
+    model_slices::borrowed(count, keys, coefficients) && ENDS <= ends && NUMBERS <= numbers
 }
 
 // The call on the model that is handed over.

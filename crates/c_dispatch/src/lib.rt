@@ -1,4 +1,5 @@
-// The single call that a code names: from slices to slices where it can be, by structs else.
+// The single call that a code names, a number as C hands it over: from slices to slices where it can be, by structs
+// else.
 #![tactic(auto)]
 
 ghost use Rattle.std.specs.Prelude.{true, ◌≡◌, ◌≤◌, length};

@@ -18,10 +18,7 @@ const MODELS: usize = 4;
 pub fn quotient_fits(models: usize, room: bool) -> bool
     ensures { result ≡ quotient_fits models room }
 {
-    if models < MODELS {
-        return false;
-    }
-    room
+    MODELS <= models && room
 }
 
 // The call with the first four models.

@@ -82,7 +82,7 @@ fn row_held(m: Model, points: &[i64], lows: &[i64], highs: &[i64]) -> Finding
     s
 }
 
-// The same for a model in slices.
+// The call on a model and a row that are handed over.
 pub fn handed_readings(
     n: u8,
     count: usize,

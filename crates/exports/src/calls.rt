@@ -1,4 +1,4 @@
-// The single calls.
+// The single calls. Their code is a number, as C hands it over.
 ghost use Rattle.std.specs.Prelude.{◌≡◌, length};
 ghost use Rattle.model_types.specs.ModelStruct.{view};
 ghost use Rattle.model_slices.specs.HandedModels.{handed, model_room};

@@ -1,4 +1,5 @@
-// Calls on curves in Chebyshev polynomials, and their conversion to and from powers.
+// Calls on curves in Chebyshev polynomials, whose code is a number, as C hands it over, and their conversion to and
+// from powers.
 ghost use Rattle.std.specs.Prelude.{◌≡◌, length};
 ghost use Rattle.chebyshev.specs.CurveCalls.{call_range, call_to_powers, call_from_powers};
 ghost use Rattle.model_types.specs.ModelStruct.{view};

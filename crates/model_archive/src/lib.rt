@@ -17,7 +17,7 @@ const HEAD: usize = 6;
 
 const TERM: usize = 6;
 
-// How many bytes were stored, and the verdict.
+// How many bytes were stored, or 0 beside a refusal, as the definition `store_answer` has it; and the verdict.
 #[derive(Clone, Copy)]
 pub struct Stored {
     pub length: usize,

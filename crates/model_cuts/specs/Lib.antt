@@ -1,3 +1,4 @@
 -- Laws.
+pub mod MinMaxLaws
 pub mod CoveredLaws
 pub mod CutCallLaws

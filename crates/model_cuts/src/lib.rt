@@ -6,7 +6,6 @@ ghost use Rattle.std.specs.Prelude.{◌≡◌};
 ghost use Rattle.product_room.specs.ProductTerms.{ScratchRoom};
 ghost use Rattle.model_types.specs.ModelStruct.{view, bounds};
 ghost use Rattle.model_cut_pieces.specs.Cutting.{Cutting, piece_products};
-ghost use Rattle.cuts.specs.Cuts as Cut;
 ghost use Rattle.cuts.specs.Cuts.{cut_range, call_cut_range};
 
 use model_cut_pieces::PIECE_PRODUCTS;
@@ -14,20 +13,6 @@ use model_types::{Bounds, Model, Refusal, Refused};
 
 // The largest depth.
 const MOST_DEPTH: u8 = 6;
-
-// The smaller of two numbers.
-fn smaller(a: i64, b: i64) -> i64
-    ensures { result ≡ Cut.smaller a b }
-{
-    if a <= b { a } else { b }
-}
-
-// The larger.
-fn larger(a: i64, b: i64) -> i64
-    ensures { result ≡ Cut.larger a b }
-{
-    if a <= b { b } else { a }
-}
 
 // The overlap of the undivided range with what the ranges of the pieces cover. The table is scratch for all pieces.
 fn cut(
@@ -58,11 +43,11 @@ fn cut(
         let Ok(()) = w else {
             return next;
         };
-        low = smaller(low, next.low);
-        high = larger(high, next.high);
+        low = low.min(next.low);
+        high = high.max(next.high);
     }
-    let from = larger(whole.low, low);
-    let to = smaller(whole.high, high);
+    let from = whole.low.max(low);
+    let to = whole.high.min(high);
     Bounds {
         low: from,
         high: to,

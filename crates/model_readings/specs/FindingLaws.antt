@@ -14,7 +14,6 @@ use Rattle.calculus.specs.Refusal as Rf
 use Rattle.calculus.specs.Operations as Op
 use Rattle.calculus.specs.Operations.{Ends}
 use Rattle.calculus.specs.Tests.{all_zero, all_in_unit}
-use Rattle.calculus.specs.Calls.{call_evaluate}
 use Rattle.readings.specs.Readings as R
 use Rattle.readings.specs.Readings.{in_order, contradicts, with_place, held}
 use Rattle.model_types.specs.declared.Model.{Model}
@@ -27,8 +26,8 @@ use Rattle.model_types.specs.ModelStruct.{view, refusal, cause, bounds}
 use Rattle.model_types.specs.ModelStructLaws.{cause_refusal}
 use Rattle.model_call_tests.specs.Admission.{at_point}
 use Rattle.model_readings.specs.ReadingStruct.{view_reading, finding}
-use Rattle.model_readings.specs.RowIterations.{check_order, check_unused, check_within, judged, check, after}
-use Rattle.model_readings.specs.RowIterations.{iteration_of, begun_of}
+use Rattle.model_readings.specs.RowIterations.{check_order, check_unused, check_within, check, found_in, phase_of}
+use Rattle.model_readings.specs.declared.Phase.TheVariants.{Evaluation}
 
 -- ---- the tests of one reading
 module _ (i : ℕ) (r : R.Reading) where
@@ -85,22 +84,18 @@ take_eight n xs e = go (dec_le n 8)
         ap (λ i. take i xs) m ∙ take_all 8 xs (omega arith) ∙ sym (take_all n xs (omega arith))
 
 -- ---- the phases
-pub first_phase : (p i : ℕ) (f : C.Model) (r : R.Reading) → p ≡ 0 → check_order i r ≡ check p i f r
-unfolding check
-first_phase p i f r e = ap (λ p. check p i f r) (sym e)
+-- its case finds what its number does
+pub phase_found : (p i : ℕ) (f : C.Model) (r : R.Reading) → found_in (phase_of p) i f r ≡ check p i f r
+unfolding check found_in phase_of
+phase_found zero i f r = refl
+phase_found (suc zero) i f r = refl
+phase_found (suc (suc zero)) i f r = refl
+phase_found (suc (suc (suc p))) i f r = refl
 
-pub second_phase : (p i : ℕ) (f : C.Model) (r : R.Reading) → p ≡ 1 → check_unused f.vars i r ≡ check p i f r
-unfolding check
-second_phase p i f r e = ap (λ p. check p i f r) (sym e)
-
-pub third_phase : (p i : ℕ) (f : C.Model) (r : R.Reading) → p ≡ 2 → check_within f.vars i r ≡ check p i f r
-unfolding check
-third_phase p i f r e = ap (λ p. check p i f r) (sym e)
-
-pub last_phase : (p i : ℕ) (f : C.Model) (r : R.Reading) → (p ≡ 0 → ⊥) → (p ≡ 1 → ⊥) → (p ≡ 2 → ⊥)
-    → judged i r (call_evaluate r.point f) ≡ check p i f r
-unfolding check
-last_phase zero i f r a b c = absurd (a refl)
-last_phase (suc zero) i f r a b c = absurd (b refl)
-last_phase (suc (suc zero)) i f r a b c = absurd (c refl)
-last_phase (suc (suc (suc p))) i f r a b c = refl
+-- any number but the first three is one of the last phase
+pub last_is_evaluation : (p : ℕ) → (p ≡ 0 → ⊥) → (p ≡ 1 → ⊥) → (p ≡ 2 → ⊥) → phase_of p ≡ Evaluation
+unfolding phase_of
+last_is_evaluation zero a b c = absurd (a refl)
+last_is_evaluation (suc zero) a b c = absurd (b refl)
+last_is_evaluation (suc (suc zero)) a b c = absurd (c refl)
+last_is_evaluation (suc (suc (suc p))) a b c = refl

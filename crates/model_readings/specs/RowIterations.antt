@@ -12,6 +12,8 @@ use Rattle.readings.specs.Readings as R
 use Rattle.readings.specs.Readings.{Found, in_order, with_place, held}
 use Rattle.model_types.specs.declared.Model.{Model}
 use Rattle.model_types.specs.declared.Reading.{Reading}
+use Rattle.model_readings.specs.declared.Phase.{Phase}
+use Rattle.model_readings.specs.declared.Phase.TheVariants.{Order, Unused, Within, Evaluation}
 use Rattle.model_types.specs.ModelStruct.{view}
 use Rattle.model_readings.specs.ReadingStruct.{view_reading, Finding, finding}
 
@@ -46,6 +48,20 @@ check zero i f r = check_order i r
 check (suc zero) i f r = check_unused f.vars i r
 check (suc (suc zero)) i f r = check_within f.vars i r
 check (suc (suc (suc p))) i f r = judged i r (call_evaluate r.point f)
+
+-- the same by the case of the phase
+unfoldable pub found_in : Phase → (i : ℕ) → C.Model → R.Reading → Found
+found_in Order i f r = check_order i r
+found_in Unused i f r = check_unused f.vars i r
+found_in Within i f r = check_within f.vars i r
+found_in Evaluation i f r = judged i r (call_evaluate r.point f)
+
+-- and the case of phase p
+unfoldable pub phase_of : (p : ℕ) → Phase
+phase_of zero = Order
+phase_of (suc zero) = Unused
+phase_of (suc (suc zero)) = Within
+phase_of (suc (suc (suc p))) = Evaluation
 
 -- ---- the iterations
 -- neither a contradiction nor a refusal is found yet

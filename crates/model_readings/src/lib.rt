@@ -12,13 +12,23 @@ ghost use Rattle.readings.specs.Readings.{call_readings};
 ghost use Rattle.model_types.specs.ModelStruct.{view, cause, bounds};
 ghost use Rattle.model_readings.specs.ReadingStruct.{view_reading, finding};
 ghost use Rattle.model_readings.specs.RowIterations.{check_order, check_unused, check_within, judged};
-ghost use Rattle.model_readings.specs.RowIterations.{check};
+ghost use Rattle.model_readings.specs.RowIterations.{phase_of, found_in};
 ghost use Rattle.model_readings.specs.RowIterations.{undecided, begun_of, iteration_of, next_iteration};
 
 use model_types::{Bounds, Finding, Model, Reading, Refusal, Refused};
 
 // The longest row.
 const MOST_READINGS: usize = 256;
+
+// What is asked of every reading of a row before the next is asked of any: the tests for 15, for 6 and for 9, then the
+// evaluation.
+#[derive(Clone, Copy, Debug, PartialEq, Eq)]
+enum Phase {
+    Order,
+    Unused,
+    Within,
+    Evaluation,
+}
 
 // Nothing is found yet.
 fn nothing() -> Finding
@@ -125,21 +135,31 @@ fn judged(b: Bounds, i: usize, r: Reading) -> Finding
     }
 }
 
-// What a phase finds of reading i.
-fn checked(m: Model, phase: usize, i: usize, r: Reading) -> Finding
-    ensures { result ≡ finding (check phase i (view m) (view_reading r)) }
+// The phase that an iteration belongs to, by how many rows of iterations stand before it.
+fn phase_of(rows: usize) -> Phase
+    ensures { result ≡ phase_of rows }
 {
-    if phase == 0 {
-        return in_order(i, r);
+    match rows {
+        0 => Phase::Order,
+        1 => Phase::Unused,
+        2 => Phase::Within,
+        _ => Phase::Evaluation,
     }
-    if phase == 1 {
-        return unused_at(m.n, i, r);
+}
+
+// What a phase finds of reading i.
+fn checked(m: Model, phase: Phase, i: usize, r: Reading) -> Finding
+    ensures { result ≡ finding (found_in phase i (view m) (view_reading r)) }
+{
+    match phase {
+        Phase::Order => in_order(i, r),
+        Phase::Unused => unused_at(m.n, i, r),
+        Phase::Within => within_at(m.n, i, r),
+        Phase::Evaluation => {
+            let xs = r.x;
+            judged(model_evaluation::evaluate(m, xs), i, r)
+        }
     }
-    if phase == 2 {
-        return within_at(m.n, i, r);
-    }
-    let xs = r.x;
-    judged(model_evaluation::evaluate(m, xs), i, r)
 }
 
 // Whether neither a contradiction nor a refusal is found yet.
@@ -164,7 +184,7 @@ pub fn iteration(m: Model, s: Finding, k: usize, n: usize, r: Reading) -> Findin
         return s;
     }
     let d = at_least_one(n);
-    checked(m, k / d, k % d, r)
+    checked(m, phase_of(k / d), k % d, r)
 }
 
 // The iteration after iteration k: with something found there is none.

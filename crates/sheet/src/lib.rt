@@ -111,7 +111,7 @@ pub fn run_reported(sheet: &[u8]) -> Report
     summed_up(ran)
 }
 
-// The same for a book.
+// And of a book. (Two functions: a book is tested by itself, and the run of a sheet builds none.)
 pub fn run_book_reported(b: Book) -> Report
     ensures exact { ReportsBook (held_book b) result }
     ensures encloses { EnclosesBook (held_book b) result.summary }

@@ -20,7 +20,8 @@ pub const MOST_STEPS: usize = 64;
 // The codes of steps: 0 to this, which is `last_code`.
 const LAST_CODE: u8 = 10;
 
-// A step: its code and its fields.
+// A step: its code and its fields. (The code is a number and no enum: a sheet and a caller's book may hold any byte,
+// and test 6 refuses those that are no step's.)
 #[derive(Clone, Copy)]
 pub struct Step {
     pub code: u8,
@@ -30,7 +31,8 @@ pub struct Step {
     pub value: i64,
 }
 
-// A book: n, the order d, the first `model_count` of its models and the first `step_count` of its steps.
+// A book: n, the order d, the first `model_count` of its models and the first `step_count` of its steps. (Counts beside
+// arrays of all places, here and in a report's rows: nothing allocates, and a book is as large as the largest.)
 #[derive(Clone, Copy)]
 pub struct Book {
     pub n: u8,
@@ -95,7 +97,8 @@ pub enum Kind {
     End,
 }
 
-// Where stepping through a sheet begins, beside the verdict of tests 1 to 6.
+// Where stepping through a sheet begins, beside the verdict of tests 1 to 6: after a refusal at the sheet's end, as the
+// definition `start_answer` has it, so that nothing is handed out.
 #[derive(Clone, Copy)]
 pub struct Start {
     pub at: usize,
@@ -163,7 +166,8 @@ pub fn limits_sound(n: u8, d: u8, models: usize, steps: usize) -> bool
 
 // ---- test 6, field by field: a field that the code does not name is 0
 
-// What field a is below: the count of models for an input, the step's own number where a is a step.
+// What field a is below: the count of models for an input, the step's own number where a is a step. (Here and below the
+// code may be any byte that a sheet or a book holds.)
 fn limit_a(models: usize, i: usize, code: u8) -> usize
     ensures { result ≡ limit_a models i code }
 {
@@ -174,7 +178,7 @@ fn limit_a(models: usize, i: usize, code: u8) -> usize
     }
 }
 
-// What field b is below.
+// What field b is below, for any byte as code.
 fn limit_b(i: usize, code: u8) -> usize
     ensures { result ≡ limit_b i code }
 {
@@ -184,7 +188,7 @@ fn limit_b(i: usize, code: u8) -> usize
     }
 }
 
-// Whether field v is a variable of n, or a step before step i, where the code names it.
+// Whether field v is a variable of n, or a step before step i, where the code names it, which may be any byte.
 fn v_sound(n: u8, i: usize, code: u8, v: u8) -> bool
     ensures { result ≡ v_sound n i code v }
 {
@@ -202,7 +206,8 @@ fn earlier(i: usize, value: i64) -> bool
     0 <= value && fixed::magnitude(value) < i as u64
 }
 
-// Whether the value is a constant, a threshold, or a step before step i, where the code names it.
+// Whether the value is a constant, a threshold, or a step before step i, where the code, which may be any byte, names
+// it.
 fn value_sound(i: usize, code: u8, value: i64) -> bool
     ensures { result ≡ value_sound i code value }
 {

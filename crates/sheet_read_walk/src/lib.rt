@@ -14,7 +14,7 @@ use sheet_book::Step;
 pub use sheet_walk;
 
 // How far the records of models go: the number of the first faulty one or that of all, the place after the others, and
-// these.
+// these. (A number beside an array of all places, here and below, as in a book: nothing allocates.)
 #[derive(Clone, Copy)]
 pub struct ModelsRead {
     pub place: usize,

@@ -20,7 +20,8 @@ pub struct Records<'a> {
     pub at: usize,
 }
 
-// A sheet at its first record, or beside a refusal at its end.
+// A sheet at its first record, or beside a refusal at its end, as the definition `opening` has it: a struct and no
+// Result, since a program may go on asking after a refusal, and is handed out none.
 #[derive(Clone, Copy)]
 pub struct Opened<'a> {
     pub records: Records<'a>,

@@ -61,7 +61,8 @@ fn run_loaded(
     refused(refusal, place)
 }
 
-// The same in arrays of its own, with so many places for models and results and so many for their terms.
+// The run in arrays of its own, with so many places for models and results and so many for their terms. (Two functions:
+// `run_loaded` takes slices of any length, so that its code stands once and not with each size of the arrays.)
 fn run_in<const PLACES: usize, const TERMS: usize>(sheet: &[u8], t: Trailer) -> Ran
     requires head_passes { HeadPasses sheet.now t }
     requires sizes { (most_models + t.steps ≤ PLACES) × (most_terms * PLACES ≤ TERMS)

@@ -9,7 +9,8 @@ use sheet_book::Step;
 pub use sheet_steps;
 pub use sheet_steps::model;
 
-// What is left of a book when its models stand in flat slices: n, the order d and the first `count` of its steps.
+// What is left of a book when its models stand in flat slices: n, the order d and the first `count` of its steps, which
+// are the book's own array.
 #[derive(Clone, Copy)]
 pub struct StepList {
     pub n: u8,

@@ -12,7 +12,8 @@ use model_types::{Key, Verdict};
 use sheet_book::Step;
 use sheet_run_laws::sheet_steps;
 
-// Whether a step, a quotient apart, names a second result.
+// Whether a step, a quotient apart, names a second result. (Its code is the byte that the book holds; that it is one of
+// the eleven is test 6's, which is made before any step runs.)
 fn names_second(code: u8) -> bool
     ensures { result ≡ names_second code }
 {

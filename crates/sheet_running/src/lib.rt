@@ -15,7 +15,7 @@ use sheet_book::Book;
 use sheet_run_models::sheet_run_laws::StepList;
 
 // What the steps lead to: the last result, or the refusal of a step; and the rows of the steps before that one, with
-// zeros after them.
+// zeros after them, which a report hands on.
 #[derive(Clone, Copy)]
 pub struct Ran {
     pub answer: Answer,

@@ -19,7 +19,7 @@ pub fn accepted(m: Model) -> Answer
     }
 }
 
-// The same model, with zeros beyond the count.
+// A model without what stood beyond its count: zeros stand there.
 pub fn cleared(m: Model) -> Model
     requires { T (sound most_degree (view m)) }
     ensures { result ≡ pack (view m) }

@@ -82,7 +82,8 @@ fn put_exact(out: &mut [u8], at: usize, quotient: i64, remainder: u64) -> usize
     text_decimal::put_byte(out, next, b'\n')
 }
 
-// The same in up to four variables; above, no line.
+// That line where there is an exact integral, of up to four variables, and none above. (Two functions, since each
+// answers one definition: `exact_line`, and `exact_lines` of any n.)
 pub fn put_exact_of(out: &mut [u8], at: usize, n: u8, quotient: i64, remainder: u64) -> usize
     requires { Room at (exact_lines n (mixed quotient remainder)) }
     ensures { Put out.old at (exact_lines n (mixed quotient remainder)) out.new result }

@@ -1,12 +1,14 @@
 -- `store_fits` makes the tests one after the other.
-use mathlib.Core.Path.{sym, ◌∙◌}
+use native.Mathlib.Omega.{arith}
+use Rattle.std.proofs.lemmas.Grind.{common_steps}
+use Rattle.std.proofs.lemmas.Bool.Decides.{nat_tests}
 use Rattle.c_archive.specs.ArchiveCalls.{store_fits}
 use Rattle.c_archive.proofs.store_fits.Goals as goal
 
-pub returns-then-not-borrowed : goal.returns-then-not-borrowed
+pub returns-then-borrowed : goal.returns-then-borrowed
 unfolding store_fits
-returns-then-not-borrowed c = rw (sym c.borrowed.ensures ∙ c.if-not-borrowed.true)
+returns-then-borrowed c = grind (arith, common_steps, nat_tests)
 
-pub returns : goal.returns
+pub returns-else-borrowed : goal.returns-else-borrowed
 unfolding store_fits
-returns c = rw (sym c.borrowed.ensures ∙ c.if-not-borrowed.false)
+returns-else-borrowed c = grind (arith, common_steps, nat_tests)

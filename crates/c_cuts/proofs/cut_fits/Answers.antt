@@ -1,19 +1,14 @@
 -- `cut_fits` makes the tests one after the other.
-use mathlib.Core.Path.{sym, ◌∙◌}
-use borrow.Author.Tests.{le-leb, lt-leb}
+use native.Mathlib.Omega.{arith}
+use Rattle.std.proofs.lemmas.Grind.{common_steps}
+use Rattle.std.proofs.lemmas.Bool.Decides.{nat_tests}
 use Rattle.c_cuts.specs.CutCalls.{cut_fits}
 use Rattle.c_cuts.proofs.cut_fits.Goals as goal
 
-pub returns-then-not-borrowed : goal.returns-then-not-borrowed
+pub returns-then-ends-ge-ENDS : goal.returns-then-ends-ge-ENDS
 unfolding cut_fits
-returns-then-not-borrowed c = rw (sym c.borrowed.ensures ∙ c.if-not-borrowed.true)
+returns-then-ends-ge-ENDS c = grind (arith, common_steps, nat_tests)
 
-pub returns-then-ends-lt-ENDS : goal.returns-then-ends-lt-ENDS
+pub returns-else-ends-ge-ENDS : goal.returns-else-ends-ge-ENDS
 unfolding cut_fits
-returns-then-ends-lt-ENDS c =
-    rw (sym c.borrowed.ensures ∙ c.if-not-borrowed.false, lt-leb 2 _ c.if-ends-lt-ENDS.true)
-
-pub returns : goal.returns
-unfolding cut_fits
-returns c =
-    rw (sym c.borrowed.ensures ∙ c.if-not-borrowed.false, le-leb 2 _ c.if-ends-lt-ENDS.false)
+returns-else-ends-ge-ENDS c = grind (arith, common_steps, nat_tests)

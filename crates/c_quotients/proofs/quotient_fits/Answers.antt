@@ -1,12 +1,14 @@
 -- `quotient_fits` tests the number of models, then the room.
-use borrow.Author.Tests.{le-leb, lt-leb}
+use native.Mathlib.Omega.{arith}
+use Rattle.std.proofs.lemmas.Grind.{common_steps}
+use Rattle.std.proofs.lemmas.Bool.Decides.{nat_tests}
 use Rattle.c_quotients.specs.HandedQuotients.{quotient_fits}
 use Rattle.c_quotients.proofs.quotient_fits.Goals as goal
 
-pub returns-then-models-lt-MODELS : goal.returns-then-models-lt-MODELS
+pub returns-then-models-ge-MODELS : goal.returns-then-models-ge-MODELS
 unfolding quotient_fits
-returns-then-models-lt-MODELS c = rw (lt-leb 4 c.args.models c.if-models-lt-MODELS.true)
+returns-then-models-ge-MODELS c = grind (arith, common_steps, nat_tests)
 
-pub returns : goal.returns
+pub returns-else-models-ge-MODELS : goal.returns-else-models-ge-MODELS
 unfolding quotient_fits
-returns c = rw (le-leb 4 c.args.models c.if-models-lt-MODELS.false)
+returns-else-models-ge-MODELS c = grind (arith, common_steps, nat_tests)

@@ -13,7 +13,9 @@ use Rattle.std.specs.Prelude.{Ok}
 use Rattle.model_types.specs.ModelStruct.{view}
 use Rattle.model_types.specs.ResultLaws.{sound_order}
 use Rattle.product_room.specs.ProductTermsLaws.{free_room}
-use Rattle.cuts.specs.Cuts.{smaller, larger, most_depth}
+use Rattle.std.specs.Int.{int_min, int_max}
+use Rattle.cuts.specs.Cuts.{most_depth}
+use Rattle.model_cuts.specs.MinMaxLaws.{min_smaller, max_larger}
 use Rattle.model_cut_pieces.specs.PieceStructLaws.{few_pieces}
 use Rattle.model_cuts.specs.CoveredLaws.{Covered, first_refused, first_accepted, iteration_refused}
 use Rattle.model_cuts.specs.CoveredLaws.{iteration_accepted}
@@ -129,13 +131,15 @@ loop-j-preserved c =
     let h = iteration_accepted c.args.d c.args.i c.args.k (view c.args.f) c.loop-j.invariant.0
     (inside (goal.at.loop-j-preserved c).After-piece_range-next)
     c.piece_range-next.ensures told in
-    let low = c.smaller-low in
-    let high = c.larger-high in
+    let low = c.min-low in
+    let high = c.max-high in
     let low-in = to_z-of_z {w = w64} (record { sfits = c.struct_told-in-loop-j-1.given.0.1 }) in
     let high-in = to_z-of_z {w = w64} (record { sfits = c.struct_told-in-loop-j-2-1.given.1.0.1 }) in (
       subst₂ (Covered c.args.d c.args.i c.args.k (view c.args.f) (c.loop-j.j + 1))
-          (sym (answered low.type_inv (low.ensures ∙ ap (λ z. smaller (to_z w64 c.loop-j.low-bits) z) low-in)))
-          (sym (answered high.type_inv (high.ensures ∙ ap (λ z. larger (to_z w64 c.loop-j.high-bits) z) high-in))) h,
+          (sym (answered low.type_inv (low.ensures.value ∙ ap (λ z. int_min (to_z w64 c.loop-j.low-bits) z) low-in
+          ∙ min_smaller _ _)))
+          (sym (answered high.type_inv (high.ensures.value ∙ ap (λ z. int_max (to_z w64 c.loop-j.high-bits) z) high-in
+          ∙ max_larger _ _))) h,
       c.piece_range-next.auto.slots ∙ c.loop-j.invariant.1,
       c.piece_range-next.auto.keys ∙ c.loop-j.invariant.2,
       c.piece_range-next.auto.sums ∙ c.loop-j.invariant.3,
@@ -152,12 +156,14 @@ shape_of-sums c = sums_kept (goal.at.shape_of-sums c).At-loop-j
 
 pub returns : goal.returns
 returns c =
-    let from = c.larger-from in
-    let to = c.smaller-to in
+    let from = c.max-from in
+    let to = c.min-to in
     let low-in = to_z-of_z {w = w64} (record { sfits = c.struct_told-3-1.given.0.1 }) in
     let high-in = to_z-of_z {w = w64} (record { sfits = c.struct_told-4-1.given.1.0.1 }) in
     ap₂ (λ x y. record { low = x; high = y; verdict = Ok tt })
-    (answered from.type_inv (from.ensures ∙ ap (λ z. larger z (to_z w64 c.loop-j.low-bits)) low-in))
-    (answered to.type_inv (to.ensures ∙ ap (λ z. smaller z (to_z w64 c.loop-j.high-bits)) high-in))
+    (answered from.type_inv (from.ensures.value ∙ ap (λ z. int_max z (to_z w64 c.loop-j.low-bits)) low-in
+    ∙ max_larger _ _))
+    (answered to.type_inv (to.ensures.value ∙ ap (λ z. int_min z (to_z w64 c.loop-j.high-bits)) high-in
+    ∙ min_smaller _ _))
     ∙ covered_end c.args.d c.args.i c.args.k (view c.args.f) c.loop-j.invariant.0
     (omega (arith, c.loop-j-test.false, count_is (goal.at.returns c).At-loop-j)) c.range_of-whole.ensures
