@@ -2,9 +2,10 @@
 use Rattle.std.specs.Prelude.{Bool, true, false, ◌&&◌, List, [], ◌∷◌, ℕ, zero, suc, ◌+◌, ◌*◌, ◌/◌, leb, ℤ, length}
 use Rattle.readings.specs.Readings.{Found}
 use Rattle.model_types.specs.declared.Reading.{Reading}
-use Rattle.std.specs.Prelude.{Ok, Err, None, Some}
+use Rattle.model_types.specs.declared.Finding.{Finding}
+use Rattle.std.specs.Prelude.{Option, None, Some}
 use Rattle.model_types.specs.ModelStruct.{verdict_number, verdict_place}
-use Rattle.model_readings.specs.ReadingStruct.{Finding, finding}
+use Rattle.model_readings.specs.ReadingStruct.{finding}
 use Rattle.model_slices.specs.HandedModels.{borrowed, misused, over}
 use Rattle.c_calls.specs.CallCodes.{coordinate}
 
@@ -51,12 +52,21 @@ pub record CalledReadings : Type 0 where
 unfoldable pub readings_state : (number : ℕ) → List ℕ → CalledReadings
 readings_state number ns = record { number = number; numbers = ns }
 
--- the refusal's number, and over what the slice holds its place, whether a reading contradicts, as 1 or 0, and the
--- number of the first that does; 0 for what there is not
+-- whether a reading contradicts, as 1 or 0
+unfoldable pub any_contradicts : Option ℕ → ℕ
+any_contradicts None = 0
+any_contradicts (Some i) = 1
+
+-- its number, 0 where none does
+unfoldable pub number_of : Option ℕ → ℕ
+number_of None = 0
+number_of (Some i) = i
+
+-- the verdict's number, and a refusal's place and these two over what the slice holds
 unfoldable pub stored_finding : Finding → List ℕ → CalledReadings
-stored_finding (Ok None) ns = readings_state 0 (over (0 ∷ 0 ∷ 0 ∷ []) ns)
-stored_finding (Ok (Some i)) ns = readings_state 0 (over (0 ∷ 1 ∷ i ∷ []) ns)
-stored_finding (Err r) ns = readings_state (verdict_number (Err r)) (over (verdict_place (Err r) ∷ 0 ∷ 0 ∷ []) ns)
+stored_finding f ns =
+    readings_state (verdict_number f.verdict)
+    (over (verdict_place f.verdict ∷ any_contradicts f.contradiction ∷ number_of f.contradiction ∷ []) ns)
 
 -- a call that fits is answered, any other returns 255 and changes nothing
 unfoldable pub called_readings : (fits : Bool) → Found → List ℕ → CalledReadings

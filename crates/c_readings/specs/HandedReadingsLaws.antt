@@ -9,8 +9,9 @@ use Rattle.calculus_laws.specs.TestLaws.{and_right}
 use Rattle.readings.specs.Readings.{call_readings}
 use Rattle.model_types.specs.declared.Reading.{Reading}
 use Rattle.model_types.specs.declared.Model.{Model}
+use Rattle.model_types.specs.declared.Finding.{Finding}
 use Rattle.model_types.specs.ModelStruct.{view}
-use Rattle.model_readings.specs.ReadingStruct.{view_reading, Finding, finding}
+use Rattle.model_readings.specs.ReadingStruct.{view_reading, finding}
 use Rattle.model_readings.specs.RowIterations.{no_reading, iteration_of, begun_of, iteration_count, pass}
 use Rattle.model_readings.specs.RowIterationLaws.{pass_call}
 use Rattle.model_slices.specs.HandedModels.{borrowed, over}

@@ -12,7 +12,7 @@ ghost use Rattle.c_readings.specs.HandedReadings.{numbers_end};
 ghost use Rattle.c_readings.specs.HandedReadings.{finding_numbers, readings_state, stored_finding};
 ghost use Rattle.c_readings.specs.HandedReadings.{called_readings};
 
-use model_types::{Finding, Key, Model, Reading, Refused};
+use model_types::{Finding, Key, Model, Reading};
 
 // The coordinates of a reading's point.
 const COORDINATES: usize = model_types::MOST_VARS as usize;
@@ -116,23 +116,13 @@ pub fn store_finding(f: Finding, numbers: &mut [u64]) -> u8
     requires { finding_numbers ≤ length numbers.old }
     ensures { readings_state result numbers.new ≡ stored_finding f numbers.old }
 {
-    // One match inside the other: with `Ok(None)` and `Ok(Some(i))` the proof did not close.
-    match f {
-        Ok(found) => match found {
-            None => {
-                store_three(0, 0, 0, numbers);
-                0
-            }
-            Some(i) => {
-                store_three(0, 1, i, numbers);
-                0
-            }
-        },
-        Err(Refused(refusal, place)) => {
-            store_three(place, 0, 0, numbers);
-            model_types::number(refusal)
-        }
-    }
+    let c = f.contradiction;
+    let v = f.verdict;
+    let place = model_slices::verdict_place(v);
+    let any = c.is_some() as u64;
+    let number = c.unwrap_or(0);
+    store_three(place, any, number, numbers);
+    model_slices::verdict_number(v)
 }
 
 // A row of readings held against a model: the refusal's number, 0 without one, or MISUSED. The row has as many readings

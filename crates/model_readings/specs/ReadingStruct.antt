@@ -1,4 +1,4 @@
--- Readings in memory, and what is found of a row.
+-- Readings in memory, and the struct of what is found of a row.
 use Rattle.std.specs.Prelude.{List, [], ◌∷◌, ℕ, None, Some, Ok, Err}
 use Rattle.std.specs.Prelude as S
 use Rattle.std.proofs.Math.Option.{Option, none, some}
@@ -6,7 +6,7 @@ use Rattle.calculus.specs.Refusal.{Result, done, stopped}
 use Rattle.readings.specs.Readings as R
 use Rattle.readings.specs.Readings.{Found}
 use Rattle.model_types.specs.declared.Reading.{Reading}
-use Rattle.model_types.specs.declared.Refused.{Refused}
+use Rattle.model_types.specs.declared.Finding.{Finding}
 use Rattle.model_types.specs.ModelStruct.{refused_at, refusal}
 
 -- the reading that a struct holds
@@ -23,11 +23,7 @@ unfoldable pub contradiction : Option ℕ → S.Option ℕ
 contradiction none = None
 contradiction (some i) = Some i
 
--- the first contradicting reading, if there is one, or the refusal
-abbrev pub Finding : Type 0
-Finding = S.Result (S.Option ℕ) Refused
-
--- what is found, as it is handed back
+-- the struct of what is found: no contradiction beside a refusal
 unfoldable pub finding : Found → Finding
-finding (done o) = Ok (contradiction o)
-finding (stopped r i) = Err (refused_at (refusal r) i)
+finding (done o) = record { contradiction = contradiction o; verdict = Ok tt }
+finding (stopped r i) = record { contradiction = None; verdict = Err (refused_at (refusal r) i) }

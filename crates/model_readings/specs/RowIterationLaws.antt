@@ -26,7 +26,7 @@ use Rattle.model_types.specs.declared.Reading.{Reading}
 use Rattle.model_types.specs.ModelStruct.{view}
 use Rattle.model_readings.specs.ReadingStruct.{view_reading, finding, contradiction}
 use Rattle.model_readings.specs.RowIterations.{no_reading, check_order, check_unused, check_within, judged, check}
-use Rattle.model_readings.specs.RowIterations.{undecided, after, iteration_of}
+use Rattle.model_readings.specs.RowIterations.{no_contradiction, no_refusal, undecided, after, iteration_of}
 use Rattle.model_readings.specs.RowIterations.{begun_of}
 use Rattle.model_readings.specs.RowIterations.{iteration_count, pass}
 
@@ -49,7 +49,7 @@ onward_none (done (some i)) = refl
 onward_none (stopped r i) = refl
 
 after_finding : (p q : Found) → after (finding p) (finding q) ≡ finding (onward p q)
-unfolding onward after undecided finding contradiction
+unfolding onward after undecided no_contradiction no_refusal finding contradiction
 after_finding (done none) q = refl
 after_finding (done (some i)) q = refl
 after_finding (stopped r i) q = refl

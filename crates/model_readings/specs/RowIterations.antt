@@ -12,10 +12,11 @@ use Rattle.readings.specs.Readings as R
 use Rattle.readings.specs.Readings.{Found, in_order, with_place, held}
 use Rattle.model_types.specs.declared.Model.{Model}
 use Rattle.model_types.specs.declared.Reading.{Reading}
+use Rattle.model_types.specs.declared.Finding.{Finding}
 use Rattle.model_readings.specs.declared.Phase.{Phase}
 use Rattle.model_readings.specs.declared.Phase.TheVariants.{Order, Unused, Within, Evaluation}
-use Rattle.model_types.specs.ModelStruct.{view}
-use Rattle.model_readings.specs.ReadingStruct.{view_reading, Finding, finding}
+use Rattle.model_types.specs.ModelStruct.{view, Verdict}
+use Rattle.model_readings.specs.ReadingStruct.{view_reading, finding}
 
 -- what stands for a reading past the end of a row
 abbrev pub no_reading : Reading
@@ -64,11 +65,19 @@ phase_of (suc (suc zero)) = Within
 phase_of (suc (suc (suc p))) = Evaluation
 
 -- ---- the iterations
+-- no reading contradicts so far
+unfoldable pub no_contradiction : Option ℕ → Bool
+no_contradiction None = true
+no_contradiction (Some i) = false
+
+-- nothing is refused so far
+unfoldable pub no_refusal : Verdict → Bool
+no_refusal (Ok u) = true
+no_refusal (Err r) = false
+
 -- neither a contradiction nor a refusal is found yet
 unfoldable pub undecided : Finding → Bool
-undecided (Ok None) = true
-undecided (Ok (Some i)) = false
-undecided (Err r) = false
+undecided s = no_contradiction s.contradiction && no_refusal s.verdict
 
 -- what was found stays; otherwise what is found next
 unfoldable pub after : Finding → Finding → Finding

@@ -7,10 +7,27 @@ use Prim.Native.Nat.{ℕ, zero, suc, ◌+◌, ◌-◌, ◌*◌, ◌/◌, ◌%◌
 use Rattle.std.proofs.Math.Nat as NatL
 use Rattle.model_types.specs.declared.Model.{Model}
 use Rattle.model_types.specs.declared.Reading.{Reading}
+use Rattle.model_types.specs.declared.Finding.{Finding}
+use Rattle.model_types.specs.declared.Refused.{Refused}
+use Rattle.std.specs.Prelude.{None, Some, Ok, Err}
 use Rattle.model_types.specs.ModelStruct.{view}
-use Rattle.model_readings.specs.ReadingStruct.{view_reading, Finding, finding}
-use Rattle.model_readings.specs.RowIterations.{no_reading, check, undecided, after}
+use Rattle.model_readings.specs.ReadingStruct.{view_reading, finding}
+use Rattle.model_readings.specs.RowIterations.{no_reading, check, no_contradiction, no_refusal, undecided, after}
 use Rattle.model_readings.specs.RowIterations.{iteration_of, next_iteration, iteration_count, pass}
+
+-- ---- whether something is found
+module _ (s : Finding) where
+  pub at_reading : {i : ℕ} → s.contradiction ≡ Some i → false ≡ undecided s
+  unfolding undecided no_contradiction
+  at_reading e = sym (ap (λ c. no_contradiction c && no_refusal s.verdict) e)
+
+  pub at_refusal : {r : Refused} → s.contradiction ≡ None → s.verdict ≡ Err r → false ≡ undecided s
+  unfolding undecided no_contradiction no_refusal
+  at_refusal e f = sym (ap₂ (λ c v. no_contradiction c && no_refusal v) e f)
+
+  pub not_yet : s.contradiction ≡ None → s.verdict ≡ Ok tt → true ≡ undecided s
+  unfolding undecided no_contradiction no_refusal
+  not_yet e f = sym (ap₂ (λ c v. no_contradiction c && no_refusal v) e f)
 
 -- ---- one iteration
 -- what was found stays, otherwise what is found next

@@ -34,21 +34,30 @@ enum Phase {
 fn nothing() -> Finding
     ensures { result ≡ finding (done none) }
 {
-    Ok(None)
+    Finding {
+        contradiction: None,
+        verdict: Ok(()),
+    }
 }
 
 // The first reading that contradicts.
 fn contradicted_at(place: usize) -> Finding
     ensures { result ≡ finding (done (some place)) }
 {
-    Ok(Some(place))
+    Finding {
+        contradiction: Some(place),
+        verdict: Ok(()),
+    }
 }
 
 // A refusal at a place.
 fn refused_at(refusal: Refusal, place: usize) -> Finding
     ensures { result ≡ finding (stopped (cause refusal) place) }
 {
-    Err(Refused(refusal, place))
+    Finding {
+        contradiction: None,
+        verdict: Err(Refused(refusal, place)),
+    }
 }
 
 // Before the first iteration: 15 for a row of more than 256 readings, then 5.
@@ -166,10 +175,12 @@ fn checked(m: Model, phase: Phase, i: usize, r: Reading) -> Finding
 fn undecided(s: Finding) -> bool
     ensures { result ≡ undecided s }
 {
-    let Ok(found) = s else {
+    let c = s.contradiction;
+    let None = c else {
         return false;
     };
-    let None = found else {
+    let v = s.verdict;
+    let Ok(()) = v else {
         return false;
     };
     true

@@ -133,9 +133,13 @@ pub struct Reading {
     pub high: i64,
 }
 
-// What a row of readings gives: the first reading that contradicts the model, by its number from 0, if one does; or the
-// refusal.
-pub type Finding = Result<Option<usize>, Refused>;
+// What a row of readings gives: the first reading that contradicts the model, by its number from 0, if one does; and
+// the verdict. No call answers a contradiction beside a refusal, but what takes a finding takes any pair of both.
+#[derive(Clone, Copy, Debug, PartialEq, Eq)]
+pub struct Finding {
+    pub contradiction: Option<usize>,
+    pub verdict: Verdict,
+}
 
 // The two ends of an integral, and that of the polynomial part alone: quotient + remainder / 212,837,625, exactly. All
 // are 0 beside a refusal, as document 01 has it.
