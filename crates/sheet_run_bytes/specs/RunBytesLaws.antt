@@ -26,7 +26,7 @@ use Rattle.sheet_results.specs.Results.{Results, results, Roomy}
 use Rattle.sheet_results.specs.ResultsLaws.{roomy_zeros}
 use Rattle.sheet_loading.specs.sheet_run_laws.Run.{Prepared}
 use Rattle.sheet_running.specs.declared.Ran.{Ran}
-use Rattle.sheet_running.specs.Running.{few_steps, ran}
+use Rattle.sheet_running.specs.Running.{ran}
 use Rattle.sheet_loading.specs.declared.Loaded.{Loaded}
 use Rattle.sheet_loading.specs.Loading.{RecordsLoaded}
 use Rattle.sheet_run_bytes.specs.RunBytes.{ran_read, ran_sheet}

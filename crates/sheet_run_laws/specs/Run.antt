@@ -130,14 +130,6 @@ quotient_at n d a b v w m = at_place 0 (quotient d (view (held_result n m a)) (v
     (view (held_result n m w)))
 
 -- ---- scratch memory
--- the products that the small table has room for
-abbrev pub few_products : ℕ
-few_products = 256
-
--- those that the next one has room for
-abbrev pub some_products : ℕ
-some_products = 1024
-
 -- how many terms the result of step j has
 abbrev pub terms_at : (counts : List ℕ) → (j : ℕ) → ℕ
 terms_at counts j = get_or counts (most_models + j) 0

@@ -1,15 +1,11 @@
 -- What the steps of a book lead to, and the rows that they report.
-use Rattle.std.specs.Prelude.{map, ℕ}
+use Rattle.std.specs.Prelude.{map}
 use Rattle.calculus.specs.Book.{Book}
 use Rattle.calculus.specs.Shares.{all_rows, rows_sound}
 use Rattle.model_types.specs.ModelStruct.{answer}
 use Rattle.model_types.specs.SharesStruct.{stored_shares}
 use Rattle.sheet_run_models.specs.sheet_run_laws.LastResult.{last_result}
 use Rattle.sheet_running.specs.declared.Ran.{Ran}
-
--- the steps of a short run
-abbrev pub few_steps : ℕ
-few_steps = 24
 
 -- as an answer, with 64 rows
 unfoldable pub ran : Book → Ran
