@@ -156,9 +156,9 @@ fn phase_of(rows: usize) -> Phase
     }
 }
 
-// What a phase finds of reading i.
-fn checked(m: Model, phase: Phase, i: usize, r: Reading) -> Finding
-    ensures { result ≡ finding (found_in phase i (view m) (view_reading r)) }
+// What a phase finds of reading i. The model is lent: only the last phase copies it.
+fn checked(m: &Model, phase: Phase, i: usize, r: Reading) -> Finding
+    ensures { result ≡ finding (found_in phase i (view m.now) (view_reading r)) }
 {
     match phase {
         Phase::Order => in_order(i, r),
@@ -166,7 +166,7 @@ fn checked(m: Model, phase: Phase, i: usize, r: Reading) -> Finding
         Phase::Within => within_at(m.n, i, r),
         Phase::Evaluation => {
             let xs = r.x;
-            judged(model_evaluation::evaluate(m, xs), i, r)
+            judged(model_evaluation::evaluate(*m, xs), i, r)
         }
     }
 }
@@ -195,7 +195,7 @@ pub fn iteration(m: Model, s: Finding, k: usize, n: usize, r: Reading) -> Findin
         return s;
     }
     let d = at_least_one(n);
-    checked(m, phase_of(k / d), k % d, r)
+    checked(&m, phase_of(k / d), k % d, r)
 }
 
 // The iteration after iteration k: with something found there is none.
