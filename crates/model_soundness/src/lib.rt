@@ -22,7 +22,9 @@ fn term_sound(n: u8, d: u8, least: u64, key: Key, coefficient: i64) -> bool
         && model_keys::degree(key) <= d as u32
 }
 
-// Whether slices hold a model by the rules, with degrees up to d. The span is summed without wrapping.
+// Whether slices hold a model by the rules, with degrees up to d. The span is summed without wrapping. (Not inlined: a
+// caller that answers an Option, as sheet_walk::record_at, has its loop set a second register for each term.)
+#[inline(never)]
 pub fn sound_slices(
     n: u8,
     count: usize,
